@@ -1,0 +1,2 @@
+pub mod ReceiverLemmas
+pub mod StreamLemmas

@@ -1,0 +1,4 @@
+pub mod Streams
+pub mod Greetings
+pub mod Receivers
+pub mod Statuses

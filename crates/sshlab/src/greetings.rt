@@ -1,0 +1,192 @@
+//! Two sides that hear each other's version line.
+
+ghost use Rattle.std.specs.Prelude.{◌≡◌, ◌≢◌, ◌+◌, ◌≤◌, ◌++◌, ◌↔◌, ℕ, IfOk, IsTrue, List, OnOk, length, min, take};
+ghost use Rattle.sshwire.specs.Feeding.{StandsOpen};
+ghost use Rattle.sshwire.specs.LineState.{Finished};
+ghost use Rattle.sshlab.specs.Receivers.{Follows, HasAll, MayRead};
+ghost use Rattle.sshlab.specs.Greetings.{Greets};
+
+use crate::delivery::{Delivery, Side};
+use sshwire::{LineReader, LineStep, Memory, VersionLine, WireFault};
+use std::alloc::Global;
+use std::fmt;
+
+/// How many other lines a client accepts before the version line (profile).
+const CLIENT_OTHERS: u32 = 20;
+
+/// How many a server accepts: none (profile).
+const SERVER_OTHERS: u32 = 0;
+
+/// What one side has heard of the other.
+#[derive(Debug, Drop)]
+pub enum Hearing {
+    /// The other's version line.
+    Got(VersionLine),
+    /// Bytes that no version line can follow: `Line`, `TooLong` or `TooManyLines`.
+    Refused(WireFault),
+    /// Neither yet, in this number of bytes that were moved to the side.
+    Waiting(usize),
+}
+
+impl fmt::Display for Hearing {
+    fn fmt<W: fmt::Write>(&self, f: &mut fmt::Formatter<W>) -> fmt::Result {
+        match self {
+            Hearing::Got(version) => write!(f, "got {version}"),
+            Hearing::Refused(fault) => write!(f, "refused: {fault}"),
+            Hearing::Waiting(count) => write!(f, "waiting {count}"),
+        }
+    }
+}
+
+/// What both sides have heard after a schedule of deliveries.
+#[derive(Debug, Drop)]
+pub struct Greeting {
+    /// What the client has heard of the server.
+    pub client: Hearing,
+    /// What the server has heard of the client.
+    pub server: Hearing,
+    /// Whether no bytes wait for a side that still hears.
+    pub complete: bool,
+}
+
+impl fmt::Display for Greeting {
+    /// Writes the three lines of `sshlab greet`.
+    fn fmt<W: fmt::Write>(&self, f: &mut fmt::Formatter<W>) -> fmt::Result {
+        let client = &self.client;
+        let server = &self.server;
+        let complete = if self.complete { "yes" } else { "no" };
+        writeln!(f, "client {client}")?;
+        writeln!(f, "server {server}")?;
+        writeln!(f, "complete {complete}")
+    }
+}
+
+/// Moves the bytes that two sides send by the schedule to two line readers, and says what they heard.
+///
+/// The client accepts 20 other lines before the version line, the server none (profile). Each
+/// delivery moves the lesser of its count and the waiting bytes; bytes for a side that has ended
+/// are dropped. Answers `Memory` where a growth was refused.
+pub fn greet(
+    alloc: Global,
+    client: &[u8],
+    server: &[u8],
+    schedule: &[Delivery],
+) -> Result<Greeting, Memory>
+    ensures { IfOk result (Greets client.now server.now schedule.now) }
+{
+    let mut at_client = Receiver::new(alloc, CLIENT_OTHERS);
+    let mut at_server = Receiver::new(alloc, SERVER_OTHERS);
+    for delivery in schedule {
+        match delivery.to {
+            Side::Client => at_client.deliver(server, delivery.count)?,
+            Side::Server => at_server.deliver(client, delivery.count)?,
+        }
+    }
+    let complete = is_complete(&at_client, &at_server, client, server);
+    sshwire::reading_law();
+    Ok(Greeting {
+        client: at_client.into_hearing(),
+        server: at_server.into_hearing(),
+        complete,
+    })
+}
+
+/// Whether nothing waits for either side.
+fn is_complete(at_client: &Receiver, at_server: &Receiver, client: &[u8], server: &[u8]) -> bool
+    ensures { IsTrue result ↔ (HasAll at_client.now.hearing (length server.now)
+        × HasAll at_server.now.hearing (length client.now)) }
+{
+    at_client.nothing_waits(server) && at_server.nothing_waits(client)
+}
+
+/// A side while the schedule goes on.
+#[derive(Drop)]
+struct Receiver {
+    reader: LineReader,
+    hearing: Hearing,
+    /// The bytes that were moved to it, those after its end included.
+    moved: usize,
+}
+
+impl Receiver {
+    ghost use Rattle.std.specs.Prelude.{◌<◌, ◌^◌, [], true};
+    ghost use Rattle.sshlab.specs.Receivers.{Stands};
+
+    fn new(alloc: Global, others: u32) -> Receiver
+        ensures nothing { result.moved ≡ 0 }
+        ensures may_read { MayRead result.hearing result.reader.progress }
+        ensures stands { Stands others [] result }
+    {
+        Receiver {
+            reader: LineReader::new(alloc, others),
+            hearing: Hearing::Waiting(0),
+            moved: 0,
+        }
+    }
+
+    /// Moves the lesser of `count` and what it hasn't been given of `sent`.
+    fn deliver(&mut self, sent: &[u8], count: u32) -> Result<(), Memory>
+        requires within { self.old.moved ≤ length sent.now }
+        requires may_read { MayRead self.old.hearing self.old.reader.progress }
+        ensures may_read { OnOk result (MayRead self.new.hearing self.new.reader.progress) }
+        ensures moved { OnOk result (self.new.moved ≡ min (self.old.moved + count) (length sent.now)) }
+        ensures stands { OnOk result ((k : ℕ) → Stands k (take self.old.moved sent.now) self.old
+            → Stands k (take self.new.moved sent.now) self.new) }
+    {
+        let end = self.moved + (sent.len() - self.moved).min(count as usize);
+        self.receive(&sent[self.moved..end])?;
+        Ok(())
+    }
+
+    /// Takes the next bytes, and reads them unless it has ended.
+    fn receive(&mut self, piece: &[u8]) -> Result<(), Memory>
+        requires fits { self.old.moved + length piece.now < 2 ^ 64 }
+        requires may_read { MayRead self.old.hearing self.old.reader.progress }
+        ensures may_read { OnOk result (MayRead self.new.hearing self.new.reader.progress) }
+        ensures moved { OnOk result (self.new.moved ≡ self.old.moved + length piece.now) }
+        ensures stands { OnOk result ((k : ℕ) (heard : List ℕ) → Stands k heard self.old
+            → Stands k (heard ++ piece.now) self.new) }
+    {
+        sshwire::reading_law();
+        self.moved += piece.len();
+        if let Hearing::Waiting(_) = self.hearing {
+            self.hearing = hearing_of(&mut self.reader, piece, self.moved)?;
+        }
+        Ok(())
+    }
+
+    /// Whether it has ended, or was given all of `sent`.
+    fn nothing_waits(&self, sent: &[u8]) -> bool
+        ensures { (result ≡ true) ↔ HasAll self.now.hearing (length sent.now) }
+    {
+        match self.hearing {
+            Hearing::Waiting(count) => count == sent.len(),
+            _ => true,
+        }
+    }
+
+    fn into_hearing(self) -> Hearing
+        ensures { result ≡ self.hearing }
+    {
+        let Receiver { hearing, .. } = self;
+        hearing
+    }
+}
+
+/// What a side has heard once its reader is fed the piece, with which so many bytes were moved.
+fn hearing_of(reader: &mut LineReader, piece: &[u8], moved: usize) -> Result<Hearing, Memory>
+    requires { reader.old.progress ≢ Finished }
+    ensures may_read { IfOk result (λ hearing. MayRead hearing reader.new.progress) }
+    ensures follows { IfOk result (λ hearing. (k : ℕ) (heard : List ℕ) → moved ≡ length (heard ++ piece.now)
+        → StandsOpen k heard reader.old.progress
+        → Follows k (heard ++ piece.now) reader.new.progress hearing) }
+{
+    match reader.feed(piece) {
+        Ok(LineStep::More) => Ok(Hearing::Waiting(moved)),
+        Ok(LineStep::Done { version, .. }) => Ok(Hearing::Got(version)),
+        Err(fault) => match fault {
+            WireFault::Memory => Err(Memory),
+            _ => Ok(Hearing::Refused(fault)),
+        },
+    }
+}

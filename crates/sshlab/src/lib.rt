@@ -1,0 +1,17 @@
+//! What the program `sshlab` does: line machines that greet one another, and the texts round them.
+#![tactic(auto)]
+
+mod delivery;
+mod greetings;
+mod program;
+mod schedule;
+mod streams;
+mod words;
+
+pub use delivery::{Delivery, Side};
+pub use greetings::{Greeting, Hearing, greet};
+pub use program::{refuse_words, tool};
+pub use streams::{Broken, Sink, Source, StreamSink, StreamSource};
+
+#[cfg(test)]
+mod tests;

@@ -1,0 +1,204 @@
+//! All that the program does with its words and streams.
+
+ghost use Rattle.std.specs.Prelude.{◌≡◌, ◌≤◌, ◌↔◌, ◌||◌, ℕ, IfOk, false, string_bytes, take, true};
+ghost use Rattle.std.specs.Io.KnownBytes.{Appends, Keeps};
+ghost use Rattle.std.specs.IoError.{error_kind};
+ghost use Rattle.sshlab.specs.Statuses.{status_of, words_status};
+
+use crate::greetings::greet;
+use crate::schedule::schedule_of;
+use crate::streams::{Broken, Sink, Source, write_all};
+use crate::words::{Request, request_of};
+use sshwire::{VersionLine, WireFault};
+use std::alloc::Global;
+use std::fmt::Write;
+use std::{fmt, io};
+use thiserror::Error;
+
+/// The status where all is done.
+const DONE: u8 = 0;
+
+/// The status where bytes still wait.
+const NOT_COMPLETE: u8 = 1;
+
+/// The status of bad words or input.
+const BAD_INPUT: u8 = 2;
+
+/// The status for want of memory.
+const NO_MEMORY: u8 = 3;
+
+/// The status of a read or a write that failed.
+const BROKEN: u8 = 4;
+
+/// Why the words get no answer.
+#[derive(Clone, Copy, Debug, Error)]
+pub(crate) enum CommandFault {
+    /// The words have none of the forms that there are.
+    #[error("bad words")]
+    Words,
+    /// A softwareversion that no version line has.
+    #[error("bad version")]
+    Version,
+    /// Not deliveries with commas between.
+    #[error("bad schedule")]
+    Schedule,
+    /// A growth was refused.
+    #[error("out of memory")]
+    Memory,
+}
+
+/// What the words are answered: the text for the output, and the status once it is written.
+#[derive(Drop)]
+struct Answer {
+    text: String,
+    status: u8,
+}
+
+impl CommandFault {
+    /// The exit status.
+    fn status(self) -> u8
+        ensures { result ≡ status_of self }
+    {
+        match self {
+            CommandFault::Words | CommandFault::Version | CommandFault::Schedule => BAD_INPUT,
+            CommandFault::Memory => NO_MEMORY,
+        }
+    }
+}
+
+/// Does all that the program does with its words, its name left out, and answers the exit status.
+///
+/// 0 is done, 1 not complete, 2 bad words, version or schedule, 3 want of memory, 4 a failed write.
+/// A refusal is told on `faults` in one line; where that can't be written the status stays. No form
+/// of the words reads `input` yet.
+pub fn tool<I: Source, O: Sink, E: Sink>(
+    alloc: Global,
+    words: &[String],
+    input: &mut I,
+    output: &mut O,
+    faults: &mut E,
+) -> u8
+    requires input { I.has_failed input.old ≡ false }
+    requires output { O.has_failed output.old ≡ false }
+    requires faults { E.has_failed faults.old ≡ false }
+    ensures status { result ≤ 4 }
+    // Bad words, bad input and want of memory leave the output as it was.
+    ensures kept { 2 ≤ result → result ≤ 3 → Keeps (O.contents output.old) (O.contents output.new) }
+    ensures broken { (result ≡ 4) ↔ ((I.has_failed input.new || O.has_failed output.new) ≡ true) }
+{
+    let _ = input;
+    match answer_of(alloc, words) {
+        Ok(answer) => print(&answer, output, faults),
+        Err(fault) => refuse(fault, faults),
+    }
+}
+
+/// Tells on `faults` why the program's words can't be had as text, and answers the exit status.
+///
+/// 3 is want of memory, 2 any other cause.
+pub fn refuse_words<E: Sink>(error: io::Error, faults: &mut E) -> u8
+    requires { E.has_failed faults.old ≡ false }
+    ensures { result ≡ words_status (error_kind error) }
+{
+    let fault = match error.kind() {
+        io::ErrorKind::OutOfMemory => CommandFault::Memory,
+        _ => CommandFault::Words,
+    };
+    refuse(fault, faults)
+}
+
+/// The answer to the words, of which nothing is written yet.
+fn answer_of(alloc: Global, words: &[String]) -> Result<Answer, CommandFault>
+    ensures { IfOk result (λ answer. answer.status ≤ 1) }
+{
+    match request_of(alloc, words)? {
+        Request::Greet {
+            client,
+            server,
+            schedule,
+        } => greeting_of(alloc, client, server, schedule),
+    }
+}
+
+/// What two sides with these softwareversions hear of each other.
+fn greeting_of(
+    alloc: Global,
+    client: &str,
+    server: &str,
+    schedule: &str,
+) -> Result<Answer, CommandFault>
+    ensures { IfOk result (λ answer. answer.status ≤ 1) }
+{
+    let client = line_of(alloc, client)?;
+    let server = line_of(alloc, server)?;
+    let schedule = schedule_of(alloc, schedule)?;
+    let greeting = greet(alloc, &client, &server, &schedule).map_err(|_| CommandFault::Memory)?;
+    let text = greeting.to_string(alloc).map_err(|_| CommandFault::Memory)?;
+    let status = if greeting.complete {
+        DONE
+    } else {
+        NOT_COMPLETE
+    };
+    Ok(Answer { text, status })
+}
+
+/// The written version line of a softwareversion, which has no comments.
+fn line_of(alloc: Global, software: &str) -> Result<Vec<u8>, CommandFault> {
+    if software.contains(' ') {
+        return Err(CommandFault::Version);
+    }
+    let line = format!(in alloc; "SSH-2.0-{software}\r\n").map_err(|_| CommandFault::Memory)?;
+    let version = VersionLine::parse(alloc, line.as_bytes()).map_err(|fault| match fault {
+        WireFault::Memory => CommandFault::Memory,
+        _ => CommandFault::Version,
+    })?;
+    let mut written = Vec::new(alloc);
+    version
+        .write(&mut written)
+        .map_err(|_| CommandFault::Memory)?;
+    Ok(written)
+}
+
+/// Prints the answer, and answers the status.
+fn print<O: Sink, E: Sink>(answer: &Answer, output: &mut O, faults: &mut E) -> u8
+    requires status { answer.now.status ≤ 1 }
+    requires output { O.has_failed output.old ≡ false }
+    requires faults { E.has_failed faults.old ≡ false }
+    ensures broken { (result ≡ 4) ↔ (O.has_failed output.new ≡ true) }
+    ensures done { O.has_failed output.new ≡ false → result ≡ answer.now.status }
+    ensures whole { result ≤ 1 → Appends (O.contents output.old) (O.contents output.new) (string_bytes answer.now.text) }
+    ensures prefix { result ≡ 4 → (n : ℕ) × Appends (O.contents output.old) (O.contents output.new)
+        (take n (string_bytes answer.now.text)) }
+{
+    match write_all(output, answer.text.as_bytes()) {
+        Ok(()) => answer.status,
+        Err(Broken) => {
+            let _ = writeln!(FaultText { sink: faults }, "write failed");
+            BROKEN
+        }
+    }
+}
+
+/// Tells a fault in one line, and answers its status.
+fn refuse<E: Sink>(fault: CommandFault, faults: &mut E) -> u8
+    requires { E.has_failed faults.old ≡ false }
+    ensures { result ≡ status_of fault }
+{
+    let _ = writeln!(FaultText { sink: faults }, "{fault}");
+    fault.status()
+}
+
+/// Text for a sink.
+#[derive(Drop)]
+struct FaultText<'a, E> {
+    sink: &'a mut E,
+}
+
+impl<E: Sink> fmt::Write for FaultText<'_, E> {
+    fn write_str(&mut self, s: &str) -> fmt::Result {
+        if self.sink.failed() {
+            return Err(fmt::Error);
+        }
+        write_all(self.sink, s.as_bytes()).map_err(|_| fmt::Error)
+    }
+}

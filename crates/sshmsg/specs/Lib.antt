@@ -1,0 +1,5 @@
+pub mod Content
+pub mod Form
+pub mod Messages
+pub mod Owned
+pub mod View

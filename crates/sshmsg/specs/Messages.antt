@@ -1,0 +1,159 @@
+-- The messages: RFC 4253 sections 7 to 11, RFC 4252 sections 5 to 8, and message 7 of RFC 8308 section 2.3.
+
+use Rattle.std.specs.Prelude.{◌≡◌, ◌==◌, ◌||◌, Bool, ℕ, zero, suc, if◌then◌else◌, List, [], ◌∷◌, ◌++◌, codes, Option, None, Some, Result, Ok, Err}
+use Rattle.std.specs.Str.{bytes_eq}
+use Rattle.sshwire.specs.declared.fault.WireFault.{WireFault}
+use Rattle.sshmsg.specs.declared.fault.MsgFault.{MsgFault}
+use Rattle.sshmsg.specs.declared.fault.MsgFault.TheVariants.{Malformed, Unrecognised}
+use Rattle.sshmsg.specs.Content.{Content, Debug, Disconnect, ExtInfo, Ignore, KexInit, KexdhInit, KexdhReply, NewKeys, NoMethod, OtherMethod, Password, PasswordChange, PublicKey, PublicKeyQuery, ServiceAccept, ServiceRequest, Unimplemented, UserauthBanner, UserauthFailure, UserauthRequest, UserauthSuccess}
+use Rattle.sshmsg.specs.Form.{BigNumber, Bytes, Cookie, Done, FillsForm, Flag, Form, Names, Number, Reserved, Rest, Then, Utf8, form_at}
+
+-- 1, RFC 4253 section 11.1
+unfoldable pub disconnect : Form
+disconnect = Then Number λ reason. Then Bytes λ description. Then Bytes λ language. Done (Disconnect reason description language)
+
+-- 2, RFC 4253 section 11.2
+unfoldable pub ignore : Form
+ignore = Then Bytes λ content. Done (Ignore content)
+
+-- 3, RFC 4253 section 11.4
+unfoldable pub unimplemented : Form
+unimplemented = Then Number λ sequence_number. Done (Unimplemented sequence_number)
+
+-- 4, RFC 4253 section 11.3
+unfoldable pub debug : Form
+debug = Then Flag λ always_display. Then Bytes λ text. Then Bytes λ language. Done (Debug always_display text language)
+
+-- 5 and 6, RFC 4253 section 10
+unfoldable pub service_request : Form
+service_request = Then Bytes λ service. Done (ServiceRequest service)
+
+unfoldable pub service_accept : Form
+service_accept = Then Bytes λ service. Done (ServiceAccept service)
+
+-- so many pairs of a name and a value, behind those that were found
+unfoldable pub extensions : ℕ → List (List ℕ × List ℕ) → Form
+extensions zero found = Done (ExtInfo found)
+extensions (suc n) found = Then Bytes λ name. Then Bytes λ value. extensions n (found ++ (name, value) ∷ [])
+
+-- 7, RFC 8308 section 2.3
+unfoldable pub ext_info : Form
+ext_info = Then Number λ count. extensions count []
+
+-- 20, RFC 4253 section 7.1
+unfoldable pub kexinit : Form
+kexinit =
+    Then Cookie λ cookie. Then Names λ kex. Then Names λ host_key.
+    Then Names λ encryption_client. Then Names λ encryption_server. Then Names λ mac_client. Then Names λ mac_server.
+    Then Names λ compression_client. Then Names λ compression_server. Then Names λ languages_client. Then Names λ languages_server.
+    Then Flag λ follows. Then Reserved λ _. Done (KexInit (record {
+      cookie = cookie;
+      kex_algorithms = kex;
+      server_host_key_algorithms = host_key;
+      encryption_client_to_server = encryption_client;
+      encryption_server_to_client = encryption_server;
+      mac_client_to_server = mac_client;
+      mac_server_to_client = mac_server;
+      compression_client_to_server = compression_client;
+      compression_server_to_client = compression_server;
+      languages_client_to_server = languages_client;
+      languages_server_to_client = languages_server;
+      first_kex_packet_follows = follows;
+    }))
+
+-- 21, RFC 4253 section 7.3
+unfoldable pub newkeys : Form
+newkeys = Done NewKeys
+
+-- 30 and 31, RFC 4253 section 8
+unfoldable pub kexdh_init : Form
+kexdh_init = Then BigNumber λ e. Done (KexdhInit e)
+
+unfoldable pub kexdh_reply : Form
+kexdh_reply = Then Bytes λ host_key. Then BigNumber λ f. Then Bytes λ signature. Done (KexdhReply host_key f signature)
+
+-- the fields of the method 'password', RFC 4252 section 8
+unfoldable pub password : List ℕ → List ℕ → Form
+password user service =
+    Then Flag λ change.
+    if change then (Then Bytes λ old. Then Bytes λ new. Done (UserauthRequest user service (PasswordChange old new)))
+    else (Then Bytes λ secret. Done (UserauthRequest user service (Password secret)))
+
+-- the fields of the method 'publickey', RFC 4252 section 7
+unfoldable pub publickey : List ℕ → List ℕ → Form
+publickey user service =
+    Then Flag λ signed. Then Bytes λ algorithm. Then Bytes λ key.
+    if signed then (Then Bytes λ signature. Done (UserauthRequest user service (PublicKey algorithm key signature)))
+    else Done (UserauthRequest user service (PublicKeyQuery algorithm key))
+
+-- the name is one of the three methods
+abbrev pub is_named : List ℕ → Bool
+is_named name = bytes_eq name (codes "none") || (bytes_eq name (codes "password") || bytes_eq name (codes "publickey"))
+
+-- the fields of a method
+abbrev pub method_form : List ℕ → List ℕ → List ℕ → Form
+method_form user service method =
+    if bytes_eq method (codes "none") then Done (UserauthRequest user service NoMethod)
+    else if bytes_eq method (codes "password") then password user service
+    else if bytes_eq method (codes "publickey") then publickey user service
+    else Rest (λ fields. UserauthRequest user service (OtherMethod method fields))
+
+-- 50, RFC 4252 section 5
+unfoldable pub userauth_request : Form
+userauth_request = Then Utf8 λ user. Then Bytes λ service. Then Bytes λ method. method_form user service method
+
+-- 51, RFC 4252 section 5.1
+unfoldable pub userauth_failure : Form
+userauth_failure = Then Names λ methods. Then Flag λ partial_success. Done (UserauthFailure methods partial_success)
+
+-- 52, RFC 4252 section 5.1
+unfoldable pub userauth_success : Form
+userauth_success = Done UserauthSuccess
+
+-- 53, RFC 4252 section 5.4
+unfoldable pub userauth_banner : Form
+userauth_banner = Then Bytes λ text. Then Bytes λ language. Done (UserauthBanner text language)
+
+-- the form of each number that has one
+unfoldable pub form_of : ℕ → Option Form
+form_of n =
+    if n == 1 then Some disconnect
+    else if n == 2 then Some ignore
+    else if n == 3 then Some unimplemented
+    else if n == 4 then Some debug
+    else if n == 5 then Some service_request
+    else if n == 6 then Some service_accept
+    else if n == 7 then Some ext_info
+    else if n == 20 then Some kexinit
+    else if n == 21 then Some newkeys
+    else if n == 30 then Some kexdh_init
+    else if n == 31 then Some kexdh_reply
+    else if n == 50 then Some userauth_request
+    else if n == 51 then Some userauth_failure
+    else if n == 52 then Some userauth_success
+    else if n == 53 then Some userauth_banner
+    else None
+
+-- the payload spells the message: its number, and fields that fill the number's form
+pub record Spells (content : Content) (payload : List ℕ) : Type 0 where
+  pub number : ℕ
+  pub form : Form
+  pub fields : List ℕ
+  pub known : form_of number ≡ Some form
+  pub fills : FillsForm form content fields
+  pub payload_is : payload ≡ number ∷ fields
+
+-- a form that was read to the end, or the number is malformed
+abbrev pub whole : ℕ → Result (Content × List ℕ) WireFault → Result Content MsgFault
+whole n (Ok (content, [])) = Ok content
+whole n (Ok (content, b ∷ bs)) = Err (Malformed n)
+whole n (Err e) = Err (Malformed n)
+
+abbrev pub in_form : ℕ → List ℕ → Option Form → Result Content MsgFault
+in_form n fields None = Err (Unrecognised n)
+in_form n fields (Some form) = whole n (form_at form fields)
+
+-- the message that a payload spells, or why there is none: no row of its number, or a row and no message
+unfoldable pub message_in : List ℕ → Result Content MsgFault
+message_in [] = Err (Malformed 0)
+message_in (n ∷ fields) = in_form n fields (form_of n)

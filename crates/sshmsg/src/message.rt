@@ -1,0 +1,214 @@
+//! The messages as values.
+
+ghost use Rattle.std.specs.Prelude.{◌≡◌, false, true};
+
+use sshwire::{Mpint, NameList};
+use std::alloc::Global;
+use std::marker::Model;
+
+/// The number of an mpint, owned. Contracts see its bytes.
+#[derive(Debug, Drop)]
+pub struct MpintBuf {
+    body: Vec<u8>,
+}
+
+impl Model for MpintBuf {
+    ghost use Rattle.std.specs.Prelude.{List, ℕ};
+    ghost use Rattle.sshmsg.specs.Owned.{IsNumber};
+
+    ghost Value = { List ℕ };
+
+    ghost view = { λ m. m.body.items };
+
+    ghost invariant = { λ m. IsNumber m.body.items };
+}
+
+impl MpintBuf {
+    ghost use Rattle.std.specs.Prelude.{IfOk};
+
+    /// A copy of the number. `AllocError` where a growth was refused.
+    pub fn of(alloc: Global, number: &Mpint<'_>) -> Result<MpintBuf, std::alloc::AllocError>
+        ensures { IfOk result (λ m. m ≡ number.now) }
+    {
+        let body = Vec::from_slice(alloc, number.body())?;
+        Ok(MpintBuf { body })
+    }
+
+    /// The bytes of the number. Takes no memory.
+    pub fn body(&self) -> &[u8]
+        ensures { result.now ≡ self.now }
+    {
+        &self.body
+    }
+}
+
+/// The lists of a KEXINIT (RFC 4253 section 7.1). Its reserved word isn't part of it.
+#[derive(Debug, Drop)]
+pub struct KexInit {
+    /// 16 random bytes.
+    pub cookie: [u8; 16],
+    pub kex_algorithms: NameList,
+    pub server_host_key_algorithms: NameList,
+    pub encryption_client_to_server: NameList,
+    pub encryption_server_to_client: NameList,
+    pub mac_client_to_server: NameList,
+    pub mac_server_to_client: NameList,
+    pub compression_client_to_server: NameList,
+    pub compression_server_to_client: NameList,
+    pub languages_client_to_server: NameList,
+    pub languages_server_to_client: NameList,
+    /// Whether a guessed key exchange packet follows.
+    pub first_kex_packet_follows: bool,
+}
+
+/// One extension of an EXT_INFO (RFC 8308 section 2.3).
+#[derive(Debug, Drop)]
+pub struct Extension {
+    pub name: Vec<u8>,
+    pub value: Vec<u8>,
+}
+
+/// A method that is none of `none`, `password` and `publickey`, with its fields unread.
+///
+/// Contracts see the name and the fields.
+#[derive(Debug, Drop)]
+pub struct OtherMethod {
+    name: Vec<u8>,
+    fields: Vec<u8>,
+}
+
+impl Model for OtherMethod {
+    ghost use Rattle.std.specs.Prelude.{◌≡◌, List, false, ℕ};
+    ghost use Rattle.sshmsg.specs.Messages.{is_named};
+
+    ghost Value = { List ℕ × List ℕ };
+
+    ghost view = { λ m. (m.name.items, m.fields.items) };
+
+    ghost invariant = { λ m. is_named m.name.items ≡ false };
+}
+
+impl OtherMethod {
+    ghost use Rattle.sshmsg.specs.Messages.{is_named};
+
+    /// The method of this name, which isn't one of the three.
+    pub fn new(name: Vec<u8>, fields: Vec<u8>) -> OtherMethod
+        requires { is_named name.items ≡ false }
+        ensures { result ≡ (name.items, fields.items) }
+    {
+        OtherMethod { name, fields }
+    }
+
+    /// The method's name.
+    pub fn name(&self) -> &[u8]
+        ensures name { result.now ≡ self.now.0 }
+        ensures other { is_named self.now.0 ≡ false }
+    {
+        &self.name
+    }
+
+    /// All bytes behind the name.
+    pub fn fields(&self) -> &[u8]
+        ensures { result.now ≡ self.now.1 }
+    {
+        &self.fields
+    }
+}
+
+/// The method of a USERAUTH_REQUEST with its fields (RFC 4252 sections 5 to 8).
+#[derive(Debug, Drop)]
+pub enum Method {
+    /// `none`.
+    None,
+    /// `password` with FALSE.
+    Password {
+        password: Vec<u8>,
+    },
+    /// `password` with TRUE: a change.
+    PasswordChange {
+        old: Vec<u8>,
+        new: Vec<u8>,
+    },
+    /// `publickey` with TRUE.
+    PublicKey {
+        algorithm: Vec<u8>,
+        key: Vec<u8>,
+        signature: Vec<u8>,
+    },
+    /// `publickey` with FALSE: a query.
+    PublicKeyQuery {
+        algorithm: Vec<u8>,
+        key: Vec<u8>,
+    },
+    /// Any other.
+    Other(OtherMethod),
+}
+
+/// A message up to authentication (RFC 4253, RFC 4252, message 7 of RFC 8308). It owns its strings.
+#[derive(Debug, Drop)]
+pub enum Message {
+    /// 1
+    Disconnect {
+        reason: u32,
+        description: Vec<u8>,
+        language: Vec<u8>,
+    },
+    /// 2
+    Ignore {
+        content: Vec<u8>,
+    },
+    /// 3
+    Unimplemented {
+        sequence_number: u32,
+    },
+    /// 4
+    Debug {
+        always_display: bool,
+        text: Vec<u8>,
+        language: Vec<u8>,
+    },
+    /// 5
+    ServiceRequest {
+        service: Vec<u8>,
+    },
+    /// 6
+    ServiceAccept {
+        service: Vec<u8>,
+    },
+    /// 7
+    ExtInfo {
+        extensions: Vec<Extension>,
+    },
+    /// 20
+    KexInit(KexInit),
+    /// 21
+    NewKeys,
+    /// 30
+    KexdhInit {
+        e: MpintBuf,
+    },
+    /// 31
+    KexdhReply {
+        host_key: Vec<u8>,
+        f: MpintBuf,
+        signature: Vec<u8>,
+    },
+    /// 50
+    UserauthRequest {
+        user: String,
+        service: Vec<u8>,
+        method: Method,
+    },
+    /// 51
+    UserauthFailure {
+        methods: NameList,
+        partial_success: bool,
+    },
+    /// 52
+    UserauthSuccess,
+    /// 53
+    UserauthBanner {
+        text: Vec<u8>,
+        language: Vec<u8>,
+    },
+}

@@ -1,0 +1,139 @@
+-- What an open reader answers is what all bytes together mean.
+
+use Rattle.std.proofs.Common.{◌≡◌, ◌≢◌, ℕ, ◌+◌, ◌-◌, ◌<◌, ◌≤◌, ◌⊎◌, inl, inr, List, [], ◌++◌, length, take, drop, Result, Ok, Err, refl, sym, ap, ◌∙◌, arith, subst}
+use Rattle.std.proofs.lemmas.List.{append_assoc, append_cancel_right, length-append, length-drop, take-append-drop}
+use Rattle.sshwire.specs.declared.fault.WireFault.{WireFault}
+use Rattle.sshwire.specs.declared.fault.WireFault.TheVariants.{Line, TooLong, TooManyLines, Short, Name, NotCanonical, Memory}
+use Rattle.sshwire.specs.declared.line_reader.LineStep.{LineStep}
+use Rattle.sshwire.specs.declared.line_reader.LineStep.TheVariants as step
+use Rattle.sshwire.specs.Lines.{LineOpen, LineRefused, Preamble}
+use Rattle.sshwire.specs.Reading.{Reading, More, Got, Stop, Stops, reading, then_on}
+use Rattle.sshwire.specs.Meaning.{EndsPreamble, EndsRefused, Means}
+use Rattle.sshwire.specs.LineState.{LineState, Progress, Waits, Finished, Refused}
+use Rattle.sshwire.specs.Feeding.{OnlyAnswer, Reads, StandsOpen, Tells, TellsRefusal}
+use Rattle.sshwire.proofs.Readings.{open_read, preamble_read, reading-append}
+use Rattle.sshwire.proofs.Refusals.{reading_sound, refused_read, refused_within}
+
+-- behind the bytes heard so far the piece reads as it does behind the unfinished line
+joined_reading : (k left : ℕ) (line heard piece : List ℕ) → LineOpen k heard left line → reading k [] (heard ++ piece) ≡ reading left line piece
+joined_reading k left line heard piece o =
+    reading-append k [] heard piece ∙ ap (λ (r : Reading). then_on r piece) (open_read k heard left line o)
+
+means_of : (k left : ℕ) (line heard piece : List ℕ) (r : Reading) → LineOpen k heard left line → reading left line piece ≡ r → Means k (heard ++ piece) r
+means_of k left line heard piece r o read =
+    subst (λ (x : Reading). Means k (heard ++ piece) x) (joined_reading k left line heard piece o ∙ read) (reading_sound k (heard ++ piece))
+
+-- the preamble ends with the last byte used
+ends_at_used : (k : ℕ) (heard piece text : List ℕ) (used : ℕ) → EndsPreamble k (heard ++ piece) text (drop used piece)
+    → Preamble k text (heard ++ take used piece)
+ends_at_used k heard piece text used ends =
+    let cut : (heard ++ take used piece) ++ drop used piece ≡ ends.front ++ drop used piece
+    = append_assoc heard (take used piece) (drop used piece) ∙ (ap (λ (xs : List ℕ). heard ++ xs) (take-append-drop used piece) ∙ ends.bytes_are) in
+    let same : heard ++ take used piece ≡ ends.front = append_cancel_right (heard ++ take used piece) ends.front (drop used piece) cut in
+    rw same ends.preamble
+
+refusal_place : (k : ℕ) (heard piece : List ℕ) (code : WireFault) (taken : ℕ) → taken ≤ length piece
+    → EndsRefused k (heard ++ piece) code (drop taken piece)
+    → (place : ℕ) × (place + 1 ≡ length heard + taken) × LineRefused k (heard ++ piece) place code
+refusal_place k heard piece code taken within ends =
+    let all : length (heard ++ piece) ≡ length heard + length piece = length-append heard piece in
+    let dropped : length (drop taken piece) ≡ length piece - taken = length-drop taken piece in
+    let behind : length (drop taken piece) ≡ length (heard ++ piece) - (ends.place + 1)
+    = ap (λ (xs : List ℕ). length xs) ends.rest_is ∙ length-drop (ends.place + 1) (heard ++ piece) in
+    let inside : ends.place < length (heard ++ piece) = refused_within k (heard ++ piece) ends.place code ends.refused in
+    (ends.place, omega arith, ends.refused)
+
+memory_or_not : (code : WireFault) → (code ≡ Memory) ⊎ (code ≢ Memory)
+memory_or_not Memory = inl refl
+memory_or_not Line = inr (λ e. cc)
+memory_or_not TooLong = inr (λ e. cc)
+memory_or_not TooManyLines = inr (λ e. cc)
+memory_or_not Short = inr (λ e. cc)
+memory_or_not Name = inr (λ e. cc)
+memory_or_not NotCanonical = inr (λ e. cc)
+
+tells_refusal : (k left : ℕ) (line heard piece : List ℕ) (code : WireFault) (new : LineState) → LineOpen k heard left line
+    → new.taken ≤ length piece → Stops code (reading left line piece) (drop new.taken piece) → TellsRefusal k heard piece code new
+tells_refusal k left line heard piece code new o within stops = λ other.
+    let means : EndsRefused k (heard ++ piece) code (drop new.taken piece) = means_of k left line heard piece (Stop code (drop new.taken piece)) o (stops other) in
+    refusal_place k heard piece code new.taken within means
+
+tells_waiting : (k left : ℕ) (line heard piece : List ℕ) (result : Result LineStep WireFault) (new : LineState) → LineOpen k heard left line
+    → new.taken ≤ length piece → Reads (reading left line piece) piece result new → Tells k heard piece result new
+tells_waiting k left line heard piece (Ok step.More) new o within (left', line', read, waits, taken) =
+    let means : LineOpen k (heard ++ piece) left' line' = means_of k left line heard piece (More left' line') o read in
+    (rw waits means, taken)
+tells_waiting k left line heard piece (Ok (step.Done text used)) new o within (read, finished, taken) =
+    let means : EndsPreamble k (heard ++ piece) text (drop used piece) = means_of k left line heard piece (Got text (drop used piece)) o read in
+    (rw (← taken) within, ends_at_used k heard piece text used means, finished, taken)
+tells_waiting k left line heard piece (Err code) new o within (stops, refused) =
+    (tells_refusal k left line heard piece code new o within stops, refused)
+
+-- an open reader waits
+pub tells : (k : ℕ) (heard piece : List ℕ) (result : Result LineStep WireFault) (old : Progress) (new : LineState) → StandsOpen k heard old
+    → new.taken ≤ length piece → ((left : ℕ) (line : List ℕ) → old ≡ Waits left line → Reads (reading left line piece) piece result new)
+    → Tells k heard piece result new
+tells k heard piece result (Waits left line) new o within reads = tells_waiting k left line heard piece result new o within (reads left line refl)
+tells k heard piece result Finished new o within reads = absurd o
+tells k heard piece result (Refused code) new o within reads = absurd o
+
+-- No other answer comes.
+answer_of_more : (result : Result LineStep WireFault) (r : Reading) (piece : List ℕ) (new : LineState) (left : ℕ) (line : List ℕ)
+    → r ≡ More left line → Reads r piece result new → (result ≡ Ok step.More) ⊎ (result ≡ Err Memory)
+answer_of_more (Ok step.More) r piece new left line e reads = inl refl
+answer_of_more (Ok (step.Done text used)) r piece new left line e reads = let bad : More left line ≡ Got text (drop used piece) = sym e ∙ reads.0 in cc
+answer_of_more (Err code) r piece new left line e reads = elim (memory_or_not code) [
+  | inl memory ↦ inr (ap Err memory)
+  | inr known ↦ let bad : More left line ≡ Stop code (drop new.taken piece) = sym e ∙ reads.0 known in cc
+]
+
+answer_of_got : (result : Result LineStep WireFault) (r : Reading) (piece : List ℕ) (new : LineState) (text : List ℕ) (used : ℕ) → used ≤ length piece
+    → new.taken ≤ length piece → r ≡ Got text (drop used piece) → Reads r piece result new → (result ≡ Ok (step.Done text used)) ⊎ (result ≡ Err Memory)
+answer_of_got (Ok step.More) r piece new text used fits within e (left, line, read, waits, taken) =
+    let bad : Got text (drop used piece) ≡ More left line = sym e ∙ read in cc
+answer_of_got (Ok (step.Done text' used')) r piece new text used fits within e (read, finished, taken) =
+    let same : Got text (drop used piece) ≡ Got text' (drop used' piece) = sym e ∙ read in
+    let rests : drop used piece ≡ drop used' piece = cc in
+    let lengths : length piece - used ≡ length piece - used' = sym (length-drop used piece) ∙ (ap (λ (xs : List ℕ). length xs) rests ∙ length-drop used' piece) in
+    let one : used' ≡ used = omega arith in
+    let texts : text' ≡ text = cc in
+    inl cc
+answer_of_got (Err code) r piece new text used fits within e reads = elim (memory_or_not code) [
+  | inl memory ↦ inr (ap Err memory)
+  | inr known ↦ let bad : Got text (drop used piece) ≡ Stop code (drop new.taken piece) = sym e ∙ reads.0 known in cc
+]
+
+answer_of_stop : (result : Result LineStep WireFault) (r : Reading) (piece : List ℕ) (new : LineState) (code : WireFault) (rest : List ℕ)
+    → r ≡ Stop code rest → Reads r piece result new → (result ≡ Err code) ⊎ (result ≡ Err Memory)
+answer_of_stop (Ok step.More) r piece new code rest e (left, line, read, waits, taken) =
+    let bad : Stop code rest ≡ More left line = sym e ∙ read in cc
+answer_of_stop (Ok (step.Done text used)) r piece new code rest e reads = let bad : Stop code rest ≡ Got text (drop used piece) = sym e ∙ reads.0 in cc
+answer_of_stop (Err other) r piece new code rest e reads = elim (memory_or_not other) [
+  | inl memory ↦ inr (ap Err memory)
+  | inr known ↦ let same : Stop code rest ≡ Stop other (drop new.taken piece) = sym e ∙ reads.0 known in let codes : other ≡ code = cc in inl (ap Err codes)
+]
+
+only_waiting : (k left : ℕ) (line heard piece : List ℕ) (result : Result LineStep WireFault) (new : LineState) → LineOpen k heard left line
+    → new.taken ≤ length piece → Reads (reading left line piece) piece result new → OnlyAnswer k heard piece result
+only_waiting k left line heard piece result new o within reads =
+    let joins : reading k [] (heard ++ piece) ≡ reading left line piece = joined_reading k left line heard piece o in
+    record {
+      more = λ left' line' stands. answer_of_more result (reading left line piece) piece new left' line'
+          (sym joins ∙ open_read k (heard ++ piece) left' line' stands) reads;
+      done = λ used text fits preamble.
+          let cut : (heard ++ take used piece) ++ drop used piece ≡ heard ++ piece
+          = append_assoc heard (take used piece) (drop used piece) ∙ ap (λ (xs : List ℕ). heard ++ xs) (take-append-drop used piece) in
+          let read : reading k [] (heard ++ piece) ≡ Got text (drop used piece)
+          = ap (λ (xs : List ℕ). reading k [] xs) (sym cut) ∙ preamble_read k text (heard ++ take used piece) (drop used piece) preamble in
+          answer_of_got result (reading left line piece) piece new text used fits within (sym joins ∙ read) reads;
+      refused = λ place code stands.
+          let s = refused_read k (heard ++ piece) place code stands in
+          answer_of_stop result (reading left line piece) piece new code s.rest (sym joins ∙ s.stops) reads;
+    }
+
+pub only : (k : ℕ) (heard piece : List ℕ) (result : Result LineStep WireFault) (old : Progress) (new : LineState) → StandsOpen k heard old
+    → new.taken ≤ length piece → ((left : ℕ) (line : List ℕ) → old ≡ Waits left line → Reads (reading left line piece) piece result new)
+    → OnlyAnswer k heard piece result
+only k heard piece result (Waits left line) new o within reads = only_waiting k left line heard piece result new o within (reads left line refl)
+only k heard piece result Finished new o within reads = absurd o
+only k heard piece result (Refused code) new o within reads = absurd o

@@ -1,0 +1,28 @@
+use Rattle.std.proofs.Common.{[]}
+use Rattle.sshwire.proofs.Readings.{reading-append, preamble_read}
+use Rattle.sshwire.proofs.Refusals.{reading_sound, reading_complete, one_meaning, refused_within, preamble_behind, refused_stays}
+use Rattle.sshwire.proofs.law.reading_law.Goals as goal
+
+pub returns-clause-cut : goal.returns-clause-cut
+returns-clause-cut c = λ k bytes more. reading-append k [] bytes more
+
+pub returns-clause-written : goal.returns-clause-written
+returns-clause-written c = preamble_read
+
+pub returns-clause-sound : goal.returns-clause-sound
+returns-clause-sound c = reading_sound
+
+pub returns-clause-complete : goal.returns-clause-complete
+returns-clause-complete c = reading_complete
+
+pub returns-clause-one : goal.returns-clause-one
+returns-clause-one c = one_meaning
+
+pub returns-clause-within : goal.returns-clause-within
+returns-clause-within c = refused_within
+
+pub returns-clause-behind : goal.returns-clause-behind
+returns-clause-behind c = preamble_behind
+
+pub returns-clause-stays : goal.returns-clause-stays
+returns-clause-stays c = refused_stays

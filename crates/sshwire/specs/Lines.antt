@@ -1,0 +1,144 @@
+-- Version lines and what may stand before them: RFC 4253 section 4.2.
+-- This project's profile: comments have printable US-ASCII alone, as the softwareversion has; only protoversion 2.0
+-- is taken (section 5.1 lets a client take 1.99 too); the limits on other lines and their number; the order of judgement.
+
+use Rattle.std.specs.Prelude.{◌≡◌, ◌≢◌, ℕ, ◌+◌, ◌-◌, ◌<◌, ◌≤◌, ◌⊎◌, List, [], ◌∷◌, ◌++◌, length, take, Option, None, Some, IfSome}
+use Rattle.std.specs.List.{AllByRecursion, flat_map}
+use Rattle.sshwire.specs.declared.fault.WireFault.{WireFault}
+use Rattle.sshwire.specs.declared.fault.WireFault.TheVariants.{Line, TooLong, TooManyLines, Memory}
+
+-- a byte of the softwareversion: printable US-ASCII, and neither space nor minus sign
+pub record IsSoftwareByte (b : ℕ) : Type 0 where
+  pub above_space : 33 ≤ b
+  pub printable : b ≤ 126
+  pub no_minus : b ≢ 45
+
+-- a byte of the comments: printable US-ASCII or a space
+pub record IsCommentByte (b : ℕ) : Type 0 where
+  pub from_space : 32 ≤ b
+  pub printable : b ≤ 126
+
+-- SSH-
+abbrev pub ssh : List ℕ
+ssh = 83 ∷ 83 ∷ 72 ∷ 45 ∷ []
+
+-- SSH-2.0-
+abbrev pub ssh_2_0 : List ℕ
+ssh_2_0 = 83 ∷ 83 ∷ 72 ∷ 45 ∷ 50 ∷ 46 ∷ 48 ∷ 45 ∷ []
+
+-- a space and the comments, where there are some
+abbrev pub comment_part : Option (List ℕ) → List ℕ
+comment_part None = []
+comment_part (Some comments) = 32 ∷ comments
+
+-- SSH-2.0-softwareversion SP comments
+abbrev pub version_text : List ℕ → Option (List ℕ) → List ℕ
+version_text software comments = ssh_2_0 ++ (software ++ comment_part comments)
+
+-- the text of a version line, without its CR LF, which makes it at most 255 bytes
+pub record IsVersionText (text : List ℕ) : Type 0 where
+  pub software : List ℕ
+  pub comments : Option (List ℕ)
+  pub text_is : text ≡ version_text software comments
+  pub not_empty : 0 < length software
+  pub software_bytes : AllByRecursion IsSoftwareByte software
+  pub comment_bytes : IfSome comments (AllByRecursion IsCommentByte)
+  pub short : length text ≤ 253
+
+-- the version line of a text: CR LF ends it
+abbrev pub version_line : List ℕ → List ℕ
+version_line text = text ++ 13 ∷ 10 ∷ []
+
+-- what stands before the CR LF of a line
+abbrev pub text_in : List ℕ → List ℕ
+text_in line = take (length line - 2) line
+
+-- a version line, with its CR LF
+pub record IsWholeLine (line : List ℕ) : Type 0 where
+  pub version : IsVersionText (text_in line)
+  pub line_is : line ≡ version_line (text_in line)
+
+-- a byte of a line before its LF
+pub record IsLineByte (b : ℕ) : Type 0 where
+  pub no_nul : b ≢ 0
+  pub no_lf : b ≢ 10
+
+-- the bytes of a line before its LF, or as many of them as have come: with the LF at most 255
+pub record IsUnfinished (line : List ℕ) : Type 0 where
+  pub bytes : AllByRecursion IsLineByte line
+  pub short : length line ≤ 254
+
+abbrev pub BeginsSsh : List ℕ → Type 0
+BeginsSsh line = (rest : List ℕ) × (line ≡ ssh ++ rest)
+
+-- a line before the version line, without its LF: it doesn't begin with SSH-
+pub record IsOtherLine (line : List ℕ) : Type 0 where
+  pub unfinished : IsUnfinished line
+  pub no_ssh : BeginsSsh line → ⊥
+
+abbrev pub with_lf : List ℕ → List ℕ
+with_lf line = line ++ 10 ∷ []
+
+-- the lines one after another, each with its LF
+abbrev pub joined : List (List ℕ) → List ℕ
+joined lines = flat_map with_lf lines
+
+-- at most k other lines, and then the version line of the text
+pub record Preamble (k : ℕ) (text bytes : List ℕ) : Type 0 where
+  pub others : List (List ℕ)
+  pub few : length others ≤ k
+  pub each : AllByRecursion IsOtherLine others
+  pub version : IsVersionText text
+  pub bytes_are : bytes ≡ joined others ++ version_line text
+
+-- no LF stands in the line
+abbrev pub HasNoLf : List ℕ → Type 0
+HasNoLf line = AllByRecursion (λ b. b ≢ 10) line
+
+-- place i of the bytes: the lines that end before it, what of its own line stands before it, and its byte
+pub record IsPlace (bytes : List ℕ) (i : ℕ) (lines : List (List ℕ)) (line : List ℕ) (byte : ℕ) : Type 0 where
+  pub rest : List ℕ
+  pub bytes_are : bytes ≡ joined lines ++ (line ++ byte ∷ rest)
+  pub place : i ≡ length (joined lines ++ line)
+  pub each_line : AllByRecursion HasNoLf lines
+  pub own_line : HasNoLf line
+
+-- why the byte behind these lines and this front of a line is refused: it is a NUL, or the LF of a line that
+-- begins with SSH- and is no version line; or byte 255 of its line, and neither LF nor NUL;
+-- or the LF of other line k + 1
+abbrev pub IsCause : ℕ → List (List ℕ) → List ℕ → ℕ → WireFault → Type 0
+IsCause k lines line byte Line =
+    (byte ≡ 0) ⊎ ((byte ≡ 10) × BeginsSsh line × ((text : List ℕ) → IsVersionText text → with_lf line ≡ version_line text → ⊥))
+IsCause k lines line byte TooLong = (byte ≢ 0) × (byte ≢ 10) × (length line ≡ 254)
+IsCause k lines line byte TooManyLines =
+    (byte ≡ 10) × IsOtherLine line × AllByRecursion IsOtherLine lines × (length lines ≡ k)
+IsCause k lines line byte _ = ⊥
+
+-- at place i stands a cause of this refusal
+pub record HasCause (k : ℕ) (bytes : List ℕ) (i : ℕ) (code : WireFault) : Type 0 where
+  pub lines : List (List ℕ)
+  pub line : List ℕ
+  pub byte : ℕ
+  pub at : IsPlace bytes i lines line byte
+  pub cause : IsCause k lines line byte code
+
+-- The bytes are refused at place i: it is the least place at which a cause stands, and no preamble ends before it.
+pub record LineRefused (k : ℕ) (bytes : List ℕ) (i : ℕ) (code : WireFault) : Type 0 where
+  pub cause : HasCause k bytes i code
+  pub least : (j : ℕ) (other : WireFault) → j < i → HasCause k bytes j other → ⊥
+  pub no_preamble : (j : ℕ) (text : List ℕ) → j ≤ i → Preamble k text (take j bytes) → ⊥
+
+-- Neither has come yet: other lines, so many fewer than k, and an unfinished line.
+pub record LineOpen (k : ℕ) (bytes : List ℕ) (left : ℕ) (line : List ℕ) : Type 0 where
+  pub others : List (List ℕ)
+  pub few : length others + left ≡ k
+  pub each : AllByRecursion IsOtherLine others
+  pub unfinished : IsUnfinished line
+  pub bytes_are : bytes ≡ joined others ++ line
+
+-- why the bytes aren't read as one version line
+abbrev pub IsNoVersionLine : List ℕ → WireFault → Type 0
+IsNoVersionLine bytes TooLong = 255 < length bytes
+IsNoVersionLine bytes Line = (length bytes ≤ 255) × ((text : List ℕ) → IsVersionText text → bytes ≡ version_line text → ⊥)
+IsNoVersionLine bytes Memory = Unit {0}
+IsNoVersionLine bytes _ = ⊥

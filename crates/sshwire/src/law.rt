@@ -1,0 +1,50 @@
+//! What the layers above may rest on: lines and data types as a claim and as a function are one.
+
+ghost use Rattle.std.specs.Prelude.{◌≡◌, ◌<◌, ◌++◌, ◌↔◌, ℕ, Bool, List, Ok, [], length, true};
+ghost use Rattle.sshwire.specs.declared.fault.WireFault.{WireFault};
+ghost use Rattle.sshwire.specs.Lines.{LineOpen, LineRefused, Preamble};
+ghost use Rattle.sshwire.specs.Meaning.{IsLeftOf, Means};
+ghost use Rattle.sshwire.specs.TypeReadings.{IsReading, boolean_at, is_canonical, mpint_at, names_at, names_in, string_at, uint32_at};
+ghost use Rattle.sshwire.specs.Types.{AreNames, BooleanText, IsBytes, IsShortestBody, MpintText, NameListText, StringText, Uint32Text, boolean, names_body};
+ghost use Rattle.sshwire.specs.Reading.{Reading, Got, More, reading, then_on};
+
+/// The law of version lines (RFC 4253 section 4.2): what bytes read as is what they mean, and
+/// nothing else.
+pub fn reading_law()
+    // What is read stands there, and what stands there is read.
+    ensures sound { (k : ℕ) (bytes : List ℕ) → Means k bytes (reading k [] bytes) }
+    ensures complete { (k : ℕ) (bytes : List ℕ) (r : Reading) → Means k bytes r → reading k [] bytes ≡ r }
+
+    // No two outcomes hold of one input.
+    ensures one { (k : ℕ) (bytes : List ℕ) (r s : Reading) → Means k bytes r → Means k bytes s → r ≡ s }
+
+    // What stands behind a preamble lies within the bytes, and so does a refused byte.
+    ensures behind { (k : ℕ) (bytes text rest : List ℕ) → reading k [] bytes ≡ Got text rest → IsLeftOf bytes rest }
+    ensures within { (k : ℕ) (bytes : List ℕ) (place : ℕ) (code : WireFault) → LineRefused k bytes place code → place < length bytes }
+
+    // A cut changes nothing; a refusal stays, whatever follows.
+    ensures cut { (k : ℕ) (bytes more : List ℕ) → reading k [] (bytes ++ more) ≡ then_on (reading k [] bytes) more }
+    ensures stays { (k : ℕ) (bytes more : List ℕ) (place : ℕ) (code : WireFault) → LineRefused k bytes place code
+        → LineRefused k (bytes ++ more) place code }
+
+    // Before the first byte nothing was read; a preamble is read as its version, whatever follows.
+    ensures nothing { (k : ℕ) → LineOpen k [] k [] }
+    ensures written { (k : ℕ) (text front rest : List ℕ) → Preamble k text front → reading k [] (front ++ rest) ≡ Got text rest }
+{}
+
+/// The law of data types (RFC 4251 sections 5 and 6): what is read stands at the front, what stands
+/// there is read, whatever follows, and no two readings hold of one front.
+pub fn types_law()
+    ensures boolean { IsReading BooleanText boolean_at }
+    ensures uint32 { IsReading Uint32Text uint32_at }
+    ensures string { IsReading StringText string_at }
+    ensures mpint { IsReading MpintText mpint_at }
+    ensures name_list { IsReading NameListText names_at }
+
+    // What is written for a boolean stands for it.
+    ensures written { (value : Bool) → BooleanText value (boolean value) }
+    // The body of an mpint is the shortest of its number exactly where the test says so.
+    ensures canonical { (body : List ℕ) → IsBytes body → (is_canonical body ≡ true) ↔ IsShortestBody body }
+    // Names are read from the body that they have.
+    ensures names { (names : List (List ℕ)) → AreNames names → names_in (names_body names) ≡ Ok names }
+{}

@@ -1,0 +1,25 @@
+//! The lowest layer of SSH: data types, name-lists and version lines as bytes.
+//!
+//! Data types are those of RFC 4251 section 5, names those of its section 6, version lines those of RFC 4253 section 4.2.
+#![tactic(auto)]
+
+mod fault;
+mod law;
+mod line_reader;
+mod mpint;
+mod name_list;
+mod put;
+mod reader;
+mod version_line;
+
+pub use fault::{Memory, WireFault};
+pub use law::{reading_law, types_law};
+pub use line_reader::{LineReader, LineStep};
+pub use mpint::Mpint;
+pub use name_list::NameList;
+pub use put::{put_boolean, put_mpint, put_string, put_u32};
+pub use reader::Reader;
+pub use version_line::VersionLine;
+
+#[cfg(test)]
+mod tests;

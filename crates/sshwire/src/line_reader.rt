@@ -1,0 +1,228 @@
+//! Reads the lines at the start of a stream, up to the version line.
+
+ghost use Rattle.std.specs.Prelude.{◌≡◌, ◌≢◌, ◌≤◌, ℕ, List, [], ◌∷◌, length, drop, None, Ok};
+ghost use Rattle.sshwire.specs.Lines.{IsUnfinished};
+ghost use Rattle.sshwire.specs.LineState.{Finished, Waits, held};
+ghost use Rattle.sshwire.specs.Reading.{ReadsTo, reading};
+
+use crate::fault::WireFault;
+use crate::version_line::{LINE_LIMIT, VersionLine};
+use std::alloc::Global;
+use std::marker::Model;
+use std::mem;
+
+/// What a piece of the stream brought.
+#[derive(Debug, Drop)]
+pub enum LineStep {
+    /// All bytes of the piece were used, and more are wanted.
+    More,
+    /// The version line has come.
+    Done {
+        /// The other side's version line.
+        version: VersionLine,
+        /// How many bytes of the piece were used, the LF of the version line included; the others
+        /// weren't read.
+        used: usize,
+    },
+}
+
+/// How far a reader has come.
+#[derive(Clone, Copy, Debug, PartialEq, Eq)]
+enum Ending {
+    Open,
+    Done,
+    Refused(WireFault),
+}
+
+/// Reads a stream up to its version line, in pieces of any length (RFC 4253 section 4.2).
+///
+/// It holds the bytes of the unfinished line and nothing older.
+#[derive(Debug, Drop)]
+pub struct LineReader {
+    alloc: Global,
+    left: u32,
+    line: Vec<u8>,
+    ending: Ending,
+    taken: usize,
+}
+
+impl Model for LineReader {
+    ghost use Rattle.sshwire.specs.LineState.{LineState};
+
+    ghost Value = { LineState };
+
+    ghost use Rattle.sshwire.specs.Feeding.{IsInside, state_of};
+
+    ghost view = { state_of };
+
+    ghost invariant = { IsInside };
+}
+
+impl LineReader {
+    ghost use Rattle.sshwire.specs.declared.fault.WireFault.{WireFault};
+    ghost use Rattle.sshwire.specs.Feeding.{IsAgain, Leaves, OnlyAnswer, Reads, StandsOpen, Tells};
+    ghost use Rattle.sshwire.specs.LineState.{Refused};
+
+    /// A reader that accepts so many other lines before the version line, and has read nothing.
+    pub fn new(alloc: Global, others: u32) -> LineReader
+        ensures state { result ≡ record { progress = Waits others []; taken = 0 } }
+        ensures nothing { StandsOpen others [] result.progress }
+    {
+        LineReader {
+            alloc,
+            left: others,
+            line: Vec::new(alloc),
+            ending: Ending::Open,
+            taken: 0,
+        }
+    }
+
+    /// Reads the next bytes of the stream. Bytes behind the version line aren't read. It may not be
+    /// called once it has answered `Done`.
+    ///
+    /// Judges the bytes in order, and answers `Line` at a NUL, `TooLong` at byte 255 of a line where
+    /// that is no LF, `Line` at the LF of a line that begins with `SSH-` and is no version line, and
+    /// `TooManyLines` at the LF of the first other line too many (RFC 4253 section 4.2 gives the
+    /// forms; the order is profile). `Memory` comes where a growth was refused; `taken` is then at
+    /// most the piece. After a refusal it gives the same refusal for good and uses nothing.
+    pub fn feed(&mut self, piece: &[u8]) -> Result<LineStep, WireFault>
+        requires { self.old.progress ≢ Finished }
+
+        // Whatever was heard before, in whatever pieces: the answer is that of all bytes together.
+        ensures tells { (k : ℕ) (heard : List ℕ) → StandsOpen k heard self.old.progress
+            → Tells k heard piece.now result self.new }
+        ensures only { (k : ℕ) (heard : List ℕ) → StandsOpen k heard self.old.progress
+            → OnlyAnswer k heard piece.now result }
+
+        ensures leaves { Leaves result self.new.progress }
+        ensures taken { self.new.taken ≤ length piece.now }
+        ensures again { (code : WireFault) → self.old.progress ≡ Refused code
+            → IsAgain code result self.new }
+
+        // The same as a function of what the reader holds.
+        ensures reads { (left : ℕ) (line : List ℕ) → self.old.progress ≡ Waits left line
+            → Reads (reading left line piece.now) piece.now result self.new }
+    {
+        self.advance(piece)
+    }
+
+    /// How many bytes the last call of `feed` used, the refused byte included; 0 before the first.
+    pub fn taken(&self) -> usize
+        ensures { result ≡ self.now.taken }
+    {
+        self.taken
+    }
+
+    /// How many bytes of the unfinished line are held; 0 once the reader has answered or refused.
+    pub fn buffered(&self) -> usize
+        ensures held { result ≡ held self.now.progress }
+        ensures bound { result ≤ 254 }
+    {
+        self.line.len()
+    }
+
+    /// Reads the next bytes behind the unfinished line that is held.
+    fn advance(&mut self, piece: &[u8]) -> Result<LineStep, WireFault>
+        requires { self.old.progress ≢ Finished }
+        ensures leaves { Leaves result self.new.progress }
+        ensures taken { self.new.taken ≤ length piece.now }
+        ensures again { (code : WireFault) → self.old.progress ≡ Refused code
+            → IsAgain code result self.new }
+        ensures reads { (left : ℕ) (line : List ℕ) → self.old.progress ≡ Waits left line
+            → Reads (reading left line piece.now) piece.now result self.new }
+    {
+        if let Ending::Refused(fault) = self.ending {
+            self.taken = 0;
+            return Err(fault);
+        }
+        let (taken, outcome) = take_bytes(self.alloc, &mut self.left, &mut self.line, piece);
+        self.taken = taken;
+        match outcome {
+            Ok(None) => Ok(LineStep::More),
+            Ok(Some(version)) => {
+                self.ending = Ending::Done;
+                Ok(LineStep::Done {
+                    version,
+                    used: taken,
+                })
+            }
+            Err(fault) => {
+                self.ending = Ending::Refused(fault);
+                self.line.clear();
+                Err(fault)
+            }
+        }
+    }
+}
+
+/// Reads bytes until the version line or a refusal comes, and says how many it read.
+fn take_bytes(
+    alloc: Global,
+    left: &mut u32,
+    line: &mut Vec<u8>,
+    piece: &[u8],
+) -> (usize, Result<Option<VersionLine>, WireFault>)
+    requires { IsUnfinished line.old.items }
+    ensures taken { result.0 ≤ length piece.now }
+    ensures all { result.1 ≡ Ok None → result.0 ≡ length piece.now }
+    ensures reads { ReadsTo (reading left.old line.old.items piece.now) left.new line.new.items
+        (drop result.0 piece.now) result.1 }
+{
+    for (i, b) in piece.iter().enumerate() {
+        match take_byte(alloc, left, line, *b) {
+            Ok(None) => {}
+            Ok(Some(version)) => return (i + 1, Ok(Some(version))),
+            Err(fault) => return (i + 1, Err(fault)),
+        }
+    }
+    (piece.len(), Ok(None))
+}
+
+/// Reads one byte.
+fn take_byte(
+    alloc: Global,
+    left: &mut u32,
+    line: &mut Vec<u8>,
+    b: u8,
+) -> Result<Option<VersionLine>, WireFault>
+    requires { IsUnfinished line.old.items }
+    ensures { ReadsTo (reading left.old line.old.items (b ∷ [])) left.new line.new.items [] result }
+{
+    if b == 0 {
+        return Err(WireFault::Line);
+    }
+    if b == b'\n' {
+        return end_line(alloc, left, line);
+    }
+    if line.len() >= LINE_LIMIT - 1 {
+        return Err(WireFault::TooLong);
+    }
+    match line.push(b) {
+        Ok(()) => Ok(None),
+        Err(_) => Err(WireFault::Memory),
+    }
+}
+
+/// Reads the LF of the line.
+fn end_line(
+    alloc: Global,
+    left: &mut u32,
+    line: &mut Vec<u8>,
+) -> Result<Option<VersionLine>, WireFault>
+    requires { IsUnfinished line.old.items }
+    ensures { ReadsTo (reading left.old line.old.items (10 ∷ [])) left.new line.new.items [] result }
+{
+    if line.starts_with(b"SSH-") {
+        let mut line = mem::replace(line, Vec::new(alloc));
+        if line.push(b'\n').is_err() {
+            return Err(WireFault::Memory);
+        }
+        return VersionLine::of_line(line).map(Some).ok_or(WireFault::Line);
+    }
+    if *left == 0 {
+        return Err(WireFault::TooManyLines);
+    }
+    *left -= 1;
+    line.clear();
+    Ok(None)
+}
