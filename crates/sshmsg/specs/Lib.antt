@@ -3,3 +3,4 @@ pub mod Form
 pub mod Messages
 pub mod Owned
 pub mod View
+pub mod Written

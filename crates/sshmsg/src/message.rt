@@ -25,6 +25,7 @@ impl Model for MpintBuf {
 
 impl MpintBuf {
     ghost use Rattle.std.specs.Prelude.{IfOk};
+    ghost use Rattle.sshmsg.specs.Owned.{IsNumber};
 
     /// A copy of the number. `AllocError` where a growth was refused.
     pub fn of(alloc: Global, number: &Mpint<'_>) -> Result<MpintBuf, std::alloc::AllocError>
@@ -36,7 +37,8 @@ impl MpintBuf {
 
     /// The bytes of the number. Takes no memory.
     pub fn body(&self) -> &[u8]
-        ensures { result.now ≡ self.now }
+        ensures body { result.now ≡ self.now }
+        ensures number { IsNumber self.now }
     {
         &self.body
     }
@@ -109,7 +111,8 @@ impl OtherMethod {
 
     /// All bytes behind the name.
     pub fn fields(&self) -> &[u8]
-        ensures { result.now ≡ self.now.1 }
+        ensures fields { result.now ≡ self.now.1 }
+        ensures other { is_named self.now.0 ≡ false }
     {
         &self.fields
     }
@@ -142,6 +145,24 @@ pub enum Method {
     },
     /// Any other.
     Other(OtherMethod),
+}
+
+impl Method {
+    ghost use Rattle.std.specs.Prelude.{length};
+    ghost use Rattle.sshmsg.specs.View.{method_of};
+    ghost use Rattle.sshmsg.specs.Written.{method_name};
+
+    /// The name of the method. Takes no memory.
+    pub fn name(&self) -> &[u8]
+        ensures { result.now ≡ method_name (method_of self.now) }
+    {
+        match self {
+            Method::None => b"none",
+            Method::Password { .. } | Method::PasswordChange { .. } => b"password",
+            Method::PublicKey { .. } | Method::PublicKeyQuery { .. } => b"publickey",
+            Method::Other(other) => other.name(),
+        }
+    }
 }
 
 /// A message up to authentication (RFC 4253, RFC 4252, message 7 of RFC 8308). It owns its strings.

@@ -1,0 +1,30 @@
+use Rattle.std.proofs.Common.{[], ◌∷◌}
+use Rattle.sshwire.specs.Types.{boolean, name_list, uint32}
+use Rattle.sshmsg.specs.Written.{written}
+use Rattle.sshmsg.proofs.PutLemmas.{thirteen_parts}
+use Rattle.sshmsg.proofs.writing.put_kexinit.Goals as goal
+
+pub returns-clause-ok : goal.returns-clause-ok
+unfolding written
+returns-clause-ok c =
+    let k = c.args.kexinit.now in
+    rw (
+      c.in_ok-put_u32.ensures,
+      c.in_ok-put_boolean.ensures,
+      c.in_ok-write-10.ensures.appends,
+      c.in_ok-write-9.ensures.appends,
+      c.in_ok-write-8.ensures.appends,
+      c.in_ok-write-7.ensures.appends,
+      c.in_ok-write-6.ensures.appends,
+      c.in_ok-write-5.ensures.appends,
+      c.in_ok-write-4.ensures.appends,
+      c.in_ok-write-3.ensures.appends,
+      c.in_ok-write-2.ensures.appends,
+      c.in_ok-write.ensures.appends,
+      c.in_ok-extend_from_slice.ensures.items,
+      c.in_ok-push.ensures.items,
+    )
+    (thirteen_parts c.args.out.now.items (20 ∷ []) k.cookie (name_list k.kex_algorithms) (name_list k.server_host_key_algorithms)
+    (name_list k.encryption_client_to_server) (name_list k.encryption_server_to_client) (name_list k.mac_client_to_server)
+    (name_list k.mac_server_to_client) (name_list k.compression_client_to_server) (name_list k.compression_server_to_client)
+    (name_list k.languages_client_to_server) (name_list k.languages_server_to_client) (boolean k.first_kex_packet_follows) (uint32 0))

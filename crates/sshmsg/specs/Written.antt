@@ -1,0 +1,120 @@
+-- The written form of a message: its number and its fields in order, each in the one form that is written for it.
+
+use Rattle.std.specs.Prelude.{ℕ, ◌^◌, ◌<◌, ◌≡◌, false, true, List, [], ◌∷◌, ◌++◌, codes, flat_map, length}
+use Rattle.std.specs.List.{AllByRecursion}
+use Rattle.std.specs.Str.{IsUtf8}
+use Rattle.sshwire.specs.Types.{AreNames, boolean, name_list, names_body, string, uint32}
+use Rattle.sshmsg.specs.Content.{Content, Debug, Disconnect, ExtInfo, Ignore, KexInit, KexdhInit, KexdhReply, Method, NewKeys, NoMethod, Offer, OtherMethod, Password, PasswordChange, PublicKey, PublicKeyQuery, ServiceAccept, ServiceRequest, Unimplemented, UserauthBanner, UserauthFailure, UserauthRequest, UserauthSuccess}
+use Rattle.sshmsg.specs.Messages.{is_named}
+use Rattle.sshmsg.specs.Owned.{IsNumber}
+
+-- the pairs of an EXT_INFO
+abbrev pub pair_written : List ℕ × List ℕ → List ℕ
+pair_written pair = string pair.0 ++ string pair.1
+
+abbrev pub pairs_written : List (List ℕ × List ℕ) → List ℕ
+pairs_written pairs = flat_map pair_written pairs
+
+-- the fields of a KEXINIT; the reserved word is 0
+abbrev pub offer_written : Offer → List ℕ
+offer_written offer =
+    offer.cookie
+    ++ (name_list offer.kex_algorithms
+    ++ (name_list offer.server_host_key_algorithms
+    ++ (name_list offer.encryption_client_to_server
+    ++ (name_list offer.encryption_server_to_client
+    ++ (name_list offer.mac_client_to_server
+    ++ (name_list offer.mac_server_to_client
+    ++ (name_list offer.compression_client_to_server
+    ++ (name_list offer.compression_server_to_client
+    ++ (name_list offer.languages_client_to_server
+    ++ (name_list offer.languages_server_to_client
+    ++ (boolean offer.first_kex_packet_follows
+    ++ uint32 0)))))))))))
+
+-- a method: its name, and the fields behind it
+abbrev pub method_name : Method → List ℕ
+method_name NoMethod = codes "none"
+method_name (Password password) = codes "password"
+method_name (PasswordChange old new) = codes "password"
+method_name (PublicKey algorithm key signature) = codes "publickey"
+method_name (PublicKeyQuery algorithm key) = codes "publickey"
+method_name (OtherMethod name fields) = name
+
+abbrev pub method_fields : Method → List ℕ
+method_fields NoMethod = []
+method_fields (Password password) = boolean false ++ string password
+method_fields (PasswordChange old new) = boolean true ++ (string old ++ string new)
+method_fields (PublicKey algorithm key signature) = boolean true ++ (string algorithm ++ (string key ++ string signature))
+method_fields (PublicKeyQuery algorithm key) = boolean false ++ (string algorithm ++ string key)
+method_fields (OtherMethod name fields) = fields
+
+-- the payload that is written for a message
+unfoldable pub written : Content → List ℕ
+written (Disconnect reason description language) = 1 ∷ (uint32 reason ++ (string description ++ string language))
+written (Ignore content) = 2 ∷ string content
+written (Unimplemented sequence_number) = 3 ∷ uint32 sequence_number
+written (Debug always_display text language) = 4 ∷ (boolean always_display ++ (string text ++ string language))
+written (ServiceRequest service) = 5 ∷ string service
+written (ServiceAccept service) = 6 ∷ string service
+written (ExtInfo pairs) = 7 ∷ (uint32 (length pairs) ++ pairs_written pairs)
+written (KexInit offer) = 20 ∷ offer_written offer
+written NewKeys = 21 ∷ []
+written (KexdhInit e) = 30 ∷ string e
+written (KexdhReply host_key f signature) = 31 ∷ (string host_key ++ (string f ++ string signature))
+written (UserauthRequest user service method) =
+    50 ∷ (string user ++ (string service ++ (string (method_name method) ++ method_fields method)))
+written (UserauthFailure methods partial_success) = 51 ∷ (name_list methods ++ boolean partial_success)
+written UserauthSuccess = 52 ∷ []
+written (UserauthBanner text language) = 53 ∷ (string text ++ string language)
+
+-- What the fields of a message have to be, so that they can be written: lengths and numbers fit a uint32,
+-- names are names, mpints are the shortest, the user is UTF-8, a cookie has 16 bytes.
+abbrev pub IsString : List ℕ → Type 0
+IsString bytes = length bytes < 2 ^ 32
+
+pub record IsNameList (names : List (List ℕ)) : Type 0 where
+  pub each : AreNames names
+  pub short : length (names_body names) < 2 ^ 32
+
+pub record IsOffer (offer : Offer) : Type 0 where
+  pub cookie : length offer.cookie ≡ 16
+  pub kex_algorithms : IsNameList offer.kex_algorithms
+  pub server_host_key_algorithms : IsNameList offer.server_host_key_algorithms
+  pub encryption_client_to_server : IsNameList offer.encryption_client_to_server
+  pub encryption_server_to_client : IsNameList offer.encryption_server_to_client
+  pub mac_client_to_server : IsNameList offer.mac_client_to_server
+  pub mac_server_to_client : IsNameList offer.mac_server_to_client
+  pub compression_client_to_server : IsNameList offer.compression_client_to_server
+  pub compression_server_to_client : IsNameList offer.compression_server_to_client
+  pub languages_client_to_server : IsNameList offer.languages_client_to_server
+  pub languages_server_to_client : IsNameList offer.languages_server_to_client
+
+abbrev pub IsPair : List ℕ × List ℕ → Type 0
+IsPair pair = IsString pair.0 × IsString pair.1
+
+abbrev pub IsMethod : Method → Type 0
+IsMethod NoMethod = Unit {0}
+IsMethod (Password password) = IsString password
+IsMethod (PasswordChange old new) = IsString old × IsString new
+IsMethod (PublicKey algorithm key signature) = IsString algorithm × IsString key × IsString signature
+IsMethod (PublicKeyQuery algorithm key) = IsString algorithm × IsString key
+IsMethod (OtherMethod name fields) = is_named name ≡ false
+
+abbrev pub IsWellFormed : Content → Type 0
+IsWellFormed (Disconnect reason description language) = (reason < 2 ^ 32) × IsString description × IsString language
+IsWellFormed (Ignore content) = IsString content
+IsWellFormed (Unimplemented sequence_number) = sequence_number < 2 ^ 32
+IsWellFormed (Debug always_display text language) = IsString text × IsString language
+IsWellFormed (ServiceRequest service) = IsString service
+IsWellFormed (ServiceAccept service) = IsString service
+IsWellFormed (ExtInfo pairs) = (length pairs < 2 ^ 32) × AllByRecursion IsPair pairs
+IsWellFormed (KexInit offer) = IsOffer offer
+IsWellFormed NewKeys = Unit {0}
+IsWellFormed (KexdhInit e) = IsNumber e
+IsWellFormed (KexdhReply host_key f signature) = IsString host_key × IsNumber f × IsString signature
+IsWellFormed (UserauthRequest user service method) =
+    IsUtf8 user × IsString user × IsString service × IsString (method_name method) × IsMethod method
+IsWellFormed (UserauthFailure methods partial_success) = IsNameList methods
+IsWellFormed UserauthSuccess = Unit {0}
+IsWellFormed (UserauthBanner text language) = IsString text × IsString language

@@ -1,0 +1,347 @@
+//! Writes a message as a payload.
+
+ghost use Rattle.std.specs.Prelude.{◌≡◌, ◌≤◌, ◌++◌, ◌∷◌, [], OnErr, OnOk, if◌then◌else◌, is_ok, length, string_bytes, take};
+ghost use Rattle.sshwire.specs.Types.{string};
+ghost use Rattle.sshmsg.specs.Content as content;
+ghost use Rattle.sshmsg.specs.Messages.{Spells};
+ghost use Rattle.sshmsg.specs.View.{content_of, method_of, offer_of, pair_of, pairs_of};
+ghost use Rattle.sshmsg.specs.Written.{IsMethod, IsWellFormed, method_fields, pair_written, pairs_written, written};
+
+use crate::message::{Extension, KexInit, Message, Method, MpintBuf};
+use sshwire::{Memory, NameList, put_boolean, put_string, put_u32};
+
+/// Appends the payload of a message (RFC 4253, RFC 4252, RFC 8308): booleans as 0 or 1, the reserved
+/// word of a KEXINIT as 0.
+///
+/// The caller's condition is that the message [`fits`](Message::fits). For want of memory the vector
+/// is unchanged.
+pub fn write(message: &Message, out: &mut Vec<u8>) -> Result<(), Memory>
+    requires { length (written (content_of message.now)) ≤ 32768 }
+    ensures appends { out.new.items ≡ (if is_ok result then out.old.items ++ written (content_of message.now) else out.old.items) }
+    // What is appended spells the message, and so is read again as it.
+    ensures spells { OnOk result (Spells (content_of message.now) (written (content_of message.now))) }
+{
+    crate::law::written_law();
+    let start = out.len();
+    if put_message(out, message).is_err() {
+        out.truncate(start);
+        return Err(Memory);
+    }
+    Ok(())
+}
+
+/// Appends a message; for want of memory a front of it may stand there, as with every function below.
+#[tactic(auto, unfolding(crate::specs::Written::written))]
+fn put_message(out: &mut Vec<u8>, message: &Message) -> Result<(), Memory>
+    requires { length (written (content_of message.now)) ≤ 32768 }
+    ensures ok { OnOk result (out.new.items ≡ out.old.items ++ written (content_of message.now)) }
+    ensures well { OnOk result (IsWellFormed (content_of message.now)) }
+    ensures err { OnErr result (take (length out.old.items) out.new.items ≡ out.old.items) }
+{
+    match message {
+        Message::Disconnect {
+            reason,
+            description,
+            language,
+        } => put_disconnect(out, *reason, description, language),
+        Message::Ignore { content } => put_one_string(out, 2, content),
+        Message::Unimplemented { sequence_number } => put_unimplemented(out, *sequence_number),
+        Message::Debug {
+            always_display,
+            text,
+            language,
+        } => put_debug(out, *always_display, text, language),
+        Message::ServiceRequest { service } => put_one_string(out, 5, service),
+        Message::ServiceAccept { service } => put_one_string(out, 6, service),
+        Message::ExtInfo { extensions } => put_ext_info(out, extensions),
+        Message::KexInit(kexinit) => put_kexinit(out, kexinit),
+        Message::NewKeys => put_number(out, 21),
+        Message::KexdhInit { e } => put_kexdh_init(out, e),
+        Message::KexdhReply {
+            host_key,
+            f,
+            signature,
+        } => put_kexdh_reply(out, host_key, f, signature),
+        Message::UserauthRequest {
+            user,
+            service,
+            method,
+        } => put_userauth_request(out, user, service, method),
+        Message::UserauthFailure {
+            methods,
+            partial_success,
+        } => put_userauth_failure(out, methods, *partial_success),
+        Message::UserauthSuccess => put_number(out, 52),
+        Message::UserauthBanner { text, language } => put_userauth_banner(out, text, language),
+    }
+}
+
+fn put_number(out: &mut Vec<u8>, number: u8) -> Result<(), Memory>
+    ensures ok { OnOk result (out.new.items ≡ out.old.items ++ number ∷ []) }
+    ensures err { OnErr result (take (length out.old.items) out.new.items ≡ out.old.items) }
+{
+    out.push(number)?;
+    Ok(())
+}
+
+/// A message whose one field is a string.
+fn put_one_string(out: &mut Vec<u8>, number: u8, bytes: &[u8]) -> Result<(), Memory>
+    requires { length (number ∷ string bytes.now) ≤ 32768 }
+    ensures ok { OnOk result (out.new.items ≡ out.old.items ++ number ∷ string bytes.now) }
+    ensures err { OnErr result (take (length out.old.items) out.new.items ≡ out.old.items) }
+{
+    out.push(number)?;
+    put_string(out, bytes)
+}
+
+#[tactic(auto, unfolding(crate::specs::Written::written))]
+fn put_disconnect(
+    out: &mut Vec<u8>,
+    reason: u32,
+    description: &[u8],
+    language: &[u8],
+) -> Result<(), Memory>
+    requires { length (written (content.Disconnect reason description.now language.now)) ≤ 32768 }
+    ensures ok { OnOk result (out.new.items ≡ out.old.items ++ written (content.Disconnect reason description.now language.now)) }
+    ensures well { OnOk result (IsWellFormed (content.Disconnect reason description.now language.now)) }
+    ensures err { OnErr result (take (length out.old.items) out.new.items ≡ out.old.items) }
+{
+    out.push(1)?;
+    put_u32(out, reason)?;
+    put_string(out, description)?;
+    put_string(out, language)
+}
+
+#[tactic(auto, unfolding(crate::specs::Written::written))]
+fn put_unimplemented(out: &mut Vec<u8>, sequence_number: u32) -> Result<(), Memory>
+    ensures ok { OnOk result (out.new.items ≡ out.old.items ++ written (content.Unimplemented sequence_number)) }
+    ensures well { OnOk result (IsWellFormed (content.Unimplemented sequence_number)) }
+    ensures err { OnErr result (take (length out.old.items) out.new.items ≡ out.old.items) }
+{
+    out.push(3)?;
+    put_u32(out, sequence_number)
+}
+
+#[tactic(auto, unfolding(crate::specs::Written::written))]
+fn put_debug(
+    out: &mut Vec<u8>,
+    always_display: bool,
+    text: &[u8],
+    language: &[u8],
+) -> Result<(), Memory>
+    requires { length (written (content.Debug always_display text.now language.now)) ≤ 32768 }
+    ensures ok { OnOk result (out.new.items ≡ out.old.items ++ written (content.Debug always_display text.now language.now)) }
+    ensures well { OnOk result (IsWellFormed (content.Debug always_display text.now language.now)) }
+    ensures err { OnErr result (take (length out.old.items) out.new.items ≡ out.old.items) }
+{
+    out.push(4)?;
+    put_boolean(out, always_display)?;
+    put_string(out, text)?;
+    put_string(out, language)
+}
+
+#[tactic(auto, unfolding(crate::specs::Written::written))]
+fn put_kexinit(out: &mut Vec<u8>, kexinit: &KexInit) -> Result<(), Memory>
+    ensures ok { OnOk result (out.new.items ≡ out.old.items ++ written (content.KexInit (offer_of kexinit.now))) }
+    ensures well { OnOk result (IsWellFormed (content.KexInit (offer_of kexinit.now))) }
+    ensures err { OnErr result (take (length out.old.items) out.new.items ≡ out.old.items) }
+{
+    out.push(20)?;
+    out.extend_from_slice(&kexinit.cookie)?;
+    kexinit.kex_algorithms.write(out)?;
+    kexinit.server_host_key_algorithms.write(out)?;
+    kexinit.encryption_client_to_server.write(out)?;
+    kexinit.encryption_server_to_client.write(out)?;
+    kexinit.mac_client_to_server.write(out)?;
+    kexinit.mac_server_to_client.write(out)?;
+    kexinit.compression_client_to_server.write(out)?;
+    kexinit.compression_server_to_client.write(out)?;
+    kexinit.languages_client_to_server.write(out)?;
+    kexinit.languages_server_to_client.write(out)?;
+    put_boolean(out, kexinit.first_kex_packet_follows)?;
+    put_u32(out, 0)?;
+    Ok(())
+}
+
+#[tactic(auto, unfolding(crate::specs::Written::written))]
+fn put_kexdh_init(out: &mut Vec<u8>, e: &MpintBuf) -> Result<(), Memory>
+    ensures ok { OnOk result (out.new.items ≡ out.old.items ++ written (content.KexdhInit e.now)) }
+    ensures well { OnOk result (IsWellFormed (content.KexdhInit e.now)) }
+    ensures err { OnErr result (take (length out.old.items) out.new.items ≡ out.old.items) }
+{
+    out.push(30)?;
+    put_string(out, e.body())
+}
+
+#[tactic(auto, unfolding(crate::specs::Written::written))]
+fn put_kexdh_reply(
+    out: &mut Vec<u8>,
+    host_key: &[u8],
+    f: &MpintBuf,
+    signature: &[u8],
+) -> Result<(), Memory>
+    requires { length (written (content.KexdhReply host_key.now f.now signature.now)) ≤ 32768 }
+    ensures ok { OnOk result (out.new.items ≡ out.old.items ++ written (content.KexdhReply host_key.now f.now signature.now)) }
+    ensures well { OnOk result (IsWellFormed (content.KexdhReply host_key.now f.now signature.now)) }
+    ensures err { OnErr result (take (length out.old.items) out.new.items ≡ out.old.items) }
+{
+    out.push(31)?;
+    put_string(out, host_key)?;
+    put_string(out, f.body())?;
+    put_string(out, signature)
+}
+
+#[tactic(auto, unfolding(crate::specs::Written::written))]
+fn put_userauth_failure(
+    out: &mut Vec<u8>,
+    methods: &NameList,
+    partial_success: bool,
+) -> Result<(), Memory>
+    ensures ok { OnOk result (out.new.items ≡ out.old.items ++ written (content.UserauthFailure methods.now partial_success)) }
+    ensures well { OnOk result (IsWellFormed (content.UserauthFailure methods.now partial_success)) }
+    ensures err { OnErr result (take (length out.old.items) out.new.items ≡ out.old.items) }
+{
+    out.push(51)?;
+    methods.write(out)?;
+    put_boolean(out, partial_success)
+}
+
+#[tactic(auto, unfolding(crate::specs::Written::written))]
+fn put_userauth_banner(out: &mut Vec<u8>, text: &[u8], language: &[u8]) -> Result<(), Memory>
+    requires { length (written (content.UserauthBanner text.now language.now)) ≤ 32768 }
+    ensures ok { OnOk result (out.new.items ≡ out.old.items ++ written (content.UserauthBanner text.now language.now)) }
+    ensures well { OnOk result (IsWellFormed (content.UserauthBanner text.now language.now)) }
+    ensures err { OnErr result (take (length out.old.items) out.new.items ≡ out.old.items) }
+{
+    out.push(53)?;
+    put_string(out, text)?;
+    put_string(out, language)
+}
+
+#[tactic(auto, unfolding(crate::specs::Written::written))]
+fn put_userauth_request(
+    out: &mut Vec<u8>,
+    user: &str,
+    service: &[u8],
+    method: &Method,
+) -> Result<(), Memory>
+    requires { length (written (content.UserauthRequest user.now service.now (method_of method.now))) ≤ 32768 }
+    ensures ok { OnOk result (out.new.items ≡ out.old.items ++ written (content.UserauthRequest user.now service.now (method_of method.now))) }
+    ensures well { OnOk result (IsWellFormed (content.UserauthRequest user.now service.now (method_of method.now))) }
+    ensures err { OnErr result (take (length out.old.items) out.new.items ≡ out.old.items) }
+{
+    out.push(50)?;
+    put_string(out, user.as_bytes())?;
+    put_string(out, service)?;
+    put_string(out, method.name())?;
+    put_method_fields(out, method)
+}
+
+/// Appends the fields of a method, which stand behind its name.
+fn put_method_fields(out: &mut Vec<u8>, method: &Method) -> Result<(), Memory>
+    requires { length (method_fields (method_of method.now)) ≤ 32768 }
+    ensures ok { OnOk result (out.new.items ≡ out.old.items ++ method_fields (method_of method.now)) }
+    ensures well { IsMethod (method_of method.now) }
+    ensures err { OnErr result (take (length out.old.items) out.new.items ≡ out.old.items) }
+{
+    match method {
+        Method::None => Ok(()),
+        Method::Password { password } => put_password(out, password),
+        Method::PasswordChange { old, new } => put_password_change(out, old, new),
+        Method::PublicKey {
+            algorithm,
+            key,
+            signature,
+        } => put_publickey(out, algorithm, key, signature),
+        Method::PublicKeyQuery { algorithm, key } => put_publickey_query(out, algorithm, key),
+        Method::Other(other) => put_bytes(out, other.fields()),
+    }
+}
+
+fn put_password(out: &mut Vec<u8>, password: &[u8]) -> Result<(), Memory>
+    requires { length (method_fields (content.Password password.now)) ≤ 32768 }
+    ensures ok { OnOk result (out.new.items ≡ out.old.items ++ method_fields (content.Password password.now)) }
+    ensures err { OnErr result (take (length out.old.items) out.new.items ≡ out.old.items) }
+{
+    put_boolean(out, false)?;
+    put_string(out, password)
+}
+
+fn put_password_change(out: &mut Vec<u8>, old: &[u8], new: &[u8]) -> Result<(), Memory>
+    requires { length (method_fields (content.PasswordChange old.now new.now)) ≤ 32768 }
+    ensures ok { OnOk result (out.new.items ≡ out.old.items ++ method_fields (content.PasswordChange old.now new.now)) }
+    ensures err { OnErr result (take (length out.old.items) out.new.items ≡ out.old.items) }
+{
+    put_boolean(out, true)?;
+    put_string(out, old)?;
+    put_string(out, new)
+}
+
+fn put_publickey(
+    out: &mut Vec<u8>,
+    algorithm: &[u8],
+    key: &[u8],
+    signature: &[u8],
+) -> Result<(), Memory>
+    requires { length (method_fields (content.PublicKey algorithm.now key.now signature.now)) ≤ 32768 }
+    ensures ok { OnOk result (out.new.items ≡ out.old.items ++ method_fields (content.PublicKey algorithm.now key.now signature.now)) }
+    ensures err { OnErr result (take (length out.old.items) out.new.items ≡ out.old.items) }
+{
+    put_boolean(out, true)?;
+    put_string(out, algorithm)?;
+    put_string(out, key)?;
+    put_string(out, signature)
+}
+
+fn put_publickey_query(out: &mut Vec<u8>, algorithm: &[u8], key: &[u8]) -> Result<(), Memory>
+    requires { length (method_fields (content.PublicKeyQuery algorithm.now key.now)) ≤ 32768 }
+    ensures ok { OnOk result (out.new.items ≡ out.old.items ++ method_fields (content.PublicKeyQuery algorithm.now key.now)) }
+    ensures err { OnErr result (take (length out.old.items) out.new.items ≡ out.old.items) }
+{
+    put_boolean(out, false)?;
+    put_string(out, algorithm)?;
+    put_string(out, key)
+}
+
+fn put_bytes(out: &mut Vec<u8>, bytes: &[u8]) -> Result<(), Memory>
+    ensures ok { OnOk result (out.new.items ≡ out.old.items ++ bytes.now) }
+    ensures err { OnErr result (take (length out.old.items) out.new.items ≡ out.old.items) }
+{
+    out.extend_from_slice(bytes)?;
+    Ok(())
+}
+
+#[tactic(auto, unfolding(crate::specs::Written::written))]
+fn put_ext_info(out: &mut Vec<u8>, extensions: &[Extension]) -> Result<(), Memory>
+    requires { length (written (content.ExtInfo (pairs_of extensions.now))) ≤ 32768 }
+    ensures ok { OnOk result (out.new.items ≡ out.old.items ++ written (content.ExtInfo (pairs_of extensions.now))) }
+    ensures well { OnOk result (IsWellFormed (content.ExtInfo (pairs_of extensions.now))) }
+    ensures err { OnErr result (take (length out.old.items) out.new.items ≡ out.old.items) }
+{
+    let count = extensions.len() as u32;
+    out.push(7)?;
+    put_u32(out, count)?;
+    put_extensions(out, extensions)
+}
+
+/// Appends pairs of a name and a value.
+#[tactic(auto, using(crate::proofs::PutLemmas::pairs_more))]
+fn put_extensions(out: &mut Vec<u8>, extensions: &[Extension]) -> Result<(), Memory>
+    requires { length (pairs_written (pairs_of extensions.now)) ≤ 32768 }
+    ensures ok { OnOk result (out.new.items ≡ out.old.items ++ pairs_written (pairs_of extensions.now)) }
+    ensures err { OnErr result (take (length out.old.items) out.new.items ≡ out.old.items) }
+{
+    for extension in extensions {
+        put_extension(out, extension)?;
+    }
+    Ok(())
+}
+
+fn put_extension(out: &mut Vec<u8>, extension: &Extension) -> Result<(), Memory>
+    requires { length (pair_written (pair_of extension.now)) ≤ 32768 }
+    ensures ok { OnOk result (out.new.items ≡ out.old.items ++ pair_written (pair_of extension.now)) }
+    ensures err { OnErr result (take (length out.old.items) out.new.items ≡ out.old.items) }
+{
+    put_string(out, &extension.name)?;
+    put_string(out, &extension.value)
+}
