@@ -6,6 +6,7 @@
 #![tactic(auto)]
 
 mod fault;
+mod fits;
 mod law;
 mod message;
 mod reading;

@@ -70,6 +70,13 @@ impl NameList {
         Ok(())
     }
 
+    /// How many bytes `write` appends. Takes no memory.
+    pub fn written_len(&self) -> usize
+        ensures { result ≡ length (name_list self.now) }
+    {
+        4 + self.len as usize
+    }
+
     /// The names, in order. Takes no memory.
     pub fn names(&self) -> &[String]
         ensures names { map string_bytes result.now ≡ self.now }

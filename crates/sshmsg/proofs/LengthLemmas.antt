@@ -1,0 +1,53 @@
+-- How long an EXT_INFO is, pair by pair.
+
+use Rattle.std.proofs.Common.{◌≡◌, ℕ, zero, suc, get_or, ◌+◌, ◌<◌, ◌≤◌, List, [], ◌∷◌, ◌++◌, length, take, nat_le, false, sym, ap, ◌∙◌, arith, lit≤}
+use Rattle.std.proofs.lemmas.Bool.{lt-leb}
+use Rattle.std.proofs.lemmas.List.{length-append, take_all}
+use Rattle.sshwire.specs.Types.{string}
+use Rattle.sshmsg.specs.declared.message.Extension.{Extension}
+use Rattle.sshmsg.specs.Content.{ExtInfo}
+use Rattle.sshmsg.specs.View.{pair_of, pairs_of}
+use Rattle.sshmsg.specs.Written.{pair_written, pairs_written, written}
+use Rattle.sshmsg.proofs.PutLemmas.{pairs_more}
+
+-- some pairs are no longer than all
+front_within : (xs : List Extension) (i : ℕ) → length (pairs_written (pairs_of (take i xs))) ≤ length (pairs_written (pairs_of xs))
+front_within xs zero = omega arith
+front_within [] (suc i) = lit≤ tt
+front_within (x ∷ xs) (suc i) =
+    let more : length (pairs_written (pairs_of (take i xs))) ≤ length (pairs_written (pairs_of xs)) = front_within xs i in
+    let front : length (pairs_written (pairs_of (take (suc i) (x ∷ xs)))) ≡ length (pair_written (pair_of x)) + length (pairs_written (pairs_of (take i xs)))
+    = length-append (pair_written (pair_of x)) (pairs_written (pairs_of (take i xs))) in
+    let all : length (pairs_written (pairs_of (x ∷ xs))) ≡ length (pair_written (pair_of x)) + length (pairs_written (pairs_of xs))
+    = length-append (pair_written (pair_of x)) (pairs_written (pairs_of xs)) in
+    omega arith
+
+-- a front that is too long is told as the whole is
+pub too_long : (xs : List Extension) (i len : ℕ) → len ≡ 5 + length (pairs_written (pairs_of (take i xs))) → 32768 < len
+    → nat_le len 32768 ≡ nat_le (length (written (ExtInfo (pairs_of xs)))) 32768
+unfolding written
+too_long xs i len is over =
+    let within : length (pairs_written (pairs_of (take i xs))) ≤ length (pairs_written (pairs_of xs)) = front_within xs i in
+    let whole : 32768 < length (written (ExtInfo (pairs_of xs))) = omega arith in
+    lt-leb len 32768 over ∙ sym (lt-leb (length (written (ExtInfo (pairs_of xs)))) 32768 whole)
+
+-- one more pair
+pub length_more : (xs : List Extension) (i len : ℕ) (x : Extension) → i < length xs → x ≡ get_or xs i x
+    → len ≡ 5 + length (pairs_written (pairs_of (take i xs)))
+    → len + (length (string x.name.items) + length (string x.value.items)) ≡ 5 + length (pairs_written (pairs_of (take (i + 1) xs)))
+length_more xs i len x h e is =
+    let more : length (pairs_written (pairs_of (take (i + 1) xs))) ≡ length (pairs_written (pairs_of (take i xs)) ++ pair_written (pair_of x))
+    = ap (λ (bs : List ℕ). length bs) (pairs_more xs i x h e) in
+    let both : length (pairs_written (pairs_of (take i xs)) ++ pair_written (pair_of x)) ≡ length (pairs_written (pairs_of (take i xs))) + length (pair_written (pair_of x))
+    = length-append (pairs_written (pairs_of (take i xs))) (pair_written (pair_of x)) in
+    let pair : length (pair_written (pair_of x)) ≡ length (string x.name.items) + length (string x.value.items) = length-append (string x.name.items) (string x.value.items) in
+    omega arith
+
+-- all pairs
+pub length_all : (xs : List Extension) (i len : ℕ) → length xs ≤ i → len ≡ 5 + length (pairs_written (pairs_of (take i xs)))
+    → len ≡ length (written (ExtInfo (pairs_of xs)))
+unfolding written
+length_all xs i len h is =
+    let same : length (pairs_written (pairs_of (take i xs))) ≡ length (pairs_written (pairs_of xs))
+    = ap (λ (ys : List Extension). length (pairs_written (pairs_of ys))) (take_all i xs h) in
+    omega arith

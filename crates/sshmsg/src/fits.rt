@@ -1,0 +1,111 @@
+//! How long the payload of a message is.
+
+ghost use Rattle.std.specs.Prelude.{◌≡◌, ◌<◌, ◌^◌, ◌++◌, length, nat_le};
+ghost use Rattle.sshwire.specs.Types.{string};
+ghost use Rattle.sshmsg.specs.Content as content;
+ghost use Rattle.sshmsg.specs.View.{content_of, method_of, offer_of, pair_of, pairs_of};
+ghost use Rattle.sshmsg.specs.Written.{method_fields, method_name, pair_written, pairs_written, written};
+
+use crate::message::{Extension, KexInit, Message, Method};
+
+/// The most bytes of a payload (RFC 4253 section 6.1).
+const PAYLOAD_LIMIT: u128 = 32768;
+
+impl Message {
+    /// Whether the payload that [`write`](crate::write) appends has at most 32768 bytes. Takes no
+    /// memory.
+    #[tactic(auto, unfolding(crate::specs::Written::written))]
+    pub fn fits(&self) -> bool
+        ensures { result ≡ nat_le (length (written (content_of self.now))) 32768 }
+    {
+        let len = match self {
+            Message::Disconnect {
+                description,
+                language,
+                ..
+            } => 5 + string_len(description) + string_len(language),
+            Message::Ignore { content } => 1 + string_len(content),
+            Message::Unimplemented { .. } => 5,
+            Message::Debug { text, language, .. } => 2 + string_len(text) + string_len(language),
+            Message::ServiceRequest { service } => 1 + string_len(service),
+            Message::ServiceAccept { service } => 1 + string_len(service),
+            Message::ExtInfo { extensions } => ext_info_len(extensions),
+            Message::KexInit(kexinit) => kexinit_len(kexinit),
+            Message::NewKeys => 1,
+            Message::KexdhInit { e } => 1 + string_len(e.body()),
+            Message::KexdhReply {
+                host_key,
+                f,
+                signature,
+            } => 1 + string_len(host_key) + string_len(f.body()) + string_len(signature),
+            Message::UserauthRequest {
+                user,
+                service,
+                method,
+            } => 1 + string_len(user.as_bytes()) + string_len(service) + method_len(method),
+            Message::UserauthFailure { methods, .. } => 2 + methods.written_len() as u128,
+            Message::UserauthSuccess => 1,
+            Message::UserauthBanner { text, language } => {
+                1 + string_len(text) + string_len(language)
+            }
+        };
+        len <= PAYLOAD_LIMIT
+    }
+}
+
+fn string_len(bytes: &[u8]) -> u128
+    ensures { result ≡ length (string bytes.now) }
+{
+    4 + bytes.len() as u128
+}
+
+#[tactic(auto, unfolding(crate::specs::Written::written))]
+fn kexinit_len(kexinit: &KexInit) -> u128
+    ensures { result ≡ length (written (content.KexInit (offer_of kexinit.now))) }
+{
+    let algorithms = kexinit.kex_algorithms.written_len() as u128
+        + kexinit.server_host_key_algorithms.written_len() as u128
+        + kexinit.encryption_client_to_server.written_len() as u128
+        + kexinit.encryption_server_to_client.written_len() as u128
+        + kexinit.mac_client_to_server.written_len() as u128
+        + kexinit.mac_server_to_client.written_len() as u128
+        + kexinit.compression_client_to_server.written_len() as u128
+        + kexinit.compression_server_to_client.written_len() as u128
+        + kexinit.languages_client_to_server.written_len() as u128
+        + kexinit.languages_server_to_client.written_len() as u128;
+    22 + algorithms
+}
+
+/// The name of a method and its fields.
+fn method_len(method: &Method) -> u128
+    ensures len { result ≡ length (string (method_name (method_of method.now)) ++ method_fields (method_of method.now)) }
+    ensures bounded { result < 2 ^ 68 }
+{
+    match method {
+        Method::None => 8,
+        Method::Password { password } => 13 + string_len(password),
+        Method::PasswordChange { old, new } => 13 + string_len(old) + string_len(new),
+        Method::PublicKey {
+            algorithm,
+            key,
+            signature,
+        } => 14 + string_len(algorithm) + string_len(key) + string_len(signature),
+        Method::PublicKeyQuery { algorithm, key } => 14 + string_len(algorithm) + string_len(key),
+        Method::Other(other) => string_len(other.name()) + other.fields().len() as u128,
+    }
+}
+
+/// The length of an EXT_INFO, or some length above the limit where its own is.
+#[tactic(auto, using(crate::proofs::LengthLemmas::too_long, crate::proofs::LengthLemmas::length_more, crate::proofs::LengthLemmas::length_all))]
+fn ext_info_len(extensions: &[Extension]) -> u128
+    ensures { nat_le result 32768 ≡ nat_le (length (written (content.ExtInfo (pairs_of extensions.now)))) 32768 }
+{
+    let mut len = 5;
+    for extension in extensions {
+        if len > PAYLOAD_LIMIT {
+            return len;
+        }
+        len += string_len(&extension.name) + string_len(&extension.value);
+    }
+    len
+}
