@@ -10,6 +10,8 @@ mod fits;
 mod law;
 mod message;
 mod reading;
+#[cfg(test)]
+mod tests;
 mod writing;
 
 pub use fault::MsgFault;

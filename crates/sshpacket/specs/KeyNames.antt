@@ -1,0 +1,8 @@
+-- What `Keys` keeps of its names.
+
+use Rattle.std.specs.Prelude.{ℕ, List}
+use Rattle.sshwire.specs.Types.{IsName}
+
+pub record HasNames (cipher mac : List ℕ) : Type 0 where
+  pub cipher_name : IsName cipher
+  pub mac_name : IsName mac

@@ -1,0 +1,6 @@
+pub mod Front
+pub mod KeyData
+pub mod KeyNames
+pub mod Packet
+pub mod Suite
+pub mod Written

@@ -1,0 +1,84 @@
+-- What a suite of algorithms answers, as functions on byte lists, and the laws that hold of them.
+
+use Rattle.std.specs.Prelude.{◌≡◌, ℕ, ◌+◌, ◌^◌, ◌<◌, ◌≤◌, Bool, true, List, length, take, slice_index, Option, Some}
+use Rattle.sshwire.specs.Types.{IsBytes, IsName}
+use Rattle.sshpacket.specs.declared.suite.Capability.{Capability}
+use Rattle.sshpacket.specs.declared.suite.KeyLens.{KeyLens}
+use Rattle.sshpacket.specs.declared.suite.Need.{Need}
+use Rattle.sshpacket.specs.KeyData.{KeyData}
+use Rattle.sshpacket.specs.Packet.{IsPacket, number}
+
+-- the answers of a suite, one function for each call
+pub record Meaning : Type 0 where
+  pub need : List ℕ → Need
+  pub can : List ℕ → Capability
+  pub block : List ℕ → ℕ
+  pub tag_len : List ℕ → List ℕ → ℕ
+  pub key_lens : List ℕ → List ℕ → KeyLens
+  pub seal : KeyData → ℕ → List ℕ → List ℕ
+  pub head : KeyData → ℕ → List ℕ → ℕ
+  pub unseal : KeyData → ℕ → List ℕ → Option (List ℕ)
+  pub padding : List ℕ → ℕ → ℕ → List ℕ
+  pub share : List ℕ → List ℕ → List ℕ
+  pub shared : List ℕ → List ℕ → List ℕ → Option (List ℕ)
+  pub digest : List ℕ → List ℕ → List ℕ
+  pub blob : List ℕ → List ℕ → List ℕ
+  pub sign : List ℕ → List ℕ → List ℕ → List ℕ
+  pub verify : List ℕ → List ℕ → List ℕ → List ℕ → Bool
+
+-- the body of an mpint of a positive number
+pub record IsPositiveBody (body : List ℕ) : Type 0 where
+  pub some : 0 < length body
+  pub sign : slice_index body 0 < 128
+  pub shortest : slice_index body 0 ≡ 0 → (1 < length body) × (128 ≤ slice_index body 1)
+  pub short : length body ≤ 4096
+
+-- a clear packet with this packet_length
+pub record Keeps (n : ℕ) (clear : List ℕ) : Type 0 where
+  pub length_is : length clear ≡ 4 + n
+  pub field_is : number clear ≡ n
+  pub bytes_are : IsBytes clear
+
+-- the packet is one that is sealed with these keys
+abbrev pub IsSealable : Meaning → KeyData → List ℕ → List ℕ → Type 0
+IsSealable m keys payload clear = IsBytes clear × IsPacket (m.block keys.cipher) (m.tag_len keys.cipher keys.mac) payload clear
+
+-- The laws. Outside the conditions of a call its function may be chosen as one likes, so the laws ask for no names
+-- where they don't need them.
+pub record IsLawful (m : Meaning) : Type 0 where
+  -- sealing adds the tag, keeps the length field readable from the first four bytes alone, and is undone by unsealing
+  pub seal_length : (keys : KeyData) (seq : ℕ) (payload clear : List ℕ) → seq < 2 ^ 32 → IsSealable m keys payload clear
+      → length (m.seal keys seq clear) ≡ length clear + m.tag_len keys.cipher keys.mac
+  pub head_of_seal : (keys : KeyData) (seq : ℕ) (payload clear : List ℕ) → seq < 2 ^ 32 → IsSealable m keys payload clear
+      → m.head keys seq (take 4 (m.seal keys seq clear)) ≡ number clear
+  pub unseal_of_seal : (keys : KeyData) (seq : ℕ) (payload clear : List ℕ) → seq < 2 ^ 32 → IsSealable m keys payload clear
+      → m.unseal keys seq (m.seal keys seq clear) ≡ Some clear
+  -- what is unsealed has the length that was read before, whatever came in
+  pub unsealed : (keys : KeyData) (seq : ℕ) (sealed clear : List ℕ) → seq < 2 ^ 32 → IsBytes sealed
+      → length sealed ≡ 4 + m.head keys seq (take 4 sealed) + m.tag_len keys.cipher keys.mac
+      → m.unseal keys seq sealed ≡ Some clear → Keeps (m.head keys seq (take 4 sealed)) clear
+  -- both sides come to one shared number
+  pub agreed : (kex a b : List ℕ) → length a ≡ 32 → length b ≡ 32 → m.shared kex a (m.share kex b) ≡ m.shared kex b (m.share kex a)
+  pub present : (kex a b : List ℕ) → length a ≡ 32 → length b ≡ 32 → (body : List ℕ) × (m.shared kex a (m.share kex b) ≡ Some body)
+  -- a signature is verified
+  pub signed : (alg secret input : List ℕ) → m.verify alg (m.blob alg secret) input (m.sign alg secret input) ≡ true
+  -- shares and shared numbers are positive
+  pub share_positive : (kex a : List ℕ) → length a ≡ 32 → IsPositiveBody (m.share kex a)
+  pub shared_positive : (kex a peer body : List ℕ) → length a ≡ 32 → m.shared kex a peer ≡ Some body → IsPositiveBody body
+  -- ranges
+  pub block_low : (cipher : List ℕ) → 8 ≤ m.block cipher
+  pub block_high : (cipher : List ℕ) → m.block cipher ≤ 64
+  pub tag_high : (cipher mac : List ℕ) → m.tag_len cipher mac ≤ 64
+  pub iv_high : (cipher mac : List ℕ) → (m.key_lens cipher mac).iv ≤ 64
+  pub enc_high : (cipher mac : List ℕ) → (m.key_lens cipher mac).enc ≤ 64
+  pub mac_high : (cipher mac : List ℕ) → (m.key_lens cipher mac).mac ≤ 64
+  pub padding_length : (seed : List ℕ) (seq len : ℕ) → length (m.padding seed seq len) ≡ len
+  pub digest_low : (kex input : List ℕ) → 1 ≤ length (m.digest kex input)
+  pub digest_high : (kex input : List ℕ) → length (m.digest kex input) ≤ 64
+  pub digest_even : (kex input other : List ℕ) → length (m.digest kex input) ≡ length (m.digest kex other)
+  pub blob_high : (alg secret : List ℕ) → IsName alg → length (m.blob alg secret) ≤ 8192
+  pub sign_high : (alg secret input : List ℕ) → IsName alg → length (m.sign alg secret input) ≤ 4096
+  -- what is sent is bytes
+  pub seal_bytes : (keys : KeyData) (seq : ℕ) (clear : List ℕ) → IsBytes clear → IsBytes (m.seal keys seq clear)
+  pub padding_bytes : (seed : List ℕ) (seq len : ℕ) → IsBytes (m.padding seed seq len)
+  pub share_bytes : (kex a : List ℕ) → IsBytes a → IsBytes (m.share kex a)

@@ -1,0 +1,88 @@
+//! The keys of one direction.
+
+ghost use Rattle.std.specs.Prelude.{◌≡◌, length};
+ghost use Rattle.sshwire.specs.Types.{IsName};
+
+use std::marker::Model;
+
+/// The algorithms and keys of one direction (RFC 4253 section 7.2): the names of the cipher and of
+/// the MAC, the initialisation vector and the two keys.
+///
+/// Contracts see them as byte lists.
+#[derive(Debug, Drop)]
+pub struct Keys {
+    cipher: String,
+    mac: String,
+    iv: Vec<u8>,
+    enc: Vec<u8>,
+    mac_key: Vec<u8>,
+}
+
+impl Model for Keys {
+    ghost use Rattle.std.specs.Prelude.{string_bytes};
+    ghost use Rattle.sshpacket.specs.KeyData.{KeyData};
+    ghost use Rattle.sshpacket.specs.KeyNames.{HasNames};
+
+    ghost Value = { KeyData };
+
+    ghost view = { λ k. record { cipher = string_bytes k.cipher; mac = string_bytes k.mac; iv = k.iv.items; enc = k.enc.items; mac_key = k.mac_key.items } };
+
+    ghost invariant = { λ k. HasNames (string_bytes k.cipher) (string_bytes k.mac) };
+}
+
+impl Keys {
+    ghost use Rattle.std.specs.Prelude.{string_bytes};
+
+    /// These algorithms and keys. The caller's condition is that the names are names (RFC 4251
+    /// section 6).
+    pub fn new(cipher: String, mac: String, iv: Vec<u8>, enc: Vec<u8>, mac_key: Vec<u8>) -> Keys
+        requires cipher { IsName (string_bytes cipher) }
+        requires mac { IsName (string_bytes mac) }
+        ensures { result ≡ record { cipher = string_bytes cipher; mac = string_bytes mac; iv = iv.items; enc = enc.items; mac_key = mac_key.items } }
+    {
+        Keys {
+            cipher,
+            mac,
+            iv,
+            enc,
+            mac_key,
+        }
+    }
+
+    /// The name of the cipher.
+    pub fn cipher(&self) -> &str
+        ensures cipher { result.now ≡ self.now.cipher }
+        ensures name { IsName self.now.cipher }
+    {
+        &self.cipher
+    }
+
+    /// The name of the MAC.
+    pub fn mac(&self) -> &str
+        ensures mac { result.now ≡ self.now.mac }
+        ensures name { IsName self.now.mac }
+    {
+        &self.mac
+    }
+
+    /// The initialisation vector.
+    pub fn iv(&self) -> &[u8]
+        ensures { result.now ≡ self.now.iv }
+    {
+        &self.iv
+    }
+
+    /// The encryption key.
+    pub fn enc(&self) -> &[u8]
+        ensures { result.now ≡ self.now.enc }
+    {
+        &self.enc
+    }
+
+    /// The integrity key.
+    pub fn mac_key(&self) -> &[u8]
+        ensures { result.now ≡ self.now.mac_key }
+    {
+        &self.mac_key
+    }
+}
