@@ -3,4 +3,5 @@ pub mod KeyData
 pub mod KeyNames
 pub mod Packet
 pub mod Suite
+pub mod Unit
 pub mod Written

@@ -3,10 +3,14 @@
 
 mod fault;
 mod keys;
+mod laws;
 mod padding;
 mod suite;
+mod write;
 
 pub use fault::PacketFault;
 pub use keys::Keys;
+pub use laws::{packet_law, writing_law};
 pub use padding::padding_len;
 pub use suite::{Capability, KeyLens, Need, Suite};
+pub use write::{write_clear, write_sealed};

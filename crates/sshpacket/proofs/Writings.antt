@@ -1,0 +1,120 @@
+-- What is written is a packet, and is read again.
+
+use Rattle.std.proofs.Common.{◌≡◌, ℕ, ◌+◌, ◌-◌, ◌%◌, ◌<◌, ◌≤◌, ◌^◌, Bool, true, false, List, ◌∷◌, ◌++◌, length, take, None, Some, refl, ap, ◌∙◌, arith, cond, ltb}
+use Rattle.std.proofs.Math.Nat.{le-max_left}
+use Rattle.std.proofs.lemmas.List.{length-append, take-append-le, take_at}
+use Rattle.std.proofs.lemmas.Nat.{mod_below}
+use Rattle.sshwire.specs.TypeReadings.{IsReading, uint32_at}
+use Rattle.sshwire.specs.Types.{IsBytes, Uint32Text}
+use Rattle.sshpacket.specs.Front.{front, way, whole}
+use Rattle.sshpacket.specs.KeyData.{KeyData}
+use Rattle.sshpacket.specs.Packet.{IsLeastPadding, IsLength, IsPacket, least_padding, length_field, number, packet, to_multiple, unit}
+use Rattle.sshpacket.specs.Suite.{IsLawful, Meaning}
+use Rattle.sshpacket.specs.Written.{IsWritten, written}
+use Rattle.sshpacket.proofs.ByteLemmas.{bytes_append, bytes_cons, bytes_field}
+use Rattle.sshpacket.proofs.LeastPadding.{least_is}
+use Rattle.sshpacket.proofs.Opening.{packet_length_is, packet_number, number_first}
+use Rattle.sshpacket.proofs.UnitLaws.{front_unit}
+
+-- bounds of the padding
+max_high : (block : ℕ) → block ≤ 64 → (b : Bool) → ltb 8 block ≡ b → unit block ≤ 64
+max_high block h b e = omega arith
+
+high_by : (u n : ℕ) (b : Bool) → 0 < u → u ≤ 64 → cond b (4 + to_multiple u n + u) (4 + to_multiple u n) ≤ 131
+high_by u n true some h = let low : to_multiple u n < u = mod_below (u - n % u) u some in omega arith
+high_by u n false some h = let low : to_multiple u n < u = mod_below (u - n % u) u some in omega arith
+
+pub padding_high : (block len : ℕ) → block ≤ 64 → least_padding block len ≤ 131
+padding_high block len h =
+    let wide : 8 ≤ unit block = le-max_left 8 block in
+    high_by (unit block) (9 + len) (ltb (9 + len + to_multiple (unit block) (9 + len)) 16) (omega (arith, wide)) (max_high block h (ltb 8 block) refl)
+
+-- the written packet is a packet with the least padding
+fits_packet : (block tag len padding : ℕ) → IsLeastPadding block len padding → padding ≤ 131 → tag ≤ 64 → len ≤ 32768 → IsLength block tag (1 + len + padding)
+fits_packet block tag len padding k high low short =
+    let enough : 16 ≤ 5 + len + padding = k.allowed.enough in
+    let same : 4 + (1 + len + padding) ≡ 5 + len + padding = omega arith in
+    record { multiple = ap (λ (n : ℕ). n % unit block) same ∙ k.allowed.multiple; least = omega arith; limit = omega arith }
+
+pub written_is : (m : Meaning) → IsLawful m → (block tag : ℕ) (seed : List ℕ) (seq : ℕ) (payload : List ℕ) → block ≤ 64 → tag ≤ 64
+    → 0 < length payload → length payload ≤ 32768 → IsWritten block tag payload (written m block seed seq payload)
+unfolding written
+written_is m law block tag seed seq payload low few some short =
+    let padding : List ℕ = m.padding seed seq (least_padding block (length payload)) in
+    let size : length (m.padding seed seq (least_padding block (length payload))) ≡ least_padding block (length payload)
+    = law.padding_length seed seq (least_padding block (length payload)) in
+    let least : IsLeastPadding block (length payload) (least_padding block (length payload)) = least_is block (length payload) in
+    let high : least_padding block (length payload) ≤ 131 = padding_high block (length payload) low in
+    let from : 4 ≤ least_padding block (length payload) = least.allowed.low in
+    let sized : IsLeastPadding block (length payload) (length (m.padding seed seq (least_padding block (length payload)))) = rw size least in
+    record {
+      spells = record {
+        padding = m.padding seed seq (least_padding block (length payload));
+        bytes_are = refl;
+        fits = fits_packet block tag (length payload) (length (m.padding seed seq (least_padding block (length payload)))) sized (omega arith) few short;
+        padding_low = omega arith;
+        padding_high = omega arith;
+        not_empty = some;
+      };
+      least = sized;
+    }
+
+packet_bytes : (payload padding : List ℕ) → length padding < 256 → IsBytes payload → IsBytes padding → IsBytes (packet payload padding)
+packet_bytes payload padding short each more =
+    bytes_append (length_field (1 + length payload + length padding)) (length padding ∷ (payload ++ padding))
+    (bytes_field (1 + length payload + length padding))
+    (bytes_cons (length padding) (payload ++ padding) short (bytes_append payload padding each more))
+
+pub written_bytes : (m : Meaning) → IsLawful m → (block : ℕ) (seed : List ℕ) (seq : ℕ) (payload : List ℕ) → block ≤ 64 → IsBytes payload
+    → IsBytes (written m block seed seq payload)
+unfolding written
+written_bytes m law block seed seq payload low each =
+    packet_bytes payload (m.padding seed seq (least_padding block (length payload)))
+    (let size : length (m.padding seed seq (least_padding block (length payload))) ≡ least_padding block (length payload)
+    = law.padding_length seed seq (least_padding block (length payload)) in
+    let high : least_padding block (length payload) ≤ 131 = padding_high block (length payload) low in omega arith)
+    each (law.padding_bytes seed seq (least_padding block (length payload)))
+
+-- the first four bytes are the same with more behind
+first_same : (xs rest : List ℕ) → 4 ≤ length xs → take 4 (xs ++ rest) ≡ take 4 xs
+first_same xs rest h = take-append-le 4 xs rest h
+
+-- a packet's number counts it
+packet_counts : IsReading Uint32Text uint32_at → (block tag : ℕ) (payload clear : List ℕ) → IsPacket block tag payload clear → length clear ≡ 4 + number clear
+packet_counts r block tag payload clear k =
+    let limit : 4 + (1 + length payload + length k.padding) + tag ≤ 35000 = k.fits.limit in
+    let parts : length clear ≡ 5 + length payload + length k.padding = ap (λ (xs : List ℕ). length xs) k.bytes_are ∙ packet_length_is payload k.padding in
+    let counts : number clear ≡ 1 + length payload + length k.padding = ap number k.bytes_are ∙ packet_number r payload k.padding (omega arith) in
+    omega arith
+
+packet_long : (block tag : ℕ) (payload clear : List ℕ) → IsPacket block tag payload clear → 16 ≤ length clear
+packet_long block tag payload clear k =
+    let least : 12 ≤ 1 + length payload + length k.padding = k.fits.least in
+    let parts : length clear ≡ 5 + length payload + length k.padding = ap (λ (xs : List ℕ). length xs) k.bytes_are ∙ packet_length_is payload k.padding in
+    omega arith
+
+pub clear_again : IsReading Uint32Text uint32_at → (m : Meaning) (seq : ℕ) (payload clear rest : List ℕ) → IsPacket 8 0 payload clear
+    → front (way m None seq) (clear ++ rest) ≡ whole payload (length clear)
+clear_again r m seq payload clear rest k =
+    let wide : 16 ≤ length clear = packet_long 8 0 payload clear k in
+    let all : length (clear ++ rest) ≡ length clear + length rest = length-append clear rest in
+    let counts : length clear ≡ 4 + number clear = packet_counts r 8 0 payload clear k in
+    let head : number (take 4 (clear ++ rest)) ≡ number clear = ap number (first_same clear rest (omega arith)) ∙ number_first clear in
+    front_unit (way m None seq) payload clear (clear ++ rest) (length clear) (omega arith) (omega arith)
+    (ap (λ (xs : List ℕ). Some xs) (take_at clear rest (length clear) refl)) k (omega arith) (omega arith)
+
+pub sealed_again : IsReading Uint32Text uint32_at → (m : Meaning) → IsLawful m → (keys : KeyData) (seq : ℕ) (payload clear rest : List ℕ) → seq < 2 ^ 32 → IsBytes clear
+    → IsPacket (m.block keys.cipher) (m.tag_len keys.cipher keys.mac) payload clear
+    → front (way m (Some keys) seq) (m.seal keys seq clear ++ rest) ≡ whole payload (length (m.seal keys seq clear))
+sealed_again r m law keys seq payload clear rest low each k =
+    let wide : 16 ≤ length clear = packet_long (m.block keys.cipher) (m.tag_len keys.cipher keys.mac) payload clear k in
+    let size : length (m.seal keys seq clear) ≡ length clear + m.tag_len keys.cipher keys.mac = law.seal_length keys seq payload clear low (each, k) in
+    let all : length (m.seal keys seq clear ++ rest) ≡ length (m.seal keys seq clear) + length rest = length-append (m.seal keys seq clear) rest in
+    let counts : length clear ≡ 4 + number clear = packet_counts r (m.block keys.cipher) (m.tag_len keys.cipher keys.mac) payload clear k in
+    let first : take 4 (m.seal keys seq clear ++ rest) ≡ take 4 (m.seal keys seq clear) = first_same (m.seal keys seq clear) rest (omega arith) in
+    let head : m.head keys seq (take 4 (m.seal keys seq clear ++ rest)) ≡ number clear
+    = ap (λ (xs : List ℕ). m.head keys seq xs) first ∙ law.head_of_seal keys seq payload clear low (each, k) in
+    front_unit (way m (Some keys) seq) payload clear (m.seal keys seq clear ++ rest) (length (m.seal keys seq clear)) (omega arith) (omega arith)
+    (ap (λ (xs : List ℕ). m.unseal keys seq xs) (take_at (m.seal keys seq clear) rest (length (m.seal keys seq clear)) refl)
+    ∙ law.unseal_of_seal keys seq payload clear low (each, k))
+    k (omega arith) (omega arith)

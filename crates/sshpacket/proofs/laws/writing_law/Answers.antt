@@ -1,0 +1,22 @@
+use Rattle.std.proofs.Common.{lit≤}
+use Rattle.sshpacket.specs.Written.{written}
+use Rattle.sshpacket.proofs.Writings.{clear_again, sealed_again, written_bytes, written_is}
+use Rattle.sshpacket.proofs.laws.writing_law.Goals as goal
+
+pub returns-clause-written : goal.returns-clause-written
+returns-clause-written c = written_is
+
+pub returns-clause-bytes : goal.returns-clause-bytes
+returns-clause-bytes c = written_bytes
+
+pub returns-clause-clear : goal.returns-clause-clear
+returns-clause-clear c = λ m law seed seq payload rest some short.
+    clear_again c.types_law.ensures.uint32 m seq payload (written m 8 seed seq payload) rest
+    (written_is m law 8 0 seed seq payload (lit≤ tt) (lit≤ tt) some short).spells
+
+pub returns-clause-sealed : goal.returns-clause-sealed
+returns-clause-sealed c = λ m law keys seed seq payload rest low each some short.
+    sealed_again c.types_law.ensures.uint32 m law keys seq payload (written m (m.block keys.cipher) seed seq payload) rest low
+    (written_bytes m law (m.block keys.cipher) seed seq payload (law.block_high keys.cipher) each)
+    (written_is m law (m.block keys.cipher) (m.tag_len keys.cipher keys.mac) seed seq payload (law.block_high keys.cipher)
+    (law.tag_high keys.cipher keys.mac) some short).spells

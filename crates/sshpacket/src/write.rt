@@ -1,0 +1,114 @@
+//! Writes packets.
+
+ghost use Rattle.std.specs.Prelude.{◌≡◌, ◌+◌, ◌<◌, ◌≤◌, ◌^◌, ◌++◌, IfOk, OnOk, if◌then◌else◌, is_ok, length};
+ghost use Rattle.sshwire.specs.Types.{IsBytes};
+ghost use Rattle.sshpacket.specs.Packet.{packet};
+ghost use Rattle.sshpacket.specs.Suite.{Meaning};
+ghost use Rattle.sshpacket.specs.Written.{IsWritten, written, written_clear, written_sealed};
+
+use crate::keys::Keys;
+use crate::padding::padding_len;
+use crate::suite::Suite;
+use sshwire::{Memory, put_u32};
+use std::alloc::Global;
+
+/// Appends the packet of a payload in clear (RFC 4253 section 6), with this sequence number: the
+/// padding is the least, and its bytes are the suite's for the seed and the number. For want of
+/// memory the vector is unchanged.
+///
+/// The caller's conditions are a payload of 1 to 32768 bytes, and a seed of fewer than 2^32.
+pub fn write_clear<S: Suite>(
+    alloc: Global,
+    suite: &S,
+    seq: u32,
+    payload: &[u8],
+    seed: &[u8],
+    out: &mut Vec<u8>,
+) -> Result<(), Memory>
+    requires some { 0 < length payload.now }
+    requires payload { length payload.now ≤ 32768 }
+    requires seed { length seed.now < 2 ^ 32 }
+    ensures appends { out.new.items ≡ (if is_ok result then out.old.items ++ written_clear (S.meaning suite.now) seed.now seq payload.now else out.old.items) }
+    // What is appended is a packet of the payload with the least padding.
+    ensures packet { IsWritten 8 0 payload.now (written_clear (S.meaning suite.now) seed.now seq payload.now) }
+{
+    crate::laws::writing_law();
+    let clear = clear_packet(alloc, suite, 8, seq, payload, seed)?;
+    out.extend_from_slice(&clear)?;
+    Ok(())
+}
+
+/// Appends the packet of a payload, sealed with the keys, otherwise as [`write_clear`] does.
+pub fn write_sealed<S: Suite>(
+    alloc: Global,
+    suite: &S,
+    keys: &Keys,
+    seq: u32,
+    payload: &[u8],
+    seed: &[u8],
+    out: &mut Vec<u8>,
+) -> Result<(), Memory>
+    requires some { 0 < length payload.now }
+    requires payload { length payload.now ≤ 32768 }
+    requires seed { length seed.now < 2 ^ 32 }
+    ensures appends { out.new.items ≡ (if is_ok result then out.old.items ++ written_sealed (S.meaning suite.now) keys.now seed.now seq payload.now else out.old.items) }
+    // What is sealed is a packet of the payload with the least padding.
+    ensures packet { IsWritten ((S.meaning suite.now).block keys.now.cipher) ((S.meaning suite.now).tag_len keys.now.cipher keys.now.mac) payload.now
+        (written (S.meaning suite.now) ((S.meaning suite.now).block keys.now.cipher) seed.now seq payload.now) }
+{
+    sealed_is_packet(suite, keys, seq, payload, seed);
+    let block = suite.block(keys.cipher());
+    let clear = clear_packet(alloc, suite, block, seq, payload, seed)?;
+    let sealed = suite.seal(alloc, keys, seq, &clear)?;
+    out.extend_from_slice(&sealed)?;
+    Ok(())
+}
+
+/// What is sealed for a payload is a packet with the least padding.
+fn sealed_is_packet<S: Suite>(suite: &S, keys: &Keys, seq: u32, payload: &[u8], seed: &[u8])
+    requires some { 0 < length payload.now }
+    requires payload { length payload.now ≤ 32768 }
+    ensures { IsWritten ((S.meaning suite.now).block keys.now.cipher) ((S.meaning suite.now).tag_len keys.now.cipher keys.now.mac) payload.now
+        (written (S.meaning suite.now) ((S.meaning suite.now).block keys.now.cipher) seed.now seq payload.now) }
+{
+    crate::laws::writing_law();
+}
+
+/// The packet of a payload in clear, for this block.
+#[tactic(auto, unfolding(crate::specs::Written::written))]
+fn clear_packet<S: Suite>(
+    alloc: Global,
+    suite: &S,
+    block: u8,
+    seq: u32,
+    payload: &[u8],
+    seed: &[u8],
+) -> Result<Vec<u8>, Memory>
+    requires block { block ≤ 64 }
+    requires payload { length payload.now ≤ 32768 }
+    requires seed { length seed.now < 2 ^ 32 }
+    ensures packet { IfOk result (λ v. v.items ≡ written (S.meaning suite.now) block seed.now seq payload.now) }
+    ensures short { IfOk result (λ v. length v.items < 2 ^ 32) }
+{
+    let len = padding_len(block, payload.len());
+    let padding = suite.padding(alloc, seed, seq, len)?;
+    let mut clear = Vec::new(alloc);
+    put_packet(&mut clear, payload, &padding)?;
+    Ok(clear)
+}
+
+/// Appends a packet; for want of memory a front of it may stand there.
+#[tactic(auto, unfolding(crate::specs::Packet::length_field))]
+fn put_packet(out: &mut Vec<u8>, payload: &[u8], padding: &[u8]) -> Result<(), Memory>
+    requires payload { length payload.now ≤ 32768 }
+    requires padding { length padding.now < 256 }
+    ensures packet { OnOk result (out.new.items ≡ out.old.items ++ packet payload.now padding.now) }
+    ensures len { OnOk result (length out.new.items ≡ length out.old.items + (5 + length payload.now + length padding.now)) }
+{
+    let len = 1 + payload.len() + padding.len();
+    put_u32(out, len as u32)?;
+    out.push(padding.len() as u8)?;
+    out.extend_from_slice(payload)?;
+    out.extend_from_slice(padding)?;
+    Ok(())
+}
