@@ -1,5 +1,9 @@
 //! Why bytes are no packet.
 
+ghost use Rattle.std.specs.Prelude.{◌≡◌};
+ghost use Rattle.sshpacket.specs.declared.fault.PacketFault.TheVariants as fault;
+
+use sshwire::Memory;
 use std::error::Error;
 use std::fmt;
 
@@ -32,3 +36,11 @@ impl fmt::Display for PacketFault {
 }
 
 impl Error for PacketFault {}
+
+impl From<Memory> for PacketFault {
+    ghost from_gives = { λ _ e. e ≡ fault.Memory };
+
+    fn from(_e: Memory) -> PacketFault {
+        PacketFault::Memory
+    }
+}

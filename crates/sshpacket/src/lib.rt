@@ -5,6 +5,7 @@ mod fault;
 mod keys;
 mod laws;
 mod padding;
+mod reader;
 mod suite;
 mod write;
 
