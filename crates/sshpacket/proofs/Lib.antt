@@ -4,4 +4,5 @@ pub mod LeastPadding
 pub mod Opening
 pub mod StepLemmas
 pub mod UnitLaws
+pub mod WaitLemmas
 pub mod Writings

@@ -2,6 +2,7 @@ pub mod Front
 pub mod KeyData
 pub mod KeyNames
 pub mod Packet
+pub mod ReaderState
 pub mod ReaderSteps
 pub mod Suite
 pub mod Unit

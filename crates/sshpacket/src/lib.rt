@@ -13,5 +13,6 @@ pub use fault::PacketFault;
 pub use keys::Keys;
 pub use laws::{packet_law, writing_law};
 pub use padding::padding_len;
+pub use reader::{PacketReader, PacketStep};
 pub use suite::{Capability, KeyLens, Need, Suite};
 pub use write::{write_clear, write_sealed};

@@ -1,9 +1,9 @@
 //! Reads packets off a stream, however it is cut.
 
 ghost use Rattle.std.specs.Prelude.{◌≡◌, ◌≢◌, ◌+◌, ◌-◌, ◌<◌, ◌≤◌, ◌^◌, ℕ, IfErr, IfOk, IfSome, None, Some, OnErr, OnOk, drop, false, length, take, true};
-ghost use Rattle.sshpacket.specs.Front.{OfPacket, is_length, opened, refused, way, whole};
+ghost use Rattle.sshpacket.specs.Front.{OfPacket, front, is_length, opened, refused, unfinished, way, whole};
 ghost use Rattle.sshpacket.specs.Packet.{number};
-ghost use Rattle.sshpacket.specs.ReaderSteps.{Counts, Fills, Opens, ReadsBody, ReadsHead};
+ghost use Rattle.sshpacket.specs.ReaderSteps.{Counts, Fills, HasPayload, HasRoom, HeadLen, Opens, ReadsHead, ReadsPacket, needed};
 
 use crate::fault::PacketFault;
 use crate::keys::Keys;
@@ -14,6 +14,187 @@ use std::alloc::Global;
 /// The most bytes of a packet with its tag (RFC 4253 section 6.1).
 const PACKET_LIMIT: usize = 35000;
 
+/// What a piece brought.
+#[derive(Drop)]
+pub enum PacketStep<'a> {
+    /// The packet isn't all there: all of the piece was used.
+    More,
+    /// A packet was read, and so many bytes of the piece were used.
+    Payload {
+        /// The payload, lent until the next call.
+        payload: &'a [u8],
+        /// The packet's sequence number.
+        seq: u32,
+        used: usize,
+    },
+}
+
+/// Reads packets off the stream of one direction (RFC 4253 section 6), in any pieces.
+///
+/// In clear until keys are set. For now it keeps every byte that it was given.
+#[derive(Drop)]
+pub struct PacketReader {
+    alloc: Global,
+    /// Every byte that was used.
+    bytes: Vec<u8>,
+    /// Where the unfinished packet begins in them.
+    start: usize,
+    /// How many bytes the unfinished packet must have before more of it is judged.
+    target: usize,
+    /// The last packet in clear.
+    packet: Vec<u8>,
+    keys: Option<Keys>,
+    /// The number of the next packet.
+    seq: u32,
+    fault: Option<PacketFault>,
+    taken: usize,
+    ghost within: { start ≤ length bytes.items },
+    ghost room: { length bytes.items - start < target },
+    ghost header: { 4 ≤ target },
+    ghost bound: { target ≤ 35000 },
+}
+
+impl PacketReader {
+    ghost use Rattle.std.specs.Prelude.{[], ◌%◌, ◌++◌, IsSome, if◌then◌else◌, is_some};
+    ghost use Rattle.std.specs.Borrow.{sem};
+    ghost use Rattle.std.specs.Io.BufRead.{Rests};
+    ghost use Rattle.sshpacket.specs.Suite.{Meaning};
+    ghost use Rattle.sshpacket.specs.ReaderState.{Advances, Answers, IsStep, Leaves, ReaderState, Waits, state};
+    ghost use Rattle.sshpacket.specs.contracts.reader.PacketReader.{the_row};
+
+    /// A reader at the beginning of the stream: no keys, number 0, nothing held.
+    pub fn new(alloc: Global) -> PacketReader
+        ensures state { state result ≡ record { keys = None; seq = 0; held = []; fault = None } }
+        ensures taken { result.taken ≡ 0 }
+        ensures waits { (m : Meaning) → Waits m result }
+    {
+        PacketReader {
+            alloc,
+            bytes: Vec::new(alloc),
+            start: 0,
+            target: 4,
+            packet: Vec::new(alloc),
+            keys: None,
+            seq: 0,
+            fault: None,
+            taken: 0,
+        }
+    }
+
+    /// How many bytes of the piece the last call of `next` used; at a refusal up to the byte that
+    /// decided it, 0 where a fault was found before.
+    pub fn taken(&self) -> usize
+        ensures { result ≡ self.now.taken }
+    {
+        self.taken
+    }
+
+    /// Sets the keys of all that follows. `reset` says whether the next packet has number 0, as
+    /// under strict key exchange; else numbers go on.
+    ///
+    /// The caller's condition is that no byte of an unfinished packet is held.
+    #[tactic(auto, using(crate::proofs::WaitLemmas::waits_empty, crate::proofs::WaitLemmas::none_held))]
+    pub fn use_keys(&mut self, keys: Keys, reset: bool)
+        requires { (state self.old).held ≡ [] }
+        ensures state { state self.new ≡ record (state self.old) { keys = Some keys; seq = if reset then 0 else self.old.seq } }
+        ensures taken { self.new.taken ≡ self.old.taken }
+        ensures waits { (m : Meaning) → Waits m self.new }
+    {
+        self.keys = Some(keys);
+        self.target = 4;
+        if reset {
+            self.seq = 0;
+        }
+    }
+
+    /// Reads on with a piece of the stream.
+    ///
+    /// The length of a packet is judged once its first four bytes are there, the rest once all of it
+    /// is: the tag, then the padding, then that the payload isn't empty. After a fault the same fault
+    /// is answered for good and nothing is used.
+    pub fn next<S: Suite>(&mut self, suite: &S, piece: &[u8]) -> Result<PacketStep<'_>, PacketFault>
+        ensures answers { self.old.fault ≡ None → Waits (S.meaning suite.now) self.old → Answers (S.meaning suite.now) (state self.old) piece.now result }
+        ensures again { IfSome self.old.fault (λ f. result ≡ Err f) }
+        ensures* after { sem 𝓛 (Rests the_row self.entry (λ new.
+            (self.old.fault ≡ None → Waits (S.meaning suite.now) self.old → Leaves (S.meaning suite.now) self.old piece.now result new)
+            × IfSome self.old.fault (λ f. (state new ≡ state self.old) × (new.taken ≡ 0)))) }
+    {
+        let seq = self.seq;
+        match self.advance(suite, piece) {
+            Err(fault) => Err(fault),
+            Ok(None) => Ok(PacketStep::More),
+            Ok(Some(payload_len)) => Ok(self.step(payload_len, seq)),
+        }
+    }
+
+    /// The packet that was read last.
+    fn step(&self, payload_len: usize, seq: u32) -> PacketStep<'_>
+        requires { payload_len + 5 ≤ length self.now.packet.items }
+        ensures { IsStep (take payload_len (drop 5 self.now.packet.items)) seq self.now.taken result }
+    {
+        PacketStep::Payload {
+            payload: &self.packet[5..5 + payload_len],
+            seq,
+            used: self.taken,
+        }
+    }
+
+    /// Reads on, and answers the length of the payload of a packet that was read.
+    #[tactic(auto, using(crate::proofs::WaitLemmas::waits_all))]
+    fn advance<S: Suite>(&mut self, suite: &S, piece: &[u8]) -> Result<Option<usize>, PacketFault>
+        ensures advances { self.old.fault ≡ None → Waits (S.meaning suite.now) self.old → Advances (S.meaning suite.now) self.old piece.now result self.new }
+        ensures taken { self.new.taken ≤ length piece.now }
+        ensures room { IfOk result (λ len. IfSome len (λ n. n + 5 ≤ length self.new.packet.items)) }
+        ensures again { IfSome self.old.fault (λ f. (result ≡ Err f) × (state self.new ≡ state self.old) × (self.new.taken ≡ 0)) }
+    {
+        if let Some(fault) = self.fault {
+            self.taken = 0;
+            return Err(fault);
+        }
+        let before = self.bytes.len();
+        let read = read_packet(
+            self.alloc,
+            suite,
+            &self.keys,
+            self.seq,
+            &mut self.bytes,
+            self.start,
+            self.target,
+            piece,
+            &mut self.packet,
+        );
+        self.taken = self.bytes.len() - before;
+        let step = match read {
+            Ok(step) => step,
+            Err(fault) => {
+                self.start = self.bytes.len();
+                self.target = 4;
+                self.fault = Some(fault);
+                return Err(fault);
+            }
+        };
+        match step {
+            Step::Part { target } => {
+                self.target = target;
+                Ok(None)
+            }
+            Step::Whole { payload_len } => {
+                self.start = self.bytes.len();
+                self.target = 4;
+                self.seq = self.seq.wrapping_add(1);
+                Ok(Some(payload_len))
+            }
+        }
+    }
+
+    /// How many bytes are kept: for now all that were used.
+    pub fn buffered(&self) -> usize
+        ensures { result ≡ length self.now.bytes.items }
+    {
+        self.bytes.len()
+    }
+}
+
 /// What came of the first four bytes of a packet.
 #[derive(Drop)]
 enum Head {
@@ -23,13 +204,13 @@ enum Head {
     Whole { used: usize, len: usize },
 }
 
-/// What came of a packet whose length is known.
+/// What came of a piece.
 #[derive(Drop)]
-enum Body {
-    /// Not all of it is there.
-    Part,
-    /// So many bytes of the piece were used, and the payload has this length.
-    Whole { used: usize, payload_len: usize },
+enum Step {
+    /// The packet isn't all there; once so many bytes of it are, more can be judged.
+    Part { target: usize },
+    /// It is, and its payload has this length.
+    Whole { payload_len: usize },
 }
 
 /// The bytes from a place on.
@@ -171,7 +352,7 @@ fn clear_of<S: Suite>(
 }
 
 /// Reads on where fewer than four bytes are held.
-#[tactic(auto, using(crate::proofs::StepLemmas::filled_all, crate::proofs::StepLemmas::filled_length, crate::proofs::StepLemmas::filled_within))]
+#[tactic(auto, using(crate::proofs::StepLemmas::filled_all, crate::proofs::StepLemmas::filled_length, crate::proofs::StepLemmas::filled_within, crate::proofs::StepLemmas::filled_grows))]
 fn read_head<S: Suite>(
     suite: &S,
     keys: &Option<Keys>,
@@ -183,8 +364,8 @@ fn read_head<S: Suite>(
     requires within { start ≤ length bytes.old.items }
     requires few { length bytes.old.items - start < 4 }
     ensures reads { ReadsHead (way (S.meaning suite.now) keys.now seq) (drop start bytes.old.items) piece.now (drop start bytes.new.items) result }
-    ensures within { start ≤ length bytes.new.items }
-    ensures part { OnOk result (length bytes.new.items - start ≤ 4) }
+    ensures len { IfOk result (λ head. HeadLen (length bytes.new.items - start) head) }
+    ensures grows { (length bytes.old.items ≤ length bytes.new.items) × (length bytes.new.items ≤ length bytes.old.items + length piece.now) }
 {
     let used = fill(bytes, start, 4, piece)?;
     let Some(first) = first_four(behind(bytes, start)) else {
@@ -197,7 +378,7 @@ fn read_head<S: Suite>(
 }
 
 /// Reads on where the first four bytes have told the length.
-#[tactic(auto, using(crate::proofs::StepLemmas::filled_within))]
+#[tactic(auto, using(crate::proofs::StepLemmas::filled_grows))]
 fn read_body<S: Suite>(
     alloc: Global,
     suite: &S,
@@ -208,22 +389,59 @@ fn read_body<S: Suite>(
     len: usize,
     piece: &[u8],
     packet: &mut Vec<u8>,
-) -> Result<Body, PacketFault>
+) -> Result<Step, PacketFault>
     requires within { start ≤ length bytes.old.items }
     requires headed { 4 ≤ length bytes.old.items - start }
     requires room { length bytes.old.items - start ≤ len }
     requires bound { len ≤ 35000 }
     ensures reads { Counts (way (S.meaning suite.now) keys.now seq) (take 4 (drop start bytes.old.items)) len
-        → ReadsBody (way (S.meaning suite.now) keys.now seq) (drop start bytes.old.items) len piece.now (drop start bytes.new.items) packet.new.items result }
-    ensures within { start ≤ length bytes.new.items }
+        → ReadsPacket (way (S.meaning suite.now) keys.now seq) (drop start bytes.old.items) piece.now (drop start bytes.new.items) packet.new.items result }
+    ensures room { IfOk result (λ step. HasRoom (length bytes.new.items - start) step) }
+    ensures whole { IfOk result (λ step. HasPayload (length packet.new.items) step) }
+    ensures grows { (length bytes.old.items ≤ length bytes.new.items) × (length bytes.new.items ≤ length bytes.old.items + length piece.now) }
 {
-    let used = fill(bytes, start, len, piece)?;
+    fill(bytes, start, len, piece)?;
     let held = behind(bytes, start);
     if held.len() < len {
-        return Ok(Body::Part);
+        return Ok(Step::Part { target: len });
     }
     match open_packet(alloc, suite, keys, seq, held, packet) {
-        Ok(payload_len) => Ok(Body::Whole { used, payload_len }),
+        Ok(payload_len) => Ok(Step::Whole { payload_len }),
+        Err(fault) => Err(fault),
+    }
+}
+
+/// Reads on with a piece.
+fn read_packet<S: Suite>(
+    alloc: Global,
+    suite: &S,
+    keys: &Option<Keys>,
+    seq: u32,
+    bytes: &mut Vec<u8>,
+    start: usize,
+    target: usize,
+    piece: &[u8],
+    packet: &mut Vec<u8>,
+) -> Result<Step, PacketFault>
+    requires within { start ≤ length bytes.old.items }
+    requires room { length bytes.old.items - start ≤ target }
+    requires bound { target ≤ 35000 }
+    ensures reads { front (way (S.meaning suite.now) keys.now seq) (drop start bytes.old.items) ≡ unfinished
+        → target ≡ needed (way (S.meaning suite.now) keys.now seq) (drop start bytes.old.items)
+        → ReadsPacket (way (S.meaning suite.now) keys.now seq) (drop start bytes.old.items) piece.now (drop start bytes.new.items) packet.new.items result }
+    ensures room { IfOk result (λ step. HasRoom (length bytes.new.items - start) step) }
+    ensures whole { IfOk result (λ step. HasPayload (length packet.new.items) step) }
+    ensures grows { (length bytes.old.items ≤ length bytes.new.items) × (length bytes.new.items ≤ length bytes.old.items + length piece.now) }
+{
+    if bytes.len() - start >= 4 {
+        return read_body(alloc, suite, keys, seq, bytes, start, target, piece, packet);
+    }
+    match read_head(suite, keys, seq, bytes, start, piece) {
+        Ok(Head::Part) => Ok(Step::Part { target: 4 }),
+        Ok(Head::Whole { used, len }) => {
+            let rest = behind(piece, used);
+            read_body(alloc, suite, keys, seq, bytes, start, len, rest, packet)
+        }
         Err(fault) => Err(fault),
     }
 }
