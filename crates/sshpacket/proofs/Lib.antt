@@ -1,1 +1,2 @@
 pub mod LeastPadding
+pub mod Places

@@ -2,5 +2,6 @@ pub mod Front
 pub mod KeyData
 pub mod KeyNames
 pub mod Packet
+pub mod Places
 pub mod Suite
 pub mod Written
