@@ -1,2 +1,3 @@
 pub mod LeastPadding
 pub mod Places
+pub mod Streams
