@@ -1,3 +1,4 @@
 pub mod LeastPadding
 pub mod Places
 pub mod Streams
+pub mod Looks

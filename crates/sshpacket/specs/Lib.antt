@@ -1,6 +1,7 @@
 pub mod Front
 pub mod KeyData
 pub mod KeyNames
+pub mod LineLook
 pub mod Packet
 pub mod Places
 pub mod Stream
