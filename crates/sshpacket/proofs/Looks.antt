@@ -1,18 +1,16 @@
 -- Packets and lines are read one unit at a time, however the bytes are cut.
 
-use Rattle.std.proofs.Common.{◌≡◌, ℕ, ◌+◌, ◌-◌, ◌<◌, ◌≤◌, Bool, true, false, List, [], ◌∷◌, ◌++◌, length, drop, take, refl, sym, ap, ◌∙◌, arith, cond, ltb, leb, eqb, inl, inr, subst, slice_index, Option, None, Some}
+use Rattle.std.proofs.Common.{◌≡◌, ℕ, ◌+◌, ◌-◌, ◌<◌, ◌≤◌, Bool, true, false, List, [], ◌++◌, length, drop, take, refl, sym, ap, ◌∙◌, arith, cond, ltb, leb, eqb, slice_index, Option, None, Some}
 use Rattle.std.specs.Prelude.{◌||◌}
-use Rattle.std.proofs.lemmas.Bool.{cases_Bool, ltb-false, ltb-true, lt-ltb, le-ltb}
-use Rattle.std.proofs.lemmas.List.{append-nil, length-append, length-drop, take-append-le}
-use Rattle.std.proofs.Math.Seq.{drop-append_seam}
-use Rattle.sshwire.specs.declared.fault.WireFault.{WireFault}
+use Rattle.std.proofs.lemmas.Bool.{ltb-false, ltb-true, lt-ltb, le-ltb}
+use Rattle.std.proofs.lemmas.List.{length-append, length-drop, take-append-le}
 use Rattle.sshwire.specs.Lines.{Preamble}
 use Rattle.sshwire.specs.Meaning.{IsLeftOf}
 use Rattle.sshwire.specs.Reading.{Reading, Got, More, Stop, reading, then_on}
-use Rattle.sshpacket.specs.Front.{Front, Refusal, Way, OfLine, OfPacket, front, is_length, opened, refused, total, unfinished, unsealed, whole}
-use Rattle.sshpacket.specs.declared.fault.PacketFault.TheVariants.{Empty, Length, Mac, Padding}
+use Rattle.sshpacket.specs.Front.{Way, OfLine, OfPacket, front, is_length, opened, refused, total, unfinished, unsealed, whole}
+use Rattle.sshpacket.specs.declared.fault.PacketFault.TheVariants.{Empty, Length, Padding}
 use Rattle.sshpacket.specs.LineLook.{front_of_lines, look_of_lines}
-use Rattle.sshpacket.specs.Stream.{Look, IsLook}
+use Rattle.sshpacket.specs.Stream.{IsLook}
 
 -- nothing stands in no bytes
 front_none : (w : Way) → front w [] ≡ unfinished

@@ -1,8 +1,8 @@
 -- What more elements at the end change at the places of a list.
 
-use Rattle.std.proofs.Common.{◌≡◌, ℕ, ◌+◌, Bool, true, false, List, [], ◌∷◌, ◌++◌, length, refl, sym, ap, ◌∙◌, arith, cond, subst, inl, inr, append_assoc}
+use Rattle.std.proofs.Common.{◌≡◌, ◌+◌, Bool, true, List, [], ◌∷◌, ◌++◌, refl, sym, ap, ◌∙◌, arith, cond, subst, inl, inr, append_assoc}
 use Rattle.std.proofs.lemmas.Bool.{cases_Bool}
-use Rattle.std.proofs.lemmas.List.{append-nil, length-append}
+use Rattle.std.proofs.lemmas.List.{append-nil}
 use Rattle.sshpacket.specs.Places.{IsFront, EachPlace, flat_places, stands, first_of, after_first, count_places}
 
 module _ {A : Type 0} where
@@ -61,7 +61,7 @@ module _ {A : Type 0} where
   first-append other t before (x ∷ xs) ys = elim (cases_Bool (t before x)) [
     | inl h ↦ rw h refl
     | inr h ↦ rw h (first-append other t (before ++ x ∷ []) xs ys
-      ∙ ap (λ (b : List A). cond (stands t (before ++ x ∷ []) xs) (first_of other t (before ++ x ∷ []) xs) (first_of other t b ys)) (passed before x xs))
+        ∙ ap (λ (b : List A). cond (stands t (before ++ x ∷ []) xs) (first_of other t (before ++ x ∷ []) xs) (first_of other t b ys)) (passed before x xs))
   ]
 
   pub after-append : (t : List A → A → Bool) (before xs ys : List A)
@@ -70,7 +70,7 @@ module _ {A : Type 0} where
   after-append t before (x ∷ xs) ys = elim (cases_Bool (t before x)) [
     | inl h ↦ rw h refl
     | inr h ↦ rw h (after-append t (before ++ x ∷ []) xs ys
-      ∙ ap (λ (b : List A). cond (stands t (before ++ x ∷ []) xs) (after_first t (before ++ x ∷ []) xs ++ ys) (after_first t b ys)) (passed before x xs))
+        ∙ ap (λ (b : List A). cond (stands t (before ++ x ∷ []) xs) (after_first t (before ++ x ∷ []) xs ++ ys) (after_first t b ys)) (passed before x xs))
   ]
 
   pub count-append : (t : List A → A → Bool) (before xs ys : List A) → count_places t before (xs ++ ys) ≡ count_places t before xs + count_places t (before ++ xs) ys

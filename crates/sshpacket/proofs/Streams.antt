@@ -1,9 +1,9 @@
 -- One stream has one reading, and what was said is heard.
 
-use Rattle.std.proofs.Common.{◌≡◌, ℕ, ◌+◌, ◌≤◌, List, [], ◌∷◌, ◌++◌, length, drop, refl, sym, ap, ◌∙◌, arith, subst, Option, None, Some, append_assoc}
-use Rattle.std.proofs.lemmas.List.{append-nil, drop-append-le, length-append}
+use Rattle.std.proofs.Common.{◌≡◌, ℕ, ◌≤◌, List, [], ◌∷◌, ◌++◌, length, drop, refl, sym, ap, ◌∙◌, subst, Option, None, Some, append_assoc}
+use Rattle.std.proofs.lemmas.List.{append-nil, drop-append-le}
 use Rattle.std.proofs.Math.Seq.{drop-append_seam}
-use Rattle.sshpacket.specs.Front.{Front, Refusal, refused, unfinished, whole}
+use Rattle.sshpacket.specs.Front.{Refusal, unfinished, whole}
 use Rattle.sshpacket.specs.Places.{IsFront, EachPlace, flat_places}
 use Rattle.sshpacket.specs.Stream.{Units, Look, IsLook, Read, IsRest, Heard, Said, Spelled, Same, Linked, HeardAll}
 use Rattle.sshpacket.proofs.Places.{flat-append, flat-push, flat-same, front-cons}

@@ -1,6 +1,6 @@
 -- The lines at the front of a direction as a unit: the text of the version line, with its place behind the other lines.
 
-use Rattle.std.specs.Prelude.{ℕ, ◌-◌, List, [], length}
+use Rattle.std.specs.Prelude.{ℕ, ◌-◌, [], length}
 use Rattle.sshwire.specs.Reading.{Reading, Got, More, Stop, reading}
 use Rattle.sshpacket.specs.Front.{Front, OfLine, refused, unfinished, whole}
 use Rattle.sshpacket.specs.Stream.{Look}

@@ -1,7 +1,7 @@
 -- What one direction of bytes reads as, and what it was written as: units one after another. A unit is the text of the
 -- version line, or a payload behind it; how one is read or spelled may depend on the units before it.
 
-use Rattle.std.specs.Prelude.{◌≡◌, ℕ, ◌+◌, ◌≤◌, List, [], ◌∷◌, ◌++◌, length, drop, Option, None, Some}
+use Rattle.std.specs.Prelude.{◌≡◌, ℕ, ◌≤◌, List, [], ◌∷◌, ◌++◌, length, drop, Option, None, Some}
 use Rattle.sshpacket.specs.Front.{Front, Refusal, refused, unfinished, whole}
 use Rattle.sshpacket.specs.Places.{IsFront, flat_places}
 

@@ -3,10 +3,12 @@
 
 mod fault;
 mod keys;
+mod law;
 mod padding;
 mod suite;
 
 pub use fault::PacketFault;
 pub use keys::Keys;
+pub use law::{look_law, places_law, stream_law};
 pub use padding::padding_len;
 pub use suite::{Capability, KeyLens, Need, Suite};
