@@ -1,15 +1,17 @@
 -- Packets and lines are read one unit at a time, however the bytes are cut.
 
-use Rattle.std.proofs.Common.{◌≡◌, ℕ, ◌+◌, ◌-◌, ◌<◌, ◌≤◌, Bool, true, false, List, [], ◌++◌, length, drop, take, refl, sym, ap, ◌∙◌, arith, cond, ltb, leb, eqb, slice_index, Option, None, Some}
+use Rattle.std.proofs.Common.{◌≡◌, ℕ, ◌+◌, ◌-◌, ◌<◌, ◌≤◌, Bool, true, false, List, [], ◌++◌, length, drop, take, refl, sym, ap, ◌∙◌, arith, cond, ltb, leb, eqb, slice_index, subst, Option, None, Some}
 use Rattle.std.specs.Prelude.{◌||◌}
 use Rattle.std.proofs.lemmas.Bool.{ltb-false, ltb-true, lt-ltb, le-ltb}
-use Rattle.std.proofs.lemmas.List.{length-append, length-drop, take-append-le}
-use Rattle.sshwire.specs.Lines.{Preamble}
-use Rattle.sshwire.specs.Meaning.{IsLeftOf}
+use Rattle.std.proofs.lemmas.List.{length-append, length-drop, take-append-drop, take-append-le}
+use Rattle.std.proofs.Math.Seq.{take-append_seam}
+use Rattle.sshwire.specs.declared.fault.WireFault.{WireFault}
+use Rattle.sshwire.specs.Lines.{LineRefused, Preamble}
+use Rattle.sshwire.specs.Meaning.{EndsPreamble, EndsRefused, Means}
 use Rattle.sshwire.specs.Reading.{Reading, Got, More, Stop, reading, then_on}
-use Rattle.sshpacket.specs.Front.{Way, OfLine, OfPacket, front, is_length, opened, refused, total, unfinished, unsealed, whole}
+use Rattle.sshpacket.specs.Front.{Front, Way, OfLine, OfPacket, front, is_length, opened, refused, total, unfinished, unsealed, whole}
 use Rattle.sshpacket.specs.declared.fault.PacketFault.TheVariants.{Empty, Length, Padding}
-use Rattle.sshpacket.specs.LineLook.{front_of_lines, look_of_lines}
+use Rattle.sshpacket.specs.LineLook.{MeansLines, front_of_lines, look_of_lines}
 use Rattle.sshpacket.specs.Stream.{IsLook}
 
 -- nothing stands in no bytes
@@ -110,8 +112,10 @@ packets_look w = record {
 
 -- the laws of the reading of lines that are used here
 pub record IsLinesLaw : Type 0 where
+  pub sound : (k : ℕ) (bytes : List ℕ) → Means k bytes (reading k [] bytes)
+  pub complete : (k : ℕ) (bytes : List ℕ) (r : Reading) → Means k bytes r → reading k [] bytes ≡ r
+  pub within : (k : ℕ) (bytes : List ℕ) (place : ℕ) (code : WireFault) → LineRefused k bytes place code → place < length bytes
   pub cut : (k : ℕ) (bytes more : List ℕ) → reading k [] (bytes ++ more) ≡ then_on (reading k [] bytes) more
-  pub behind : (k : ℕ) (bytes text rest : List ℕ) → reading k [] bytes ≡ Got text rest → IsLeftOf bytes rest
   pub written : (k : ℕ) (text front rest : List ℕ) → Preamble k text front → reading k [] (front ++ rest) ≡ Got text rest
 
 -- more bytes behind are more that is left
@@ -146,15 +150,34 @@ preamble_seen law k text front more p =
     let longer : length (front ++ more) ≡ length front + length more = length-append front more in
     ap (λ (r : Reading). front_of_lines (length (front ++ more)) r) (law.written k text front more p) ∙ ap (λ (n : ℕ). whole text n) (omega arith)
 
--- what is left of the bytes stands behind the front that was read
-pub left_is : (bytes rest : List ℕ) → IsLeftOf bytes rest → (length rest ≤ length bytes) × (drop (length bytes - length rest) bytes ≡ rest)
-left_is bytes rest (used, low, e) =
-    let size : length rest ≡ length bytes - used = ap length e ∙ length-drop used bytes in
-    let same : length bytes - length rest ≡ used = omega (arith, size, low) in
-    (omega (arith, size), ap (λ (n : ℕ). drop n bytes) same ∙ sym e)
+-- what is read stands there
+found_by : IsLinesLaw → (k : ℕ) (bytes : List ℕ) (r : Reading) → Means k bytes r → MeansLines k bytes (front_of_lines (length bytes) r)
+found_by law k bytes (More left line) o = (left, line, o)
+found_by law k bytes (Got text rest) m =
+    let size : length bytes ≡ length m.front + length rest = ap length m.bytes_are ∙ length-append m.front rest in
+    let len : length m.front ≡ length bytes - length rest = omega (arith, size) in
+    let same : m.front ≡ take (length bytes - length rest) bytes = sym (take-append_seam m.front rest) ∙ (ap (λ (b : List ℕ). take (length m.front) b) (sym m.bytes_are) ∙ ap (λ (n : ℕ). take n bytes) len) in
+    (omega arith, subst (λ (b : List ℕ). Preamble k text b) same m.preamble)
+found_by law k bytes (Stop code rest) m =
+    let low : m.place < length bytes = law.within k bytes m.place code m.refused in
+    let size : length rest ≡ length bytes - (m.place + 1) = ap length m.rest_is ∙ length-drop (m.place + 1) bytes in
+    (m.place, omega (arith, low, size), m.refused)
 
--- the look is the reading
-pub text_seen : IsLinesLaw → (k : ℕ) (bytes text rest : List ℕ) → reading k [] bytes ≡ Got text rest
-    → (look_of_lines k bytes ≡ whole text (length bytes - length rest)) × (drop (length bytes - length rest) bytes ≡ rest)
+pub lines_found : IsLinesLaw → (k : ℕ) (bytes : List ℕ) → MeansLines k bytes (look_of_lines k bytes)
 unfolding look_of_lines
-text_seen law k bytes text rest e = (ap (λ (r : Reading). front_of_lines (length bytes) r) e, (left_is bytes rest (law.behind k bytes text rest e)).1)
+lines_found law k bytes = found_by law k bytes (reading k [] bytes) (law.sound k bytes)
+
+-- and what stands there is read
+pub lines_only : IsLinesLaw → (k : ℕ) (bytes : List ℕ) (f : Front) → MeansLines k bytes f → look_of_lines k bytes ≡ f
+unfolding look_of_lines
+lines_only law k bytes unfinished (left, line, o) = ap (λ (r : Reading). front_of_lines (length bytes) r) (law.complete k bytes (More left line) o)
+lines_only law k bytes (whole text len) (low, p) =
+    let ends : EndsPreamble k bytes text (drop len bytes) = record { front = take len bytes; bytes_are = sym (take-append-drop len bytes); preamble = p } in
+    let size : length (drop len bytes) ≡ length bytes - len = length-drop len bytes in
+    ap (λ (r : Reading). front_of_lines (length bytes) r) (law.complete k bytes (Got text (drop len bytes)) ends) ∙ ap (λ (n : ℕ). whole text n) (omega (arith, low, size))
+lines_only law k bytes (refused (OfLine code) len) (place, e, h) =
+    let ends : EndsRefused k bytes code (drop (place + 1) bytes) = record { place = place; refused = h; rest_is = refl } in
+    let low : place < length bytes = law.within k bytes place code h in
+    let size : length (drop (place + 1) bytes) ≡ length bytes - (place + 1) = length-drop (place + 1) bytes in
+    ap (λ (r : Reading). front_of_lines (length bytes) r) (law.complete k bytes (Stop code (drop (place + 1) bytes)) ends) ∙ ap (λ (n : ℕ). refused (OfLine code) n) (omega (arith, low, size, e))
+lines_only law k bytes (refused (OfPacket code) len) h = absurd h

@@ -85,6 +85,24 @@ module _ (looks : Units → Look) where
         let none : drop (length (rest ++ more)) (rest ++ more) ≡ [] = ap (λ (z : List ℕ). drop (length (rest ++ more)) z) (sym (append-nil (rest ++ more))) ∙ drop-append_seam (rest ++ more) [] in
         record { read = subst (λ (z : List ℕ). Read looks [] (stream ++ more) (us ++ u ∷ []) z) none all; then_rest = (each (us ++ u ∷ [])).none }
 
+    -- of two readings of which the second ends, the first is a front
+    read_front : (before : Units) (bytes : List ℕ) (us vs : Units) (x y : List ℕ) (q : Option Refusal)
+        → Read looks before bytes us x → Read looks before bytes vs y → IsRest (looks (before ++ vs)) y q → IsFront us vs
+    read_front before bytes [] vs x y q a b k = record { rest = vs; whole_is = refl }
+    read_front before bytes (u ∷ us) [] x y q (len, e, a) b k =
+        absurd (no_unit (looks before) bytes u len q (subst (λ (z : List ℕ). IsRest (looks before) z q) (sym b) (ended before y q k)) e)
+    read_front before bytes (u ∷ us) (v ∷ vs) x y q (len, e, a) (n, f, b) k =
+        let unit : v ≡ u = cc in
+        let size : n ≡ len = cc in
+        let b₁ : Read looks (before ++ u ∷ []) (drop len bytes) vs y
+        = subst (λ (w : List ℕ). Read looks (before ++ w ∷ []) (drop len bytes) vs y) unit (subst (λ (m : ℕ). Read looks (before ++ v ∷ []) (drop m bytes) vs y) size b) in
+        let k₁ : IsRest (looks (before ++ u ∷ vs)) y q = subst (λ (w : List ℕ). IsRest (looks (before ++ w ∷ vs)) y q) unit k in
+        subst (λ (w : List ℕ). IsFront (u ∷ us) (w ∷ vs)) (sym unit) (front-cons u us vs (read_front (before ++ u ∷ []) (drop len bytes) us vs x y q a b₁ (further before u vs y q k₁)))
+
+    pub heard_front : (stream more : List ℕ) (us vs : Units) (x y : List ℕ) (r q : Option Refusal)
+        → Heard looks stream us x r → Heard looks (stream ++ more) vs y q → IsFront us vs
+    heard_front stream more us vs x y r q a b = read_front [] (stream ++ more) us vs (x ++ more) y q (read_more [] stream more us x a.read) b.read b.then_rest
+
     pub heard_none : Heard looks [] [] [] None
     heard_none = record { read = refl; then_rest = (each []).none }
 

@@ -2,8 +2,8 @@
 
 ghost use Rattle.std.specs.Prelude.{◌≡◌, ◌+◌, ℕ, Bool, true, if◌then◌else◌, List, [], ◌∷◌, ◌++◌, length, drop, Option, None};
 ghost use Rattle.sshwire.specs.Lines.{Preamble};
-ghost use Rattle.sshpacket.specs.Front.{Refusal, Way, front, unfinished, whole};
-ghost use Rattle.sshpacket.specs.LineLook.{look_of_lines};
+ghost use Rattle.sshpacket.specs.Front.{Front, Refusal, Way, front, unfinished, whole};
+ghost use Rattle.sshpacket.specs.LineLook.{MeansLines, look_of_lines};
 ghost use Rattle.sshpacket.specs.Places.{EachPlace, IsFront, after_first, count_places, first_of, flat_places, stands};
 ghost use Rattle.sshpacket.specs.Stream.{Heard, HeardAll, IsLook, IsRest, Linked, Look, Read, Said, Same, Spelled, Units};
 
@@ -49,7 +49,10 @@ pub fn places_law()
 pub fn look_law()
     ensures packets { (w : Way) → IsLook (front w) }
     ensures lines { (k : ℕ) → IsLook (look_of_lines k) }
-    // A preamble is read as its version, whatever follows.
+
+    // What is read of lines stands there, and what stands there is read: a preamble as its version, whatever follows.
+    ensures found { (k : ℕ) (bytes : List ℕ) → MeansLines k bytes (look_of_lines k bytes) }
+    ensures only { (k : ℕ) (bytes : List ℕ) (f : Front) → MeansLines k bytes f → look_of_lines k bytes ≡ f }
     ensures preamble { (k : ℕ) (text bytes more : List ℕ) → Preamble k text bytes → look_of_lines k (bytes ++ more) ≡ whole text (length bytes) }
 {
     sshwire::reading_law();
@@ -71,6 +74,10 @@ pub fn stream_law()
         → Heard looks stream us rest r → IsRest (looks us) (rest ++ more) q → Heard looks (stream ++ more) us (rest ++ more) q }
     ensures heard_push { (looks : Units → Look) → ((us : Units) → IsLook (looks us)) → (stream more : List ℕ) (us : Units) (rest u : List ℕ) (r : Option Refusal)
         → Heard looks stream us rest r → looks us (rest ++ more) ≡ whole u (length (rest ++ more)) → Heard looks (stream ++ more) (us ++ u ∷ []) [] None }
+
+    // What is heard of a front of a stream is a front of what is heard of it.
+    ensures front { (looks : Units → Look) → ((us : Units) → IsLook (looks us)) → (stream more : List ℕ) (us vs : Units) (x y : List ℕ) (r q : Option Refusal)
+        → Heard looks stream us x r → Heard looks (stream ++ more) vs y q → IsFront us vs }
 
     // The link.
     ensures link { (looks : Units → Look) (spells : Units → List ℕ → List ℕ) → ((us : Units) → IsLook (looks us))

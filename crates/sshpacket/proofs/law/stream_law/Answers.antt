@@ -1,4 +1,4 @@
-use Rattle.sshpacket.proofs.Streams.{heard_more, heard_none, heard_push, link, link_all, one_reading, read_more, read_push, said_append, said_push, said_same}
+use Rattle.sshpacket.proofs.Streams.{heard_front, heard_more, heard_none, heard_push, link, link_all, one_reading, read_more, read_push, said_append, said_push, said_same}
 use Rattle.sshpacket.proofs.law.stream_law.Goals as goal
 
 pub returns-clause-one : goal.returns-clause-one
@@ -18,6 +18,9 @@ returns-clause-heard_more c = heard_more
 
 pub returns-clause-heard_push : goal.returns-clause-heard_push
 returns-clause-heard_push c = heard_push
+
+pub returns-clause-front : goal.returns-clause-front
+returns-clause-front c = heard_front
 
 pub returns-clause-link : goal.returns-clause-link
 returns-clause-link c = link
