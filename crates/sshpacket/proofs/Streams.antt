@@ -6,7 +6,7 @@ use Rattle.std.proofs.Math.Seq.{drop-append_seam}
 use Rattle.sshpacket.specs.Front.{Refusal, unfinished, whole}
 use Rattle.sshpacket.specs.Places.{IsFront, EachPlace, flat_places}
 use Rattle.sshpacket.specs.Stream.{Units, Look, IsLook, Read, IsRest, Heard, Said, Spelled, Same, Linked, HeardAll}
-use Rattle.sshpacket.proofs.Places.{flat-append, flat-push, flat-same, front-cons}
+use Rattle.sshpacket.proofs.Places.{each-behind, each-front, flat-append, flat-push, flat-same, front-cons}
 
 -- a rest has no unit at its front
 no_unit : (look : Look) (rest u : List ℕ) (len : ℕ) (r : Option Refusal) → IsRest look rest r → look rest ≡ whole u len → ⊥
@@ -49,6 +49,16 @@ module _ (looks : Units → Look) where
       let k₁ : IsRest (looks (before ++ u ∷ vs)) y q = subst (λ (w : List ℕ). IsRest (looks (before ++ w ∷ vs)) y q) (sym unit) k in
       let same : Same us vs x y r q = read_one (before ++ u ∷ []) (drop len bytes) us vs x y r q a (further before u us x r h) b₁ (further before u vs y q k₁) in
       record { same_units = (let rest : us ≡ vs = same.same_units in cc); same_rest = same.same_rest; same_refusal = same.same_refusal }
+
+  pub one_reading : (stream : List ℕ) (us vs : Units) (x y : List ℕ) (r q : Option Refusal) → Heard looks stream us x r → Heard looks stream vs y q → Same us vs x y r q
+  one_reading stream us vs x y r q a b = read_one [] stream us vs x y r q a.read a.then_rest b.read b.then_rest
+
+  -- behind the same units stands the same rest
+  read_rest : (before : Units) (bytes : List ℕ) (us : Units) (x y : List ℕ) → Read looks before bytes us x → Read looks before bytes us y → x ≡ y
+  read_rest before bytes [] x y a b = sym a ∙ b
+  read_rest before bytes (u ∷ us) x y (len, e, a) (n, f, b) =
+      let size : n ≡ len = cc in
+      read_rest (before ++ u ∷ []) (drop len bytes) us x y a (subst (λ (m : ℕ). Read looks (before ++ u ∷ []) (drop m bytes) us y) size b)
 
   pub read_push : (before : Units) (bytes : List ℕ) (us : Units) (rest u : List ℕ) (len : ℕ)
       → Read looks before bytes us rest → looks (before ++ us) rest ≡ whole u len → Read looks before bytes (us ++ u ∷ []) (drop len rest)
@@ -107,85 +117,54 @@ module _ (looks : Units → Look) where
     heard_none = record { read = refl; then_rest = (each []).none }
 
     module _ (spells : Units → List ℕ → List ℕ) where
-      none_of_nothing : (before : Units) (h more u : List ℕ) (len : ℕ) → h ++ more ≡ [] → looks before h ≡ whole u len → ⊥
-      none_of_nothing before h more u len e f =
-          let none : looks before (h ++ more) ≡ unfinished = ap (λ (z : List ℕ). looks before z) e ∙ (each before).none in
-          let some : looks before (h ++ more) ≡ whole u len = more_whole before h more u len f in
-          cc
+      -- what is spelled at each place is read there, and what follows is left
+      said_read : (before us : Units) (more : List ℕ) → EachPlace (Spelled looks spells) before us → Read looks before (flat_places spells before us ++ more) us more
+      said_read before [] more e = refl
+      said_read before (u ∷ us) more e =
+          let one : List ℕ = spells before u in
+          let later : List ℕ = flat_places spells (before ++ u ∷ []) us in
+          let grouped : (one ++ later) ++ more ≡ one ++ (later ++ more) = append_assoc one later more in
+          let behind : drop (length one) ((one ++ later) ++ more) ≡ later ++ more = ap (λ (z : List ℕ). drop (length one) z) grouped ∙ drop-append_seam one (later ++ more) in
+          (length one, ap (λ (z : List ℕ). looks before z) grouped ∙ e.0 (later ++ more), rw behind (said_read (before ++ u ∷ []) us more e.1))
 
-      no_refusal : (before : Units) (h more : List ℕ) (said : Units) (r : Option Refusal)
-          → h ++ more ≡ flat_places spells before said → EachPlace (Spelled looks spells) before said → IsRest (looks before) h r → r ≡ None
-      no_refusal before h more said None s each_spelled k = refl
-      no_refusal before h more [] (Some f) s each_spelled k =
-          let none : looks before (h ++ more) ≡ unfinished = ap (λ (z : List ℕ). looks before z) s ∙ (each before).none in
-          let some : looks before (h ++ more) ≡ looks before h = (each before).more h more (λ none. cc) in
-          cc
-      no_refusal before h more (v ∷ vs) (Some f) s each_spelled k =
-          let unit : looks before (h ++ more) ≡ whole v (length (spells before v))
-          = ap (λ (z : List ℕ). looks before z) s ∙ each_spelled.0 (flat_places spells (before ++ v ∷ []) vs) in
-          let some : looks before (h ++ more) ≡ looks before h = (each before).more h more (λ none. cc) in
-          cc
-
-      -- behind the first unit of both
-      behind : (before : Units) (h more u v : List ℕ) (vs : Units) (len : ℕ) → h ++ more ≡ flat_places spells before (v ∷ vs)
-          → Spelled looks spells before v → looks before h ≡ whole u len
-          → (u ≡ v) × (drop len h ++ more ≡ flat_places spells (before ++ u ∷ []) vs)
-      behind before h more u v vs len s spelled e =
-          let later : List ℕ = flat_places spells (before ++ v ∷ []) vs in
-          let heard : looks before (h ++ more) ≡ whole u len = more_whole before h more u len e in
-          let unit : looks before (h ++ more) ≡ whole v (length (spells before v)) = ap (λ (z : List ℕ). looks before z) s ∙ spelled later in
-          let same : u ≡ v = cc in
-          let size : len ≡ length (spells before v) = cc in
-          let low : len ≤ length h = (each before).within h u len e in
-          let cut : drop len h ++ more ≡ drop len (h ++ more) = sym (drop-append-le len h more low) in
-          let left : drop len (h ++ more) ≡ later = ap (λ (z : List ℕ). drop len z) s ∙ (ap (λ (n : ℕ). drop n (spells before v ++ later)) size ∙ drop-append_seam (spells before v) later) in
-          (same, cut ∙ (left ∙ ap (λ (w : List ℕ). flat_places spells (before ++ w ∷ []) vs) (sym same)))
-
-      each_behind : (before : Units) (u v : List ℕ) (vs : Units) → u ≡ v → EachPlace (Spelled looks spells) (before ++ v ∷ []) vs → EachPlace (Spelled looks spells) (before ++ u ∷ []) vs
-      each_behind before u v vs same p = subst (λ (w : List ℕ). EachPlace (Spelled looks spells) (before ++ w ∷ []) vs) (sym same) p
-
-      link_from : (before : Units) (h more : List ℕ) (said us : Units) (rest : List ℕ) (r : Option Refusal) → h ++ more ≡ flat_places spells before said
-          → EachPlace (Spelled looks spells) before said → Read looks before h us rest → IsRest (looks (before ++ us)) rest r → Linked us said r
-      link_from before h more said [] rest r s each_spelled a k = record {
-        front = record { rest = said; whole_is = refl };
-        no_refusal = no_refusal before h more said r s each_spelled (subst (λ (z : List ℕ). IsRest (looks before) z r) (sym a) (ended before rest r k));
+      pub said_heard : (stream : List ℕ) (us : Units) → Said spells stream us → EachPlace (Spelled looks spells) [] us → Heard looks stream us [] None
+      said_heard stream us s e = record {
+        read = rw s.spelled (subst (λ (z : List ℕ). Read looks [] z us []) (append-nil (flat_places spells [] us)) (said_read [] us [] e));
+        then_rest = (each us).none;
       }
-      link_from before h more [] (u ∷ us) rest r s each_spelled (len, e, a) k = absurd (none_of_nothing before h more u len s e)
-      link_from before h more (v ∷ vs) (u ∷ us) rest r s each_spelled (len, e, a) k =
-          let next : (u ≡ v) × (drop len h ++ more ≡ flat_places spells (before ++ u ∷ []) vs) = behind before h more u v vs len s each_spelled.0 e in
-          let linked : Linked us vs r = link_from (before ++ u ∷ []) (drop len h) more vs us rest r next.1 (each_behind before u v vs next.0 each_spelled.1) a (further before u us rest r k) in
-          record {
-            front = subst (λ (w : List ℕ). IsFront (u ∷ us) (w ∷ vs)) next.0 (front-cons u us vs linked.front);
-            no_refusal = linked.no_refusal;
-          }
 
-      all_from : (before : Units) (h : List ℕ) (said us : Units) (rest : List ℕ) (r : Option Refusal) → h ++ [] ≡ flat_places spells before said
-          → EachPlace (Spelled looks spells) before said → Read looks before h us rest → IsRest (looks (before ++ us)) rest r → (us ≡ said) × (rest ≡ [])
-      all_from before h [] [] rest r s each_spelled a k = (refl, sym a ∙ (sym (append-nil h) ∙ s))
-      all_from before h (v ∷ vs) [] rest r s each_spelled a k =
-          let here : looks before h ≡ whole v (length (spells before v))
-          = ap (λ (z : List ℕ). looks before z) (sym (append-nil h) ∙ s) ∙ each_spelled.0 (flat_places spells (before ++ v ∷ []) vs) in
-          absurd (no_unit (looks before) h v (length (spells before v)) r (subst (λ (z : List ℕ). IsRest (looks before) z r) (sym a) (ended before rest r k)) here)
-      all_from before h [] (u ∷ us) rest r s each_spelled (len, e, a) k = absurd (none_of_nothing before h [] u len s e)
-      all_from before h (v ∷ vs) (u ∷ us) rest r s each_spelled (len, e, a) k =
-          let next : (u ≡ v) × (drop len h ++ [] ≡ flat_places spells (before ++ u ∷ []) vs) = behind before h [] u v vs len s each_spelled.0 e in
-          let same : (us ≡ vs) × (rest ≡ []) = all_from (before ++ u ∷ []) (drop len h) vs us rest r next.1 (each_behind before u v vs next.0 each_spelled.1) a (further before u us rest r k) in
-          (let first : u ≡ v = next.0 in let others : us ≡ vs = same.0 in cc, same.1)
+      -- where spelled units go on, nothing is refused
+      none_refused : (before : Units) (rest more : List ℕ) (us : Units) (r : Option Refusal)
+          → rest ++ more ≡ flat_places spells before us → EachPlace (Spelled looks spells) before us → IsRest (looks before) rest r → r ≡ None
+      none_refused before rest more us None s e k = refl
+      none_refused before rest more [] (Some f) s e k =
+          let none : looks before (rest ++ more) ≡ unfinished = ap (λ (z : List ℕ). looks before z) s ∙ (each before).none in
+          let some : looks before (rest ++ more) ≡ looks before rest = (each before).more rest more (λ none. cc) in
+          cc
+      none_refused before rest more (v ∷ vs) (Some f) s e k =
+          let unit : looks before (rest ++ more) ≡ whole v (length (spells before v)) = ap (λ (z : List ℕ). looks before z) s ∙ e.0 (flat_places spells (before ++ v ∷ []) vs) in
+          let some : looks before (rest ++ more) ≡ looks before rest = (each before).more rest more (λ none. cc) in
+          cc
 
-pub one_reading : (looks : Units → Look) (stream : List ℕ) (us vs : Units) (x y : List ℕ) (r q : Option Refusal) → Heard looks stream us x r → Heard looks stream vs y q → Same us vs x y r q
-one_reading looks stream us vs x y r q a b = read_one looks [] stream us vs x y r q a.read a.then_rest b.read b.then_rest
+      pub link : (stream front more : List ℕ) (said us : Units) (rest : List ℕ) (r : Option Refusal)
+          → Said spells stream said → EachPlace (Spelled looks spells) [] said → stream ≡ front ++ more → Heard looks front us rest r → Linked us said r
+      link stream front more said us rest r s e cut h =
+          let whole_heard : Heard looks (front ++ more) said [] None = subst (λ (z : List ℕ). Heard looks z said [] None) cut (said_heard stream said s e) in
+          let is_front : IsFront us said = heard_front front more us said rest [] r None h whole_heard in
+          let others : Units = is_front.rest in
+          let places : EachPlace (Spelled looks spells) [] (us ++ others) = subst (λ (z : Units). EachPlace (Spelled looks spells) [] z) is_front.whole_is e in
+          let bytes : front ++ more ≡ flat_places spells [] us ++ flat_places spells us others
+          = sym cut ∙ (s.spelled ∙ (ap (λ (z : Units). flat_places spells [] z) is_front.whole_is ∙ flat-append spells [] us others)) in
+          let again : Read looks [] (front ++ more) us (flat_places spells us others)
+          = rw bytes (said_read [] us (flat_places spells us others) (each-front (Spelled looks spells) [] us others places)) in
+          let left : rest ++ more ≡ flat_places spells us others = read_rest [] (front ++ more) us (rest ++ more) (flat_places spells us others) (read_more [] front more us rest h.read) again in
+          record { front = is_front; no_refusal = none_refused us rest more others r left (each-behind (Spelled looks spells) [] us others places) h.then_rest }
 
-pub link : (looks : Units → Look) (spells : Units → List ℕ → List ℕ) → ((us : Units) → IsLook (looks us)) → (stream front more : List ℕ) (said us : Units) (rest : List ℕ) (r : Option Refusal)
-    → Said spells stream said → EachPlace (Spelled looks spells) [] said → stream ≡ front ++ more → Heard looks front us rest r → Linked us said r
-link looks spells each stream front more said us rest r s each_spelled cut h =
-    link_from looks each spells [] front more said us rest r (sym cut ∙ s.spelled) each_spelled h.read h.then_rest
-
-pub link_all : (looks : Units → Look) (spells : Units → List ℕ → List ℕ) → ((us : Units) → IsLook (looks us)) → (stream : List ℕ) (said us : Units) (rest : List ℕ) (r : Option Refusal)
-    → Said spells stream said → EachPlace (Spelled looks spells) [] said → Heard looks stream us rest r → HeardAll us said rest r
-link_all looks spells each stream said us rest r s each_spelled h =
-    let same : (us ≡ said) × (rest ≡ []) = all_from looks each spells [] stream said us rest r (append-nil stream ∙ s.spelled) each_spelled h.read h.then_rest in
-    let linked : Linked us said r = link looks spells each stream stream [] said us rest r s each_spelled (sym (append-nil stream)) h in
-    record { all_units = same.0; none_left = same.1; no_refusal = linked.no_refusal }
+      pub link_all : (stream : List ℕ) (said us : Units) (rest : List ℕ) (r : Option Refusal)
+          → Said spells stream said → EachPlace (Spelled looks spells) [] said → Heard looks stream us rest r → HeardAll us said rest r
+      link_all stream said us rest r s e h =
+          let same : Same us said rest [] r None = one_reading stream us said rest [] r None h (said_heard stream said s e) in
+          record { all_units = same.same_units; none_left = same.same_rest; no_refusal = same.same_refusal }
 
 -- what was said, with more
 pub said_none : (spells : Units → List ℕ → List ℕ) → Said spells [] []

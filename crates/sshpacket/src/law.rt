@@ -79,7 +79,9 @@ pub fn stream_law()
     ensures front { (looks : Units → Look) → ((us : Units) → IsLook (looks us)) → (stream more : List ℕ) (us vs : Units) (x y : List ℕ) (r q : Option Refusal)
         → Heard looks stream us x r → Heard looks (stream ++ more) vs y q → IsFront us vs }
 
-    // The link.
+    // The link: what was said is heard, a front of it as a front of its units, and nothing of it is refused.
+    ensures again { (looks : Units → Look) (spells : Units → List ℕ → List ℕ) → ((us : Units) → IsLook (looks us))
+        → (stream : List ℕ) (said : Units) → Said spells stream said → EachPlace (Spelled looks spells) [] said → Heard looks stream said [] None }
     ensures link { (looks : Units → Look) (spells : Units → List ℕ → List ℕ) → ((us : Units) → IsLook (looks us))
         → (stream front more : List ℕ) (said us : Units) (rest : List ℕ) (r : Option Refusal)
         → Said spells stream said → EachPlace (Spelled looks spells) [] said → stream ≡ front ++ more → Heard looks front us rest r → Linked us said r }

@@ -1,4 +1,4 @@
-use Rattle.sshpacket.proofs.Streams.{heard_front, heard_more, heard_none, heard_push, link, link_all, one_reading, read_more, read_push, said_append, said_push, said_same}
+use Rattle.sshpacket.proofs.Streams.{heard_front, heard_more, heard_none, heard_push, link, link_all, one_reading, read_more, read_push, said_append, said_heard, said_push, said_same}
 use Rattle.sshpacket.proofs.law.stream_law.Goals as goal
 
 pub returns-clause-one : goal.returns-clause-one
@@ -23,10 +23,13 @@ pub returns-clause-front : goal.returns-clause-front
 returns-clause-front c = heard_front
 
 pub returns-clause-link : goal.returns-clause-link
-returns-clause-link c = link
+returns-clause-link c = λ looks spells each. link looks each spells
+
+pub returns-clause-again : goal.returns-clause-again
+returns-clause-again c = λ looks spells each. said_heard looks each spells
 
 pub returns-clause-all : goal.returns-clause-all
-returns-clause-all c = link_all
+returns-clause-all c = λ looks spells each. link_all looks each spells
 
 pub returns-clause-said_push : goal.returns-clause-said_push
 returns-clause-said_push c = said_push
