@@ -1,8 +1,11 @@
 pub mod ByteLemmas
 pub mod FrontLemmas
 pub mod LeastPadding
+pub mod Looks
 pub mod Opening
+pub mod Places
 pub mod StepLemmas
+pub mod Streams
 pub mod UnitLaws
 pub mod WaitLemmas
 pub mod Writings

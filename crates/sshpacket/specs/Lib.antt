@@ -1,9 +1,12 @@
 pub mod Front
 pub mod KeyData
 pub mod KeyNames
+pub mod LineLook
 pub mod Packet
+pub mod Places
 pub mod ReaderState
 pub mod ReaderSteps
+pub mod Stream
 pub mod Suite
 pub mod Unit
 pub mod Written

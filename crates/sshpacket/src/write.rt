@@ -32,7 +32,7 @@ pub fn write_clear<S: Suite>(
     // What is appended is a packet of the payload with the least padding.
     ensures packet { IsWritten 8 0 payload.now (written_clear (S.meaning suite.now) seed.now seq payload.now) }
 {
-    crate::laws::writing_law();
+    crate::packet_laws::writing_law();
     let clear = clear_packet(alloc, suite, 8, seq, payload, seed)?;
     out.extend_from_slice(&clear)?;
     Ok(())
@@ -71,7 +71,7 @@ fn sealed_is_packet<S: Suite>(suite: &S, keys: &Keys, seq: u32, payload: &[u8], 
     ensures { IsWritten ((S.meaning suite.now).block keys.now.cipher) ((S.meaning suite.now).tag_len keys.now.cipher keys.now.mac) payload.now
         (written (S.meaning suite.now) ((S.meaning suite.now).block keys.now.cipher) seed.now seq payload.now) }
 {
-    crate::laws::writing_law();
+    crate::packet_laws::writing_law();
 }
 
 /// The packet of a payload in clear, for this block.

@@ -1,7 +1,7 @@
 use Rattle.std.proofs.Common.{lit≤}
 use Rattle.sshpacket.specs.Written.{written}
 use Rattle.sshpacket.proofs.Writings.{clear_again, sealed_again, written_bytes, written_is}
-use Rattle.sshpacket.proofs.laws.writing_law.Goals as goal
+use Rattle.sshpacket.proofs.packet_laws.writing_law.Goals as goal
 
 pub returns-clause-written : goal.returns-clause-written
 returns-clause-written c = written_is

@@ -1,0 +1,60 @@
+-- What one direction of bytes reads as, and what it was written as: units one after another. A unit is the text of the
+-- version line, or a payload behind it; how one is read or spelled may depend on the units before it.
+
+use Rattle.std.specs.Prelude.{◌≡◌, ℕ, ◌≤◌, List, [], ◌∷◌, ◌++◌, length, drop, Option, None, Some}
+use Rattle.sshpacket.specs.Front.{Front, Refusal, refused, unfinished, whole}
+use Rattle.sshpacket.specs.Places.{IsFront, flat_places}
+
+-- the units of a direction, as they stand in it
+abbrev pub Units : Type 0
+Units = List (List ℕ)
+
+-- how one unit is read at the front of the bytes
+abbrev pub Look : Type 0
+Look = List ℕ → Front
+
+-- nothing stands in no bytes; more bytes behind change no answer; a unit lies within the bytes
+pub record IsLook (look : Look) : Type 0 where
+  pub none : look [] ≡ unfinished
+  pub more : (bytes more : List ℕ) → (look bytes ≡ unfinished → ⊥) → look (bytes ++ more) ≡ look bytes
+  pub within : (bytes unit : List ℕ) (len : ℕ) → look bytes ≡ whole unit len → len ≤ length bytes
+
+-- behind the units before, the bytes read as these units, and the rest stands behind them
+abbrev pub Read : (Units → Look) → Units → List ℕ → Units → List ℕ → Type 0
+Read looks before bytes [] rest = bytes ≡ rest
+Read looks before bytes (u ∷ us) rest = (len : ℕ) × (looks before bytes ≡ whole u len) × Read looks (before ++ u ∷ []) (drop len bytes) us rest
+
+-- in the rest a unit is unfinished, or its last byte decides the refusal
+abbrev pub IsRest : Look → List ℕ → Option Refusal → Type 0
+IsRest look rest None = look rest ≡ unfinished
+IsRest look rest (Some f) = look rest ≡ refused f (length rest)
+
+-- what a stream reads as: its units, the rest behind them, and the refusal, if it is refused there
+pub record Heard (looks : Units → Look) (stream : List ℕ) (units : Units) (rest : List ℕ) (refusal : Option Refusal) : Type 0 where
+  pub read : Read looks [] stream units rest
+  pub then_rest : IsRest (looks units) rest refusal
+
+-- what a stream was written as: each unit as it is spelled behind those before it
+pub record Said (spells : Units → List ℕ → List ℕ) (stream : List ℕ) (units : Units) : Type 0 where
+  pub spelled : stream ≡ flat_places spells [] units
+
+-- what is spelled at this place is read there, whatever follows
+abbrev pub Spelled : (Units → Look) → (Units → List ℕ → List ℕ) → Units → List ℕ → Type 0
+Spelled looks spells before u = (more : List ℕ) → looks before (spells before u ++ more) ≡ whole u (length (spells before u))
+
+-- two readings of one stream are the same
+pub record Same (units other_units : Units) (rest other_rest : List ℕ) (refusal other_refusal : Option Refusal) : Type 0 where
+  pub same_units : units ≡ other_units
+  pub same_rest : rest ≡ other_rest
+  pub same_refusal : refusal ≡ other_refusal
+
+-- what is heard of a front of what was said: a front of the units said, and no refusal
+pub record Linked (units said : Units) (refusal : Option Refusal) : Type 0 where
+  pub front : IsFront units said
+  pub no_refusal : refusal ≡ None
+
+-- what is heard of all that was said: all the units said, with nothing behind them, and no refusal
+pub record HeardAll (units said : Units) (rest : List ℕ) (refusal : Option Refusal) : Type 0 where
+  pub all_units : units ≡ said
+  pub none_left : rest ≡ []
+  pub no_refusal : refusal ≡ None
