@@ -3,6 +3,7 @@
 
 mod delivery;
 mod greetings;
+mod lab_suite;
 mod program;
 mod schedule;
 mod streams;
@@ -10,6 +11,7 @@ mod words;
 
 pub use delivery::{Delivery, Side};
 pub use greetings::{Greeting, Hearing, greet};
+pub use lab_suite::LabSuite;
 pub use program::{refuse_words, tool};
 pub use streams::{Broken, Sink, Source, StreamSink, StreamSource};
 
