@@ -16,4 +16,6 @@ pub use program::{refuse_words, tool};
 pub use streams::{Broken, Sink, Source, StreamSink, StreamSource};
 
 #[cfg(test)]
+mod lab_tests;
+#[cfg(test)]
 mod tests;
