@@ -6,7 +6,6 @@ use Rattle.std.specs.Str.{bytes_eq}
 use Rattle.sha2.specs.Sha256.{sha256}
 use Rattle.sshwire.specs.Types.{string, uint32}
 use Rattle.sshpacket.specs.declared.suite.Capability.{Capability}
-use Rattle.sshpacket.specs.declared.suite.KeyLens.{KeyLens}
 use Rattle.sshpacket.specs.declared.suite.Need.{Need}
 use Rattle.sshpacket.specs.declared.suite.Need.TheVariants.{Encryption, Signature}
 use Rattle.sshpacket.specs.KeyData.{KeyData}
@@ -55,9 +54,11 @@ masked keys seq bytes = xored bytes (key_stream keys seq (length bytes))
 unfoldable pub tag : KeyData → ℕ → List ℕ → List ℕ
 tag keys seq clear = sha256 (keys.mac_key ++ uint32 seq ++ clear)
 
+-- the masked packet, then its tag
 unfoldable pub lab_seal : KeyData → ℕ → List ℕ → List ℕ
 lab_seal keys seq clear = masked keys seq clear ++ tag keys seq clear
 
+-- the uint32 in the first four bytes, unmasked
 unfoldable pub lab_head : KeyData → ℕ → List ℕ → ℕ
 lab_head keys seq first = number (masked keys seq first)
 
@@ -66,12 +67,14 @@ unfoldable pub checked : KeyData → ℕ → List ℕ → List ℕ → Option (L
 checked keys seq clear found =
     if bytes_eq found (tag keys seq clear) && (number clear + 4 == length clear) then Some clear else None
 
+-- a sealed packet has a length field and a tag at least; its last 32 bytes are the tag
 unfoldable pub lab_unseal : KeyData → ℕ → List ℕ → Option (List ℕ)
 lab_unseal keys seq sealed =
     if nat_le 36 (length sealed) then
-      checked keys seq (masked keys seq (take (length sealed - 32) sealed)) (drop (length sealed - 32) sealed)
+    checked keys seq (masked keys seq (take (length sealed - 32) sealed)) (drop (length sealed - 32) sealed)
     else None
 
+-- so many bytes of the stream of the seed
 unfoldable pub lab_padding : List ℕ → ℕ → ℕ → List ℕ
 lab_padding seed seq len = take len (stream seed seq (blocks_for len))
 
@@ -84,6 +87,7 @@ unfoldable pub lab_shared : List ℕ → List ℕ → Option (List ℕ)
 lab_shared random peer =
     if (length peer == 33) && (slice_index peer 0 == 1) then Some (1 ∷ xored (drop 1 peer) random) else None
 
+-- the public key of a private key: the name of the algorithm, and the hash of the private key
 unfoldable pub lab_blob : List ℕ → List ℕ → List ℕ
 lab_blob alg secret = string alg ++ string (sha256 secret)
 

@@ -1,19 +1,19 @@
 -- The lab suite has the laws.
 
-use Rattle.std.proofs.Common.{◌≡◌, ℕ, zero, suc, ◌+◌, ◌-◌, ◌*◌, ◌/◌, ◌^◌, ◌<◌, ◌≤◌, Bool, true, false, List, [], ◌∷◌, ◌++◌, length, take, drop, refl, sym, ap, ◌∙◌, arith, cond, eqb, leb, ltb}
+use Rattle.std.proofs.Common.{◌≡◌, ℕ, suc, ◌+◌, ◌-◌, ◌*◌, ◌≤◌, Bool, true, false, List, [], ◌∷◌, ◌++◌, length, take, drop, refl, sym, ap, ◌∙◌, arith, cond, eqb, leb, ltb}
 use Rattle.std.proofs.lemmas.Bool.{and_from, and_parts, eq-eqb, eqb-true, le-leb, le-ltb}
 use Rattle.std.proofs.lemmas.Cmp.{nat_list_eq_equiv}
 use Rattle.std.proofs.lemmas.List.{drop_at, length-append, length-drop, length-take-le, take-append-le, take-take, take_at}
-use Rattle.std.specs.Prelude.{◌&&◌, slice_index, Option, None, Some}
+use Rattle.std.specs.Prelude.{◌&&◌, slice_index, None, Some}
 use Rattle.std.specs.Str.{bytes_eq}
 use Rattle.sha2.proofs.Facts256.{length-sha256}
 use Rattle.sha2.specs.Sha256.{sha256}
-use Rattle.sshwire.proofs.TypeLemmas.{bytes_dropped, bytes_taken, uint32_complete}
+use Rattle.sshwire.proofs.TypeLemmas.{bytes_taken, uint32_complete}
 use Rattle.sshwire.specs.TypeReadings.{uint32_at}
-use Rattle.sshwire.specs.Types.{IsBytes, IsName, string, uint32}
+use Rattle.sshwire.specs.Types.{IsBytes, string, uint32}
 use Rattle.sshpacket.specs.KeyData.{KeyData}
 use Rattle.sshpacket.specs.Packet.{IsPacket, length_field, number, number_read}
-use Rattle.sshpacket.specs.Suite.{IsLawful, IsPositiveBody, IsSealable, Keeps}
+use Rattle.sshpacket.specs.Suite.{IsLawful, IsPositiveBody, Keeps}
 use Rattle.sshlab.specs.Masks.{bytes_append, bytes_cons, bytes_sha256, bytes_stream, bytes_xored, stream_length, length_xored, stream_begins, xored_comm, xored_more, xored_take, xored_twice}
 use Rattle.sshlab.specs.Lab.{blocks_for, checked, key_stream, lab, lab_blob, lab_head, lab_padding, lab_seal, lab_shared, lab_unseal, masked, signature_by, stream, tag, xored}
 

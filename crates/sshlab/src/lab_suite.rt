@@ -89,7 +89,9 @@ impl Suite for LabSuite {
         }
         let (front, found) = sealed.split_at(sealed.len() - HASH_LEN);
         let clear = masked(alloc, keys, seq, front)?;
-        if found == tag(keys, seq, &clear).as_slice() && number(&clear) as usize + 4 == clear.len() {
+        if found == tag(keys, seq, &clear).as_slice()
+            && number(&clear) as usize + 4 == clear.len()
+        {
             Ok(Some(clear))
         } else {
             Ok(None)
@@ -121,9 +123,9 @@ impl Suite for LabSuite {
         if peer.len() != 33 || peer[0] != 1 {
             return Ok(None);
         }
-        let mut number = Vec::from_slice(alloc, peer)?;
-        xor_with(&mut number[1..], random);
-        Ok(Some(number))
+        let mut body = Vec::from_slice(alloc, peer)?;
+        xor_with(&mut body[1..], random);
+        Ok(Some(body))
     }
 
     fn digest(&self, alloc: Global, _kex: &str, input: &[u8]) -> Result<Vec<u8>, Memory> {
@@ -135,7 +137,13 @@ impl Suite for LabSuite {
     }
 
     #[tactic(auto, using(crate::specs::LabLaws::blob_length))]
-    fn sign(&self, alloc: Global, alg: &str, secret: &[u8], input: &[u8]) -> Result<Vec<u8>, Memory> {
+    fn sign(
+        &self,
+        alloc: Global,
+        alg: &str,
+        secret: &[u8],
+        input: &[u8],
+    ) -> Result<Vec<u8>, Memory> {
         let blob = blob(alloc, alg, secret)?;
         Ok(Vec::from_slice(alloc, &signature(&blob, input))?)
     }
@@ -208,13 +216,7 @@ fn masked(alloc: Global, keys: &Keys, seq: u32, bytes: &[u8]) -> Result<Vec<u8>,
 
 /// As many blocks as cover so many bytes, of the stream of a seed in two parts and a packet's number.
 #[tactic(auto, using(crate::specs::Masks::stream_none, crate::specs::Masks::stream_more, crate::specs::Masks::stream_length))]
-fn stream(
-    alloc: Global,
-    front: &[u8],
-    back: &[u8],
-    seq: u32,
-    len: usize,
-) -> Result<Vec<u8>, Memory>
+fn stream(alloc: Global, front: &[u8], back: &[u8], seq: u32, len: usize) -> Result<Vec<u8>, Memory>
     requires { len < 2 ^ 32 }
     ensures value { IfOk result (λ v. v.items ≡ stream (front.now ++ back.now) seq (blocks_for len)) }
     ensures covers { IfOk result (λ v. len ≤ length v.items) }
