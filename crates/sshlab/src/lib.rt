@@ -3,6 +3,7 @@
 
 mod delivery;
 mod greetings;
+mod lab_suite;
 mod program;
 mod schedule;
 mod streams;
@@ -10,8 +11,11 @@ mod words;
 
 pub use delivery::{Delivery, Side};
 pub use greetings::{Greeting, Hearing, greet};
+pub use lab_suite::LabSuite;
 pub use program::{refuse_words, tool};
 pub use streams::{Broken, Sink, Source, StreamSink, StreamSource};
 
+#[cfg(test)]
+mod lab_tests;
 #[cfg(test)]
 mod tests;
