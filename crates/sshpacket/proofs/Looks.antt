@@ -2,7 +2,7 @@
 
 use Rattle.std.proofs.Common.{◌≡◌, ℕ, ◌+◌, ◌-◌, ◌<◌, ◌≤◌, Bool, true, false, List, [], ◌++◌, length, drop, take, refl, sym, ap, ◌∙◌, arith, cond, ltb, leb, eqb, slice_index, subst, Option, None, Some}
 use Rattle.std.specs.Prelude.{◌||◌}
-use Rattle.std.proofs.lemmas.Bool.{ltb-false, ltb-true, lt-ltb, le-ltb}
+use Rattle.std.proofs.lemmas.Bool.{ltb-false, ltb-true}
 use Rattle.std.proofs.lemmas.List.{length-append, length-drop, take-append-drop, take-append-le}
 use Rattle.std.proofs.Math.Seq.{take-append_seam}
 use Rattle.sshwire.specs.declared.fault.WireFault.{WireFault}
@@ -13,35 +13,12 @@ use Rattle.sshpacket.specs.Front.{Front, Way, OfLine, OfPacket, front, is_length
 use Rattle.sshpacket.specs.declared.fault.PacketFault.TheVariants.{Empty, Length, Padding}
 use Rattle.sshpacket.specs.LineLook.{MeansLines, front_of_lines, look_of_lines}
 use Rattle.sshpacket.specs.Stream.{IsLook}
+use Rattle.sshpacket.proofs.FrontLemmas.{front_bad, front_full, front_part, front_short}
 
 -- nothing stands in no bytes
 front_none : (w : Way) → front w [] ≡ unfinished
 unfolding front
 front_none w = refl
-
--- the front by its tests
-front_short : (w : Way) (bytes : List ℕ) → length bytes < 4 → front w bytes ≡ unfinished
-unfolding front
-front_short w bytes h = let t : ltb (length bytes) 4 ≡ true = lt-ltb (length bytes) 4 h in rw t refl
-
-front_bad : (w : Way) (bytes : List ℕ) → 4 ≤ length bytes → is_length w.block w.tag (w.head (take 4 bytes)) ≡ false → front w bytes ≡ refused (OfPacket Length) 4
-unfolding front
-front_bad w bytes h bad = let f : ltb (length bytes) 4 ≡ false = le-ltb (length bytes) 4 h in rw (f, bad) refl
-
-front_part : (w : Way) (bytes : List ℕ) → 4 ≤ length bytes → is_length w.block w.tag (w.head (take 4 bytes)) ≡ true → length bytes < total w bytes → front w bytes ≡ unfinished
-unfolding front
-front_part w bytes h good part =
-    let f : ltb (length bytes) 4 ≡ false = le-ltb (length bytes) 4 h in
-    let t : ltb (length bytes) (total w bytes) ≡ true = lt-ltb (length bytes) (total w bytes) part in
-    rw (f, good, t) refl
-
-front_full : (w : Way) (bytes : List ℕ) → 4 ≤ length bytes → is_length w.block w.tag (w.head (take 4 bytes)) ≡ true → total w bytes ≤ length bytes
-    → front w bytes ≡ unsealed (w.unseal (take (total w bytes) bytes)) (total w bytes)
-unfolding front
-front_full w bytes h good full =
-    let f : ltb (length bytes) 4 ≡ false = le-ltb (length bytes) 4 h in
-    let t : ltb (length bytes) (total w bytes) ≡ false = le-ltb (length bytes) (total w bytes) full in
-    rw (f, good, t) refl
 
 take_more : (n : ℕ) (bytes more : List ℕ) → n ≤ length bytes → take n (bytes ++ more) ≡ take n bytes
 take_more n bytes more h = take-append-le n bytes more h
