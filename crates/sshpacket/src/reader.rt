@@ -1,8 +1,9 @@
 //! Reads packets off a stream, however it is cut.
 
-ghost use Rattle.std.specs.Prelude.{◌≡◌, ◌≢◌, ◌+◌, ◌-◌, ◌<◌, ◌≤◌, ◌^◌, ℕ, IfErr, IfOk, IfSome, None, Some, OnErr, OnOk, drop, false, length, take, true};
+ghost use Rattle.std.specs.Prelude.{◌≡◌, ◌≢◌, ◌+◌, ◌-◌, ◌++◌, ◌<◌, ◌≤◌, ◌^◌, ℕ, IfErr, IfOk, IfSome, None, Some, OnErr, OnOk, drop, false, length, take, true};
 ghost use Rattle.sshpacket.specs.Front.{OfPacket, front, is_length, opened, refused, unfinished, way, whole};
 ghost use Rattle.sshpacket.specs.Packet.{number};
+ghost use Rattle.sshpacket.specs.Unit.{Means};
 ghost use Rattle.sshpacket.specs.ReaderSteps.{Counts, Fills, HasPayload, HasRoom, HeadLen, Opens, ReadsHead, ReadsPacket, needed};
 
 use crate::fault::PacketFault;
@@ -55,11 +56,11 @@ pub struct PacketReader {
 }
 
 impl PacketReader {
-    ghost use Rattle.std.specs.Prelude.{[], ◌%◌, ◌++◌, IsSome, if◌then◌else◌, is_some};
+    ghost use Rattle.std.specs.Prelude.{[], ◌%◌, IsSome, if◌then◌else◌, is_some};
     ghost use Rattle.std.specs.Borrow.{sem};
     ghost use Rattle.std.specs.Io.BufRead.{Rests};
     ghost use Rattle.sshpacket.specs.Suite.{Meaning};
-    ghost use Rattle.sshpacket.specs.ReaderState.{Advances, Answers, IsStep, Leaves, ReaderState, Waits, state};
+    ghost use Rattle.sshpacket.specs.ReaderState.{Advances, Answers, IsStep, Leaves, ReaderState, Waits, ahead, state};
     ghost use Rattle.sshpacket.specs.contracts.reader.PacketReader.{the_row};
 
     /// A reader at the beginning of the stream: no keys, number 0, nothing held.
@@ -115,10 +116,14 @@ impl PacketReader {
     pub fn next<S: Suite>(&mut self, suite: &S, piece: &[u8]) -> Result<PacketStep<'_>, PacketFault>
         ensures answers { self.old.fault ≡ None → Waits (S.meaning suite.now) self.old → Answers (S.meaning suite.now) (state self.old) piece.now result }
         ensures again { IfSome self.old.fault (λ f. result ≡ Err f) }
+        // What stands at the front, by the standard's definition of a packet.
+        ensures means { Means (way (S.meaning suite.now) self.old.keys self.old.seq) ((state self.old).held ++ piece.now) (ahead (S.meaning suite.now) (state self.old) piece.now) }
         ensures* after { sem 𝓛 (Rests the_row self.entry (λ new.
             (self.old.fault ≡ None → Waits (S.meaning suite.now) self.old → Leaves (S.meaning suite.now) self.old piece.now result new)
             × IfSome self.old.fault (λ f. (state new ≡ state self.old) × (new.taken ≡ 0)))) }
     {
+        let held = behind(&self.bytes, self.start);
+        front_means(suite, &self.keys, self.seq, held, piece);
         let seq = self.seq;
         match self.advance(suite, piece) {
             Err(fault) => Err(fault),
@@ -211,6 +216,13 @@ enum Step {
     Part { target: usize },
     /// It is, and its payload has this length.
     Whole { payload_len: usize },
+}
+
+/// What the front of the bytes reads as is what stands there.
+fn front_means<S: Suite>(suite: &S, keys: &Option<Keys>, seq: u32, held: &[u8], piece: &[u8])
+    ensures { Means (way (S.meaning suite.now) keys.now seq) (held.now ++ piece.now) (front (way (S.meaning suite.now) keys.now seq) (held.now ++ piece.now)) }
+{
+    crate::packet_laws::packet_law();
 }
 
 /// The bytes from a place on.
