@@ -18,4 +18,6 @@ pub use streams::{Broken, Sink, Source, StreamSink, StreamSource};
 #[cfg(test)]
 mod lab_tests;
 #[cfg(test)]
+mod packet_tests;
+#[cfg(test)]
 mod tests;

@@ -21,3 +21,6 @@ pub use reader::{PacketReader, PacketStep};
 pub use stream_laws::{look_law, places_law, stream_law};
 pub use suite::{Capability, KeyLens, Need, Suite};
 pub use write::{write_clear, write_sealed};
+
+#[cfg(test)]
+mod tests;

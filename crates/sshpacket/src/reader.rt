@@ -56,7 +56,7 @@ pub struct PacketReader {
 }
 
 impl PacketReader {
-    ghost use Rattle.std.specs.Prelude.{[], ◌%◌, IsSome, if◌then◌else◌, is_some};
+    ghost use Rattle.std.specs.Prelude.{[], ◌%◌, ◌↔◌, IsTrue, if◌then◌else◌};
     ghost use Rattle.std.specs.Borrow.{sem};
     ghost use Rattle.std.specs.Io.BufRead.{Rests};
     ghost use Rattle.sshpacket.specs.Suite.{Meaning};
@@ -106,6 +106,13 @@ impl PacketReader {
         if reset {
             self.seq = 0;
         }
+    }
+
+    /// Whether no byte of an unfinished packet is held, so that keys may be set.
+    pub fn is_idle(&self) -> bool
+        ensures { IsTrue result ↔ ((state self.now).held ≡ []) }
+    {
+        behind(&self.bytes, self.start).is_empty()
     }
 
     /// Reads on with a piece of the stream.
