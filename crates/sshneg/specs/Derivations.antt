@@ -1,0 +1,83 @@
+-- What is hashed, what keys are, and what is signed: RFC 4253 sections 7.2 and 8, RFC 4252 section 7.
+
+use Rattle.std.specs.Prelude.{ℕ, ◌+◌, zero, suc, true, List, [], ◌∷◌, ◌++◌, codes, length, take}
+use Rattle.sshwire.specs.Types.{boolean, string}
+use Rattle.sshneg.specs.declared.role.Role.{Role}
+use Rattle.sshneg.specs.declared.role.Role.TheVariants.{Client, Server}
+use Rattle.sshpacket.specs.KeyData.{KeyData}
+use Rattle.sshpacket.specs.Suite.{Meaning}
+
+-- what both sides know of an exchange: the version lines without CR LF, the payloads of both KEXINITs, the server's host
+-- key, the shares e and f and the shared number K as bodies of mpints
+pub record ExchangeData : Type 0 where
+  pub client_version : List ℕ
+  pub server_version : List ℕ
+  pub client_kexinit : List ℕ
+  pub server_kexinit : List ℕ
+  pub host_key : List ℕ
+  pub client_share : List ℕ
+  pub server_share : List ℕ
+  pub shared : List ℕ
+
+-- how many bytes that is
+abbrev pub exchange_size : ExchangeData → ℕ
+exchange_size x =
+    length x.client_version + length x.server_version + length x.client_kexinit + length x.server_kexinit
+    + length x.host_key + length x.client_share + length x.server_share + length x.shared
+
+-- the input of the exchange hash H: V_C, V_S, I_C, I_S, K_S, e, f, K (RFC 4253 section 8)
+unfoldable pub exchange_text : ExchangeData → List ℕ
+exchange_text x =
+    string x.client_version
+    ++ (string x.server_version
+    ++ (string x.client_kexinit
+    ++ (string x.server_kexinit
+    ++ (string x.host_key
+    ++ (string x.client_share
+    ++ (string x.server_share
+    ++ string x.shared))))))
+
+-- what a publickey request signs: the session identifier and the request up to the signature (RFC 4252 section 7)
+unfoldable pub signed_text : List ℕ → List ℕ → List ℕ → List ℕ → List ℕ → List ℕ
+signed_text session user service algorithm key =
+    string session
+    ++ (50 ∷ (string user ++ (string service ++ (string (codes "publickey") ++ (boolean true ++ (string algorithm ++ string key))))))
+
+-- what keys are made of: the method, K as the body of an mpint, H, and the session identifier
+pub record KeySource : Type 0 where
+  pub kex : List ℕ
+  pub shared : List ℕ
+  pub hash : List ℕ
+  pub session : List ℕ
+
+-- HASH(K || H || letter || session_id), and so many times more HASH(K || H || all so far) behind (RFC 4253 section 7.2)
+unfoldable pub grown : Meaning → KeySource → ℕ → ℕ → List ℕ
+grown m x letter zero = m.digest x.kex (string x.shared ++ (x.hash ++ (letter ∷ x.session)))
+grown m x letter (suc n) = grown m x letter n ++ m.digest x.kex (string x.shared ++ (x.hash ++ grown m x letter n))
+
+-- so many bytes of it: a hash has at least one byte, so as many hashes are enough
+unfoldable pub key : Meaning → KeySource → ℕ → ℕ → List ℕ
+key m x letter len = take len (grown m x letter len)
+
+-- the letters of the initialisation vector, the encryption key and the integrity key, by who sends
+abbrev pub iv_letter : Role → ℕ
+iv_letter Client = 65
+iv_letter Server = 66
+
+abbrev pub enc_letter : Role → ℕ
+enc_letter Client = 67
+enc_letter Server = 68
+
+abbrev pub mac_letter : Role → ℕ
+mac_letter Client = 69
+mac_letter Server = 70
+
+-- the keys of the direction in which this role sends
+unfoldable pub derived : Meaning → KeySource → Role → List ℕ → List ℕ → KeyData
+derived m x sender cipher mac = record {
+  cipher = cipher;
+  mac = mac;
+  iv = key m x (iv_letter sender) (m.key_lens cipher mac).iv;
+  enc = key m x (enc_letter sender) (m.key_lens cipher mac).enc;
+  mac_key = key m x (mac_letter sender) (m.key_lens cipher mac).mac;
+}

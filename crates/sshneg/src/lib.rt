@@ -1,0 +1,8 @@
+//! What two sides of SSH agree on, and what they derive from it (RFC 4253 sections 7 and 8).
+#![tactic(auto)]
+
+mod derivations;
+mod role;
+
+pub use derivations::{Exchange, KeyMaterial, exchange_input, signed_request};
+pub use role::Role;
