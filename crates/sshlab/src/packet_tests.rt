@@ -106,7 +106,10 @@ fn judges_padding_of_whole_packet(rt: HostRuntime) -> Result<(), Fail> {
     let empty = b"\x00\x00\x00\x0c\x0b\x15\x00\x00\x00\x00\x00\x00\x00\x00\x00\x00";
     assert_eq!(rt; fault_of(alloc, empty)?, Some((PacketFault::Empty, 15)));
     let good = b"\x00\x00\x00\x0c\x0a\x15\x00\x00\x00\x00\x00\x00\x00\x00\x00\x00";
-    assert_eq!(rt; fault_of(alloc, good)?, None);
+    let mut reader = PacketReader::new(alloc);
+    let (came, before) = feed_bytes(alloc, &mut reader, good)?;
+    assert_eq!(rt; came, Came::Payload(Vec::from_slice(alloc, b"\x15")?));
+    assert_eq!(rt; before, 15);
     Ok(())
 }
 

@@ -49,15 +49,25 @@ impl MpintBuf {
 pub struct KexInit {
     /// 16 random bytes.
     pub cookie: [u8; 16],
+    /// Key exchange methods, markers included.
     pub kex_algorithms: NameList,
+    /// Algorithms of the server's host key.
     pub server_host_key_algorithms: NameList,
+    /// Ciphers from client to server.
     pub encryption_client_to_server: NameList,
+    /// Ciphers from server to client.
     pub encryption_server_to_client: NameList,
+    /// MACs from client to server.
     pub mac_client_to_server: NameList,
+    /// MACs from server to client.
     pub mac_server_to_client: NameList,
+    /// Compression from client to server.
     pub compression_client_to_server: NameList,
+    /// Compression from server to client.
     pub compression_server_to_client: NameList,
+    /// Language tags from client to server.
     pub languages_client_to_server: NameList,
+    /// Language tags from server to client.
     pub languages_server_to_client: NameList,
     /// Whether a guessed key exchange packet follows.
     pub first_kex_packet_follows: bool,
@@ -66,7 +76,9 @@ pub struct KexInit {
 /// One extension of an EXT_INFO (RFC 8308 section 2.3).
 #[derive(Debug, Drop)]
 pub struct Extension {
+    /// Its name, any bytes.
     pub name: Vec<u8>,
+    /// Its value, any bytes.
     pub value: Vec<u8>,
 }
 
@@ -168,66 +180,66 @@ impl Method {
 /// A message up to authentication (RFC 4253, RFC 4252, message 7 of RFC 8308). It owns its strings.
 #[derive(Debug, Drop)]
 pub enum Message {
-    /// 1
+    /// DISCONNECT (1, RFC 4253 section 11.1).
     Disconnect {
         reason: u32,
         description: Vec<u8>,
         language: Vec<u8>,
     },
-    /// 2
+    /// IGNORE (2, RFC 4253 section 11.2).
     Ignore {
         content: Vec<u8>,
     },
-    /// 3
+    /// UNIMPLEMENTED (3, RFC 4253 section 11.4).
     Unimplemented {
         sequence_number: u32,
     },
-    /// 4
+    /// DEBUG (4, RFC 4253 section 11.3).
     Debug {
         always_display: bool,
         text: Vec<u8>,
         language: Vec<u8>,
     },
-    /// 5
+    /// SERVICE_REQUEST (5, RFC 4253 section 10).
     ServiceRequest {
         service: Vec<u8>,
     },
-    /// 6
+    /// SERVICE_ACCEPT (6, RFC 4253 section 10).
     ServiceAccept {
         service: Vec<u8>,
     },
-    /// 7
+    /// EXT_INFO (7, RFC 8308 section 2.3).
     ExtInfo {
         extensions: Vec<Extension>,
     },
-    /// 20
+    /// KEXINIT (20, RFC 4253 section 7.1).
     KexInit(KexInit),
-    /// 21
+    /// NEWKEYS (21, RFC 4253 section 7.3).
     NewKeys,
-    /// 30
+    /// KEXDH_INIT (30, RFC 4253 section 8).
     KexdhInit {
         e: MpintBuf,
     },
-    /// 31
+    /// KEXDH_REPLY (31, RFC 4253 section 8).
     KexdhReply {
         host_key: Vec<u8>,
         f: MpintBuf,
         signature: Vec<u8>,
     },
-    /// 50
+    /// USERAUTH_REQUEST (50, RFC 4252 section 5).
     UserauthRequest {
         user: String,
         service: Vec<u8>,
         method: Method,
     },
-    /// 51
+    /// USERAUTH_FAILURE (51, RFC 4252 section 5.1).
     UserauthFailure {
         methods: NameList,
         partial_success: bool,
     },
-    /// 52
+    /// USERAUTH_SUCCESS (52, RFC 4252 section 5.1).
     UserauthSuccess,
-    /// 53
+    /// USERAUTH_BANNER (53, RFC 4252 section 5.4).
     UserauthBanner {
         text: Vec<u8>,
         language: Vec<u8>,

@@ -50,14 +50,23 @@ pub record KeySource : Type 0 where
   pub hash : List ℕ
   pub session : List ℕ
 
--- HASH(K || H || letter || session_id), and so many times more HASH(K || H || all so far) behind (RFC 4253 section 7.2)
-unfoldable pub grown : Meaning → KeySource → ℕ → ℕ → List ℕ
-grown m x letter zero = m.digest x.kex (string x.shared ++ (x.hash ++ (letter ∷ x.session)))
-grown m x letter (suc n) = grown m x letter n ++ m.digest x.kex (string x.shared ++ (x.hash ++ grown m x letter n))
+-- how many bytes that is
+abbrev pub source_size : KeySource → ℕ
+source_size x = length x.kex + length x.shared + length x.hash + length x.session
 
--- so many bytes of it: a hash has at least one byte, so as many hashes are enough
+-- HASH(K || H || what stands behind)
+abbrev pub hash_with : Meaning → KeySource → List ℕ → List ℕ
+hash_with m x behind = m.digest x.kex (string x.shared ++ (x.hash ++ behind))
+
+-- behind the first hash, so many times more HASH(K || H || all so far) (RFC 4253 section 7.2)
+abbrev pub grown : Meaning → KeySource → List ℕ → ℕ → List ℕ
+grown m x first zero = first
+grown m x first (suc n) = grown m x first n ++ hash_with m x (grown m x first n)
+
+-- a key of so many bytes: the front of HASH(K || H || letter || session_id) and as many hashes more as are needed, each of
+-- which has at least one byte
 unfoldable pub key : Meaning → KeySource → ℕ → ℕ → List ℕ
-key m x letter len = take len (grown m x letter len)
+key m x letter len = take len (grown m x (hash_with m x (letter ∷ x.session)) len)
 
 -- the letters of the initialisation vector, the encryption key and the integrity key, by who sends
 abbrev pub iv_letter : Role → ℕ

@@ -1,17 +1,18 @@
 //! What is hashed, signed and used as keys.
 
-ghost use Rattle.std.specs.Prelude.{◌≡◌, ◌+◌, ◌<◌, ◌≤◌, ◌^◌, IfOk, length, string_bytes};
+ghost use Rattle.std.specs.Prelude.{◌≡◌, ◌+◌, ◌<◌, ◌≤◌, ◌-◌, ◌^◌, IfOk, length, take};
 ghost use Rattle.sshwire.specs.Types.{IsName};
-ghost use Rattle.sshneg.specs.Derivations.{exchange_size, exchange_text, signed_text};
-ghost use Rattle.sshneg.specs.ExchangeView.{exchange_of};
+ghost use Rattle.sshneg.specs.Derivations.{derived, enc_letter, exchange_size, exchange_text, grown, hash_with, iv_letter, key, mac_letter, signed_text, source_size};
+ghost use Rattle.sshneg.specs.ExchangeView.{exchange_of, source_of};
 
 use crate::role::Role;
 use sshpacket::{Keys, Suite};
 use sshwire::{Memory, Mpint, put_boolean, put_mpint, put_string};
 use std::alloc::Global;
 
-/// What both sides know of a key exchange (RFC 4253 section 8).
-#[derive(Debug, Drop)]
+/// What both sides know of a key exchange (RFC 4253 section 8). It can't be printed, since it holds
+/// the shared number.
+#[derive(Drop)]
 pub struct Exchange<'a> {
     /// V_C: the client's version line without CR LF.
     pub client_version: &'a [u8],
@@ -31,8 +32,8 @@ pub struct Exchange<'a> {
     pub shared: Mpint<'a>,
 }
 
-/// What keys are made of (RFC 4253 section 7.2).
-#[derive(Debug, Drop)]
+/// What keys are made of (RFC 4253 section 7.2). It can't be printed, since it is secret.
+#[derive(Drop)]
 pub struct KeyMaterial<'a> {
     /// The key exchange method.
     pub kex: &'a str,
@@ -89,4 +90,128 @@ pub fn signed_request(
     put_string(&mut out, algorithm.as_bytes())?;
     put_string(&mut out, key)?;
     Ok(out)
+}
+
+/// The keys of the direction in which this side sends (RFC 4253 section 7.2), as long as the suite
+/// asks for. `Memory` where a growth was refused.
+///
+/// The caller's conditions are that the names are names, and that the parts have fewer than 2^31
+/// bytes together.
+#[tactic(auto, unfolding(crate::specs::Derivations::derived))]
+pub fn keys_of<S: Suite>(
+    alloc: Global,
+    suite: &S,
+    material: &KeyMaterial<'_>,
+    sender: Role,
+    cipher: &str,
+    mac: &str,
+) -> Result<Keys, Memory>
+    requires kex { IsName material.now.kex.now }
+    requires cipher { IsName cipher.now }
+    requires mac { IsName mac.now }
+    requires short { source_size (source_of material.now) < 2 ^ 31 }
+    ensures { IfOk result (λ keys. keys ≡ derived (S.meaning suite.now) (source_of material.now) sender cipher.now mac.now) }
+{
+    let lens = suite.key_lens(cipher, mac);
+    let iv = key_of(alloc, suite, material, iv_letter(sender), lens.iv)?;
+    let enc = key_of(alloc, suite, material, enc_letter(sender), lens.enc)?;
+    let mac_key = key_of(alloc, suite, material, mac_letter(sender), lens.mac)?;
+    let cipher = String::from_str(alloc, cipher)?;
+    let mac = String::from_str(alloc, mac)?;
+    Ok(Keys::new(cipher, mac, iv, enc, mac_key))
+}
+
+/// The letter of the initialisation vector.
+fn iv_letter(sender: Role) -> u8
+    ensures { result ≡ iv_letter sender }
+{
+    match sender {
+        Role::Client => b'A',
+        Role::Server => b'B',
+    }
+}
+
+/// The letter of the encryption key.
+fn enc_letter(sender: Role) -> u8
+    ensures { result ≡ enc_letter sender }
+{
+    match sender {
+        Role::Client => b'C',
+        Role::Server => b'D',
+    }
+}
+
+/// The letter of the integrity key.
+fn mac_letter(sender: Role) -> u8
+    ensures { result ≡ mac_letter sender }
+{
+    match sender {
+        Role::Client => b'E',
+        Role::Server => b'F',
+    }
+}
+
+/// The key of this letter and length.
+#[tactic(auto, unfolding(crate::specs::Derivations::key))]
+fn key_of<S: Suite>(
+    alloc: Global,
+    suite: &S,
+    material: &KeyMaterial<'_>,
+    letter: u8,
+    len: u8,
+) -> Result<Vec<u8>, Memory>
+    requires kex { IsName material.now.kex.now }
+    requires short { source_size (source_of material.now) < 2 ^ 31 }
+    ensures { IfOk result (λ v. v.items ≡ key (S.meaning suite.now) (source_of material.now) letter len) }
+{
+    let mut behind = Vec::new(alloc);
+    behind.push(letter)?;
+    behind.extend_from_slice(material.session)?;
+    let first = hash_of(alloc, suite, material, &behind)?;
+    let mut bytes = grow(alloc, suite, material, first, len)?;
+    bytes.truncate(usize::from(len));
+    Ok(bytes)
+}
+
+/// Appends hashes until there are so many bytes.
+#[tactic(auto, using(crate::proofs::KeyLemmas::grows_start, crate::proofs::KeyLemmas::grows_on, crate::proofs::KeyLemmas::grows_stays))]
+fn grow<S: Suite>(
+    alloc: Global,
+    suite: &S,
+    material: &KeyMaterial<'_>,
+    first: Vec<u8>,
+    len: u8,
+) -> Result<Vec<u8>, Memory>
+    requires kex { IsName material.now.kex.now }
+    requires short { source_size (source_of material.now) < 2 ^ 31 }
+    requires first { length first.items ≤ 64 }
+    ensures { IfOk result (λ v. take len v.items ≡ take len (grown (S.meaning suite.now) (source_of material.now) first.items len)) }
+{
+    let mut bytes = first;
+    for _ in 0..len {
+        if bytes.len() < usize::from(len) {
+            let more = hash_of(alloc, suite, material, &bytes)?;
+            bytes.extend_from_slice(&more)?;
+        }
+    }
+    Ok(bytes)
+}
+
+/// The hash of the shared number, the exchange hash and what stands behind.
+fn hash_of<S: Suite>(
+    alloc: Global,
+    suite: &S,
+    material: &KeyMaterial<'_>,
+    behind: &[u8],
+) -> Result<Vec<u8>, Memory>
+    requires kex { IsName material.now.kex.now }
+    requires short { length material.now.shared + length material.now.hash.now + length behind.now < 2 ^ 32 - 4 }
+    ensures hash { IfOk result (λ v. v.items ≡ hash_with (S.meaning suite.now) (source_of material.now) behind.now) }
+    ensures short { IfOk result (λ v. length v.items ≤ 64) }
+{
+    let mut input = Vec::new(alloc);
+    put_mpint(&mut input, &material.shared)?;
+    input.extend_from_slice(material.hash)?;
+    input.extend_from_slice(behind)?;
+    suite.digest(alloc, material.kex, &input)
 }

@@ -2,7 +2,12 @@
 #![tactic(auto)]
 
 mod derivations;
+mod law;
 mod role;
 
-pub use derivations::{Exchange, KeyMaterial, exchange_input, signed_request};
+pub use derivations::{Exchange, KeyMaterial, exchange_input, keys_of, signed_request};
+pub use law::derivation_law;
 pub use role::Role;
+
+#[cfg(test)]
+mod tests;

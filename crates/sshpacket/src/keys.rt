@@ -8,8 +8,8 @@ use std::marker::Model;
 /// The algorithms and keys of one direction (RFC 4253 section 7.2): the names of the cipher and of
 /// the MAC, the initialisation vector and the two keys.
 ///
-/// Contracts see them as byte lists.
-#[derive(Debug, Drop)]
+/// Contracts see them as byte lists. They can't be printed, since they are secret.
+#[derive(Drop)]
 pub struct Keys {
     cipher: String,
     mac: String,

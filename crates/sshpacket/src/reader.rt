@@ -26,6 +26,7 @@ pub enum PacketStep<'a> {
         payload: &'a [u8],
         /// The packet's sequence number.
         seq: u32,
+        /// How many bytes of the piece were used.
         used: usize,
     },
 }
@@ -118,8 +119,11 @@ impl PacketReader {
     /// Reads on with a piece of the stream.
     ///
     /// The length of a packet is judged once its first four bytes are there, the rest once all of it
-    /// is: the tag, then the padding, then that the payload isn't empty. After a fault the same fault
-    /// is answered for good and nothing is used.
+    /// is: the tag, then the padding, then that the payload isn't empty. `Memory` where a growth was
+    /// refused. After a fault the same fault is answered for good and nothing is used.
+    ///
+    /// What is promised holds where the reader waits for this suite, as `new`, `use_keys` and every
+    /// answer that is no fault leave it: a suite isn't changed in the middle of a packet.
     pub fn next<S: Suite>(&mut self, suite: &S, piece: &[u8]) -> Result<PacketStep<'_>, PacketFault>
         ensures answers { self.old.fault ≡ None → Waits (S.meaning suite.now) self.old → Answers (S.meaning suite.now) (state self.old) piece.now result }
         ensures again { IfSome self.old.fault (λ f. result ≡ Err f) }

@@ -20,15 +20,20 @@ pub enum Need {
 /// What a host key algorithm can do.
 #[derive(Clone, Copy, Debug, PartialEq, Eq)]
 pub struct Capability {
+    /// It signs.
     pub signature: bool,
+    /// It encrypts.
     pub encryption: bool,
 }
 
 /// The lengths of keys in bytes, each at most 64.
 #[derive(Clone, Copy, Debug, PartialEq, Eq)]
 pub struct KeyLens {
+    /// Of the initialisation vector.
     pub iv: u8,
+    /// Of the encryption key.
     pub enc: u8,
+    /// Of the integrity key.
     pub mac: u8,
 }
 
@@ -39,8 +44,8 @@ pub struct KeyLens {
 /// proved above is proved for every suite with the laws.
 ///
 /// - Every name has a behaviour: a call is made with any name of RFC 4251 section 6, also of an
-///   algorithm that the suite doesn't know. Outside the conditions of the calls the meaning may be
-///   anything that has the laws.
+///   algorithm that the suite doesn't know, and with keys of any length, none included. Outside the
+///   conditions of the calls the meaning may be anything that has the laws.
 /// - Sealing adds the tag, leaves the length field readable from the first four bytes, and is undone
 ///   by unsealing with the same keys and number; else no packet that is sent could be read. What
 ///   unsealing gives has the length that was read from the first four bytes, whoever sent it: a
@@ -49,7 +54,8 @@ pub struct KeyLens {
 /// - A signature is verified by its own key's blob: else no host is known.
 /// - Shares and shared numbers are positive mpints of at most 4096 bytes, and the ranges that each
 ///   call names hold: so every message and packet keeps its bounds.
-/// - What is sent is bytes.
+/// - Padding, sealed packets and shares are bytes, that is numbers below 256: what is sent is known
+///   to be bytes before any call has made it.
 /// - Each answer depends on its arguments alone: the meaning is a function.
 pub trait Suite {
     ghost meaning: { Self → Meaning };
