@@ -98,10 +98,19 @@ impl Stream {
         }
     }
 
-    /// Copies all bytes in pieces of so many behind nothing.
+    /// Copies all bytes in pieces of so many, each behind the one before, the first behind nothing.
     pub(crate) fn copy(&self, piece_len: usize, out: &mut Vec<u8>) -> Result<(), Fault> {
         out.clear();
         for piece in self.bytes.chunks(piece_len.max(1)) {
+            out.extend_from_slice(piece)?;
+        }
+        Ok(())
+    }
+
+    /// Copies all bytes in pieces of so many, each behind nothing, so that the last one is left.
+    pub(crate) fn copy_over(&self, piece_len: usize, out: &mut Vec<u8>) -> Result<(), Fault> {
+        for piece in self.bytes.chunks(piece_len.max(1)) {
+            out.clear();
             out.extend_from_slice(piece)?;
         }
         Ok(())

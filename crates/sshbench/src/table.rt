@@ -14,14 +14,19 @@ const ROUNDS: u32 = 100_000;
 /// How long the streams of packets are, about.
 const STREAM_LEN: u32 = 1_000_000;
 
-/// How often a stream is read.
-const READS: u32 = 20;
+/// How often a stream of packets is read.
+const READS: u32 = 400;
+
+/// How often where the pieces are single bytes or the packets are sealed, which takes longer.
+const SLOW_READS: u32 = 20;
 
 /// What a row's work stands beside.
 #[derive(Clone, Copy, Debug)]
 pub(crate) enum Beside {
-    /// Copying the same bytes in the same pieces.
+    /// Copying the same bytes in the same pieces, each behind the one before.
     Copying,
+    /// Copying the same bytes in the same pieces, each over the one before.
+    CopyingOver,
     /// The digests that the suite needs for the same bytes.
     Digests,
     /// The same work for a tenth of the bytes.
@@ -32,6 +37,7 @@ impl fmt::Display for Beside {
     fn fmt<W: fmt::Write>(&self, f: &mut fmt::Formatter<W>) -> fmt::Result {
         f.write_str(match self {
             Beside::Copying => "copying",
+            Beside::CopyingOver => "copying over",
             Beside::Digests => "digests",
             Beside::Tenth => "a tenth of it",
         })
@@ -105,13 +111,20 @@ fn print_clear(rt: &HostRuntime, load: Load) -> Result<(), Fault> {
     let stream = Stream::new(alloc, load, load.count(STREAM_LEN))?;
     for piece_len in PIECE_LENS {
         let work = format!(in alloc; "{load} by {piece_len}")?;
+        let rounds = if piece_len == 1 { SLOW_READS } else { READS };
         let row = Row {
-            rounds: READS,
-            work: time_reads(rt, &stream, piece_len)?,
-            other: time_copies(rt, &stream, piece_len)?,
+            rounds,
+            work: time_reads(rt, &stream, piece_len, rounds)?,
+            other: time_copies(rt, &stream, piece_len, rounds)?,
             beside: Beside::Copying,
         };
         print_row(rt, &work, &row)?;
+        let over = Row {
+            other: time_copies_over(rt, &stream, piece_len, rounds)?,
+            beside: Beside::CopyingOver,
+            ..row
+        };
+        print_row(rt, &work, &over)?;
     }
     Ok(())
 }
@@ -122,9 +135,9 @@ fn print_sealed(rt: &HostRuntime, load: Load) -> Result<(), Fault> {
     let stream = Stream::new(alloc, load, load.count(STREAM_LEN))?;
     let work = format!(in alloc; "{load} by 65536")?;
     let row = Row {
-        rounds: READS,
-        work: time_reads(rt, &stream, 65536)?,
-        other: time_digests(rt, &stream)?,
+        rounds: SLOW_READS,
+        work: time_reads(rt, &stream, 65536, SLOW_READS)?,
+        other: time_digests(rt, &stream, SLOW_READS)?,
         beside: Beside::Digests,
     };
     print_row(rt, &work, &row)
@@ -141,8 +154,8 @@ fn time_ten_times(rt: &HostRuntime) -> Result<Row, Fault> {
     let long = Stream::new(rt.alloc(), load, tenth.saturating_mul(10))?;
     Ok(Row {
         rounds: READS,
-        work: time_reads(rt, &long, 1448)?,
-        other: time_reads(rt, &short, 1448)?,
+        work: time_reads(rt, &long, 1448, READS)?,
+        other: time_reads(rt, &short, 1448, READS)?,
         beside: Beside::Tenth,
     })
 }
@@ -169,19 +182,29 @@ fn time_kexinit(rt: &HostRuntime, payload: &[u8]) -> Result<Row, Fault> {
 }
 
 /// Times reads of a stream in pieces of so many bytes.
-fn time_reads(rt: &HostRuntime, stream: &Stream, piece_len: usize) -> Result<Duration, Fault> {
+fn time_reads(
+    rt: &HostRuntime,
+    stream: &Stream,
+    piece_len: usize,
+    rounds: u32,
+) -> Result<Duration, Fault> {
     let start = Instant::now(rt)?;
-    for _ in 0..READS {
+    for _ in 0..rounds {
         stream.read(rt.alloc(), piece_len)?;
     }
     Ok(start.elapsed(rt)?)
 }
 
-/// Times copies of a stream in pieces of so many bytes.
-fn time_copies(rt: &HostRuntime, stream: &Stream, piece_len: usize) -> Result<Duration, Fault> {
+/// Times copies of a stream in pieces of so many bytes, each behind the one before.
+fn time_copies(
+    rt: &HostRuntime,
+    stream: &Stream,
+    piece_len: usize,
+    rounds: u32,
+) -> Result<Duration, Fault> {
     let mut out = Vec::new(rt.alloc());
     let start = Instant::now(rt)?;
-    for _ in 0..READS {
+    for _ in 0..rounds {
         stream.copy(piece_len, &mut out)?;
     }
     let time = start.elapsed(rt)?;
@@ -192,11 +215,31 @@ fn time_copies(rt: &HostRuntime, stream: &Stream, piece_len: usize) -> Result<Du
     }
 }
 
+/// Times copies of a stream in pieces of so many bytes, each over the one before.
+fn time_copies_over(
+    rt: &HostRuntime,
+    stream: &Stream,
+    piece_len: usize,
+    rounds: u32,
+) -> Result<Duration, Fault> {
+    let mut out = Vec::new(rt.alloc());
+    let start = Instant::now(rt)?;
+    for _ in 0..rounds {
+        stream.copy_over(piece_len, &mut out)?;
+    }
+    let time = start.elapsed(rt)?;
+    if stream.bytes.ends_with(&out) {
+        Ok(time)
+    } else {
+        Err(Fault::Otherwise)
+    }
+}
+
 /// Times the digests of a stream of sealed packets.
-fn time_digests(rt: &HostRuntime, stream: &Stream) -> Result<Duration, Fault> {
+fn time_digests(rt: &HostRuntime, stream: &Stream, rounds: u32) -> Result<Duration, Fault> {
     let first = digest(stream);
     let start = Instant::now(rt)?;
-    for _ in 0..READS {
+    for _ in 0..rounds {
         if digest(stream) != first {
             return Err(Fault::Otherwise);
         }
