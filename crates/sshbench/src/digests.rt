@@ -6,7 +6,8 @@ use sha2::{Digest, Sha256};
 /// How many bytes a tag has, and a block of the key stream.
 const HASH_LEN: usize = 32;
 
-/// Makes the digests of all packets of a stream, which all have the same length, and answers the XOR of their first bytes.
+/// Makes the digests of all packets of a stream, which all have the same length, and answers the
+/// XOR of their first bytes.
 pub(crate) fn digest(stream: &Stream) -> u8 {
     let packet_len = stream
         .bytes

@@ -169,7 +169,7 @@ fn read_piece(reader: &mut PacketReader, piece: &[u8], payload_len: usize) -> Re
     Ok(count)
 }
 
-/// Whether streams of packets of each length, in clear and sealed, are read in pieces of each length.
+/// Reads streams of packets of each length, in clear and sealed, in pieces of each length.
 pub(crate) fn check(alloc: Global) -> Result<(), Fault> {
     for payload_len in [1, 1024, 32768] {
         let sealed = false;
@@ -192,7 +192,7 @@ pub(crate) fn check(alloc: Global) -> Result<(), Fault> {
     Ok(())
 }
 
-/// Whether a stream is read in pieces of each length.
+/// Reads a stream in pieces of each length.
 fn check_load(alloc: Global, load: Load) -> Result<(), Fault> {
     let stream = Stream::new(alloc, load, load.count(CHECK_LEN))?;
     for piece_len in PIECE_LENS {
