@@ -1,6 +1,7 @@
 //! Why there is no answer.
 
 use sshmsg::MsgFault;
+use sshpacket::PacketFault;
 use sshwire::Memory;
 use std::alloc::AllocError;
 use std::io;
@@ -18,6 +19,9 @@ pub(crate) enum Fault {
     /// A payload of this program's own wasn't read.
     #[error("not read: {0}")]
     Read(MsgFault),
+    /// A stream of packets of this program's own wasn't read.
+    #[error("not read: {0}")]
+    Packet(PacketFault),
     /// What was written isn't what was read.
     #[error("written otherwise than read")]
     Otherwise,
@@ -41,6 +45,12 @@ impl From<AllocError> for Fault {
 impl From<MsgFault> for Fault {
     fn from(fault: MsgFault) -> Fault {
         Fault::Read(fault)
+    }
+}
+
+impl From<PacketFault> for Fault {
+    fn from(fault: PacketFault) -> Fault {
+        Fault::Packet(fault)
     }
 }
 

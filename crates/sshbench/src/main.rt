@@ -1,20 +1,19 @@
-//! The program `sshbench`: what the crates cost, beside copying the same bytes.
+//! The program `sshbench`: what the crates cost, beside copying the same bytes or hashing them.
 //!
 //! Without words it does each row's work once and checks the result; with the word `time` it does
 //! it many times and prints a table of ratios.
 #![tactic(auto)]
 
+mod digests;
 mod fault;
 mod kexinit;
+mod packets;
 mod table;
 
 use crate::fault::Fault;
 use std::env;
 use std::io::Write;
 use std::process::ExitCode;
-
-/// How often a row's work is done where it is timed.
-const ROUNDS: u32 = 100_000;
 
 fn main(rt: HostRuntime) -> ExitCode {
     match run(&rt) {
@@ -31,11 +30,12 @@ fn run(rt: &HostRuntime) -> Result<(), Fault> {
     let alloc = rt.alloc();
     let payload = kexinit::payload(alloc)?;
     if is_timed(rt)? {
-        let row = table::time(rt, &payload, ROUNDS)?;
-        writeln!(rt.stdout(), "{row}")?;
+        table::print(rt, &payload)?;
     } else {
         kexinit::check(alloc, &payload)?;
         writeln!(rt.stdout(), "kexinit ok")?;
+        packets::check(alloc)?;
+        writeln!(rt.stdout(), "packets ok")?;
     }
     Ok(())
 }

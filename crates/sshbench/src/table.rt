@@ -1,48 +1,248 @@
 //! Times, and their ratios.
 
+use crate::digests::digest;
 use crate::fault::Fault;
 use crate::kexinit::{copy, read_and_write};
+use crate::packets::{Load, PIECE_LENS, Stream};
 use std::fmt;
+use std::io::Write;
 use std::time::{Duration, Instant};
 
-/// What a row's work took, and what copying the same bytes took.
+/// How often the payload of a KEXINIT is read and written.
+const ROUNDS: u32 = 100_000;
+
+/// How long the streams of packets are, about.
+const STREAM_LEN: u32 = 1_000_000;
+
+/// How often a stream of packets is read.
+const READS: u32 = 400;
+
+/// How often where the pieces are single bytes or the packets are sealed, which takes longer.
+const SLOW_READS: u32 = 20;
+
+/// What a row's work stands beside.
+#[derive(Clone, Copy, Debug)]
+pub(crate) enum Beside {
+    /// Copying the same bytes in the same pieces, each behind the one before.
+    Copying,
+    /// Copying the same bytes in the same pieces, each over the one before.
+    CopyingOver,
+    /// The digests that the suite needs for the same bytes.
+    Digests,
+    /// The same work for a tenth of the bytes.
+    Tenth,
+}
+
+impl fmt::Display for Beside {
+    fn fmt<W: fmt::Write>(&self, f: &mut fmt::Formatter<W>) -> fmt::Result {
+        f.write_str(match self {
+            Beside::Copying => "copying",
+            Beside::CopyingOver => "copying over",
+            Beside::Digests => "digests",
+            Beside::Tenth => "a tenth of it",
+        })
+    }
+}
+
+/// What a row's work took, and what stands beside it took.
 #[derive(Clone, Copy, Debug)]
 pub(crate) struct Row {
     rounds: u32,
     work: Duration,
-    copy: Duration,
+    other: Duration,
+    beside: Beside,
 }
 
 impl fmt::Display for Row {
     fn fmt<W: fmt::Write>(&self, f: &mut fmt::Formatter<W>) -> fmt::Result {
         let work = self.work.as_micros();
-        let copy = self.copy.as_micros();
-        let ratio = work.checked_div(copy).unwrap_or(0);
+        let other = self.other.as_micros();
+        let hundredths = work.saturating_mul(100).checked_div(other).unwrap_or(0);
+        let whole = hundredths / 100;
+        let rest = hundredths % 100;
         let rounds = self.rounds;
-        writeln!(
-            f,
-            "work                     rounds  work us  copy us  ratio"
-        )?;
+        let beside = self.beside;
         write!(
             f,
-            "kexinit read and written {rounds:>6} {work:>8} {copy:>8} {ratio:>6}"
+            "{rounds:>6} {work:>8} {other:>9} {whole:>5}.{rest:02}  {beside}"
         )
     }
 }
 
-/// Times so many reads and writes of the payload, and so many copies.
-pub(crate) fn time(rt: &HostRuntime, payload: &[u8], rounds: u32) -> Result<Row, Fault> {
+/// Prints a line of the table.
+fn print_row(rt: &HostRuntime, work: &str, row: &Row) -> Result<(), Fault> {
+    writeln!(rt.stdout(), "{work:<32} {row}")?;
+    Ok(())
+}
+
+/// Times each row and prints the table.
+pub(crate) fn print(rt: &HostRuntime, payload: &[u8]) -> Result<(), Fault> {
+    writeln!(
+        rt.stdout(),
+        "work                             rounds  work us  other us    ratio  other"
+    )?;
+    print_row(rt, "kexinit read and written", &time_kexinit(rt, payload)?)?;
+    for payload_len in [1, 1024, 32768] {
+        let sealed = false;
+        print_clear(
+            rt,
+            Load {
+                sealed,
+                payload_len,
+            },
+        )?;
+    }
+    for payload_len in [1024, 32768] {
+        let sealed = true;
+        print_sealed(
+            rt,
+            Load {
+                sealed,
+                payload_len,
+            },
+        )?;
+    }
+    print_row(rt, "2 MB of clear packets by 1448", &time_ten_times(rt)?)
+}
+
+/// Times reads of packets in clear, and prints the rows.
+fn print_clear(rt: &HostRuntime, load: Load) -> Result<(), Fault> {
+    let alloc = rt.alloc();
+    let stream = Stream::new(alloc, load, load.count(STREAM_LEN))?;
+    for piece_len in PIECE_LENS {
+        let work = format!(in alloc; "{load} by {piece_len}")?;
+        let rounds = if piece_len == 1 { SLOW_READS } else { READS };
+        let row = Row {
+            rounds,
+            work: time_reads(rt, &stream, piece_len, rounds)?,
+            other: time_copies(rt, &stream, piece_len, rounds)?,
+            beside: Beside::Copying,
+        };
+        print_row(rt, &work, &row)?;
+        let over = Row {
+            other: time_copies_over(rt, &stream, piece_len, rounds)?,
+            beside: Beside::CopyingOver,
+            ..row
+        };
+        print_row(rt, &work, &over)?;
+    }
+    Ok(())
+}
+
+/// Times reads of sealed packets in large pieces, and prints the row.
+fn print_sealed(rt: &HostRuntime, load: Load) -> Result<(), Fault> {
+    let alloc = rt.alloc();
+    let stream = Stream::new(alloc, load, load.count(STREAM_LEN))?;
+    let work = format!(in alloc; "{load} by 65536")?;
+    let row = Row {
+        rounds: SLOW_READS,
+        work: time_reads(rt, &stream, 65536, SLOW_READS)?,
+        other: time_digests(rt, &stream, SLOW_READS)?,
+        beside: Beside::Digests,
+    };
+    print_row(rt, &work, &row)
+}
+
+/// Times reads of a long stream of packets in clear, and of one with a tenth of its packets.
+fn time_ten_times(rt: &HostRuntime) -> Result<Row, Fault> {
+    let load = Load {
+        sealed: false,
+        payload_len: 1024,
+    };
+    let tenth = load.count(200_000);
+    let short = Stream::new(rt.alloc(), load, tenth)?;
+    let long = Stream::new(rt.alloc(), load, tenth.saturating_mul(10))?;
+    Ok(Row {
+        rounds: READS,
+        work: time_reads(rt, &long, 1448, READS)?,
+        other: time_reads(rt, &short, 1448, READS)?,
+        beside: Beside::Tenth,
+    })
+}
+
+/// Times reads and writes of the payload of a KEXINIT, and as many copies.
+fn time_kexinit(rt: &HostRuntime, payload: &[u8]) -> Result<Row, Fault> {
     let alloc = rt.alloc();
     let mut out = Vec::new(alloc);
     let start = Instant::now(rt)?;
-    for _ in 0..rounds {
+    for _ in 0..ROUNDS {
         read_and_write(alloc, payload, &mut out)?;
     }
     let work = start.elapsed(rt)?;
     let start = Instant::now(rt)?;
-    for _ in 0..rounds {
+    for _ in 0..ROUNDS {
         copy(payload, &mut out)?;
     }
-    let copy = start.elapsed(rt)?;
-    Ok(Row { rounds, work, copy })
+    Ok(Row {
+        rounds: ROUNDS,
+        work,
+        other: start.elapsed(rt)?,
+        beside: Beside::Copying,
+    })
+}
+
+/// Times reads of a stream in pieces of so many bytes.
+fn time_reads(
+    rt: &HostRuntime,
+    stream: &Stream,
+    piece_len: usize,
+    rounds: u32,
+) -> Result<Duration, Fault> {
+    let start = Instant::now(rt)?;
+    for _ in 0..rounds {
+        stream.read(rt.alloc(), piece_len)?;
+    }
+    Ok(start.elapsed(rt)?)
+}
+
+/// Times copies of a stream in pieces of so many bytes, each behind the one before.
+fn time_copies(
+    rt: &HostRuntime,
+    stream: &Stream,
+    piece_len: usize,
+    rounds: u32,
+) -> Result<Duration, Fault> {
+    let mut out = Vec::new(rt.alloc());
+    let start = Instant::now(rt)?;
+    for _ in 0..rounds {
+        stream.copy(piece_len, &mut out)?;
+    }
+    let time = start.elapsed(rt)?;
+    if out == stream.bytes {
+        Ok(time)
+    } else {
+        Err(Fault::Otherwise)
+    }
+}
+
+/// Times copies of a stream in pieces of so many bytes, each over the one before.
+fn time_copies_over(
+    rt: &HostRuntime,
+    stream: &Stream,
+    piece_len: usize,
+    rounds: u32,
+) -> Result<Duration, Fault> {
+    let mut out = Vec::new(rt.alloc());
+    let start = Instant::now(rt)?;
+    for _ in 0..rounds {
+        stream.copy_over(piece_len, &mut out)?;
+    }
+    let time = start.elapsed(rt)?;
+    if stream.bytes.ends_with(&out) {
+        Ok(time)
+    } else {
+        Err(Fault::Otherwise)
+    }
+}
+
+/// Times the digests of a stream of sealed packets.
+fn time_digests(rt: &HostRuntime, stream: &Stream, rounds: u32) -> Result<Duration, Fault> {
+    let first = digest(stream);
+    let start = Instant::now(rt)?;
+    for _ in 0..rounds {
+        if digest(stream) != first {
+            return Err(Fault::Otherwise);
+        }
+    }
+    Ok(start.elapsed(rt)?)
 }

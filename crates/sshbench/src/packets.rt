@@ -1,0 +1,202 @@
+//! Streams of packets, read in pieces.
+
+use crate::fault::Fault;
+use sshlab::LabSuite;
+use sshpacket::{Keys, PacketReader, PacketStep, write_clear, write_sealed};
+use std::alloc::{AllocError, Global};
+use std::fmt;
+
+/// The initialisation vector of sealed packets.
+pub(crate) const IV: [u8; 16] = [1; 16];
+
+/// The encryption key of sealed packets.
+pub(crate) const ENCRYPTION_KEY: [u8; 48] = [2; 48];
+
+/// The integrity key of sealed packets.
+pub(crate) const MAC_KEY: [u8; 32] = [3; 32];
+
+/// The lengths of the pieces that streams are read in.
+pub(crate) const PIECE_LENS: [usize; 3] = [1, 1448, 65536];
+
+/// How long the streams of the check are, about.
+const CHECK_LEN: u32 = 100_000;
+
+/// The keys of sealed packets, by names that the lab suite takes for blocks of 8 bytes.
+fn keys(alloc: Global) -> Result<Keys, Fault> {
+    Ok(Keys::new(
+        String::from_str(alloc, "c")?,
+        String::from_str(alloc, "m")?,
+        Vec::from_slice(alloc, &IV)?,
+        Vec::from_slice(alloc, &ENCRYPTION_KEY)?,
+        Vec::from_slice(alloc, &MAC_KEY)?,
+    ))
+}
+
+/// The packets of a stream.
+#[derive(Clone, Copy, Debug)]
+pub(crate) struct Load {
+    /// Whether they are sealed with the keys; else they are in clear.
+    pub(crate) sealed: bool,
+    /// How many bytes each payload has.
+    pub(crate) payload_len: usize,
+}
+
+impl fmt::Display for Load {
+    fn fmt<W: fmt::Write>(&self, f: &mut fmt::Formatter<W>) -> fmt::Result {
+        let way = if self.sealed { "sealed" } else { "clear" };
+        let payload_len = self.payload_len;
+        write!(f, "{way} packets of {payload_len}")
+    }
+}
+
+impl Load {
+    /// How many packets have about so many bytes.
+    pub(crate) fn count(&self, stream_len: u32) -> u32 {
+        let packet_len = self.payload_len.saturating_add(16);
+        let whole = (stream_len as usize).checked_div(packet_len).unwrap_or(0);
+        u32::try_from(whole).unwrap_or(0).saturating_add(1)
+    }
+}
+
+/// A stream of packets, numbered from 0.
+#[derive(Debug, Drop)]
+pub(crate) struct Stream {
+    pub(crate) load: Load,
+    /// How many packets there are.
+    pub(crate) count: u32,
+    pub(crate) bytes: Vec<u8>,
+}
+
+impl Stream {
+    /// So many packets.
+    pub(crate) fn new(alloc: Global, load: Load, count: u32) -> Result<Stream, Fault> {
+        let keys = keys(alloc)?;
+        let payload = payload(alloc, load.payload_len)?;
+        let mut bytes = Vec::new(alloc);
+        for seq in 0..count {
+            put_packet(alloc, load.sealed, &keys, seq, &payload, &mut bytes)?;
+        }
+        Ok(Stream { load, count, bytes })
+    }
+
+    /// Reads all packets in pieces of so many bytes, and checks that as many payloads come as were
+    /// written, each of its length.
+    pub(crate) fn read(&self, alloc: Global, piece_len: usize) -> Result<(), Fault> {
+        let mut reader = PacketReader::new(alloc);
+        if self.load.sealed {
+            reader.use_keys(keys(alloc)?, true);
+        }
+        let mut count: u32 = 0;
+        for piece in self.bytes.chunks(piece_len.max(1)) {
+            let more = read_piece(&mut reader, piece, self.load.payload_len)?;
+            count = count.saturating_add(more);
+        }
+        if count == self.count {
+            Ok(())
+        } else {
+            Err(Fault::Otherwise)
+        }
+    }
+
+    /// Copies all bytes in pieces of so many, each behind the one before, the first behind nothing.
+    pub(crate) fn copy(&self, piece_len: usize, out: &mut Vec<u8>) -> Result<(), Fault> {
+        out.clear();
+        for piece in self.bytes.chunks(piece_len.max(1)) {
+            out.extend_from_slice(piece)?;
+        }
+        Ok(())
+    }
+
+    /// Copies all bytes in pieces of so many, each behind nothing, so that the last one is left.
+    pub(crate) fn copy_over(&self, piece_len: usize, out: &mut Vec<u8>) -> Result<(), Fault> {
+        for piece in self.bytes.chunks(piece_len.max(1)) {
+            out.clear();
+            out.extend_from_slice(piece)?;
+        }
+        Ok(())
+    }
+}
+
+/// A payload of so many bytes.
+fn payload(alloc: Global, len: usize) -> Result<Vec<u8>, AllocError> {
+    let mut payload = Vec::new(alloc);
+    for _ in 0..len {
+        payload.push(7)?;
+    }
+    Ok(payload)
+}
+
+/// Appends a packet.
+fn put_packet(
+    alloc: Global,
+    sealed: bool,
+    keys: &Keys,
+    seq: u32,
+    payload: &[u8],
+    out: &mut Vec<u8>,
+) -> Result<(), Fault> {
+    if payload.is_empty() || payload.len() > 32768 {
+        return Err(Fault::Otherwise);
+    }
+    if sealed {
+        write_sealed(alloc, &LabSuite, keys, seq, payload, b"seed", out)?;
+    } else {
+        write_clear(alloc, &LabSuite, seq, payload, b"seed", out)?;
+    }
+    Ok(())
+}
+
+/// Reads all of a piece, and answers how many payloads ended in it; each must have this length.
+fn read_piece(reader: &mut PacketReader, piece: &[u8], payload_len: usize) -> Result<u32, Fault> {
+    let mut rest = piece;
+    let mut count: u32 = 0;
+    for _ in 0..piece.len() {
+        match reader.next(&LabSuite, rest) {
+            Ok(PacketStep::More) => return Ok(count),
+            Ok(PacketStep::Payload { payload, used, .. }) => {
+                if payload.len() != payload_len {
+                    return Err(Fault::Otherwise);
+                }
+                count = count.saturating_add(1);
+                rest = rest.get(used..).unwrap_or(&[]);
+            }
+            Err(fault) => return Err(Fault::from(fault)),
+        }
+        if rest.is_empty() {
+            return Ok(count);
+        }
+    }
+    Ok(count)
+}
+
+/// Reads streams of packets of each length, in clear and sealed, in pieces of each length.
+pub(crate) fn check(alloc: Global) -> Result<(), Fault> {
+    for payload_len in [1, 1024, 32768] {
+        let sealed = false;
+        check_load(
+            alloc,
+            Load {
+                sealed,
+                payload_len,
+            },
+        )?;
+        let sealed = true;
+        check_load(
+            alloc,
+            Load {
+                sealed,
+                payload_len,
+            },
+        )?;
+    }
+    Ok(())
+}
+
+/// Reads a stream in pieces of each length.
+fn check_load(alloc: Global, load: Load) -> Result<(), Fault> {
+    let stream = Stream::new(alloc, load, load.count(CHECK_LEN))?;
+    for piece_len in PIECE_LENS {
+        stream.read(alloc, piece_len)?;
+    }
+    Ok(())
+}
