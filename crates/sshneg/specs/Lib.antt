@@ -1,3 +1,4 @@
 pub mod Derivations
 pub mod ExchangeView
 pub mod Growing
+pub mod Markers

@@ -4,10 +4,12 @@
 mod derivations;
 mod law;
 mod role;
+mod strict;
 
 pub use derivations::{Exchange, KeyMaterial, exchange_input, keys_of, signed_request};
 pub use law::derivation_law;
 pub use role::Role;
+pub use strict::strict_of;
 
 #[cfg(test)]
 mod tests;
