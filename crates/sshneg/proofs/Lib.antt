@@ -1,2 +1,3 @@
+pub mod GuessLemmas
 pub mod KeyLemmas
 pub mod PartLemmas

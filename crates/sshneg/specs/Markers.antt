@@ -1,6 +1,6 @@
 -- Names in a kex list that are no method: the markers of RFC 8308 section 2.1 and of the OpenSSH strict key exchange.
 
-use Rattle.std.specs.Prelude.{◌≡◌, ◌||◌, ℕ, Bool, true, not, List, [], ◌∷◌, codes, filter, Contains, Option, None, Some}
+use Rattle.std.specs.Prelude.{◌≡◌, ◌||◌, ℕ, Bool, false, true, not, List, [], ◌∷◌, codes, filter, Contains, Option, None, Some}
 use Rattle.std.specs.Str.{bytes_eq}
 use Rattle.sshmsg.specs.Content.{Offer}
 use Rattle.sshneg.specs.declared.role.Role.{Role}
@@ -30,6 +30,12 @@ pub record IsStrict (flag : Bool) (role : Role) (peer : Offer) : Type 0 where
 abbrev pub first_name : List (List ℕ) → Option (List ℕ)
 first_name [] = None
 first_name (name ∷ names) = Some name
+
+-- there are two names, and they are equal
+abbrev pub same_name : Option (List ℕ) → Option (List ℕ) → Bool
+same_name (Some a) (Some b) = bytes_eq a b
+same_name (Some a) None = false
+same_name None b = false
 
 -- the methods of a kex list: what is left without the markers
 abbrev pub methods : List (List ℕ) → List (List ℕ)

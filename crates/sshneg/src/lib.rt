@@ -2,11 +2,13 @@
 #![tactic(auto)]
 
 mod derivations;
+mod guess;
 mod law;
 mod role;
 mod strict;
 
 pub use derivations::{Exchange, KeyMaterial, exchange_input, keys_of, signed_request};
+pub use guess::guess_right;
 pub use law::derivation_law;
 pub use role::Role;
 pub use strict::strict_of;

@@ -1,8 +1,51 @@
-//! Examples of what is hashed and signed. Keys are tested with a suite, in `sshlab`.
+//! Examples of guesses, of strictness, and of what is hashed and signed. Keys are tested with a suite,
+//! in `sshlab`.
 
-use crate::{Exchange, exchange_input, signed_request};
-use sshwire::Mpint;
+use crate::{Exchange, Role, exchange_input, guess_right, signed_request, strict_of};
+use sshmsg::KexInit;
+use sshwire::{Mpint, NameList};
+use std::alloc::Global;
 use std::test::Fail;
+
+/// A KEXINIT with these key exchange methods and the host key algorithm `h`; its other lists are
+/// empty.
+fn kexinit_of(alloc: Global, kex_algorithms: NameList) -> Result<KexInit, Fail> {
+    Ok(KexInit {
+        cookie: [0; 16],
+        kex_algorithms,
+        server_host_key_algorithms: NameList::parse(alloc, b"h")?,
+        encryption_client_to_server: NameList::parse(alloc, b"")?,
+        encryption_server_to_client: NameList::parse(alloc, b"")?,
+        mac_client_to_server: NameList::parse(alloc, b"")?,
+        mac_server_to_client: NameList::parse(alloc, b"")?,
+        compression_client_to_server: NameList::parse(alloc, b"")?,
+        compression_server_to_client: NameList::parse(alloc, b"")?,
+        languages_client_to_server: NameList::parse(alloc, b"")?,
+        languages_server_to_client: NameList::parse(alloc, b"")?,
+        first_kex_packet_follows: false,
+    })
+}
+
+#[test]
+fn judges_guesses(rt: HostRuntime) -> Result<(), Fail> {
+    let alloc = rt.alloc();
+    let client = kexinit_of(alloc, NameList::parse(alloc, b"a,b")?)?;
+    let other_way = kexinit_of(alloc, NameList::parse(alloc, b"b,a")?)?;
+    assert!(rt; !guess_right(&client, &other_way));
+    let marked = kexinit_of(alloc, NameList::parse(alloc, b"kex-strict-s-v00@openssh.com,a")?)?;
+    assert!(rt; guess_right(&client, &marked));
+    Ok(())
+}
+
+#[test]
+fn judges_strictness(rt: HostRuntime) -> Result<(), Fail> {
+    let alloc = rt.alloc();
+    let of_server = kexinit_of(alloc, NameList::parse(alloc, b"a,kex-strict-s-v00@openssh.com")?)?;
+    assert!(rt; !strict_of(true, Role::Server, &of_server));
+    assert!(rt; strict_of(true, Role::Client, &of_server));
+    assert!(rt; !strict_of(false, Role::Client, &of_server));
+    Ok(())
+}
 
 #[test]
 fn joins_an_exchange(rt: HostRuntime) -> Result<(), Fail> {

@@ -1,0 +1,77 @@
+//! Guessed key exchange packets (RFC 4253 section 7).
+
+ghost use Rattle.std.specs.Prelude.{◌≡◌, ◌↔◌, IsTrue, find, map, not, option_map, string_bytes};
+ghost use Rattle.sshmsg.specs.View.{offer_of};
+ghost use Rattle.sshneg.specs.Markers.{IsRightGuess, first_name, is_marker, methods, same_name};
+
+use sshmsg::KexInit;
+use sshwire::NameList;
+
+/// Whether a guessed key exchange packet is right: the first key exchange methods of both sides are
+/// one, markers left out, and so are their first host key algorithms. Takes no memory.
+pub fn guess_right(client: &KexInit, server: &KexInit) -> bool
+    ensures { IsTrue result ↔ IsRightGuess (offer_of client.now) (offer_of server.now) }
+{
+    let kex = same_name(
+        first_method(&client.kex_algorithms),
+        first_method(&server.kex_algorithms),
+    );
+    let host_key = same_name(
+        first_of(&client.server_host_key_algorithms),
+        first_of(&server.server_host_key_algorithms),
+    );
+    kex && host_key
+}
+
+/// Whether there are two names, and they are equal.
+fn same_name(left: Option<&str>, right: Option<&str>) -> bool
+    ensures { result ≡ same_name (option_map (λ name. name.now) left.entry) (option_map (λ name. name.now) right.entry) }
+{
+    match (left, right) {
+        (Some(left), Some(right)) => left == right,
+        _ => false,
+    }
+}
+
+/// The first method of a kex list.
+fn first_method(list: &NameList) -> Option<&str>
+    ensures { option_map (λ name. name.now) result ≡ first_name (methods list.now) }
+{
+    first_unmarked(list.names())
+}
+
+#[tactic(auto, using(crate::proofs::GuessLemmas::some_first, crate::proofs::GuessLemmas::none_first))]
+fn first_unmarked(names: &[String]) -> Option<&str>
+    ensures { option_map (λ name. name.now) result ≡ first_name (methods (map string_bytes names.now)) }
+{
+    match find_unmarked(names) {
+        Some(name) => Some(name.as_str()),
+        None => None,
+    }
+}
+
+fn find_unmarked(names: &[String]) -> Option<&String>
+    ensures { option_map (λ name. name.now) result ≡ find (λ name. not (is_marker (string_bytes name))) names.now }
+{
+    names.iter().find(|name| !is_marker(name))
+}
+
+/// The first name of a list.
+fn first_of(list: &NameList) -> Option<&str>
+    ensures { option_map (λ name. name.now) result ≡ first_name list.now }
+{
+    match list.names().first() {
+        Some(name) => Some(name.as_str()),
+        None => None,
+    }
+}
+
+/// Whether a name of a kex list is no method.
+fn is_marker(name: &str) -> bool
+    ensures { result ≡ is_marker name.now }
+{
+    name == "ext-info-c"
+        || name == "ext-info-s"
+        || name == "kex-strict-c-v00@openssh.com"
+        || name == "kex-strict-s-v00@openssh.com"
+}
