@@ -131,7 +131,7 @@ pub record IsLinesLaw : Type 0 where
   pub cut : (k : ℕ) (bytes more : List ℕ) → reading k [] (bytes ++ more) ≡ then_on (reading k [] bytes) more
   pub written : (k : ℕ) (text front rest : List ℕ) → Preamble k text front → reading k [] (front ++ rest) ≡ Got text rest
   pub used : (k : ℕ) (bytes : List ℕ) (code : WireFault) (rest : List ℕ) → reading k [] bytes ≡ Stop code rest
-    → (used : List ℕ) × (bytes ≡ used ++ rest) × (reading k [] used ≡ Stop code [])
+      → (used : List ℕ) × (bytes ≡ used ++ rest) × (reading k [] used ≡ Stop code [])
 
 -- more bytes behind are more that is left
 lines_more : (all more : List ℕ) (r : Reading) → (front_of_lines (length all) r ≡ unfinished → ⊥) → front_of_lines (length (all ++ more)) (then_on r more) ≡ front_of_lines (length all) r

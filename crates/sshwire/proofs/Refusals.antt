@@ -276,11 +276,13 @@ refused_used k bytes code rest stop =
     let left : ℕ = k - length s.others in
     let few : length s.others + left ≡ k = (let most : length s.others ≤ k = s.few in omega arith) in
     let open_line : LineOpen k before left s.line = record { others = s.others; few = few; each = s.each; unfinished = s.unfinished; bytes_are = refl } in
-    let cut : joined s.others ++ (s.line ++ s.byte ∷ rest) ≡ (before ++ s.byte ∷ []) ++ rest = search append_assoc in
-    (before ++ s.byte ∷ [], s.bytes_are ∙ cut,
-    reading-append k [] before (s.byte ∷ [])
-    ∙ (ap (λ (r : Reading). then_on r (s.byte ∷ [])) (open_read k before left s.line open_line)
-    ∙ cause_stops k left s.others s.line s.byte code [] few s.cause))
+    let cut : joined s.others ++ (s.line ++ s.byte ∷ rest) ≡ (before ++ s.byte ∷ []) ++ rest = search append_assoc in (
+      before ++ s.byte ∷ [],
+      s.bytes_are ∙ cut,
+      reading-append k [] before (s.byte ∷ [])
+          ∙ (ap (λ (r : Reading). then_on r (s.byte ∷ [])) (open_read k before left s.line open_line)
+          ∙ cause_stops k left s.others s.line s.byte code [] few s.cause),
+    )
 
 -- A version line is read as its text, whatever follows.
 pub version_line_read : (k : ℕ) (text rest : List ℕ) → IsVersionText text → reading k [] (version_line text ++ rest) ≡ Got text rest
