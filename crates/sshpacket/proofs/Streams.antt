@@ -1,9 +1,9 @@
 -- One stream has one reading, and what was said is heard.
 
-use Rattle.std.proofs.Common.{◌≡◌, ℕ, ◌≤◌, List, [], ◌∷◌, ◌++◌, length, drop, refl, sym, ap, ◌∙◌, subst, Option, None, Some, append_assoc}
-use Rattle.std.proofs.lemmas.List.{append-nil, drop-append-le}
-use Rattle.std.proofs.Math.Seq.{drop-append_seam}
-use Rattle.sshpacket.specs.Front.{Refusal, unfinished, whole}
+use Rattle.std.proofs.Common.{◌≡◌, ℕ, ◌+◌, ◌≤◌, List, [], ◌∷◌, ◌++◌, length, drop, take, refl, sym, ap, ◌∙◌, subst, Option, None, Some, append_assoc}
+use Rattle.std.proofs.lemmas.List.{append-nil, drop-append-le, length-append, length-take-le, take-append-drop}
+use Rattle.std.proofs.Math.Seq.{drop-append_seam, take-append_seam}
+use Rattle.sshpacket.specs.Front.{Refusal, refused, unfinished, whole}
 use Rattle.sshpacket.specs.Places.{IsFront, EachPlace, flat_places}
 use Rattle.sshpacket.specs.Stream.{Units, Look, IsLook, Read, IsRest, Heard, Said, Spelled, Same, Linked, HeardAll}
 use Rattle.sshpacket.proofs.Places.{each-behind, each-front, flat-append, flat-push, flat-same, front-cons}
@@ -19,6 +19,21 @@ one_refusal look rest None None h k = refl
 one_refusal look rest None (Some f) h k = cc
 one_refusal look rest (Some f) None h k = cc
 one_refusal look rest (Some f) (Some g) h k = cc
+
+-- the bytes used, behind the rest
+record IsUsed (rest piece : List ℕ) (used : ℕ) : Type 0 where
+  taken : take (length rest + used) (rest ++ piece) ≡ rest ++ take used piece
+  size : length (rest ++ take used piece) ≡ length rest + used
+
+used_of : (rest piece : List ℕ) (used : ℕ) → used ≤ length piece → IsUsed rest piece used
+used_of rest piece used low =
+    let size : length (rest ++ take used piece) ≡ length rest + used = length-append rest (take used piece) ∙ ap (λ (n : ℕ). length rest + n) (length-take-le used piece low) in
+    let cut : rest ++ piece ≡ (rest ++ take used piece) ++ drop used piece
+    = ap (λ (xs : List ℕ). rest ++ xs) (sym (take-append-drop used piece)) ∙ sym (append_assoc rest (take used piece) (drop used piece)) in
+    record {
+      taken = ap (λ (n : ℕ). take n (rest ++ piece)) (sym size) ∙ (ap (λ (xs : List ℕ). take (length (rest ++ take used piece)) xs) cut ∙ take-append_seam (rest ++ take used piece) (drop used piece));
+      size = size;
+    }
 
 module _ (looks : Units → Look) where
   -- the units so far, with one more
@@ -94,6 +109,27 @@ module _ (looks : Units → Look) where
         = read_push [] (stream ++ more) us (rest ++ more) u (length (rest ++ more)) (read_more [] stream more us rest h.read) e in
         let none : drop (length (rest ++ more)) (rest ++ more) ≡ [] = ap (λ (z : List ℕ). drop (length (rest ++ more)) z) (sym (append-nil (rest ++ more))) ∙ drop-append_seam (rest ++ more) [] in
         record { read = subst (λ (z : List ℕ). Read looks [] (stream ++ more) (us ++ u ∷ []) z) none all; then_rest = (each (us ++ u ∷ [])).none }
+
+    -- of more bytes behind, those that end a unit or decide a refusal
+    pub heard_unit : (stream piece : List ℕ) (us : Units) (rest u : List ℕ) (used : ℕ) → Heard looks stream us rest None → used ≤ length piece
+        → looks us (rest ++ piece) ≡ whole u (length rest + used) → Heard looks (stream ++ take used piece) (us ++ u ∷ []) [] None
+    heard_unit stream piece us rest u used h low e =
+        let cut : IsUsed rest piece used = used_of rest piece used low in
+        let own : looks us (rest ++ take used piece) ≡ whole u (length rest + used)
+        = rw cut.taken at ((each us).whole_again (rest ++ piece) u (length rest + used) e) in
+        heard_push stream (take used piece) us rest u None h (own ∙ ap (λ (n : ℕ). whole u n) (sym cut.size))
+
+    pub heard_refusal : (stream piece : List ℕ) (us : Units) (rest : List ℕ) (r : Refusal) (used : ℕ) → Heard looks stream us rest None → used ≤ length piece
+        → looks us (rest ++ piece) ≡ refused r (length rest + used) → Heard looks (stream ++ take used piece) us (rest ++ take used piece) (Some r)
+    heard_refusal stream piece us rest r used h low e =
+        let cut : IsUsed rest piece used = used_of rest piece used low in
+        let again : looks us (take (length rest + used) (rest ++ piece)) ≡ refused r (length rest + used)
+        = ((each us).refused_again (rest ++ piece) r (length rest + used) e).1 in
+        heard_more stream (take used piece) us rest None (Some r) h (rw cut.taken at again ∙ ap (λ (n : ℕ). refused r n) (sym cut.size))
+
+    pub heard_part : (stream piece : List ℕ) (us : Units) (rest : List ℕ) → Heard looks stream us rest None
+        → looks us (rest ++ piece) ≡ unfinished → Heard looks (stream ++ piece) us (rest ++ piece) None
+    heard_part stream piece us rest h e = heard_more stream piece us rest None None h e
 
     -- of two readings of which the second ends, the first is a front
     read_front : (before : Units) (bytes : List ℕ) (us vs : Units) (x y : List ℕ) (q : Option Refusal)

@@ -24,10 +24,10 @@ module _ {A : Type 0} where
   stands t before [] = false
   stands t before (x ∷ xs) = if t before x then true else stands t (before ++ x ∷ []) xs
 
-  -- what stands at the first place where the test holds, or the other element where there is none
+  -- what stands at the first place where the test holds, or the default where there is none
   abbrev pub first_of : A → (List A → A → Bool) → List A → List A → A
-  first_of other t before [] = other
-  first_of other t before (x ∷ xs) = if t before x then x else first_of other t (before ++ x ∷ []) xs
+  first_of default t before [] = default
+  first_of default t before (x ∷ xs) = if t before x then x else first_of default t (before ++ x ∷ []) xs
 
   -- what stands behind that place, or nothing where there is none
   abbrev pub after_first : (List A → A → Bool) → List A → List A → List A

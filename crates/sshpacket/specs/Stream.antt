@@ -1,7 +1,7 @@
 -- What one direction of bytes reads as, and what it was written as: units one after another. A unit is the text of the
 -- version line, or a payload behind it; how one is read or spelled may depend on the units before it.
 
-use Rattle.std.specs.Prelude.{◌≡◌, ℕ, ◌≤◌, List, [], ◌∷◌, ◌++◌, length, drop, Option, None, Some}
+use Rattle.std.specs.Prelude.{◌≡◌, ℕ, ◌≤◌, List, [], ◌∷◌, ◌++◌, length, drop, take, Option, None, Some}
 use Rattle.sshpacket.specs.Front.{Front, Refusal, refused, unfinished, whole}
 use Rattle.sshpacket.specs.Places.{IsFront, flat_places}
 
@@ -13,11 +13,16 @@ Units = List (List ℕ)
 abbrev pub Look : Type 0
 Look = List ℕ → Front
 
--- nothing stands in no bytes; more bytes behind change no answer; a unit lies within the bytes
+-- nothing stands in no bytes; more bytes behind change no answer; a unit lies within the bytes; and the bytes up to where a
+-- unit or a refusal ends are enough to answer it
 pub record IsLook (look : Look) : Type 0 where
   pub none : look [] ≡ unfinished
   pub more : (bytes more : List ℕ) → (look bytes ≡ unfinished → ⊥) → look (bytes ++ more) ≡ look bytes
   pub within : (bytes unit : List ℕ) (len : ℕ) → look bytes ≡ whole unit len → len ≤ length bytes
+  -- a unit's own bytes read as it
+  pub whole_again : (bytes unit : List ℕ) (len : ℕ) → look bytes ≡ whole unit len → look (take len bytes) ≡ whole unit len
+  -- what decides a refusal lies within the bytes, and is refused alone
+  pub refused_again : (bytes : List ℕ) (r : Refusal) (len : ℕ) → look bytes ≡ refused r len → (len ≤ length bytes) × (look (take len bytes) ≡ refused r len)
 
 -- behind the units before, the bytes read as these units, and the rest stands behind them
 abbrev pub Read : (Units → Look) → Units → List ℕ → Units → List ℕ → Type 0

@@ -1,8 +1,8 @@
 //! What the layers above may rest on: places of lists, readers of one unit, and streams of units.
 
-ghost use Rattle.std.specs.Prelude.{◌≡◌, ◌+◌, ℕ, Bool, true, if◌then◌else◌, List, [], ◌∷◌, ◌++◌, length, drop, Option, None};
+ghost use Rattle.std.specs.Prelude.{◌≡◌, ◌≤◌, ◌+◌, ℕ, Bool, true, if◌then◌else◌, List, [], ◌∷◌, ◌++◌, length, drop, take, Option, None, Some};
 ghost use Rattle.sshwire.specs.Lines.{Preamble};
-ghost use Rattle.sshpacket.specs.Front.{Front, Refusal, Way, front, unfinished, whole};
+ghost use Rattle.sshpacket.specs.Front.{Front, Refusal, Way, front, refused, unfinished, whole};
 ghost use Rattle.sshpacket.specs.LineLook.{MeansLines, look_of_lines};
 ghost use Rattle.sshpacket.specs.Places.{EachPlace, IsFront, after_first, count_places, first_of, flat_places, stands};
 ghost use Rattle.sshpacket.specs.Stream.{Heard, HeardAll, IsLook, IsRest, Linked, Look, Read, Said, Same, Spelled, Units};
@@ -75,6 +75,17 @@ pub fn stream_law()
     ensures heard_push { (looks : Units → Look) → ((us : Units) → IsLook (looks us)) → (stream more : List ℕ) (us : Units) (rest u : List ℕ) (r : Option Refusal)
         → Heard looks stream us rest r → looks us (rest ++ more) ≡ whole u (length (rest ++ more)) → Heard looks (stream ++ more) (us ++ u ∷ []) [] None }
 
+    // A piece behind the rest, which may go on behind what was used of it: it ends a unit, or it
+    // is refused, or more bytes are wanted.
+    ensures heard_unit { (looks : Units → Look) → ((us : Units) → IsLook (looks us)) → (stream piece : List ℕ) (us : Units) (rest u : List ℕ) (used : ℕ)
+        → Heard looks stream us rest None → used ≤ length piece → looks us (rest ++ piece) ≡ whole u (length rest + used)
+        → Heard looks (stream ++ take used piece) (us ++ u ∷ []) [] None }
+    ensures heard_refusal { (looks : Units → Look) → ((us : Units) → IsLook (looks us)) → (stream piece : List ℕ) (us : Units) (rest : List ℕ) (r : Refusal) (used : ℕ)
+        → Heard looks stream us rest None → used ≤ length piece → looks us (rest ++ piece) ≡ refused r (length rest + used)
+        → Heard looks (stream ++ take used piece) us (rest ++ take used piece) (Some r) }
+    ensures heard_part { (looks : Units → Look) → ((us : Units) → IsLook (looks us)) → (stream piece : List ℕ) (us : Units) (rest : List ℕ)
+        → Heard looks stream us rest None → looks us (rest ++ piece) ≡ unfinished → Heard looks (stream ++ piece) us (rest ++ piece) None }
+
     // What is heard of a front of a stream is a front of what is heard of it.
     ensures front { (looks : Units → Look) → ((us : Units) → IsLook (looks us)) → (stream more : List ℕ) (us vs : Units) (x y : List ℕ) (r q : Option Refusal)
         → Heard looks stream us x r → Heard looks (stream ++ more) vs y q → IsFront us vs }
@@ -83,8 +94,8 @@ pub fn stream_law()
     ensures again { (looks : Units → Look) (spells : Units → List ℕ → List ℕ) → ((us : Units) → IsLook (looks us))
         → (stream : List ℕ) (said : Units) → Said spells stream said → EachPlace (Spelled looks spells) [] said → Heard looks stream said [] None }
     ensures link { (looks : Units → Look) (spells : Units → List ℕ → List ℕ) → ((us : Units) → IsLook (looks us))
-        → (stream front more : List ℕ) (said us : Units) (rest : List ℕ) (r : Option Refusal)
-        → Said spells stream said → EachPlace (Spelled looks spells) [] said → stream ≡ front ++ more → Heard looks front us rest r → Linked us said r }
+        → (stream heard more : List ℕ) (said us : Units) (rest : List ℕ) (r : Option Refusal)
+        → Said spells stream said → EachPlace (Spelled looks spells) [] said → stream ≡ heard ++ more → Heard looks heard us rest r → Linked us said r }
     ensures all { (looks : Units → Look) (spells : Units → List ℕ → List ℕ) → ((us : Units) → IsLook (looks us))
         → (stream : List ℕ) (said us : Units) (rest : List ℕ) (r : Option Refusal)
         → Said spells stream said → EachPlace (Spelled looks spells) [] said → Heard looks stream us rest r → HeardAll us said rest r }

@@ -17,11 +17,26 @@ fn pads_as_little_as_it_may(rt: HostRuntime) {
 #[test]
 fn faults_have_texts(rt: HostRuntime) -> Result<(), Fail> {
     let alloc = rt.alloc();
-    assert_eq!(rt; format!(in alloc; "{}", PacketFault::Length)?.as_str(), "bad packet length");
-    assert_eq!(rt; format!(in alloc; "{}", PacketFault::Padding)?.as_str(), "bad padding length");
-    assert_eq!(rt; format!(in alloc; "{}", PacketFault::Empty)?.as_str(), "empty payload");
-    assert_eq!(rt; format!(in alloc; "{}", PacketFault::Mac)?.as_str(), "bad tag");
-    assert_eq!(rt; format!(in alloc; "{}", PacketFault::Memory)?.as_str(), "out of memory");
+    assert_eq!(rt;
+        format!(in alloc; "{}", PacketFault::Length)?.as_str(),
+        "bad packet length"
+    );
+    assert_eq!(rt;
+        format!(in alloc; "{}", PacketFault::Padding)?.as_str(),
+        "bad padding length"
+    );
+    assert_eq!(rt;
+        format!(in alloc; "{}", PacketFault::Empty)?.as_str(),
+        "empty payload"
+    );
+    assert_eq!(rt;
+        format!(in alloc; "{}", PacketFault::Mac)?.as_str(),
+        "bad tag"
+    );
+    assert_eq!(rt;
+        format!(in alloc; "{}", PacketFault::Memory)?.as_str(),
+        "out of memory"
+    );
     Ok(())
 }
 

@@ -1,6 +1,6 @@
 -- A refusal is where the reading stops: at the least place at which a cause stands, before any preamble ends.
 
-use Rattle.std.proofs.Common.{◌≡◌, ℕ, ◌+◌, ◌<◌, ◌≤◌, inl, inr, List, [], ◌∷◌, ◌++◌, length, take, drop, refl, sym, ap, ◌∙◌, arith}
+use Rattle.std.proofs.Common.{◌≡◌, ℕ, ◌+◌, ◌-◌, ◌<◌, ◌≤◌, inl, inr, List, [], ◌∷◌, ◌++◌, length, take, drop, refl, sym, ap, ◌∙◌, arith}
 use Rattle.std.specs.List.{AllByRecursion}
 use Rattle.std.proofs.lemmas.List.{append_assoc, length-append, take_at, drop_at, take-append-drop, length-take, length-drop}
 use Rattle.sshwire.specs.declared.fault.WireFault.{WireFault}
@@ -266,6 +266,23 @@ refused_stays k bytes more place code refused =
       least = λ j other before has. least_from k (bytes ++ more) place code (s.rest ++ more) j other (reading k [] (take j (bytes ++ more))) on (omega arith) before has refl;
       no_preamble = λ j text within p. no_preamble_from k (bytes ++ more) code (s.rest ++ more) j text on p;
     }
+
+-- What was read up to a refusal is refused alone.
+pub refused_used : (k : ℕ) (bytes : List ℕ) (code : WireFault) (rest : List ℕ) → reading k [] bytes ≡ Stop code rest
+    → (used : List ℕ) × (bytes ≡ used ++ rest) × (reading k [] used ≡ Stop code [])
+refused_used k bytes code rest stop =
+    let s : Stopped k bytes code rest = (let p = read_parts k bytes in rw stop at p) in
+    let before : List ℕ = joined s.others ++ s.line in
+    let left : ℕ = k - length s.others in
+    let few : length s.others + left ≡ k = (let most : length s.others ≤ k = s.few in omega arith) in
+    let open_line : LineOpen k before left s.line = record { others = s.others; few = few; each = s.each; unfinished = s.unfinished; bytes_are = refl } in
+    let cut : joined s.others ++ (s.line ++ s.byte ∷ rest) ≡ (before ++ s.byte ∷ []) ++ rest = search append_assoc in (
+      before ++ s.byte ∷ [],
+      s.bytes_are ∙ cut,
+      reading-append k [] before (s.byte ∷ [])
+          ∙ (ap (λ (r : Reading). then_on r (s.byte ∷ [])) (open_read k before left s.line open_line)
+          ∙ cause_stops k left s.others s.line s.byte code [] few s.cause),
+    )
 
 -- A version line is read as its text, whatever follows.
 pub version_line_read : (k : ℕ) (text rest : List ℕ) → IsVersionText text → reading k [] (version_line text ++ rest) ≡ Got text rest

@@ -6,7 +6,7 @@ ghost use Rattle.sshwire.specs.Lines.{LineOpen, LineRefused, Preamble};
 ghost use Rattle.sshwire.specs.Meaning.{IsLeftOf, Means};
 ghost use Rattle.sshwire.specs.TypeReadings.{IsReading, boolean_at, is_canonical, mpint_at, names_at, names_in, string_at, uint32_at};
 ghost use Rattle.sshwire.specs.Types.{AreNames, BooleanText, IsBytes, IsShortestBody, MpintText, NameListText, StringText, Uint32Text, boolean, names_body};
-ghost use Rattle.sshwire.specs.Reading.{Reading, Got, More, reading, then_on};
+ghost use Rattle.sshwire.specs.Reading.{Reading, Got, More, Stop, reading, then_on};
 
 /// The law of version lines (RFC 4253 section 4.2): what bytes read as is what they mean, and
 /// nothing else.
@@ -26,6 +26,10 @@ pub fn reading_law()
     ensures cut { (k : ℕ) (bytes more : List ℕ) → reading k [] (bytes ++ more) ≡ then_on (reading k [] bytes) more }
     ensures stays { (k : ℕ) (bytes more : List ℕ) (place : ℕ) (code : WireFault) → LineRefused k bytes place code
         → LineRefused k (bytes ++ more) place code }
+
+    // What was read up to a refusal is enough to refuse.
+    ensures used { (k : ℕ) (bytes : List ℕ) (code : WireFault) (rest : List ℕ) → reading k [] bytes ≡ Stop code rest
+        → (used : List ℕ) × (bytes ≡ used ++ rest) × (reading k [] used ≡ Stop code []) }
 
     // Before the first byte nothing was read; a preamble is read as its version, whatever follows.
     ensures nothing { (k : ℕ) → LineOpen k [] k [] }

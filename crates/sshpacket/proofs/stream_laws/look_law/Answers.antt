@@ -8,6 +8,7 @@ law c = record {
   within = c.reading_law.ensures.within;
   cut = c.reading_law.ensures.cut;
   written = c.reading_law.ensures.written;
+  used = c.reading_law.ensures.used;
 }
 
 pub returns-clause-packets : goal.returns-clause-packets

@@ -1,4 +1,4 @@
-use Rattle.sshpacket.proofs.Streams.{heard_front, heard_more, heard_none, heard_push, link, link_all, one_reading, read_more, read_push, said_append, said_heard, said_push, said_same}
+use Rattle.sshpacket.proofs.Streams.{heard_front, heard_more, heard_none, heard_part, heard_push, heard_refusal, heard_unit, link, link_all, one_reading, read_more, read_push, said_append, said_heard, said_push, said_same}
 use Rattle.sshpacket.proofs.stream_laws.stream_law.Goals as goal
 
 pub returns-clause-one : goal.returns-clause-one
@@ -18,6 +18,15 @@ returns-clause-heard_more c = heard_more
 
 pub returns-clause-heard_push : goal.returns-clause-heard_push
 returns-clause-heard_push c = heard_push
+
+pub returns-clause-heard_unit : goal.returns-clause-heard_unit
+returns-clause-heard_unit c = heard_unit
+
+pub returns-clause-heard_refusal : goal.returns-clause-heard_refusal
+returns-clause-heard_refusal c = heard_refusal
+
+pub returns-clause-heard_part : goal.returns-clause-heard_part
+returns-clause-heard_part c = heard_part
 
 pub returns-clause-front : goal.returns-clause-front
 returns-clause-front c = heard_front

@@ -1,6 +1,6 @@
 use Rattle.std.proofs.Common.{[]}
 use Rattle.sshwire.proofs.Readings.{reading-append, preamble_read}
-use Rattle.sshwire.proofs.Refusals.{reading_sound, reading_complete, one_meaning, refused_within, preamble_behind, refused_stays}
+use Rattle.sshwire.proofs.Refusals.{reading_sound, reading_complete, one_meaning, refused_within, preamble_behind, refused_stays, refused_used}
 use Rattle.sshwire.proofs.law.reading_law.Goals as goal
 
 pub returns-clause-cut : goal.returns-clause-cut
@@ -26,3 +26,6 @@ returns-clause-behind c = preamble_behind
 
 pub returns-clause-stays : goal.returns-clause-stays
 returns-clause-stays c = refused_stays
+
+pub returns-clause-used : goal.returns-clause-used
+returns-clause-used c = refused_used
