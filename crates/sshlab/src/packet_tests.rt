@@ -28,7 +28,11 @@ fn feed(alloc: Global, reader: &mut PacketReader, piece: &[u8]) -> Result<Came, 
 }
 
 /// Reads byte by byte, up to an answer that isn't More, and answers how many bytes there were.
-fn feed_bytes(alloc: Global, reader: &mut PacketReader, bytes: &[u8]) -> Result<(Came, usize), AllocError> {
+fn feed_bytes(
+    alloc: Global,
+    reader: &mut PacketReader,
+    bytes: &[u8],
+) -> Result<(Came, usize), AllocError> {
     for (i, byte) in bytes.iter().enumerate() {
         let came = feed(alloc, reader, &[*byte])?;
         if !matches!(&came, Came::More) {
@@ -165,7 +169,10 @@ fn refuses_changed_tag_at_its_end(rt: HostRuntime) -> Result<(), Fail> {
     assert_eq!(rt; came, Came::Fault(PacketFault::Mac));
     assert_eq!(rt; packet.len(), 48);
     assert_eq!(rt; before, 47);
-    assert_eq!(rt; feed(alloc, &mut reader, b"more")?, Came::Fault(PacketFault::Mac));
+    assert_eq!(rt;
+        feed(alloc, &mut reader, b"more")?,
+        Came::Fault(PacketFault::Mac)
+    );
     assert_eq!(rt; reader.taken(), 0);
     Ok(())
 }

@@ -18,7 +18,7 @@ pub grows_on : (m : Meaning) (x : KeySource) (first : List ℕ) (len count : ℕ
 grows_on m x first len count bytes more low less few is g =
     let e : bytes ≡ grown m x first count = g.same less in
     let all : bytes ++ more ≡ grown m x first (count + 1) =
-        ap (λ (xs : List ℕ). bytes ++ xs) is ∙ (ap (λ (xs : List ℕ). xs ++ hash_with m x xs) e ∙ sym (one_more m x first count)) in
+    ap (λ (xs : List ℕ). bytes ++ xs) is ∙ (ap (λ (xs : List ℕ). xs ++ hash_with m x xs) e ∙ sym (one_more m x first count)) in
     let size : length (bytes ++ more) ≡ length bytes + length more = length-append bytes more in
     record { same_front = ap (λ (xs : List ℕ). take len xs) all; same = λ less. all; short = omega arith }
 
@@ -70,9 +70,11 @@ more_hashes m x first len n (suc k) h =
     = ap (λ (i : ℕ). grown m x first i) on ∙ one_more m x first (n + k) in
     let size : length (grown m x first (n + suc k)) ≡ length (grown m x first (n + k)) + length (hash_with m x (grown m x first (n + k)))
     = ap (λ (xs : List ℕ). length xs) all ∙ length-append (grown m x first (n + k)) (hash_with m x (grown m x first (n + k))) in
-    let low : len ≤ length (grown m x first (n + k)) = rec.1 in
-    (ap (λ (xs : List ℕ). take len xs) all
-    ∙ (take-append-le len (grown m x first (n + k)) (hash_with m x (grown m x first (n + k))) low ∙ rec.0), omega arith)
+    let low : len ≤ length (grown m x first (n + k)) = rec.1 in (
+      ap (λ (xs : List ℕ). take len xs) all
+          ∙ (take-append-le len (grown m x first (n + k)) (hash_with m x (grown m x first (n + k))) low ∙ rec.0),
+      omega arith,
+    )
 
 pub key_by : (m : Meaning) → IsLawful m → (x : KeySource) (letter len n : ℕ) → n ≤ len → len ≤ length (grown m x (hash_with m x (letter ∷ x.session)) n)
     → key m x letter len ≡ take len (grown m x (hash_with m x (letter ∷ x.session)) n)

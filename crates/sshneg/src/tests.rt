@@ -32,7 +32,10 @@ fn judges_guesses(rt: HostRuntime) -> Result<(), Fail> {
     let client = kexinit_of(alloc, NameList::parse(alloc, b"a,b")?)?;
     let other_way = kexinit_of(alloc, NameList::parse(alloc, b"b,a")?)?;
     assert!(rt; !guess_right(&client, &other_way));
-    let marked = kexinit_of(alloc, NameList::parse(alloc, b"kex-strict-s-v00@openssh.com,a")?)?;
+    let marked = kexinit_of(
+        alloc,
+        NameList::parse(alloc, b"kex-strict-s-v00@openssh.com,a")?,
+    )?;
     assert!(rt; guess_right(&client, &marked));
     Ok(())
 }
@@ -40,7 +43,10 @@ fn judges_guesses(rt: HostRuntime) -> Result<(), Fail> {
 #[test]
 fn judges_strictness(rt: HostRuntime) -> Result<(), Fail> {
     let alloc = rt.alloc();
-    let of_server = kexinit_of(alloc, NameList::parse(alloc, b"a,kex-strict-s-v00@openssh.com")?)?;
+    let of_server = kexinit_of(
+        alloc,
+        NameList::parse(alloc, b"a,kex-strict-s-v00@openssh.com")?,
+    )?;
     assert!(rt; !strict_of(true, Role::Server, &of_server));
     assert!(rt; strict_of(true, Role::Client, &of_server));
     assert!(rt; !strict_of(false, Role::Client, &of_server));
@@ -60,15 +66,24 @@ fn joins_an_exchange(rt: HostRuntime) -> Result<(), Fail> {
         shared: Mpint::new(b"\x00\x80")?,
     };
     let input = exchange_input(rt.alloc(), &exchange)?;
-    let wanted = b"\x00\x00\x00\x01A\x00\x00\x00\x01B\x00\x00\x00\x01\x14\x00\x00\x00\x01\x14\x00\x00\x00\x00\x00\x00\x00\x01\x02\x00\x00\x00\x01\x03\x00\x00\x00\x02\x00\x80";
+    let wanted =
+        b"\x00\x00\x00\x01A\x00\x00\x00\x01B\x00\x00\x00\x01\x14\x00\x00\x00\x01\x14\x00\x00\x00\x00\x00\x00\x00\x01\x02\x00\x00\x00\x01\x03\x00\x00\x00\x02\x00\x80";
     assert_eq!(rt; input.as_slice(), wanted.as_slice());
     Ok(())
 }
 
 #[test]
 fn joins_a_signed_request(rt: HostRuntime) -> Result<(), Fail> {
-    let signed = signed_request(rt.alloc(), b"\x01\x02\x03\x04", "al", b"ssh-connection", "h", b"\xaa")?;
-    let wanted = b"\x00\x00\x00\x04\x01\x02\x03\x04\x32\x00\x00\x00\x02al\x00\x00\x00\x0essh-connection\x00\x00\x00\x09publickey\x01\x00\x00\x00\x01h\x00\x00\x00\x01\xaa";
+    let signed = signed_request(
+        rt.alloc(),
+        b"\x01\x02\x03\x04",
+        "al",
+        b"ssh-connection",
+        "h",
+        b"\xaa",
+    )?;
+    let wanted =
+        b"\x00\x00\x00\x04\x01\x02\x03\x04\x32\x00\x00\x00\x02al\x00\x00\x00\x0essh-connection\x00\x00\x00\x09publickey\x01\x00\x00\x00\x01h\x00\x00\x00\x01\xaa";
     assert_eq!(rt; signed.as_slice(), wanted.as_slice());
     Ok(())
 }

@@ -8,9 +8,17 @@ pub returns : goal.returns
 unfolding signed_text
 returns c =
     rw (
-      c.in_ok-put_string-6.ensures, c.in_ok-put_string-5.ensures, c.in_ok-put_boolean.ensures, c.in_ok-put_string-4.ensures,
-      c.in_ok-put_string-3.ensures, c.in_ok-put_string-2.ensures, c.in_ok-push.ensures.items, c.in_ok-put_string.ensures,
-      c.new-out.ensures.items, c.as_bytes.ensures.value, c.as_bytes-2.ensures.value,
+      c.in_ok-put_string-6.ensures,
+      c.in_ok-put_string-5.ensures,
+      c.in_ok-put_boolean.ensures,
+      c.in_ok-put_string-4.ensures,
+      c.in_ok-put_string-3.ensures,
+      c.in_ok-put_string-2.ensures,
+      c.in_ok-push.ensures.items,
+      c.in_ok-put_string.ensures,
+      c.new-out.ensures.items,
+      c.as_bytes.ensures.value,
+      c.as_bytes-2.ensures.value,
     )
     (eight_parts (string c.args.session.now) (50 ∷ []) (string c.args.user.now) (string c.args.service.now) (string (codes "publickey")) (boolean true)
     (string c.args.algorithm.now) (string c.args.key.now))
