@@ -1,6 +1,7 @@
 //! Examples of payloads.
 
-use crate::{Message, Method, MsgFault, read, write};
+use crate::{Message, Method, MpintBuf, MsgFault, OtherMethod, read, write};
+use sshwire::Mpint;
 use std::alloc::Global;
 use std::test::Fail;
 
@@ -206,5 +207,19 @@ fn takes_long_fields(rt: HostRuntime) -> Result<(), Fail> {
     let too_long = filled_to(alloc, b"\x02\x00\x00\x7f\xfc", 32769)?;
     let message = read(alloc, &too_long)?;
     assert!(rt; !message.fits());
+    Ok(())
+}
+
+#[test]
+fn parts_hold_what_they_were_given(rt: HostRuntime) -> Result<(), Fail> {
+    let alloc = rt.alloc();
+    let name = Vec::from_slice(alloc, b"hostbased")?;
+    let fields = Vec::from_slice(alloc, b"fields")?;
+    let method = OtherMethod::new(name, fields);
+    assert_eq!(rt; method.name(), b"hostbased".as_slice());
+    assert_eq!(rt; method.fields(), b"fields".as_slice());
+    assert_eq!(rt; Method::None.name(), b"none".as_slice());
+    let number = MpintBuf::of(alloc, &Mpint::new(b"\x00\x80")?)?;
+    assert_eq!(rt; number.body(), b"\x00\x80".as_slice());
     Ok(())
 }
