@@ -1,8 +1,7 @@
 -- The first method of a list, and guesses.
 
-use Rattle.std.proofs.Common.{◌≡◌, ℕ, Bool, true, false, not, List, [], ◌∷◌, map, find, Option, None, Some, option_map, refl, sym, ap, ◌∙◌, cond}
-use Rattle.std.specs.Str.{bytes_eq}
-use Rattle.sshneg.specs.Markers.{first_name, is_marker, methods, same_name}
+use Rattle.std.proofs.Common.{◌≡◌, ℕ, Bool, true, false, not, List, [], ◌∷◌, map, find, None, Some, option_map, refl, sym, ap, ◌∙◌}
+use Rattle.sshneg.specs.Markers.{first_name, is_marker, methods}
 
 module _ {X : Type 0} (f : X → List ℕ) where
   first_by : (x : X) (xs : List X) (b : Bool) → not (is_marker (f x)) ≡ b

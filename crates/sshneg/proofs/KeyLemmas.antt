@@ -1,7 +1,6 @@
 -- Keys grow hash by hash, and are as long as is asked for.
 
-use Rattle.std.proofs.Common.{◌≡◌, ℕ, zero, suc, ◌+◌, ◌<◌, ◌≤◌, Bool, true, false, ◌-◌, List, [], ◌∷◌, ◌++◌, length, min, take, refl, sym, ap, ◌∙◌, arith, ltb}
-use Rattle.std.proofs.lemmas.Bool.{ltb-false, ltb-true}
+use Rattle.std.proofs.Common.{◌≡◌, ℕ, zero, suc, ◌+◌, ◌<◌, ◌≤◌, ◌-◌, List, ◌∷◌, ◌++◌, length, min, take, refl, sym, ap, ◌∙◌, arith}
 use Rattle.std.proofs.lemmas.List.{length-append, length-take-le, length-take, take-append-le}
 use Rattle.sshneg.specs.Derivations.{KeySource, grown, hash_with, key}
 use Rattle.sshneg.specs.Growing.{Grows}

@@ -1,3 +1,11 @@
+pub mod ChoiceFacts
+pub mod ChoiceLaws
+pub mod ChoiceLemmas
+pub mod ChoiceOrder
+pub mod ChoicePlaces
+pub mod FirstLemmas
 pub mod GuessLemmas
 pub mod KeyLemmas
 pub mod PartLemmas
+pub mod PositionLemmas
+pub mod SearchLemmas

@@ -1,6 +1,6 @@
 -- What is hashed, what keys are, and what is signed: RFC 4253 sections 7.2 and 8, RFC 4252 section 7.
 
-use Rattle.std.specs.Prelude.{ℕ, ◌+◌, zero, suc, true, List, [], ◌∷◌, ◌++◌, codes, length, take}
+use Rattle.std.specs.Prelude.{ℕ, ◌+◌, zero, suc, true, List, ◌∷◌, ◌++◌, codes, length, take}
 use Rattle.sshwire.specs.Types.{boolean, string}
 use Rattle.sshneg.specs.declared.role.Role.{Role}
 use Rattle.sshneg.specs.declared.role.Role.TheVariants.{Client, Server}

@@ -24,7 +24,7 @@ pub fn guess_right(client: &KexInit, server: &KexInit) -> bool
 }
 
 /// Whether there are two names, and they are equal.
-fn same_name(left: Option<&str>, right: Option<&str>) -> bool
+pub fn same_name(left: Option<&str>, right: Option<&str>) -> bool
     ensures { result ≡ same_name (option_map (λ name. name.now) left.entry) (option_map (λ name. name.now) right.entry) }
 {
     match (left, right) {
@@ -34,7 +34,7 @@ fn same_name(left: Option<&str>, right: Option<&str>) -> bool
 }
 
 /// The first method of a kex list.
-fn first_method(list: &NameList) -> Option<&str>
+pub fn first_method(list: &NameList) -> Option<&str>
     ensures { option_map (λ name. name.now) result ≡ first_name (methods list.now) }
 {
     first_unmarked(list.names())
@@ -67,7 +67,7 @@ fn first_of(list: &NameList) -> Option<&str>
 }
 
 /// Whether a name of a kex list is no method.
-fn is_marker(name: &str) -> bool
+pub fn is_marker(name: &str) -> bool
     ensures { result ≡ is_marker name.now }
 {
     name == "ext-info-c"

@@ -1,9 +1,62 @@
-//! What the layers above may rest on: keys are as long as the suite asks for.
+//! What the layers above may rest on: what a choice is, which names of a kex list are methods, and
+//! that keys are as long as the suite asks for.
 
-ghost use Rattle.std.specs.Prelude.{◌≡◌, ◌≤◌, ◌∷◌, ℕ, List, length, take};
-ghost use Rattle.sshneg.specs.declared.role.Role.{Role};
-ghost use Rattle.sshneg.specs.Derivations.{KeySource, derived, grown, hash_with, key};
+ghost use Rattle.std.specs.Prelude.{◌≡◌, ◌≤◌, ◌∷◌, ◌++◌, ◌↔◌, ℕ, Contains, Err, List, Ok, Result, [], false, length, take, true};
+ghost use Rattle.sshwire.specs.Types.{AreNames, IsName};
+ghost use Rattle.sshmsg.specs.Content.{Offer};
 ghost use Rattle.sshpacket.specs.Suite.{IsLawful, Meaning};
+ghost use Rattle.sshneg.specs.declared.choice.Chosen.{Chosen};
+ghost use Rattle.sshneg.specs.declared.choice.NoCommon.{NoCommon};
+ghost use Rattle.sshneg.specs.declared.role.Role.{Role};
+ghost use Rattle.sshneg.specs.Choice.{AreFirstMethods, ArePositions, HasChoice, IsChoice, IsFirstWithout, IsKex, Tells, serves};
+ghost use Rattle.sshneg.specs.ChoiceLaw.{AreEarliest, AreListed, OfferAlike, StandsAt};
+ghost use Rattle.sshneg.specs.ChoiceReadings.{answer, choice, positions};
+ghost use Rattle.sshneg.specs.Derivations.{KeySource, derived, grown, hash_with, key};
+ghost use Rattle.sshneg.specs.Fields.{Algorithms, list_of, name_of, position_of};
+ghost use Rattle.sshneg.specs.Markers.{is_marker, methods, strict_marker};
+
+/// The law of choices (RFC 4253 section 7.1): what the answer of `choose` says, for any two KEXINITs
+/// and any suite. `choice` is the choice as a function of what both sides offer, by names.
+pub fn choice_law()
+    // An answer tells the truth exactly where it is the function's, which is the names' positions.
+    ensures tells { (m : Meaning) (client server : Offer) (r : Result Chosen NoCommon) → Tells m client server r ↔ (r ≡ answer m client server) }
+    // The function answers names exactly where they are a choice in all fields, and a field exactly where it is the first
+    // without one.
+    ensures names { (m : Meaning) (client server : Offer) (a : Algorithms) → (choice m client server ≡ Ok a) ↔ IsChoice m client server a }
+    ensures without { (m : Meaning) (client server : Offer) (f : NoCommon) → (choice m client server ≡ Err f) ↔ IsFirstWithout m client server f }
+    // There is one method at most; where each field has a choice there is a choice in all, and where not, not.
+    ensures one_kex { (m : Meaning) (client server : Offer) (kex other : List ℕ) → IsKex m client server kex → IsKex m client server other → kex ≡ other }
+    ensures exists { (m : Meaning) (client server : Offer) → ((f : NoCommon) → HasChoice m client server f) ↔ ((a : Algorithms) × IsChoice m client server a) }
+    // The names stand on both lists. The method is no marker, and the host key algorithm has what it needs.
+    ensures listed { (m : Meaning) (client server : Offer) (a : Algorithms) → IsChoice m client server a → AreListed client server a }
+    ensures method { (m : Meaning) (client server : Offer) (a : Algorithms) → IsChoice m client server a → is_marker a.kex ≡ false }
+    ensures able { (m : Meaning) (client server : Offer) (a : Algorithms) → IsChoice m client server a → serves (m.need a.kex) (m.can a.host_key) ≡ true }
+    // No earlier name of the client's could have been used.
+    ensures earliest { (m : Meaning) (client server : Offer) (a : Algorithms) (chosen : Chosen) → IsChoice m client server a
+        → ArePositions client a chosen → AreEarliest m client server a chosen }
+    // The order of the server's names never matters, but for which of its methods is first.
+    ensures order { (m : Meaning) (client server other : Offer) → OfferAlike server other → choice m client server ≡ choice m client other }
+    // Where the first methods are the same one, it is used.
+    ensures same_first { (m : Meaning) (client server : Offer) (a : Algorithms) (kex : List ℕ) → AreFirstMethods client server kex
+        → IsChoice m client server a → a.kex ≡ kex }
+    // The positions are those of the first places, and the names stand there.
+    ensures placed { (m : Meaning) (client server : Offer) (a : Algorithms) (chosen : Chosen) → IsChoice m client server a
+        → ArePositions client a chosen ↔ (chosen ≡ positions client a) }
+    ensures stands { (client : Offer) (a : Algorithms) (chosen : Chosen) → ArePositions client a chosen
+        → (f : NoCommon) → StandsAt (list_of f client) (name_of f a) (position_of f chosen) }
+    ensures well { (m : Meaning) (client server : Offer) (a : Algorithms) → IsChoice m client server a
+        → (f : NoCommon) → AreNames (list_of f client) → IsName (name_of f a) }
+{}
+
+/// The law of markers (RFC 8308 section 2.1, OpenSSH PROTOCOL section 1.10).
+#[tactic(auto, using(crate::proofs::ChoiceOrder::marker, crate::proofs::ChoiceOrder::added, crate::proofs::ChoiceOrder::unmarked))]
+pub fn markers_law()
+    ensures marker { (role : Role) → is_marker (strict_marker role) ≡ true }
+    // A marker that is added changes no method.
+    ensures added { (role : Role) (names : List (List ℕ)) → methods (names ++ strict_marker role ∷ []) ≡ methods names }
+    // Where there is no marker every name is a method.
+    ensures unmarked { (names : List (List ℕ)) → ((name : List ℕ) → Contains names name → is_marker name ≡ false) → methods names ≡ names }
+{}
 
 /// The law of derived keys (RFC 4253 section 7.2). Both sides derive the keys of a direction by its
 /// sender, so from the same material they have the same keys.

@@ -1,4 +1,4 @@
-use Rattle.std.proofs.Common.{rules, ◌≡◌, ◌+◌, ℕ, List, ◌∷◌, length, ap, arith}
+use Rattle.std.proofs.Common.{rules, ◌≡◌, ℕ, List, ◌∷◌, length, ap, arith}
 use Rattle.sshneg.proofs.derivations.key_of.Goals as goal
 
 pub hash_of-requires-clause-short : goal.hash_of-requires-clause-short

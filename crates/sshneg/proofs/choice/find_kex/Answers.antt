@@ -1,0 +1,32 @@
+use Rattle.std.proofs.Common.{◌≡◌, ◌&&◌, false, not, string_bytes, true}
+use Rattle.sshmsg.specs.View.{offer_of}
+use Rattle.sshneg.specs.Choice.{serves}
+use Rattle.sshneg.specs.ChoiceReadings.{is_in, same_first}
+use Rattle.sshneg.specs.Markers.{is_marker}
+use Rattle.sshneg.proofs.PositionLemmas.{position_found}
+use Rattle.sshneg.proofs.SearchLemmas.{kex_first, kex_searched, together}
+use Rattle.sshneg.proofs.choice.find_kex.Goals as goal
+
+pub returns-then-same_name : goal.returns-then-same_name
+returns-then-same_name g c =
+    let same : same_first (offer_of c.args.client.now) (offer_of c.args.server.now) ≡ true
+    = rw (← c.first_method.ensures, ← c.first_method-2.ensures, ← c.same_name.ensures) c.if-same_name.true in
+    let found = position_found string_bytes (λ name. not (is_marker name)) c.names-methods.result.now in
+    rw (
+      kex_first (g.S.Suite.meaning c.args.suite.now) (offer_of c.args.client.now) (offer_of c.args.server.now) same,
+      ← c.names-methods.ensures.names,
+      c.first_unmarked.ensures,
+    ) found
+
+pub returns : goal.returns
+returns g c =
+    let m = g.S.Suite.meaning c.args.suite.now in
+    let client = offer_of c.args.client.now in
+    let server = offer_of c.args.server.now in
+    let other : same_first client server ≡ false
+    = rw (← c.first_method.ensures, ← c.first_method-2.ensures, ← c.same_name.ensures) c.if-same_name.false in
+    let common = together string_bytes m c.names.result.now client.server_host_key_algorithms server.server_host_key_algorithms
+    c.common_capability-common.result c.names.ensures.names c.common_capability-common.ensures.signature c.common_capability-common.ensures.encryption in
+    let found = position_found string_bytes
+    (λ name. not (is_marker name) && (is_in server.kex_algorithms name && serves (m.need name) c.common_capability-common.result)) c.names-methods.result.now in
+    rw (kex_searched m client server c.common_capability-common.result common other, ← c.names-methods.ensures.names, c.first_usable.ensures) found

@@ -1,0 +1,327 @@
+//! The choice of algorithms (RFC 4253 section 7.1).
+
+ghost use Rattle.std.specs.Prelude.{◌≡◌, ◌&&◌, ◌<◌, ℕ, List, Some, find, length, map, not, option_map, string_bytes};
+ghost use Rattle.std.specs.List.{list_any, position, slice_get};
+ghost use Rattle.sshwire.specs.Types.{AreNames, IsName};
+ghost use Rattle.sshmsg.specs.View.{offer_of};
+ghost use Rattle.sshneg.specs.declared.choice.NoCommon.TheVariants as field;
+ghost use Rattle.sshneg.specs.Choice.{Tells, serves};
+ghost use Rattle.sshneg.specs.Markers.{is_marker};
+ghost use Rattle.sshneg.specs.ChoiceReadings.{answer, answered, choice_of_directions, first_common, host_key_choice, is_in, kex_choice, position_in, positioned};
+
+use crate::guess::{first_method, is_marker, same_name};
+use sshmsg::KexInit;
+use sshpacket::{Capability, Need, Suite};
+use sshwire::NameList;
+use std::error::Error;
+use std::fmt;
+
+/// The field of a KEXINIT that has no choice (RFC 4253 section 7.1). Prints the field's name in the
+/// program's format.
+#[derive(Clone, Copy, Debug, PartialEq, Eq)]
+pub enum NoCommon {
+    /// Key exchange methods.
+    Kex,
+    /// Algorithms of the server's host key.
+    HostKey,
+    /// Ciphers from client to server.
+    EncryptionClientToServer,
+    /// Ciphers from server to client.
+    EncryptionServerToClient,
+    /// MACs from client to server.
+    MacClientToServer,
+    /// MACs from server to client.
+    MacServerToClient,
+    /// Compression from client to server.
+    CompressionClientToServer,
+    /// Compression from server to client.
+    CompressionServerToClient,
+}
+
+/// The algorithms that are used (RFC 4253 section 7.1), each as the position of its name's first
+/// place in the client's list as sent, counted from 0, markers counted.
+#[derive(Clone, Copy, Debug, PartialEq, Eq)]
+pub struct Chosen {
+    /// The key exchange method.
+    pub kex: usize,
+    /// The algorithm of the server's host key.
+    pub host_key: usize,
+    /// The cipher from client to server.
+    pub encryption_client_to_server: usize,
+    /// The cipher from server to client.
+    pub encryption_server_to_client: usize,
+    /// The MAC from client to server.
+    pub mac_client_to_server: usize,
+    /// The MAC from server to client.
+    pub mac_server_to_client: usize,
+    /// The compression from client to server.
+    pub compression_client_to_server: usize,
+    /// The compression from server to client.
+    pub compression_server_to_client: usize,
+}
+
+impl fmt::Display for NoCommon {
+    fn fmt<W: fmt::Write>(&self, f: &mut fmt::Formatter<W>) -> fmt::Result {
+        let text = match self {
+            NoCommon::Kex => "kex",
+            NoCommon::HostKey => "hostkey",
+            NoCommon::EncryptionClientToServer => "cipher_cs",
+            NoCommon::EncryptionServerToClient => "cipher_sc",
+            NoCommon::MacClientToServer => "mac_cs",
+            NoCommon::MacServerToClient => "mac_sc",
+            NoCommon::CompressionClientToServer => "compression_cs",
+            NoCommon::CompressionServerToClient => "compression_sc",
+        };
+        f.write_str(text)
+    }
+}
+
+impl Error for NoCommon {}
+
+/// The algorithms that two KEXINITs come to (RFC 4253 section 7.1), or the first field, in the order
+/// of a KEXINIT, that has none. Takes no memory.
+pub fn choose<S: Suite>(client: &KexInit, server: &KexInit, suite: &S) -> Result<Chosen, NoCommon>
+    ensures tells { Tells (S.meaning suite.now) (offer_of client.now) (offer_of server.now) result }
+    ensures exact { result ≡ answer (S.meaning suite.now) (offer_of client.now) (offer_of server.now) }
+{
+    let kex = choose_kex(client, server, suite)?;
+    let host_key = choose_host_key(client, server, kex, suite)?;
+    choose_directions(client, server, kex, host_key)
+}
+
+/// The position of the key exchange method.
+#[tactic(auto, using(crate::proofs::PositionLemmas::found_or))]
+fn choose_kex<S: Suite>(client: &KexInit, server: &KexInit, suite: &S) -> Result<usize, NoCommon>
+    ensures { result ≡ positioned field.Kex client.now.kex_algorithms (kex_choice (S.meaning suite.now) (offer_of client.now) (offer_of server.now)) }
+{
+    find_kex(client, server, suite).ok_or(NoCommon::Kex)
+}
+
+/// The position of the host key algorithm, where the method at this position of the client's list is
+/// used.
+#[tactic(auto, using(crate::proofs::PositionLemmas::found_or))]
+fn choose_host_key<S: Suite>(
+    client: &KexInit,
+    server: &KexInit,
+    kex: usize,
+    suite: &S,
+) -> Result<usize, NoCommon>
+    requires { kex < length client.now.kex_algorithms }
+    ensures { (name : List ℕ) → slice_get client.now.kex_algorithms kex ≡ Some name
+        → result ≡ positioned field.HostKey client.now.server_host_key_algorithms (host_key_choice (S.meaning suite.now) (offer_of client.now) (offer_of server.now) name) }
+{
+    let need = need_at(&client.kex_algorithms, kex, suite);
+    find_host_key(client, server, need, suite).ok_or(NoCommon::HostKey)
+}
+
+/// The positions of the other six fields beside those of the method and the host key algorithm.
+fn choose_directions(
+    client: &KexInit,
+    server: &KexInit,
+    kex: usize,
+    host_key: usize,
+) -> Result<Chosen, NoCommon>
+    ensures { (method algorithm : List ℕ) → kex ≡ position_in client.now.kex_algorithms method
+        → host_key ≡ position_in client.now.server_host_key_algorithms algorithm
+        → result ≡ answered (offer_of client.now) (choice_of_directions (offer_of client.now) (offer_of server.now) method algorithm) }
+{
+    Ok(Chosen {
+        kex,
+        host_key,
+        encryption_client_to_server: choose_common(
+            NoCommon::EncryptionClientToServer,
+            &client.encryption_client_to_server,
+            &server.encryption_client_to_server,
+        )?,
+        encryption_server_to_client: choose_common(
+            NoCommon::EncryptionServerToClient,
+            &client.encryption_server_to_client,
+            &server.encryption_server_to_client,
+        )?,
+        mac_client_to_server: choose_common(
+            NoCommon::MacClientToServer,
+            &client.mac_client_to_server,
+            &server.mac_client_to_server,
+        )?,
+        mac_server_to_client: choose_common(
+            NoCommon::MacServerToClient,
+            &client.mac_server_to_client,
+            &server.mac_server_to_client,
+        )?,
+        compression_client_to_server: choose_common(
+            NoCommon::CompressionClientToServer,
+            &client.compression_client_to_server,
+            &server.compression_client_to_server,
+        )?,
+        compression_server_to_client: choose_common(
+            NoCommon::CompressionServerToClient,
+            &client.compression_server_to_client,
+            &server.compression_server_to_client,
+        )?,
+    })
+}
+
+/// The position of the first of the client's names that the server lists, or the field.
+#[tactic(auto, using(crate::proofs::PositionLemmas::found_or))]
+fn choose_common(field: NoCommon, client: &NameList, server: &NameList) -> Result<usize, NoCommon>
+    ensures { result ≡ positioned field client.now (first_common client.now server.now) }
+{
+    find_common(client, server).ok_or(field)
+}
+
+/// The position of the key exchange method: the first of both sides where that is the same one, else
+/// the first of the client's that is usable.
+fn find_kex<S: Suite>(client: &KexInit, server: &KexInit, suite: &S) -> Option<usize>
+    ensures { result ≡ option_map (λ name. position_in client.now.kex_algorithms name)
+        (kex_choice (S.meaning suite.now) (offer_of client.now) (offer_of server.now)) }
+{
+    let methods = client.kex_algorithms.names();
+    if same_name(
+        first_method(&client.kex_algorithms),
+        first_method(&server.kex_algorithms),
+    ) {
+        return first_unmarked(methods);
+    }
+    let common = common_capability(
+        client.server_host_key_algorithms.names(),
+        &server.server_host_key_algorithms,
+        suite,
+    );
+    first_usable(methods, &server.kex_algorithms, common, suite)
+}
+
+/// The position of the first name that is a method.
+fn first_unmarked(names: &[String]) -> Option<usize>
+    ensures { result ≡ position (λ name. not (is_marker (string_bytes name))) names.now }
+{
+    names.iter().position(|name| !is_marker(name))
+}
+
+/// The position of the first method of the client's that the server lists and that a host key
+/// algorithm of both sides serves.
+fn first_usable<S: Suite>(
+    names: &[String],
+    server: &NameList,
+    common: Capability,
+    suite: &S,
+) -> Option<usize>
+    requires { AreNames (map string_bytes names.now) }
+    ensures { result ≡ position (λ name. not (is_marker (string_bytes name))
+        && (is_in server.now (string_bytes name) && serves ((S.meaning suite.now).need (string_bytes name)) common)) names.now }
+{
+    for (position, name) in names.iter().enumerate() {
+        if is_usable(name, server, common, suite) {
+            return Some(position);
+        }
+    }
+    None
+}
+
+/// Whether a name is a method that the server lists and that is served.
+fn is_usable<S: Suite>(name: &str, server: &NameList, common: Capability, suite: &S) -> bool
+    requires { IsName name.now }
+    ensures { result ≡ (not (is_marker name.now) && (is_in server.now name.now && serves ((S.meaning suite.now).need name.now) common)) }
+{
+    !is_marker(name) && lists(server, name) && serves(suite.need(name), common)
+}
+
+/// What the host key algorithms that both sides list are capable of together.
+#[tactic(auto, using(crate::proofs::PositionLemmas::name_at))]
+fn common_capability<S: Suite>(names: &[String], server: &NameList, suite: &S) -> Capability
+    requires { AreNames (map string_bytes names.now) }
+    ensures signature { result.signature ≡ list_any (λ name. is_in server.now (string_bytes name)
+        && ((S.meaning suite.now).can (string_bytes name)).signature) names.now }
+    ensures encryption { result.encryption ≡ list_any (λ name. is_in server.now (string_bytes name)
+        && ((S.meaning suite.now).can (string_bytes name)).encryption) names.now }
+{
+    let mut common = Capability {
+        signature: false,
+        encryption: false,
+    };
+    for name in names {
+        if lists(server, name) {
+            let can = suite.can(name);
+            common.signature |= can.signature;
+            common.encryption |= can.encryption;
+        }
+    }
+    common
+}
+
+/// What the method at this position of the client's list needs.
+fn need_at<S: Suite>(names: &NameList, position: usize, suite: &S) -> Need
+    requires { position < length names.now }
+    ensures { (name : List ℕ) → slice_get names.now position ≡ Some name → result ≡ (S.meaning suite.now).need name }
+{
+    suite.need(&names.names()[position])
+}
+
+/// The position of the first host key algorithm of the client's that the server lists and that has
+/// what is needed.
+fn find_host_key<S: Suite>(
+    client: &KexInit,
+    server: &KexInit,
+    need: Need,
+    suite: &S,
+) -> Option<usize>
+    ensures { result ≡ option_map (λ name. position_in client.now.server_host_key_algorithms name)
+        (find (λ name. is_in server.now.server_host_key_algorithms name && serves need ((S.meaning suite.now).can name)) client.now.server_host_key_algorithms) }
+{
+    first_able(
+        client.server_host_key_algorithms.names(),
+        &server.server_host_key_algorithms,
+        need,
+        suite,
+    )
+}
+
+fn first_able<S: Suite>(names: &[String], server: &NameList, need: Need, suite: &S) -> Option<usize>
+    requires { AreNames (map string_bytes names.now) }
+    ensures { result ≡ position (λ name. is_in server.now (string_bytes name)
+        && serves need ((S.meaning suite.now).can (string_bytes name))) names.now }
+{
+    for (position, name) in names.iter().enumerate() {
+        if is_able(name, server, need, suite) {
+            return Some(position);
+        }
+    }
+    None
+}
+
+/// Whether the server lists a host key algorithm that has what is needed.
+fn is_able<S: Suite>(name: &str, server: &NameList, need: Need, suite: &S) -> bool
+    requires { IsName name.now }
+    ensures { result ≡ (is_in server.now name.now && serves need ((S.meaning suite.now).can name.now)) }
+{
+    lists(server, name) && serves(need, suite.can(name))
+}
+
+/// The position of the first of the client's names that the server lists.
+fn find_common(client: &NameList, server: &NameList) -> Option<usize>
+    ensures { result ≡ option_map (λ name. position_in client.now name) (first_common client.now server.now) }
+{
+    first_listed(client.names(), server)
+}
+
+fn first_listed(names: &[String], server: &NameList) -> Option<usize>
+    ensures { result ≡ position (λ name. is_in server.now (string_bytes name)) names.now }
+{
+    names.iter().position(|name| lists(server, name))
+}
+
+/// Whether a name stands in the list.
+fn lists(list: &NameList, name: &str) -> bool
+    ensures { result ≡ is_in list.now name.now }
+{
+    list.contains(name)
+}
+
+/// Whether a host key algorithm with these capabilities has what is needed.
+fn serves(need: Need, capability: Capability) -> bool
+    ensures { result ≡ serves need capability }
+{
+    match need {
+        Need::Signature => capability.signature,
+        Need::Encryption => capability.encryption,
+    }
+}
