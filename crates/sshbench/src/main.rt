@@ -4,6 +4,7 @@
 //! it many times and prints a table of ratios.
 #![tactic(auto)]
 
+mod choices;
 mod digests;
 mod fault;
 mod kexinit;
@@ -36,6 +37,8 @@ fn run(rt: &HostRuntime) -> Result<(), Fault> {
         writeln!(rt.stdout(), "kexinit ok")?;
         packets::check(alloc)?;
         writeln!(rt.stdout(), "packets ok")?;
+        choices::check(alloc)?;
+        writeln!(rt.stdout(), "choice ok")?;
     }
     Ok(())
 }

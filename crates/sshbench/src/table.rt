@@ -1,5 +1,6 @@
 //! Times, and their ratios.
 
+use crate::choices::Offers;
 use crate::digests::digest;
 use crate::fault::Fault;
 use crate::kexinit::{copy, read_and_write};
@@ -10,6 +11,9 @@ use std::time::{Duration, Instant};
 
 /// How often the payload of a KEXINIT is read and written.
 const ROUNDS: u32 = 100_000;
+
+/// How often is chosen.
+const CHOICES: u32 = 1_000;
 
 /// How long the streams of packets are, about.
 const STREAM_LEN: u32 = 1_000_000;
@@ -29,6 +33,8 @@ pub(crate) enum Beside {
     CopyingOver,
     /// The digests that the suite needs for the same bytes.
     Digests,
+    /// Comparing as many names with as many others.
+    Comparing,
     /// The same work for a tenth of the bytes.
     Tenth,
 }
@@ -39,6 +45,7 @@ impl fmt::Display for Beside {
             Beside::Copying => "copying",
             Beside::CopyingOver => "copying over",
             Beside::Digests => "digests",
+            Beside::Comparing => "comparing names",
             Beside::Tenth => "a tenth of it",
         })
     }
@@ -82,6 +89,7 @@ pub(crate) fn print(rt: &HostRuntime, payload: &[u8]) -> Result<(), Fault> {
         "work                             rounds  work us  other us    ratio  other"
     )?;
     print_row(rt, "kexinit read and written", &time_kexinit(rt, payload)?)?;
+    print_row(rt, "choice, 50 names a list", &time_choices(rt)?)?;
     for payload_len in [1, 1024, 32768] {
         let sealed = false;
         print_clear(
@@ -178,6 +186,26 @@ fn time_kexinit(rt: &HostRuntime, payload: &[u8]) -> Result<Row, Fault> {
         work,
         other: start.elapsed(rt)?,
         beside: Beside::Copying,
+    })
+}
+
+/// Times choices, and as many comparisons of the names of eight lists.
+fn time_choices(rt: &HostRuntime) -> Result<Row, Fault> {
+    let offers = Offers::new(rt.alloc())?;
+    let start = Instant::now(rt)?;
+    for _ in 0..CHOICES {
+        offers.choose()?;
+    }
+    let work = start.elapsed(rt)?;
+    let start = Instant::now(rt)?;
+    for _ in 0..CHOICES {
+        offers.compare()?;
+    }
+    Ok(Row {
+        rounds: CHOICES,
+        work,
+        other: start.elapsed(rt)?,
+        beside: Beside::Comparing,
     })
 }
 

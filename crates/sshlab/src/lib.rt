@@ -16,6 +16,8 @@ pub use program::{refuse_words, tool};
 pub use streams::{Broken, Sink, Source, StreamSink, StreamSource};
 
 #[cfg(test)]
+mod choice_tests;
+#[cfg(test)]
 mod key_tests;
 #[cfg(test)]
 mod lab_tests;

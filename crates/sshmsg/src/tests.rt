@@ -223,3 +223,41 @@ fn parts_hold_what_they_were_given(rt: HostRuntime) -> Result<(), Fail> {
     assert_eq!(rt; number.body(), b"\x00\x80".as_slice());
     Ok(())
 }
+
+#[test]
+fn reads_and_writes_ten_lists(rt: HostRuntime) -> Result<(), Fail> {
+    let alloc = rt.alloc();
+    let payload =
+        b"\x14cookie of 16 byt\x00\x00\x00\x01k\x00\x00\x00\x01h\x00\x00\x00\x02cs\x00\x00\x00\x02sc\x00\x00\x00\x02ms\x00\x00\x00\x02mc\x00\x00\x00\x02zs\x00\x00\x00\x02zc\x00\x00\x00\x02ls\x00\x00\x00\x02lc\x01\x00\x00\x00\x00";
+    assert!(rt; is_written(alloc, payload, payload)?);
+    let message = read(alloc, payload)?;
+    match &message {
+        Message::KexInit(kexinit) => {
+            assert!(rt; kexinit.kex_algorithms.contains("k"));
+            assert!(rt; kexinit.server_host_key_algorithms.contains("h"));
+            assert!(rt; kexinit.encryption_client_to_server.contains("cs"));
+            assert!(rt; kexinit.encryption_server_to_client.contains("sc"));
+            assert!(rt; kexinit.mac_client_to_server.contains("ms"));
+            assert!(rt; kexinit.mac_server_to_client.contains("mc"));
+            assert!(rt; kexinit.compression_client_to_server.contains("zs"));
+            assert!(rt; kexinit.compression_server_to_client.contains("zc"));
+            assert!(rt; kexinit.languages_client_to_server.contains("ls"));
+            assert!(rt; kexinit.languages_server_to_client.contains("lc"));
+        }
+        _ => assert!(rt; false),
+    }
+    Ok(())
+}
+
+#[test]
+fn faults_have_texts(rt: HostRuntime) -> Result<(), Fail> {
+    let alloc = rt.alloc();
+    for (fault, text) in [
+        (MsgFault::Unrecognised(60), "unrecognised message 60"),
+        (MsgFault::Malformed(7), "malformed message 7"),
+        (MsgFault::Memory, "out of memory"),
+    ] {
+        assert_eq!(rt; format!(in alloc; "{fault}")?.as_str(), text);
+    }
+    Ok(())
+}

@@ -148,6 +148,7 @@ placed m client server a chosen is = (are_those client a chosen, λ e. rw e (are
 
 -- an answer tells the truth exactly where it is the function's
 pub tells : (m : Meaning) (client server : Offer) (r : Result Chosen NoCommon) → Tells m client server r → r ≡ answer m client server
+unfolding answer
 tells m client server (Ok chosen) (a, is, at) =
     ap (λ (c : Chosen). Ok c) (are_those client a chosen at) ∙ sym (ap (λ (x : Result Algorithms NoCommon). answered client x) (choice_complete m client server a is))
 tells m client server (Err f) first = sym (ap (λ (x : Result Algorithms NoCommon). answered client x) (without_complete m client server f first))
@@ -158,6 +159,7 @@ told_by m client server (Ok a) e =
 told_by m client server (Err f) e = without_sound m client server f e
 
 pub told : (m : Meaning) (client server : Offer) → Tells m client server (answer m client server)
+unfolding answer
 told m client server = told_by m client server (choice m client server) refl
 
 pub told_when : (m : Meaning) (client server : Offer) (r : Result Chosen NoCommon) → r ≡ answer m client server → Tells m client server r

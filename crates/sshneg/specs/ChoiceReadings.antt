@@ -101,5 +101,5 @@ answered client (Ok a) = Ok (positions client a)
 answered client (Err f) = Err f
 
 -- the answer as a function
-abbrev pub answer : Meaning → Offer → Offer → Result Chosen NoCommon
+unfoldable pub answer : Meaning → Offer → Offer → Result Chosen NoCommon
 answer m client server = answered client (choice m client server)

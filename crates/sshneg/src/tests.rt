@@ -1,7 +1,7 @@
 //! Examples of guesses, of strictness, and of what is hashed and signed. Keys are tested with a suite,
 //! in `sshlab`.
 
-use crate::{Exchange, Role, exchange_input, guess_right, signed_request, strict_of};
+use crate::{Exchange, NoCommon, Role, exchange_input, guess_right, signed_request, strict_of};
 use sshmsg::KexInit;
 use sshwire::{Mpint, NameList};
 use std::alloc::Global;
@@ -85,5 +85,23 @@ fn joins_a_signed_request(rt: HostRuntime) -> Result<(), Fail> {
     let wanted =
         b"\x00\x00\x00\x04\x01\x02\x03\x04\x32\x00\x00\x00\x02al\x00\x00\x00\x0essh-connection\x00\x00\x00\x09publickey\x01\x00\x00\x00\x01h\x00\x00\x00\x01\xaa";
     assert_eq!(rt; signed.as_slice(), wanted.as_slice());
+    Ok(())
+}
+
+#[test]
+fn fields_have_texts(rt: HostRuntime) -> Result<(), Fail> {
+    let alloc = rt.alloc();
+    for (field, text) in [
+        (NoCommon::Kex, "kex"),
+        (NoCommon::HostKey, "hostkey"),
+        (NoCommon::EncryptionClientToServer, "cipher_cs"),
+        (NoCommon::EncryptionServerToClient, "cipher_sc"),
+        (NoCommon::MacClientToServer, "mac_cs"),
+        (NoCommon::MacServerToClient, "mac_sc"),
+        (NoCommon::CompressionClientToServer, "compression_cs"),
+        (NoCommon::CompressionServerToClient, "compression_sc"),
+    ] {
+        assert_eq!(rt; format!(in alloc; "{field}")?.as_str(), text);
+    }
     Ok(())
 }

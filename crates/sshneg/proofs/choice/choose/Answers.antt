@@ -2,7 +2,7 @@ use Rattle.std.proofs.Common.{ap, refl, sym, ◌∙◌, Result}
 use Rattle.std.proofs.lemmas.Result.{err_from_is_err_and}
 use Rattle.sshmsg.specs.View.{offer_of}
 use Rattle.sshneg.specs.declared.choice.NoCommon.{NoCommon}
-use Rattle.sshneg.specs.ChoiceReadings.{answered, choice}
+use Rattle.sshneg.specs.ChoiceReadings.{answer, answered, choice}
 use Rattle.sshneg.specs.Fields.{Algorithms}
 use Rattle.sshneg.proofs.ChoiceLaws.{choice_steps}
 use Rattle.sshneg.proofs.ChoicePlaces.{kex_stands, told_when}
@@ -10,7 +10,7 @@ use Rattle.sshneg.proofs.PositionLemmas.{found_err, found_ok}
 use Rattle.sshneg.proofs.choice.choose.Goals as goal
 
 pub returns-in_err-kex-clause-exact : goal.returns-in_err-kex-clause-exact
-unfolding choice
+unfolding answer choice
 returns-in_err-kex-clause-exact g c =
     let last = found_err _ _ _ _ (sym c.choose_kex.ensures ∙ c.in_err-kex.was) in
     let p = err_from_is_err_and c.from_residual.result c.from_residual.ensures.1 in
@@ -25,7 +25,7 @@ choose_host_key-requires g c =
     (kex_stands (g.S.Suite.meaning c.args.suite.now) (offer_of c.args.client.now) (offer_of c.args.server.now) s.name c.in_ok-kex.kex s.is s.at).within
 
 pub returns-in_err-host_key-clause-exact : goal.returns-in_err-host_key-clause-exact
-unfolding choice
+unfolding answer choice
 returns-in_err-host_key-clause-exact g c =
     let s = found_ok _ _ _ _ (sym c.choose_kex.ensures ∙ c.in_ok-kex.was) in
     let stands = kex_stands (g.S.Suite.meaning c.args.suite.now) (offer_of c.args.client.now) (offer_of c.args.server.now) s.name c.in_ok-kex.kex s.is s.at in
@@ -38,6 +38,7 @@ pub returns-in_err-host_key-clause-tells : goal.returns-in_err-host_key-clause-t
 returns-in_err-host_key-clause-tells g c = told_when _ _ _ c.from_residual-in_err-host_key.result (returns-in_err-host_key-clause-exact g c)
 
 pub returns-clause-exact : goal.returns-clause-exact
+unfolding answer
 returns-clause-exact g c =
     let s = found_ok _ _ _ _ (sym c.choose_kex.ensures ∙ c.in_ok-kex.was) in
     let stands = kex_stands (g.S.Suite.meaning c.args.suite.now) (offer_of c.args.client.now) (offer_of c.args.server.now) s.name c.in_ok-kex.kex s.is s.at in

@@ -1,0 +1,113 @@
+//! A choice over lists of 50 names of 19 bytes, where the last of each is the one that both have.
+
+use crate::fault::Fault;
+use sshlab::LabSuite;
+use sshmsg::{KexInit, Message, read};
+use sshneg::{Chosen, choose};
+use sshwire::{put_boolean, put_string, put_u32};
+use std::alloc::Global;
+use std::fmt::Write;
+
+/// The position of the name that both sides have.
+const LAST: usize = 49;
+
+/// The KEXINITs of both sides.
+#[derive(Drop)]
+pub(crate) struct Offers {
+    client: Message,
+    server: Message,
+}
+
+impl Offers {
+    pub(crate) fn new(alloc: Global) -> Result<Offers, Fault> {
+        Ok(Offers {
+            client: kexinit(alloc, 0)?,
+            server: kexinit(alloc, 50)?,
+        })
+    }
+
+    /// Chooses, and judges the choice.
+    pub(crate) fn choose(&self) -> Result<(), Fault> {
+        let wanted = Chosen {
+            kex: LAST,
+            host_key: LAST,
+            encryption_client_to_server: LAST,
+            encryption_server_to_client: LAST,
+            mac_client_to_server: LAST,
+            mac_server_to_client: LAST,
+            compression_client_to_server: LAST,
+            compression_server_to_client: LAST,
+        };
+        match (&self.client, &self.server) {
+            (Message::KexInit(client), Message::KexInit(server))
+                if choose(client, server, &LabSuite) == Ok(wanted) => { Ok(()) }
+            _ => Err(Fault::Otherwise),
+        }
+    }
+
+    /// Compares each method of the client's with each of the server's, eight times, and judges how
+    /// many are equal.
+    pub(crate) fn compare(&self) -> Result<(), Fault> {
+        let mut equal = 0u32;
+        for _ in 0..8 {
+            if let (Message::KexInit(client), Message::KexInit(server)) = (
+                &self.client,
+                &self.server,
+            ) {
+                equal = equal.saturating_add(count_equal(client, server));
+            }
+        }
+        if equal == 8 {
+            Ok(())
+        } else {
+            Err(Fault::Otherwise)
+        }
+    }
+}
+
+/// Chooses once, and judges the choice.
+pub(crate) fn check(alloc: Global) -> Result<(), Fault> {
+    Offers::new(alloc)?.choose()
+}
+
+/// How many pairs of methods are equal.
+fn count_equal(client: &KexInit, server: &KexInit) -> u32 {
+    let mut equal = 0u32;
+    for own in client.kex_algorithms.names() {
+        let others = server.kex_algorithms.names();
+        if others.iter().any(|other| own == other) {
+            equal = equal.saturating_add(1);
+        }
+    }
+    equal
+}
+
+/// A KEXINIT whose eight lists are 49 names from this number on, and the one that both sides have.
+fn kexinit(alloc: Global, first: u32) -> Result<Message, Fault> {
+    let body = body_of(alloc, first)?;
+    let names = body.as_bytes();
+    if names.len() > 1000 {
+        return Err(Fault::Otherwise);
+    }
+    let mut payload = b"\x14cookie of 16 byt".to_vec(alloc)?;
+    for _ in 0..8 {
+        put_string(&mut payload, names)?;
+    }
+    for _ in 0..2 {
+        put_string(&mut payload, b"")?;
+    }
+    put_boolean(&mut payload, false)?;
+    put_u32(&mut payload, 0)?;
+    Ok(read(alloc, &payload)?)
+}
+
+/// The body of a list of 49 names from this number on, and the one that both sides have.
+fn body_of(alloc: Global, first: u32) -> Result<String, Fault> {
+    let mut body = String::new(alloc);
+    for i in 0..49u32 {
+        let number = first.saturating_add(i);
+        write!(body, "name-of-19-bytes-{number:02},")?;
+    }
+    body.push_str("name-of-19-bytes-99")?;
+    Ok(body)
+}
