@@ -1,6 +1,6 @@
 -- What follows of a choice.
 
-use Rattle.std.proofs.Common.{◌≡◌, ℕ, ◌≤◌, ◌⊎◌, inl, inr, true, false, List, Result, Ok, Err, refl, ap, ◌∙◌, arith, ltb, ◌↔◌}
+use Rattle.std.proofs.Common.{Some, ◌≡◌, ℕ, ◌≤◌, ◌⊎◌, inl, inr, true, false, List, Result, Ok, Err, refl, ap, ◌∙◌, arith, ltb, ◌↔◌}
 use Rattle.std.specs.List.{Contains}
 use Rattle.std.proofs.lemmas.Bool.{cases_Bool, ltb-false, ltb-true}
 use Rattle.sshmsg.specs.Content.{Offer}
@@ -11,7 +11,7 @@ use Rattle.sshneg.specs.Choice.{AreFirstMethods, HasChoice, IsChoice, IsFirst, I
 use Rattle.sshneg.specs.ChoiceLaw.{AreListed}
 use Rattle.sshneg.specs.ChoiceReadings.{choice}
 use Rattle.sshneg.specs.Fields.{Algorithms, algorithms_of, name_of, order_of}
-use Rattle.sshneg.specs.Markers.{is_marker}
+use Rattle.sshneg.specs.Markers.{IsRightGuess, first_name, is_marker, methods}
 use Rattle.sshneg.proofs.ChoiceLaws.{by_field, choice_sound, one_kex, one_order, without_sound}
 use Rattle.sshneg.proofs.ChoiceLemmas.{kex_both, method_listed}
 use Rattle.sshneg.proofs.FirstLemmas.{first_contained}
@@ -98,3 +98,9 @@ exists m client server = (
 pub same_first : (m : Meaning) (client server : Offer) (a : Algorithms) (kex : List ℕ) → AreFirstMethods client server kex
     → IsChoice m client server a → a.kex ≡ kex
 same_first m client server a kex are is = one_kex m client server a.kex kex (is field.Kex) (SameFirst are)
+
+pub guessed : (m : Meaning) (client server : Offer) (a : Algorithms) → IsRightGuess client server → IsChoice m client server a
+    → first_name (methods client.kex_algorithms) ≡ Some a.kex
+guessed m client server a right is =
+    let same : a.kex ≡ right.kex = same_first m client server a right.kex record { of_client = right.client_kex; of_server = right.server_kex } is in
+    rw same right.client_kex

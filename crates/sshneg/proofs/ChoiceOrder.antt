@@ -10,8 +10,8 @@ use Rattle.sshneg.specs.declared.choice.NoCommon.TheVariants as field
 use Rattle.sshneg.specs.declared.role.Role.{Role}
 use Rattle.sshneg.specs.declared.role.Role.TheVariants.{Client, Server}
 use Rattle.sshneg.specs.Choice.{AreFirstMethods, FirstUsable, HasChoice, IsAlgorithm, IsChoice, IsFirst, IsFirstWithout, IsHostKeyFor, IsKex, IsOnBoth, IsUsable, SameFirst}
-use Rattle.sshneg.specs.ChoiceLaw.{OfferAlike}
-use Rattle.sshneg.specs.ChoiceReadings.{choice}
+use Rattle.sshneg.specs.ChoiceLaw.{OfferAlike, OfferSame}
+use Rattle.sshneg.specs.ChoiceReadings.{choice, choice_of_directions}
 use Rattle.sshneg.specs.Fields.{Algorithms, name_of}
 use Rattle.sshneg.specs.Markers.{is_marker, methods, strict_marker}
 use Rattle.sshneg.proofs.ChoiceFacts.{without_complete}
@@ -110,16 +110,30 @@ order_by m client server other alike (Err f) e = without_complete m client other
 pub order : (m : Meaning) (client server other : Offer) → OfferAlike server other → choice m client server ≡ choice m client other
 order m client server other alike = sym (order_by m client server other alike (choice m client server) refl)
 
+-- what the client offers matters by its algorithms alone
+pub offered : (m : Meaning) (client other server : Offer) → OfferSame client other → choice m client server ≡ choice m other server
+unfolding choice choice_of_directions
+offered m client other server same = rw (
+  same field.Kex,
+  same field.HostKey,
+  same field.EncryptionClientToServer,
+  same field.EncryptionServerToClient,
+  same field.MacClientToServer,
+  same field.MacServerToClient,
+  same field.CompressionClientToServer,
+  same field.CompressionServerToClient,
+) refl
+
 -- markers
 pub marker : (role : Role) → is_marker (strict_marker role) ≡ true
 marker Client = refl
 marker Server = refl
 
-pub added : (role : Role) (names : List (List ℕ)) → methods (names ++ strict_marker role ∷ []) ≡ methods names
-added role [] = rw (marker role) refl
-added role (x ∷ xs) = elim (cases_Bool (is_marker x)) [
-  | inl t ↦ rw t (added role xs)
-  | inr f ↦ rw f (ap (λ (names : List (List ℕ)). x ∷ names) (added role xs))
+pub added : (name : List ℕ) (before behind : List (List ℕ)) → is_marker name ≡ true → methods (before ++ name ∷ behind) ≡ methods (before ++ behind)
+added name [] behind t = rw t refl
+added name (x ∷ xs) behind t = elim (cases_Bool (is_marker x)) [
+  | inl m ↦ rw m (added name xs behind t)
+  | inr f ↦ rw f (ap (λ (names : List (List ℕ)). x ∷ names) (added name xs behind t))
 ]
 
 pub unmarked : (names : List (List ℕ)) → ((name : List ℕ) → Contains names name → is_marker name ≡ false) → methods names ≡ names

@@ -164,3 +164,31 @@ told m client server = told_by m client server (choice m client server) refl
 
 pub told_when : (m : Meaning) (client server : Offer) (r : Result Chosen NoCommon) → r ≡ answer m client server → Tells m client server r
 told_when m client server r e = rw e (told m client server)
+
+same_chosen : (x y : Chosen) → ◌≡◌ {A = Result Chosen NoCommon} (Ok x) (Ok y) → x ≡ y
+same_chosen x y e = cc
+
+same_field : (f g : NoCommon) → ◌≡◌ {A = Result Chosen NoCommon} (Err f) (Err g) → f ≡ g
+same_field f g e = cc
+
+-- the answer has the positions of the names that are chosen, or the field
+answered_ok : (client : Offer) (r : Result Algorithms NoCommon) (chosen : Chosen) → answered client r ≡ Ok chosen
+    → (a : Algorithms) × (r ≡ Ok a) × (chosen ≡ positions client a)
+answered_ok client (Ok a) chosen e = let same : positions client a ≡ chosen = same_chosen _ _ e in (a, refl, sym same)
+answered_ok client (Err f) chosen e = cc
+
+answered_err : (client : Offer) (r : Result Algorithms NoCommon) (f : NoCommon) → answered client r ≡ Err f → r ≡ Err f
+answered_err client (Ok a) f e = cc
+answered_err client (Err g) f e = let same : g ≡ f = same_field _ _ e in ap (λ (h : NoCommon). Err h) same
+
+pub answers : (m : Meaning) (client server : Offer) (chosen : Chosen)
+    → (answer m client server ≡ Ok chosen) ↔ ((a : Algorithms) × (choice m client server ≡ Ok a) × (chosen ≡ positions client a))
+unfolding answer
+answers m client server chosen = (
+  answered_ok client (choice m client server) chosen,
+  λ some. rw (some.1, some.2) refl,
+)
+
+pub refuses : (m : Meaning) (client server : Offer) (f : NoCommon) → (answer m client server ≡ Err f) ↔ (choice m client server ≡ Err f)
+unfolding answer
+refuses m client server f = (answered_err client (choice m client server) f, λ e. rw e refl)

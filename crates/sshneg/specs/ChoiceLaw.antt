@@ -15,7 +15,7 @@ use Rattle.sshneg.specs.Markers.{first_name, methods}
 abbrev pub AreListed : Offer → Offer → Algorithms → Type 0
 AreListed client server a = (f : NoCommon) → IsOnBoth (algorithms_of f client) (algorithms_of f server) (name_of f a)
 
--- what the server's side asks of a name of the client's, where this method is used
+-- what lets a name of the client's be used in a field; in that of the host key, where this method is used
 abbrev pub IsAllowed : Meaning → Offer → Offer → List ℕ → NoCommon → List ℕ → Type 0
 IsAllowed m client server kex field.Kex name = IsUsable m client server name
 IsAllowed m client server kex field.HostKey name = IsHostKeyFor m server kex name
@@ -35,3 +35,7 @@ pub record StandsAt (names : List (List ℕ)) (name : List ℕ) (position : ℕ)
 pub record OfferAlike (server other : Offer) : Type 0 where
   pub first : first_name (methods server.kex_algorithms) ≡ first_name (methods other.kex_algorithms)
   pub same : (f : NoCommon) (name : List ℕ) → Contains (algorithms_of f server) name ↔ Contains (algorithms_of f other) name
+
+-- two offers have the same algorithms in the same order, markers left out
+abbrev pub OfferSame : Offer → Offer → Type 0
+OfferSame offer other = (f : NoCommon) → algorithms_of f offer ≡ algorithms_of f other

@@ -4,6 +4,7 @@ use Rattle.std.specs.Prelude.{ℕ, ◌+◌, zero, suc, true, List, ◌∷◌, �
 use Rattle.sshwire.specs.Types.{boolean, string}
 use Rattle.sshneg.specs.declared.role.Role.{Role}
 use Rattle.sshneg.specs.declared.role.Role.TheVariants.{Client, Server}
+use Rattle.sshneg.specs.Markers.{other}
 use Rattle.sshpacket.specs.KeyData.{KeyData}
 use Rattle.sshpacket.specs.Suite.{Meaning}
 
@@ -90,3 +91,10 @@ derived m x sender cipher mac = record {
   enc = key m x (enc_letter sender) (m.key_lens cipher mac).enc;
   mac_key = key m x (mac_letter sender) (m.key_lens cipher mac).mac;
 }
+
+-- the keys with which this role seals, and those with which it unseals: the keys by which the other side sends
+abbrev pub sealing : Meaning → KeySource → Role → List ℕ → List ℕ → KeyData
+sealing m x role cipher mac = derived m x role cipher mac
+
+abbrev pub unsealing : Meaning → KeySource → Role → List ℕ → List ℕ → KeyData
+unsealing m x role cipher mac = derived m x (other role) cipher mac

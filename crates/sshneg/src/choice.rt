@@ -9,15 +9,17 @@ ghost use Rattle.sshneg.specs.Choice.{Tells, serves};
 ghost use Rattle.sshneg.specs.Markers.{is_marker};
 ghost use Rattle.sshneg.specs.ChoiceReadings.{answer, answered, choice_of_directions, first_common, host_key_choice, is_in, kex_choice, position_in, positioned};
 
-use crate::guess::{first_method, is_marker, same_name};
+use crate::guess::{first_method, same_name};
+use crate::markers::is_marker;
 use sshmsg::KexInit;
 use sshpacket::{Capability, Need, Suite};
 use sshwire::NameList;
 use std::error::Error;
 use std::fmt;
 
-/// The field of a KEXINIT that has no choice (RFC 4253 section 7.1). Prints the field's name in the
-/// program's format.
+/// The first field of a KEXINIT, in its order, that has no choice (RFC 4253 section 7.1): no name of
+/// the client's is listed by the server and, for a method or a host key algorithm, of use. Prints
+/// the field's name in the program's format.
 #[derive(Clone, Copy, Debug, PartialEq, Eq)]
 pub enum NoCommon {
     /// Key exchange methods.
@@ -38,8 +40,8 @@ pub enum NoCommon {
     CompressionServerToClient,
 }
 
-/// The algorithms that are used (RFC 4253 section 7.1), each as the position of its name's first
-/// place in the client's list as sent, counted from 0, markers counted.
+/// The algorithms that are used (RFC 4253 section 7.1). Each is told by where its name stands first in
+/// the client's KEXINIT: a position in that list, from 0, to which markers count too.
 #[derive(Clone, Copy, Debug, PartialEq, Eq)]
 pub struct Chosen {
     /// The key exchange method.
@@ -114,7 +116,8 @@ fn choose_host_key<S: Suite>(
     find_host_key(client, server, need, suite).ok_or(NoCommon::HostKey)
 }
 
-/// The positions of the other six fields beside those of the method and the host key algorithm.
+/// The choice with this method and this host key algorithm, or the first of the other six fields that
+/// has none.
 fn choose_directions(
     client: &KexInit,
     server: &KexInit,
@@ -175,19 +178,19 @@ fn find_kex<S: Suite>(client: &KexInit, server: &KexInit, suite: &S) -> Option<u
     ensures { result ≡ option_map (λ name. position_in client.now.kex_algorithms name)
         (kex_choice (S.meaning suite.now) (offer_of client.now) (offer_of server.now)) }
 {
-    let methods = client.kex_algorithms.names();
+    let names = client.kex_algorithms.names();
     if same_name(
         first_method(&client.kex_algorithms),
         first_method(&server.kex_algorithms),
     ) {
-        return first_unmarked(methods);
+        return first_unmarked(names);
     }
     let common = common_capability(
         client.server_host_key_algorithms.names(),
         &server.server_host_key_algorithms,
         suite,
     );
-    first_usable(methods, &server.kex_algorithms, common, suite)
+    first_usable(names, &server.kex_algorithms, common, suite)
 }
 
 /// The position of the first name that is a method.
@@ -275,6 +278,7 @@ fn find_host_key<S: Suite>(
     )
 }
 
+/// The position of the first of these names that the server lists and that has what is needed.
 fn first_able<S: Suite>(names: &[String], server: &NameList, need: Need, suite: &S) -> Option<usize>
     requires { AreNames (map string_bytes names.now) }
     ensures { result ≡ position (λ name. is_in server.now (string_bytes name)
@@ -303,6 +307,7 @@ fn find_common(client: &NameList, server: &NameList) -> Option<usize>
     first_listed(client.names(), server)
 }
 
+/// The position of the first of these names that the server lists.
 fn first_listed(names: &[String], server: &NameList) -> Option<usize>
     ensures { result ≡ position (λ name. is_in server.now (string_bytes name)) names.now }
 {

@@ -4,11 +4,14 @@ ghost use Rattle.std.specs.Prelude.{◌≡◌, ◌↔◌, IsTrue, find, map, not
 ghost use Rattle.sshmsg.specs.View.{offer_of};
 ghost use Rattle.sshneg.specs.Markers.{IsRightGuess, first_name, is_marker, methods, same_name};
 
+use crate::markers::is_marker;
 use sshmsg::KexInit;
 use sshwire::NameList;
 
 /// Whether a guessed key exchange packet is right: the first key exchange methods of both sides are
-/// one, markers left out, and so are their first host key algorithms. Takes no memory.
+/// the same, markers left out, and so are their first host key algorithms. Unlike RFC 4253 section 7
+/// it looks at no other list (profile): where another algorithm can't be agreed on, `choose` has
+/// said so. Takes no memory.
 pub fn guess_right(client: &KexInit, server: &KexInit) -> bool
     ensures { IsTrue result ↔ IsRightGuess (offer_of client.now) (offer_of server.now) }
 {
@@ -24,7 +27,7 @@ pub fn guess_right(client: &KexInit, server: &KexInit) -> bool
 }
 
 /// Whether there are two names, and they are equal.
-pub fn same_name(left: Option<&str>, right: Option<&str>) -> bool
+pub(crate) fn same_name(left: Option<&str>, right: Option<&str>) -> bool
     ensures { result ≡ same_name (option_map (λ name. name.now) left.entry) (option_map (λ name. name.now) right.entry) }
 {
     match (left, right) {
@@ -34,14 +37,15 @@ pub fn same_name(left: Option<&str>, right: Option<&str>) -> bool
 }
 
 /// The first method of a kex list.
-pub fn first_method(list: &NameList) -> Option<&str>
+pub(crate) fn first_method(list: &NameList) -> Option<&str>
     ensures { option_map (λ name. name.now) result ≡ first_name (methods list.now) }
 {
-    first_unmarked(list.names())
+    first_method_of(list.names())
 }
 
+/// The first method of these names.
 #[tactic(auto, using(crate::proofs::GuessLemmas::some_first, crate::proofs::GuessLemmas::none_first))]
-fn first_unmarked(names: &[String]) -> Option<&str>
+fn first_method_of(names: &[String]) -> Option<&str>
     ensures { option_map (λ name. name.now) result ≡ first_name (methods (map string_bytes names.now)) }
 {
     match find_unmarked(names) {
@@ -50,6 +54,7 @@ fn first_unmarked(names: &[String]) -> Option<&str>
     }
 }
 
+/// The first of these names that is no marker.
 fn find_unmarked(names: &[String]) -> Option<&String>
     ensures { option_map (λ name. name.now) result ≡ find (λ name. not (is_marker (string_bytes name))) names.now }
 {
@@ -64,14 +69,4 @@ fn first_of(list: &NameList) -> Option<&str>
         Some(name) => Some(name.as_str()),
         None => None,
     }
-}
-
-/// Whether a name of a kex list is no method.
-pub fn is_marker(name: &str) -> bool
-    ensures { result ≡ is_marker name.now }
-{
-    name == "ext-info-c"
-        || name == "ext-info-s"
-        || name == "kex-strict-c-v00@openssh.com"
-        || name == "kex-strict-s-v00@openssh.com"
 }

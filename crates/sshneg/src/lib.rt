@@ -5,6 +5,7 @@ mod choice;
 mod derivations;
 mod guess;
 mod law;
+mod markers;
 mod role;
 mod strict;
 
@@ -12,6 +13,7 @@ pub use choice::{Chosen, NoCommon, choose};
 pub use derivations::{Exchange, KeyMaterial, exchange_input, keys_of, signed_request};
 pub use guess::guess_right;
 pub use law::{choice_law, derivation_law, markers_law};
+pub use markers::{is_marker, strict_marker};
 pub use role::Role;
 pub use strict::strict_of;
 

@@ -11,10 +11,10 @@ pub returns-then-same_name : goal.returns-then-same_name
 returns-then-same_name g c =
     let same : same_first (offer_of c.args.client.now) (offer_of c.args.server.now) ≡ true
     = rw (← c.first_method.ensures, ← c.first_method-2.ensures, ← c.same_name.ensures) c.if-same_name.true in
-    let found = position_found string_bytes (λ name. not (is_marker name)) c.names-methods.result.now in
+    let found = position_found string_bytes (λ name. not (is_marker name)) c.names-names.result.now in
     rw (
       kex_first (g.S.Suite.meaning c.args.suite.now) (offer_of c.args.client.now) (offer_of c.args.server.now) same,
-      ← c.names-methods.ensures.names,
+      ← c.names-names.ensures.names,
       c.first_unmarked.ensures,
     ) found
 
@@ -28,5 +28,5 @@ returns g c =
     let common = together string_bytes m c.names.result.now client.server_host_key_algorithms server.server_host_key_algorithms
     c.common_capability-common.result c.names.ensures.names c.common_capability-common.ensures.signature c.common_capability-common.ensures.encryption in
     let found = position_found string_bytes
-    (λ name. not (is_marker name) && (is_in server.kex_algorithms name && serves (m.need name) c.common_capability-common.result)) c.names-methods.result.now in
-    rw (kex_searched m client server c.common_capability-common.result common other, ← c.names-methods.ensures.names, c.first_usable.ensures) found
+    (λ name. not (is_marker name) && (is_in server.kex_algorithms name && serves (m.need name) c.common_capability-common.result)) c.names-names.result.now in
+    rw (kex_searched m client server c.common_capability-common.result common other, ← c.names-names.ensures.names, c.first_usable.ensures) found

@@ -45,3 +45,15 @@ returns-clause-stands c = places.stands
 
 pub returns-clause-well : goal.returns-clause-well
 returns-clause-well c = places.well
+
+pub returns-clause-answers : goal.returns-clause-answers
+returns-clause-answers c = places.answers
+
+pub returns-clause-refuses : goal.returns-clause-refuses
+returns-clause-refuses c = places.refuses
+
+pub returns-clause-offered : goal.returns-clause-offered
+returns-clause-offered c = order.offered
+
+pub returns-clause-guessed : goal.returns-clause-guessed
+returns-clause-guessed c = facts.guessed

@@ -1,5 +1,5 @@
 use Rattle.sshneg.specs.Derivations.{derived, enc_letter, iv_letter, mac_letter}
-use Rattle.sshneg.proofs.KeyLemmas.{key_by, key_length}
+use Rattle.sshneg.proofs.KeyLemmas.{both_keys, key_by, key_length}
 use Rattle.sshneg.proofs.law.derivation_law.Goals as goal
 
 pub returns-clause-iv : goal.returns-clause-iv
@@ -16,3 +16,6 @@ returns-clause-mac c = λ m law x sender cipher mac. key_length m law x (mac_let
 
 pub returns-clause-hashes : goal.returns-clause-hashes
 returns-clause-hashes c = key_by
+
+pub returns-clause-both : goal.returns-clause-both
+returns-clause-both c = both_keys
