@@ -1,7 +1,6 @@
 -- What follows of a choice.
 
 use Rattle.std.proofs.Common.{Some, ◌≡◌, ℕ, ◌≤◌, ◌⊎◌, inl, inr, true, false, List, Result, Ok, Err, refl, ap, ◌∙◌, arith, ltb, ◌↔◌}
-use Rattle.std.specs.List.{Contains}
 use Rattle.std.proofs.lemmas.Bool.{cases_Bool, ltb-false, ltb-true}
 use Rattle.sshmsg.specs.Content.{Offer}
 use Rattle.sshpacket.specs.Suite.{Meaning}
@@ -13,11 +12,8 @@ use Rattle.sshneg.specs.ChoiceReadings.{choice}
 use Rattle.sshneg.specs.Fields.{Algorithms, algorithms_of, name_of, order_of}
 use Rattle.sshneg.specs.Markers.{IsRightGuess, first_name, is_marker, methods}
 use Rattle.sshneg.proofs.ChoiceLaws.{by_field, choice_sound, one_kex, one_order, without_sound}
-use Rattle.sshneg.proofs.ChoiceLemmas.{kex_both, method_listed}
+use Rattle.sshneg.proofs.ChoiceLemmas.{common_both, kex_both, method_listed}
 use Rattle.sshneg.proofs.FirstLemmas.{first_contained}
-
-common_each : (client server : List (List ℕ)) (n : List ℕ) → IsFirst (Contains server) client n → IsOnBoth client server n
-common_each client server n first = record { of_client = first_contained (Contains server) client n first; of_server = first.is_allowed }
 
 host_key_each : (m : Meaning) (client server : Offer) (kex n : List ℕ) → IsFirst (IsHostKeyFor m server kex) client.server_host_key_algorithms n
     → IsOnBoth client.server_host_key_algorithms server.server_host_key_algorithms n
@@ -30,12 +26,12 @@ pub listed : (m : Meaning) (client server : Offer) (a : Algorithms) → IsChoice
 listed m client server a is = by_field (λ f. IsOnBoth (algorithms_of f client) (algorithms_of f server) (name_of f a))
     (kex_both m client server a.kex (is field.Kex))
     (host_key_each m client server a.kex a.host_key (is field.HostKey))
-    (common_each _ _ _ (is field.EncryptionClientToServer))
-    (common_each _ _ _ (is field.EncryptionServerToClient))
-    (common_each _ _ _ (is field.MacClientToServer))
-    (common_each _ _ _ (is field.MacServerToClient))
-    (common_each _ _ _ (is field.CompressionClientToServer))
-    (common_each _ _ _ (is field.CompressionServerToClient))
+    (common_both _ _ _ (is field.EncryptionClientToServer))
+    (common_both _ _ _ (is field.EncryptionServerToClient))
+    (common_both _ _ _ (is field.MacClientToServer))
+    (common_both _ _ _ (is field.MacServerToClient))
+    (common_both _ _ _ (is field.CompressionClientToServer))
+    (common_both _ _ _ (is field.CompressionServerToClient))
 
 pub method : (m : Meaning) (client server : Offer) (a : Algorithms) → IsChoice m client server a → is_marker a.kex ≡ false
 method m client server a is = (method_listed client.kex_algorithms a.kex (kex_both m client server a.kex (is field.Kex)).of_client).1
@@ -54,12 +50,12 @@ fields m client server a is = by_field (HasChoice m client server)
       of_client = first_contained (IsHostKeyFor m server a.kex) client.server_host_key_algorithms a.host_key (is field.HostKey);
       is_host_key = (is field.HostKey).is_allowed;
     }
-    (a.encryption_client_to_server, common_each _ _ _ (is field.EncryptionClientToServer))
-    (a.encryption_server_to_client, common_each _ _ _ (is field.EncryptionServerToClient))
-    (a.mac_client_to_server, common_each _ _ _ (is field.MacClientToServer))
-    (a.mac_server_to_client, common_each _ _ _ (is field.MacServerToClient))
-    (a.compression_client_to_server, common_each _ _ _ (is field.CompressionClientToServer))
-    (a.compression_server_to_client, common_each _ _ _ (is field.CompressionServerToClient))
+    (a.encryption_client_to_server, common_both _ _ _ (is field.EncryptionClientToServer))
+    (a.encryption_server_to_client, common_both _ _ _ (is field.EncryptionServerToClient))
+    (a.mac_client_to_server, common_both _ _ _ (is field.MacClientToServer))
+    (a.mac_server_to_client, common_both _ _ _ (is field.MacServerToClient))
+    (a.compression_client_to_server, common_both _ _ _ (is field.CompressionClientToServer))
+    (a.compression_server_to_client, common_both _ _ _ (is field.CompressionServerToClient))
 
 -- the function answers names or a field
 answers : (m : Meaning) (client server : Offer) (r : Result Algorithms NoCommon) → choice m client server ≡ r

@@ -11,6 +11,7 @@ abbrev pub strict_marker : Role → List ℕ
 strict_marker Client = codes "kex-strict-c-v00@openssh.com"
 strict_marker Server = codes "kex-strict-s-v00@openssh.com"
 
+-- the name is one of the four markers: two of extension negotiation, two of strictness
 abbrev pub is_marker : List ℕ → Bool
 is_marker name =
     bytes_eq name (codes "ext-info-c")
@@ -21,7 +22,7 @@ abbrev pub other : Role → Role
 other Client = Server
 other Server = Client
 
--- An endpoint is strict: its own flag is on, and the peer's marker stands anywhere in the peer's kex list.
+-- An endpoint is strict: it is willing to be, and the peer's KEXINIT has the peer's marker, wherever it stands in the kex list.
 pub record IsStrict (flag : Bool) (role : Role) (peer : Offer) : Type 0 where
   pub willing : flag ≡ true
   pub marked : Contains peer.kex_algorithms (strict_marker (other role))
