@@ -10,7 +10,7 @@ use thiserror::Error;
 /// Why a row isn't checked or timed.
 #[derive(Debug, Drop, Error)]
 pub(crate) enum Fault {
-    /// Other words than none and `time`.
+    /// Other words than none, `time`, and `stream` with a number.
     #[error("bad words")]
     Words,
     /// A growth was refused.

@@ -1,13 +1,15 @@
 //! The program `sshbench`: what the crates cost, beside copying the same bytes or hashing them.
 //!
 //! Without words it does each row's work once and checks the result; with the word `time` it does
-//! it many times and prints a table of ratios.
+//! it many times and prints a table of ratios; with `stream N` it reads N MB of packets that are made
+//! piece by piece, and prints how long the reading took.
 #![tactic(auto)]
 
 mod choices;
 mod digests;
 mod fault;
 mod kexinit;
+mod long;
 mod packets;
 mod table;
 
@@ -26,31 +28,62 @@ fn main(rt: HostRuntime) -> ExitCode {
     }
 }
 
-/// Checks or times each row.
+/// What the words ask for.
+#[derive(Clone, Copy, Debug)]
+enum Job {
+    Check,
+    Time,
+    Stream { megabytes: u32 },
+}
+
+/// Does what the words ask for.
 fn run(rt: &HostRuntime) -> Result<(), Fault> {
+    match read_job(rt)? {
+        Job::Check => check(rt),
+        Job::Time => table::print(rt, &kexinit::payload(rt.alloc())?),
+        Job::Stream { megabytes } => long::print(rt, megabytes),
+    }
+}
+
+/// Checks each row.
+fn check(rt: &HostRuntime) -> Result<(), Fault> {
     let alloc = rt.alloc();
     let payload = kexinit::payload(alloc)?;
-    if is_timed(rt)? {
-        table::print(rt, &payload)?;
-    } else {
-        kexinit::check(alloc, &payload)?;
-        writeln!(rt.stdout(), "kexinit ok")?;
-        packets::check(alloc)?;
-        writeln!(rt.stdout(), "packets ok")?;
-        choices::check(alloc)?;
-        writeln!(rt.stdout(), "choice ok")?;
-    }
+    kexinit::check(alloc, &payload)?;
+    writeln!(rt.stdout(), "kexinit ok")?;
+    packets::check(alloc)?;
+    writeln!(rt.stdout(), "packets ok")?;
+    choices::check(alloc)?;
+    writeln!(rt.stdout(), "choice ok")?;
     Ok(())
 }
 
-/// Whether the one word is `time`; any other words are refused.
-fn is_timed(rt: &HostRuntime) -> Result<bool, Fault> {
-    let mut timed = false;
-    for word in env::args(rt)?.skip(1) {
-        if timed || word.as_str() != "time" {
-            return Err(Fault::Words);
-        }
-        timed = true;
+/// The job that the words name; other words are refused.
+fn read_job(rt: &HostRuntime) -> Result<Job, Fault> {
+    let mut words = env::args(rt)?.skip(1);
+    let job = match words.next() {
+        None => Job::Check,
+        Some(word) => match word.as_str() {
+            "time" => Job::Time,
+            "stream" => Job::Stream {
+                megabytes: megabytes(words.next())?,
+            },
+            _ => return Err(Fault::Words),
+        },
+    };
+    match words.next() {
+        None => Ok(job),
+        Some(_) => Err(Fault::Words),
     }
-    Ok(timed)
+}
+
+/// The number that a word tells.
+fn megabytes(word: Option<String>) -> Result<u32, Fault> {
+    let Some(word) = word else {
+        return Err(Fault::Words);
+    };
+    match word.as_str().parse::<u32>() {
+        Ok(number) => Ok(number),
+        Err(_) => Err(Fault::Words),
+    }
 }

@@ -2,7 +2,7 @@
 
 use crate::fault::Fault;
 use sshlab::LabSuite;
-use sshpacket::{Keys, PacketReader, PacketStep, write_clear, write_sealed};
+use sshpacket::{KeyParts, Keys, PacketReader, PacketStep, write_clear, write_sealed};
 use std::alloc::{AllocError, Global};
 use std::fmt;
 
@@ -22,14 +22,14 @@ pub(crate) const PIECE_LENS: [usize; 3] = [1, 1448, 65536];
 const CHECK_LEN: u32 = 100_000;
 
 /// The keys of sealed packets, by names that the lab suite takes for blocks of 8 bytes.
-fn keys(alloc: Global) -> Result<Keys, Fault> {
-    Ok(Keys::new(
-        String::from_str(alloc, "c")?,
-        String::from_str(alloc, "m")?,
-        Vec::from_slice(alloc, &IV)?,
-        Vec::from_slice(alloc, &ENCRYPTION_KEY)?,
-        Vec::from_slice(alloc, &MAC_KEY)?,
-    ))
+pub(crate) fn keys(alloc: Global) -> Result<Keys, Fault> {
+    Ok(Keys::new(KeyParts {
+        cipher: String::from_str(alloc, "c")?,
+        mac: String::from_str(alloc, "m")?,
+        iv: Vec::from_slice(alloc, &IV)?,
+        enc: Vec::from_slice(alloc, &ENCRYPTION_KEY)?,
+        mac_key: Vec::from_slice(alloc, &MAC_KEY)?,
+    }))
 }
 
 /// The packets of a stream.
@@ -118,7 +118,7 @@ impl Stream {
 }
 
 /// A payload of so many bytes.
-fn payload(alloc: Global, len: usize) -> Result<Vec<u8>, AllocError> {
+pub(crate) fn payload(alloc: Global, len: usize) -> Result<Vec<u8>, AllocError> {
     let mut payload = Vec::new(alloc);
     for _ in 0..len {
         payload.push(7)?;
@@ -127,7 +127,7 @@ fn payload(alloc: Global, len: usize) -> Result<Vec<u8>, AllocError> {
 }
 
 /// Appends a packet.
-fn put_packet(
+pub(crate) fn put_packet(
     alloc: Global,
     sealed: bool,
     keys: &Keys,
@@ -147,7 +147,11 @@ fn put_packet(
 }
 
 /// Reads all of a piece, and answers how many payloads ended in it; each must have this length.
-fn read_piece(reader: &mut PacketReader, piece: &[u8], payload_len: usize) -> Result<u32, Fault> {
+pub(crate) fn read_piece(
+    reader: &mut PacketReader,
+    piece: &[u8],
+    payload_len: usize,
+) -> Result<u32, Fault> {
     let mut rest = piece;
     let mut count: u32 = 0;
     for _ in 0..piece.len() {

@@ -1,6 +1,6 @@
 -- What the lab suite answers. It is over SHA-256, insecure, and for tests alone.
 
-use Rattle.std.specs.Prelude.{ℕ, zero, suc, ◌+◌, ◌-◌, ◌/◌, ◌==◌, ◌&&◌, true, nat_eq, nat_le, if◌then◌else◌, List, [], ◌∷◌, ◌++◌, length, take, drop, bit_xor, slice_index, Option, None, Some}
+use Rattle.std.specs.Prelude.{ℕ, zero, suc, ◌+◌, ◌-◌, ◌/◌, ◌==◌, ◌&&◌, true, nat_eq, nat_le, if◌then◌else◌, List, [], ◌∷◌, ◌++◌, length, take, drop, bit_xor, slice_index, Option, None, Some, option_map}
 use Rattle.std.specs.List.{ends_with, starts_with}
 use Rattle.std.specs.Str.{bytes_eq}
 use Rattle.sha2.specs.Sha256.{sha256}
@@ -8,9 +8,10 @@ use Rattle.sshwire.specs.Types.{string, uint32}
 use Rattle.sshpacket.specs.declared.suite.Capability.{Capability}
 use Rattle.sshpacket.specs.declared.suite.Need.{Need}
 use Rattle.sshpacket.specs.declared.suite.Need.TheVariants.{Encryption, Signature}
+use Rattle.sshwire.specs.declared.share_form.ShareForm.TheVariants.{Mpint}
 use Rattle.sshpacket.specs.KeyData.{KeyData}
 use Rattle.sshpacket.specs.Packet.{number}
-use Rattle.sshpacket.specs.Suite.{Meaning}
+use Rattle.sshpacket.specs.Suite.{Meaning, ResponseData}
 
 -- a method whose name begins with x needs a host key that encrypts, every other one that signs
 abbrev pub lab_need : List ℕ → Need
@@ -87,6 +88,10 @@ unfoldable pub lab_shared : List ℕ → List ℕ → Option (List ℕ)
 lab_shared random peer =
     if (length peer == 33) && (slice_index peer 0 == 1) then Some (1 ∷ xored (drop 1 peer) random) else None
 
+-- the server's answer: its own share, beside the shared number
+abbrev pub lab_respond : List ℕ → List ℕ → Option ResponseData
+lab_respond random peer = option_map (λ body. record { share = lab_share random; shared = body }) (lab_shared random peer)
+
 -- the public key of a private key: the name of the algorithm, and the hash of the private key
 unfoldable pub lab_blob : List ℕ → List ℕ → List ℕ
 lab_blob alg secret = string alg ++ string (sha256 secret)
@@ -102,13 +107,16 @@ lab = record {
   can = lab_can;
   block = lab_block;
   tag_len = λ cipher mac. 32;
+  counts_length = λ cipher mac. true;
   key_lens = λ cipher mac. record { iv = 16; enc = 48; mac = 32 };
   seal = lab_seal;
   head = lab_head;
   unseal = lab_unseal;
   padding = lab_padding;
+  share_form = λ kex. Mpint;
   share = λ kex random. lab_share random;
   shared = λ kex random peer. lab_shared random peer;
+  respond = λ kex random peer. lab_respond random peer;
   digest = λ kex input. sha256 input;
   blob = lab_blob;
   sign = λ alg secret input. signature_by (lab_blob alg secret) input;

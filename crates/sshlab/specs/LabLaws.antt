@@ -4,28 +4,28 @@ use Rattle.std.proofs.Common.{◌≡◌, ℕ, suc, ◌+◌, ◌-◌, ◌*◌, �
 use Rattle.std.proofs.lemmas.Bool.{and_from, and_parts, eq-eqb, eqb-true, le-leb, le-ltb}
 use Rattle.std.proofs.lemmas.Cmp.{nat_list_eq_equiv}
 use Rattle.std.proofs.lemmas.List.{drop_at, length-append, length-drop, length-take-le, take-append-le, take-take, take_at}
-use Rattle.std.specs.Prelude.{◌&&◌, slice_index, None, Some}
+use Rattle.std.specs.Prelude.{◌&&◌, slice_index, Option, None, Some, option_map}
 use Rattle.std.specs.Str.{bytes_eq}
 use Rattle.sha2.proofs.Facts256.{length-sha256}
 use Rattle.sha2.specs.Sha256.{sha256}
-use Rattle.sshwire.proofs.TypeLemmas.{bytes_taken, uint32_complete}
+use Rattle.sshwire.proofs.TypeLemmas.{bytes_dropped, bytes_taken, uint32_complete}
 use Rattle.sshwire.specs.TypeReadings.{uint32_at}
 use Rattle.sshwire.specs.Types.{IsBytes, string, uint32}
 use Rattle.sshpacket.specs.KeyData.{KeyData}
 use Rattle.sshpacket.specs.Packet.{IsPacket, length_field, number, number_read}
-use Rattle.sshpacket.specs.Suite.{IsLawful, IsPositiveBody, Keeps}
+use Rattle.sshpacket.specs.Suite.{IsAgreeing, IsLawful, IsPositiveBody, Keeps, ResponseData}
 use Rattle.sshlab.specs.Masks.{bytes_append, bytes_cons, bytes_sha256, bytes_stream, bytes_xored, stream_length, length_xored, stream_begins, xored_comm, xored_more, xored_take, xored_twice}
-use Rattle.sshlab.specs.Lab.{blocks_for, checked, key_stream, lab, lab_blob, lab_head, lab_padding, lab_seal, lab_shared, lab_unseal, masked, signature_by, stream, tag, xored}
+use Rattle.sshlab.specs.Lab.{blocks_for, checked, key_stream, lab, lab_blob, lab_head, lab_padding, lab_seal, lab_share, lab_shared, lab_unseal, masked, signature_by, stream, tag, xored}
 
-same_bytes : (xs : List ℕ) → bytes_eq xs xs ≡ true
+pub same_bytes : (xs : List ℕ) → bytes_eq xs xs ≡ true
 same_bytes xs = nat_list_eq_equiv.refl xs
 
-guard_some : {A : Type 0} (b : Bool) (x y : A) → cond b (Some x) None ≡ Some y → (b ≡ true) × (x ≡ y)
+pub guard_some : {A : Type 0} (b : Bool) (x y : A) → cond b (Some x) None ≡ Some y → (b ≡ true) × (x ≡ y)
 guard_some true x y e = (refl, cc)
 guard_some false x y e = cc
 
 -- The number in the first four bytes.
-number_front : (bytes : List ℕ) → 4 ≤ length bytes → number (take 4 bytes) ≡ number bytes
+pub number_front : (bytes : List ℕ) → 4 ≤ length bytes → number (take 4 bytes) ≡ number bytes
 unfolding number uint32_at
 number_front [] h = absurd (omega arith)
 number_front (a ∷ []) h = absurd (omega arith)
@@ -35,9 +35,9 @@ number_front (a ∷ b ∷ c ∷ d ∷ rest) h =
     let long : ltb (length (a ∷ b ∷ c ∷ d ∷ rest)) 4 ≡ false = le-ltb (length (a ∷ b ∷ c ∷ d ∷ rest)) 4 (omega arith) in
     rw long refl
 
-number_of_packet : (block tag : ℕ) (payload clear : List ℕ) → IsPacket block tag payload clear → (number clear + 4 ≡ length clear) × (4 ≤ length clear)
+pub number_of_packet : (counts : Bool) (block tag : ℕ) (payload clear : List ℕ) → IsPacket counts block tag payload clear → (number clear + 4 ≡ length clear) × (4 ≤ length clear)
 unfolding number length_field
-number_of_packet block tag payload clear p =
+number_of_packet counts block tag payload clear p =
     let n : ℕ = 1 + length payload + length p.padding in
     let rest : List ℕ = length p.padding ∷ (payload ++ p.padding) in
     let limit : 4 + n + tag ≤ 35000 = p.fits.limit in
@@ -47,11 +47,11 @@ number_of_packet block tag payload clear p =
     (omega arith, omega arith)
 
 -- Masks.
-length_masked : (keys : KeyData) (seq : ℕ) (bytes : List ℕ) → length (masked keys seq bytes) ≡ length bytes
+pub length_masked : (keys : KeyData) (seq : ℕ) (bytes : List ℕ) → length (masked keys seq bytes) ≡ length bytes
 unfolding masked
 length_masked keys seq bytes = length_xored bytes (key_stream keys seq (length bytes))
 
-masked_twice : (keys : KeyData) (seq : ℕ) (bytes : List ℕ) → masked keys seq (masked keys seq bytes) ≡ bytes
+pub masked_twice : (keys : KeyData) (seq : ℕ) (bytes : List ℕ) → masked keys seq (masked keys seq bytes) ≡ bytes
 unfolding masked
 masked_twice keys seq bytes =
     ap (λ (n : ℕ). xored (masked keys seq bytes) (key_stream keys seq n)) (length_masked keys seq bytes)
@@ -72,7 +72,7 @@ masked_front keys seq bytes h =
     ∙ (ap (λ (n : ℕ). xored (take 4 bytes) (stream seed seq n)) (sym count)
     ∙ sym (xored_take 4 bytes (stream seed seq (blocks_for (length bytes)))))))
 
-bytes_masked : (keys : KeyData) (seq : ℕ) (bytes : List ℕ) → IsBytes bytes → IsBytes (masked keys seq bytes)
+pub bytes_masked : (keys : KeyData) (seq : ℕ) (bytes : List ℕ) → IsBytes bytes → IsBytes (masked keys seq bytes)
 unfolding masked key_stream
 bytes_masked keys seq bytes h = bytes_xored bytes (key_stream keys seq (length bytes)) h (bytes_stream (keys.enc ++ keys.iv) seq (blocks_for (length bytes)))
 
@@ -155,13 +155,13 @@ unfolding lab_seal
 bytes_seal keys seq clear h = bytes_append (masked keys seq clear) (tag keys seq clear) (bytes_masked keys seq clear h) (bytes_tag keys seq clear)
 
 -- Padding.
-length_padding : (seed : List ℕ) (seq len : ℕ) → length (lab_padding seed seq len) ≡ len
+pub length_padding : (seed : List ℕ) (seq len : ℕ) → length (lab_padding seed seq len) ≡ len
 unfolding lab_padding
 length_padding seed seq len =
     let all : length (stream seed seq (blocks_for len)) ≡ 32 * blocks_for len = stream_length seed seq (blocks_for len) in
     length-take-le len (stream seed seq (blocks_for len)) (omega arith)
 
-bytes_padding : (seed : List ℕ) (seq len : ℕ) → IsBytes (lab_padding seed seq len)
+pub bytes_padding : (seed : List ℕ) (seq len : ℕ) → IsBytes (lab_padding seed seq len)
 unfolding lab_padding
 bytes_padding seed seq len = bytes_taken len (stream seed seq (blocks_for len)) (bytes_stream seed seq (blocks_for len))
 
@@ -187,6 +187,25 @@ shared_positive a peer body e =
     let same : length (xored (drop 1 peer) a) ≡ length (drop 1 peer) = length_xored (drop 1 peer) a in
     rw g.1 at (one_positive (xored (drop 1 peer) a) (omega arith))
 
+shared_bytes : (a peer body : List ℕ) → IsBytes a → IsBytes peer → lab_shared a peer ≡ Some body → IsBytes body
+unfolding lab_shared
+shared_bytes a peer body h k e =
+    let g = guard_some (eqb (length peer) 33 && eqb (slice_index peer 0) 1) (1 ∷ xored (drop 1 peer) a) body e in
+    rw g.1 at (bytes_cons 1 (xored (drop 1 peer) a) (omega arith) (bytes_xored (drop 1 peer) a (bytes_dropped 1 peer k) h))
+
+abbrev response_with : List ℕ → List ℕ → ResponseData
+response_with share body = record { share = share; shared = body }
+
+some_response : (r other : ResponseData) → ◌≡◌ {A = Option ResponseData} (Some r) (Some other) → r ≡ other
+some_response r other e = cc
+
+response_parts : (a peer : List ℕ) (o : Option (List ℕ)) (r : ResponseData) → option_map (response_with (lab_share a)) o ≡ Some r
+    → (lab_share a ≡ r.share) × (o ≡ Some r.shared)
+response_parts a peer None r e = cc
+response_parts a peer (Some body) r e =
+    let is : response_with (lab_share a) body ≡ r = some_response (response_with (lab_share a) body) r e in
+    (ap (λ (x : ResponseData). x.share) is, ap (λ (x : ResponseData). Some x.shared) is)
+
 -- Host keys.
 pub blob_length : (alg secret : List ℕ) → length (lab_blob alg secret) ≡ 8 + length alg + 32
 unfolding lab_blob
@@ -195,29 +214,28 @@ blob_length alg secret =
     let both = length-append (string alg) (string (sha256 secret)) in
     omega (arith, digest, both)
 
-length_signature : (blob input : List ℕ) → length (signature_by blob input) ≡ 32
+pub length_signature : (blob input : List ℕ) → length (signature_by blob input) ≡ 32
 unfolding signature_by
 length_signature blob input = length-sha256 (string blob ++ string input)
 
-block_low : (b : Bool) → 8 ≤ cond b 16 8
+pub block_low : (b : Bool) → 8 ≤ cond b 16 8
 block_low true = omega arith
 block_low false = omega arith
 
-block_high : (b : Bool) → cond b 16 8 ≤ 64
+pub block_high : (b : Bool) → cond b 16 8 ≤ 64
 block_high true = omega arith
 block_high false = omega arith
 
 pub lab_lawful : IsLawful lab
 lab_lawful = record {
   seal_length = λ keys seq payload clear h p. seal_length keys seq clear;
-  head_of_seal = λ keys seq payload clear h p. head_of_seal keys seq clear (number_of_packet _ _ payload clear p.1).1;
-  unseal_of_seal = λ keys seq payload clear h p. let n = number_of_packet _ _ payload clear p.1 in unseal_of_seal keys seq clear n.0 n.1;
+  head_of_seal = λ keys seq payload clear h p. head_of_seal keys seq clear (number_of_packet _ _ _ payload clear p.1).1;
+  unseal_of_seal = λ keys seq payload clear h p. let n = number_of_packet _ _ _ payload clear p.1 in unseal_of_seal keys seq clear n.0 n.1;
   unsealed = λ keys seq sealed clear h bytes long e. unsealed keys seq sealed clear bytes long e;
-  agreed = λ kex a b h k. agreed a b h k;
-  present = λ kex a b h k. (1 ∷ xored b a, shared_of a b k);
-  signed = λ alg secret input. same_bytes (signature_by (lab_blob alg secret) input);
-  share_positive = λ kex a h. one_positive a h;
-  shared_positive = λ kex a peer body h e. shared_positive a peer body e;
+  share_fits = λ kex a h. one_positive a h;
+  shared_fits = λ kex a peer body h e. shared_positive a peer body e;
+  response_fits = λ kex a peer r h e. let parts = response_parts a peer (lab_shared a peer) r e in
+      (rw (sym parts.0) (one_positive a h), shared_positive a peer r.shared parts.1);
   block_low = λ cipher. block_low _;
   block_high = λ cipher. block_high _;
   tag_high = λ cipher mac. omega arith;
@@ -233,4 +251,23 @@ lab_lawful = record {
   seal_bytes = bytes_seal;
   padding_bytes = bytes_padding;
   share_bytes = λ kex a h. bytes_cons 1 a (omega arith) h;
+  shared_bytes = λ kex a peer body h k e. shared_bytes a peer body h k e;
+  response_bytes = λ kex a peer r h k e. let parts = response_parts a peer (lab_shared a peer) r e in
+      (rw (sym parts.0) (bytes_cons 1 a (omega arith) h), shared_bytes a peer r.shared h k parts.1);
+}
+
+pub lab_agreed : (a b : List ℕ) → length a ≡ 32 → length b ≡ 32 → lab_shared a (lab_share b) ≡ lab_shared b (lab_share a)
+lab_agreed = agreed
+
+pub lab_present : (a b : List ℕ) → length a ≡ 32 → length b ≡ 32 → (body : List ℕ) × (lab_shared a (lab_share b) ≡ Some body)
+lab_present a b h k = (1 ∷ xored b a, shared_of a b k)
+
+pub lab_agreeing : IsAgreeing lab
+lab_agreeing = record {
+  agreed = λ kex client server h k bytes more. record {
+    answer = record { share = lab_share server; shared = 1 ∷ xored client server };
+    responds = ap (option_map (response_with (lab_share server))) (shared_of server client h);
+    same = agreed client server h k ∙ shared_of server client h;
+  };
+  signed = λ alg secret input. same_bytes (signature_by (lab_blob alg secret) input);
 }

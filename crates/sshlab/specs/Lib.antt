@@ -2,6 +2,8 @@ pub mod Streams
 pub mod Greetings
 pub mod Receivers
 pub mod Statuses
+pub mod Kem
+pub mod KemLaws
 pub mod Lab
 pub mod Masks
 pub mod LabLaws

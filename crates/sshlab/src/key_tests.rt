@@ -7,7 +7,6 @@
 use crate::LabSuite;
 use sshneg::{KeyMaterial, Role, keys_of};
 use sshpacket::Keys;
-use sshwire::Mpint;
 use std::alloc::Global;
 use std::test::Fail;
 
@@ -15,7 +14,7 @@ use std::test::Fail;
 fn keys_by(alloc: Global, sender: Role) -> Result<Keys, Fail> {
     let material = KeyMaterial {
         kex: "k",
-        shared: Mpint::new(b"\x00\x80")?,
+        shared: b"\x00\x80",
         hash: b"hash",
         session: b"session",
     };

@@ -1,14 +1,15 @@
 //! A suite of algorithms for tests, over SHA-256. It is insecure.
 
-ghost use Rattle.std.specs.Prelude.{◌≡◌, ◌^◌, ◌<◌, ◌≤◌, ◌++◌, IfOk, length};
+ghost use Rattle.std.specs.Prelude.{◌≡◌, List, Some, ℕ, ◌^◌, ◌<◌, ◌≤◌, ◌++◌, IfOk, length};
 ghost use Rattle.sha2.specs.Sha256.{sha256};
 ghost use Rattle.sshwire.specs.Types.{IsName};
 ghost use Rattle.sshpacket.specs.Packet.{number};
 ghost use Rattle.sshlab.specs.Lab.{block_input, blocks_for, lab, lab_blob, masked, signature_by, stream, tag, xored};
-ghost use Rattle.sshlab.specs.LabLaws.{lab_lawful};
+ghost use Rattle.sshpacket.specs.Suite.{AnswersAsDiffieHellman};
+ghost use Rattle.sshlab.specs.LabLaws.{lab_agreeing, lab_lawful};
 
 use sha2::{Digest, Sha256};
-use sshpacket::{Capability, KeyLens, Keys, Need, Suite};
+use sshpacket::{AgreeingSuite, Capability, KeyLens, Keys, Need, Response, ShareForm, Suite};
 use sshwire::{Memory, Reader, put_string};
 use std::alloc::Global;
 
@@ -52,6 +53,10 @@ impl Suite for LabSuite {
 
     fn tag_len(&self, _cipher: &str, _mac: &str) -> u8 {
         HASH_LEN as u8
+    }
+
+    fn counts_length(&self, _cipher: &str, _mac: &str) -> bool {
+        true
     }
 
     fn key_lens(&self, _cipher: &str, _mac: &str) -> KeyLens {
@@ -105,6 +110,10 @@ impl Suite for LabSuite {
         Ok(padding)
     }
 
+    fn share_form(&self, _kex: &str) -> ShareForm {
+        ShareForm::Mpint
+    }
+
     fn public(&self, alloc: Global, _kex: &str, random: &[u8]) -> Result<Vec<u8>, Memory> {
         let mut share = Vec::new(alloc);
         share.push(1)?;
@@ -126,6 +135,20 @@ impl Suite for LabSuite {
         let mut body = Vec::from_slice(alloc, peer)?;
         xor_with(&mut body[1..], random);
         Ok(Some(body))
+    }
+
+    fn respond(
+        &self,
+        alloc: Global,
+        kex: &str,
+        random: &[u8],
+        peer: &[u8],
+    ) -> Result<Option<Response>, Memory> {
+        let Some(shared) = self.shared(alloc, kex, random, peer)? else {
+            return Ok(None);
+        };
+        let share = self.public(alloc, kex, random)?;
+        Ok(Some(Response { share, shared }))
     }
 
     fn digest(&self, alloc: Global, _kex: &str, input: &[u8]) -> Result<Vec<u8>, Memory> {
@@ -162,9 +185,21 @@ impl Suite for LabSuite {
     ghost lawful = { λ _. lab_lawful };
 }
 
+impl AgreeingSuite for LabSuite {
+    ghost agrees = { λ _. lab_agreeing };
+}
+
+/// The law of the lab suite's key exchange: each side's shared number with the other's share is the
+/// same, and is there; and the server answers with its own share and number.
+pub fn lab_law()
+    ensures agreed { (kex a b : List ℕ) → length a ≡ 32 → length b ≡ 32 → lab.shared kex a (lab.share kex b) ≡ lab.shared kex b (lab.share kex a) }
+    ensures present { (kex a b : List ℕ) → length a ≡ 32 → length b ≡ 32 → (body : List ℕ) × (lab.shared kex a (lab.share kex b) ≡ Some body) }
+    ensures answers { (kex : List ℕ) → AnswersAsDiffieHellman lab kex }
+{}
+
 /// The public key of a private key: the name of the algorithm and the hash of the private key.
 #[tactic(auto, using(crate::specs::LabLaws::blob_length), unfolding(crate::specs::Lab::lab_blob))]
-fn blob(alloc: Global, alg: &str, secret: &[u8]) -> Result<Vec<u8>, Memory>
+pub(crate) fn blob(alloc: Global, alg: &str, secret: &[u8]) -> Result<Vec<u8>, Memory>
     requires { IsName alg.now }
     ensures value { IfOk result (λ v. v.items ≡ lab_blob alg.now secret.now) }
     ensures short { IfOk result (λ v. length v.items < 2 ^ 32) }
@@ -177,7 +212,7 @@ fn blob(alloc: Global, alg: &str, secret: &[u8]) -> Result<Vec<u8>, Memory>
 
 /// The signature of the input by the key of this blob.
 #[tactic(auto, unfolding(crate::specs::Lab::signature_by))]
-fn signature(blob: &[u8], input: &[u8]) -> [u8; 32]
+pub(crate) fn signature(blob: &[u8], input: &[u8]) -> [u8; 32]
     requires blob { length blob.now < 2 ^ 32 }
     requires input { length input.now < 2 ^ 32 }
     ensures { result ≡ signature_by blob.now input.now }
@@ -204,7 +239,7 @@ fn tag(keys: &Keys, seq: u32, clear: &[u8]) -> [u8; 32]
 
 /// The bytes of the packet with this number, XOR the key stream.
 #[tactic(auto, unfolding(crate::specs::Lab::masked, crate::specs::Lab::key_stream))]
-fn masked(alloc: Global, keys: &Keys, seq: u32, bytes: &[u8]) -> Result<Vec<u8>, Memory>
+pub(crate) fn masked(alloc: Global, keys: &Keys, seq: u32, bytes: &[u8]) -> Result<Vec<u8>, Memory>
     requires { length bytes.now < 2 ^ 32 }
     ensures { IfOk result (λ v. v.items ≡ masked keys.now seq bytes.now) }
 {
@@ -216,7 +251,13 @@ fn masked(alloc: Global, keys: &Keys, seq: u32, bytes: &[u8]) -> Result<Vec<u8>,
 
 /// As many blocks as cover so many bytes, of the stream of a seed in two parts and a packet's number.
 #[tactic(auto, using(crate::specs::Masks::stream_none, crate::specs::Masks::stream_more, crate::specs::Masks::stream_length))]
-fn stream(alloc: Global, front: &[u8], back: &[u8], seq: u32, len: usize) -> Result<Vec<u8>, Memory>
+pub(crate) fn stream(
+    alloc: Global,
+    front: &[u8],
+    back: &[u8],
+    seq: u32,
+    len: usize,
+) -> Result<Vec<u8>, Memory>
     requires { len < 2 ^ 32 }
     ensures value { IfOk result (λ v. v.items ≡ stream (front.now ++ back.now) seq (blocks_for len)) }
     ensures covers { IfOk result (λ v. len ≤ length v.items) }
@@ -241,7 +282,7 @@ fn stream_block(front: &[u8], back: &[u8], seq: u32, index: u32) -> [u8; 32]
 }
 
 /// Each byte becomes itself XOR the byte at its place in the mask.
-fn xor_with(bytes: &mut [u8], mask: &[u8])
+pub(crate) fn xor_with(bytes: &mut [u8], mask: &[u8])
     requires { length bytes.old ≤ length mask.now }
     ensures { bytes.new ≡ xored bytes.old mask.now }
 {
@@ -252,7 +293,7 @@ fn xor_with(bytes: &mut [u8], mask: &[u8])
 
 /// The uint32 that the bytes begin with, 0 where there are fewer than four.
 #[tactic(auto, unfolding(sshpacket::specs::Packet::number))]
-fn number(bytes: &[u8]) -> u32
+pub(crate) fn number(bytes: &[u8]) -> u32
     ensures { result ≡ number bytes.now }
 {
     match Reader::new(bytes).u32() {

@@ -1,19 +1,19 @@
 //! Examples of what the lab suite answers. Their bytes were computed by another program.
 
 use crate::LabSuite;
-use sshpacket::{Capability, KeyLens, Keys, Need, Suite};
+use sshpacket::{Capability, KeyLens, KeyParts, Keys, Need, Suite};
 use std::alloc::Global;
 use std::test::Fail;
 
 /// The text of each key is its name.
 fn keys(alloc: Global) -> Result<Keys, Fail> {
-    Ok(Keys::new(
-        String::from_str(alloc, "c")?,
-        String::from_str(alloc, "m")?,
-        Vec::from_slice(alloc, b"iv")?,
-        Vec::from_slice(alloc, b"enc")?,
-        Vec::from_slice(alloc, b"mac")?,
-    ))
+    Ok(Keys::new(KeyParts {
+        cipher: String::from_str(alloc, "c")?,
+        mac: String::from_str(alloc, "m")?,
+        iv: Vec::from_slice(alloc, b"iv")?,
+        enc: Vec::from_slice(alloc, b"enc")?,
+        mac_key: Vec::from_slice(alloc, b"mac")?,
+    }))
 }
 
 /// A packet of 31 bytes of payload and 4 of padding.

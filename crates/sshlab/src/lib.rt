@@ -3,6 +3,7 @@
 
 mod delivery;
 mod greetings;
+mod kem_suite;
 mod lab_suite;
 mod program;
 mod schedule;
@@ -11,12 +12,15 @@ mod words;
 
 pub use delivery::{Delivery, Side};
 pub use greetings::{Greeting, Hearing, greet};
-pub use lab_suite::LabSuite;
+pub use kem_suite::KemSuite;
+pub use lab_suite::{LabSuite, lab_law};
 pub use program::{refuse_words, tool};
 pub use streams::{Broken, Sink, Source, StreamSink, StreamSource};
 
 #[cfg(test)]
 mod choice_tests;
+#[cfg(test)]
+mod kem_tests;
 #[cfg(test)]
 mod key_tests;
 #[cfg(test)]

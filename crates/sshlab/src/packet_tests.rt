@@ -4,7 +4,7 @@ ghost use Rattle.std.specs.Prelude.{string_bytes};
 ghost use Rattle.sshwire.specs.Types.{IsName};
 
 use crate::LabSuite;
-use sshpacket::{Keys, PacketFault, PacketReader, PacketStep, write_clear, write_sealed};
+use sshpacket::{KeyParts, Keys, PacketFault, PacketReader, PacketStep, write_clear, write_sealed};
 use std::alloc::{AllocError, Global};
 use std::test::Fail;
 
@@ -46,13 +46,13 @@ fn feed_bytes(
 fn keys_of(alloc: Global, cipher: String) -> Result<Keys, Fail>
     requires { IsName (string_bytes cipher) }
 {
-    Ok(Keys::new(
+    Ok(Keys::new(KeyParts {
         cipher,
-        String::from_str(alloc, "m")?,
-        Vec::from_slice(alloc, &[1; 16])?,
-        Vec::from_slice(alloc, &[2; 48])?,
-        Vec::from_slice(alloc, &[3; 32])?,
-    ))
+        mac: String::from_str(alloc, "m")?,
+        iv: Vec::from_slice(alloc, &[1; 16])?,
+        enc: Vec::from_slice(alloc, &[2; 48])?,
+        mac_key: Vec::from_slice(alloc, &[3; 32])?,
+    }))
 }
 
 /// So many bytes in one number.
@@ -76,7 +76,7 @@ fn writes_newkeys(rt: HostRuntime) -> Result<(), Fail> {
     assert_eq!(rt; came, Came::Payload(Vec::from_slice(alloc, b"\x15")?));
     assert_eq!(rt; before, 15);
     assert_eq!(rt; reader.taken(), 1);
-    assert_eq!(rt; reader.buffered(), 16);
+    assert_eq!(rt; reader.buffered(), 0);
     Ok(())
 }
 
@@ -191,5 +191,66 @@ fn reads_sealed_behind_clear(rt: HostRuntime) -> Result<(), Fail> {
     reader.use_keys(keys, false);
     let came = feed(alloc, &mut reader, &sealed)?;
     assert_eq!(rt; came, Came::Payload(Vec::from_slice(alloc, b"payload")?));
+    Ok(())
+}
+
+#[test]
+fn holds_the_unfinished_packet_alone(rt: HostRuntime) -> Result<(), Fail> {
+    let alloc = rt.alloc();
+    let mut packet = Vec::from_slice(alloc, b"\x00\x00\x00\x2c\x04")?;
+    packet.extend_from_slice(&bytes_of(alloc, 43)?)?;
+    let mut reader = PacketReader::new(alloc);
+    assert_eq!(rt; reader.buffered(), 0);
+    let part = packet.as_slice().get(..47).unwrap_or(&[]);
+    let last = packet.as_slice().get(47..).unwrap_or(&[]);
+    assert_eq!(rt; feed(alloc, &mut reader, part)?, Came::More);
+    assert_eq!(rt; reader.buffered(), 47);
+    assert!(rt; !reader.is_idle());
+    let came = feed(alloc, &mut reader, last)?;
+    assert!(rt; matches!(&came, Came::Payload(payload) if payload.len() == 39));
+    assert_eq!(rt; reader.buffered(), 0);
+    assert!(rt; reader.is_idle());
+    Ok(())
+}
+
+#[test]
+fn holds_at_most_what_a_packet_lacks_a_byte_of(rt: HostRuntime) -> Result<(), Fail> {
+    let alloc = rt.alloc();
+    let mut part = Vec::from_slice(alloc, b"\x00\x00\x88\xb4")?;
+    part.extend_from_slice(&bytes_of(alloc, 34995)?)?;
+    let mut reader = PacketReader::new(alloc);
+    assert_eq!(rt; feed(alloc, &mut reader, &part)?, Came::More);
+    assert_eq!(rt; reader.buffered(), 34999);
+    let mut refused = PacketReader::new(alloc);
+    assert_eq!(rt;
+        feed(alloc, &mut refused, b"\x00\x00\x88\xbc")?,
+        Came::Fault(PacketFault::Length)
+    );
+    assert_eq!(rt; refused.buffered(), 0);
+    Ok(())
+}
+
+#[test]
+fn goes_on_with_given_keys_and_number(rt: HostRuntime) -> Result<(), Fail> {
+    let alloc = rt.alloc();
+    let keys = keys_of(alloc, String::from_str(alloc, "c")?)?;
+    let mut sealed = Vec::new(alloc);
+    write_sealed(
+        alloc,
+        &LabSuite,
+        &keys,
+        4294967295,
+        b"payload",
+        b"seed",
+        &mut sealed,
+    )?;
+    write_sealed(alloc, &LabSuite, &keys, 0, b"more", b"seed", &mut sealed)?;
+    let mut reader = PacketReader::with_keys(alloc, keys, 4294967295);
+    let came = feed(alloc, &mut reader, &sealed)?;
+    assert_eq!(rt; came, Came::Payload(Vec::from_slice(alloc, b"payload")?));
+    assert_eq!(rt; reader.taken(), 48);
+    let rest = sealed.as_slice().get(48..).unwrap_or(&[]);
+    let came = feed(alloc, &mut reader, rest)?;
+    assert_eq!(rt; came, Came::Payload(Vec::from_slice(alloc, b"more")?));
     Ok(())
 }

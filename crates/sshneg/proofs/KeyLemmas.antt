@@ -2,11 +2,8 @@
 
 use Rattle.std.proofs.Common.{◌≡◌, ℕ, zero, suc, ◌+◌, ◌<◌, ◌≤◌, ◌-◌, List, ◌∷◌, ◌++◌, length, min, take, refl, sym, ap, ◌∙◌, arith}
 use Rattle.std.proofs.lemmas.List.{length-append, length-take-le, length-take, take-append-le}
-use Rattle.sshneg.specs.Derivations.{KeySource, derived, grown, hash_with, key, sealing, unsealing}
-use Rattle.sshneg.specs.declared.role.Role.{Role}
-use Rattle.sshneg.specs.declared.role.Role.TheVariants.{Client, Server}
+use Rattle.sshneg.specs.Derivations.{KeySource, grown, hash_with, key}
 use Rattle.sshneg.specs.Growing.{Grows}
-use Rattle.sshneg.specs.Markers.{other}
 use Rattle.sshpacket.specs.Suite.{IsLawful, Meaning}
 
 one_more : (m : Meaning) (x : KeySource) (first : List ℕ) (n : ℕ) → grown m x first (n + 1) ≡ grown m x first n ++ hash_with m x (grown m x first n)
@@ -86,17 +83,3 @@ key_by m law x letter len n few enough =
     let more = more_hashes m x first len n (len - n) enough in
     let all : n + (len - n) ≡ len = omega arith in
     ap (λ (i : ℕ). take len (grown m x first i)) (sym all) ∙ more.0
-
--- each side is the other's other side
-other_twice : (role : Role) → other (other role) ≡ role
-other_twice Client = refl
-other_twice Server = refl
-
--- what either side seals with is what the other unseals with
-pub both_keys : (m : Meaning) (own peer : KeySource) (role : Role) (cipher mac : List ℕ) → own ≡ peer
-    → (sealing m own role cipher mac ≡ unsealing m peer (other role) cipher mac)
-    × (unsealing m own role cipher mac ≡ sealing m peer (other role) cipher mac)
-both_keys m own peer role cipher mac e = (
-  ap (λ (x : KeySource). derived m x role cipher mac) e ∙ sym (ap (λ (r : Role). derived m peer r cipher mac) (other_twice role)),
-  ap (λ (x : KeySource). derived m x (other role) cipher mac) e,
-)

@@ -3,9 +3,11 @@ pub mod ChoiceLaws
 pub mod ChoiceLemmas
 pub mod ChoiceOrder
 pub mod ChoicePlaces
+pub mod EndLemmas
 pub mod FirstLemmas
 pub mod GuessLemmas
 pub mod KeyLemmas
+pub mod LengthLemmas
 pub mod PartLemmas
 pub mod PositionLemmas
 pub mod SearchLemmas

@@ -9,7 +9,7 @@ use Rattle.sshpacket.specs.KeyData.{KeyData}
 use Rattle.sshpacket.specs.Suite.{Meaning}
 
 -- what both sides know of an exchange: the version lines without CR LF, the payloads of both KEXINITs, the server's host
--- key, the shares e and f and the shared number K as bodies of mpints
+-- key, the shares e and f and the shared number K, as bodies of mpints or as bytes
 pub record ExchangeData : Type 0 where
   pub client_version : List ℕ
   pub server_version : List ℕ
@@ -44,7 +44,7 @@ signed_text session user service algorithm key =
     string session
     ++ (50 ∷ (string user ++ (string service ++ (string (codes "publickey") ++ (boolean true ++ (string algorithm ++ string key))))))
 
--- what keys are made of: the method, K as the body of an mpint, H, and the session identifier
+-- what keys are made of: the method, K as the body of an mpint or as bytes, H, and the session identifier
 pub record KeySource : Type 0 where
   pub kex : List ℕ
   pub shared : List ℕ

@@ -11,10 +11,10 @@ exchange_of x = record {
   client_kexinit = x.client_kexinit.now;
   server_kexinit = x.server_kexinit.now;
   host_key = x.host_key.now;
-  client_share = x.client_share;
-  server_share = x.server_share;
-  shared = x.shared;
+  client_share = x.client_share.now;
+  server_share = x.server_share.now;
+  shared = x.shared.now;
 }
 
 abbrev pub source_of : KeyMaterial → KeySource
-source_of x = record { kex = x.kex.now; shared = x.shared; hash = x.hash.now; session = x.session.now }
+source_of x = record { kex = x.kex.now; shared = x.shared.now; hash = x.hash.now; session = x.session.now }

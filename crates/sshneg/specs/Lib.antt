@@ -2,6 +2,7 @@ pub mod Choice
 pub mod ChoiceLaw
 pub mod ChoiceReadings
 pub mod Derivations
+pub mod ExchangeEnd
 pub mod ExchangeView
 pub mod Fields
 pub mod Growing

@@ -6,8 +6,8 @@ ghost use Rattle.sshneg.specs.Derivations.{derived, enc_letter, exchange_size, e
 ghost use Rattle.sshneg.specs.ExchangeView.{exchange_of, source_of};
 
 use crate::role::Role;
-use sshpacket::{Keys, Suite};
-use sshwire::{Memory, Mpint, put_boolean, put_mpint, put_string};
+use sshpacket::{KeyParts, Keys, Suite};
+use sshwire::{Memory, put_boolean, put_string};
 use std::alloc::Global;
 
 /// What both sides know of a key exchange (RFC 4253 section 8). It can't be printed, since it holds
@@ -24,12 +24,12 @@ pub struct Exchange<'a> {
     pub server_kexinit: &'a [u8],
     /// K_S: the server's host key.
     pub host_key: &'a [u8],
-    /// e: the client's share.
-    pub client_share: Mpint<'a>,
+    /// e: the client's share, as the body of its mpint or as bytes.
+    pub client_share: &'a [u8],
     /// f: the server's share.
-    pub server_share: Mpint<'a>,
+    pub server_share: &'a [u8],
     /// K: the shared number.
-    pub shared: Mpint<'a>,
+    pub shared: &'a [u8],
 }
 
 /// What keys are made of (RFC 4253 section 7.2). It can't be printed, since it is secret.
@@ -38,7 +38,7 @@ pub struct KeyMaterial<'a> {
     /// The key exchange method.
     pub kex: &'a str,
     /// K: the shared number.
-    pub shared: Mpint<'a>,
+    pub shared: &'a [u8],
     /// H: the exchange hash.
     pub hash: &'a [u8],
     /// The session identifier, which is the first exchange hash.
@@ -59,9 +59,9 @@ pub fn exchange_input(alloc: Global, exchange: &Exchange<'_>) -> Result<Vec<u8>,
     put_string(&mut out, exchange.client_kexinit)?;
     put_string(&mut out, exchange.server_kexinit)?;
     put_string(&mut out, exchange.host_key)?;
-    put_mpint(&mut out, &exchange.client_share)?;
-    put_mpint(&mut out, &exchange.server_share)?;
-    put_mpint(&mut out, &exchange.shared)?;
+    put_string(&mut out, exchange.client_share)?;
+    put_string(&mut out, exchange.server_share)?;
+    put_string(&mut out, exchange.shared)?;
     Ok(out)
 }
 
@@ -118,7 +118,13 @@ pub fn keys_of<S: Suite>(
     let mac_key = key_of(alloc, suite, material, mac_letter(sender), lens.mac)?;
     let cipher = String::from_str(alloc, cipher)?;
     let mac = String::from_str(alloc, mac)?;
-    Ok(Keys::new(cipher, mac, iv, enc, mac_key))
+    Ok(Keys::new(KeyParts {
+        cipher,
+        mac,
+        iv,
+        enc,
+        mac_key,
+    }))
 }
 
 /// The letter of the initialisation vector.
@@ -205,12 +211,12 @@ fn hash_of<S: Suite>(
     behind: &[u8],
 ) -> Result<Vec<u8>, Memory>
     requires kex { IsName material.now.kex.now }
-    requires short { length material.now.shared + length material.now.hash.now + length behind.now < 2 ^ 32 - 4 }
+    requires short { length material.now.shared.now + length material.now.hash.now + length behind.now < 2 ^ 32 - 4 }
     ensures hash { IfOk result (λ v. v.items ≡ hash_with (S.meaning suite.now) (source_of material.now) behind.now) }
     ensures short { IfOk result (λ v. length v.items ≤ 64) }
 {
     let mut input = Vec::new(alloc);
-    put_mpint(&mut input, &material.shared)?;
+    put_string(&mut input, material.shared)?;
     input.extend_from_slice(material.hash)?;
     input.extend_from_slice(behind)?;
     suite.digest(alloc, material.kex, &input)

@@ -1,19 +1,24 @@
-//! What the layers above may rest on: what a choice is, which names of a kex list are methods, and
-//! that keys are as long as the suite asks for.
+//! What the layers above may rest on: what a choice is, which names of a kex list are methods, that
+//! keys are as long as the suite asks for, and that both ends of an exchange make the same keys.
 
-ghost use Rattle.std.specs.Prelude.{◌≡◌, ◌≤◌, ◌∷◌, ◌++◌, ◌↔◌, ℕ, Contains, Err, List, Ok, Result, Some, [], codes, false, length, take, true};
+ghost use Rattle.std.specs.Prelude.{◌≡◌, ◌+◌, ◌≤◌, ◌∷◌, ◌++◌, ◌↔◌, ℕ, Contains, Err, List, Ok, Result, Some, [], codes, false, length, take, true};
 ghost use Rattle.sshwire.specs.Types.{AreNames, IsName};
-ghost use Rattle.sshmsg.specs.Content.{Offer};
-ghost use Rattle.sshpacket.specs.Suite.{IsLawful, Meaning};
+ghost use Rattle.sshmsg.specs.Content.{KexInit, Offer};
+ghost use Rattle.sshmsg.specs.Written.{IsWellFormed, written};
+ghost use Rattle.sshpacket.specs.Suite.{Agrees, IsLawful, Meaning, ResponseData};
+ghost use Rattle.sshneg.specs.declared.role.Role.TheVariants.{Client, Server};
 ghost use Rattle.sshneg.specs.declared.choice.Chosen.{Chosen};
 ghost use Rattle.sshneg.specs.declared.choice.NoCommon.{NoCommon};
 ghost use Rattle.sshneg.specs.declared.role.Role.{Role};
 ghost use Rattle.sshneg.specs.Choice.{AreFirstMethods, ArePositions, HasChoice, IsChoice, IsFirstWithout, IsKex, Tells, serves};
 ghost use Rattle.sshneg.specs.ChoiceLaw.{AreEarliest, AreListed, OfferAlike, OfferSame, StandsAt};
 ghost use Rattle.sshneg.specs.ChoiceReadings.{answer, choice, positions};
-ghost use Rattle.sshneg.specs.Derivations.{KeySource, derived, grown, hash_with, key, sealing, unsealing};
+ghost use Rattle.sshneg.specs.Derivations.{ExchangeData, KeySource, derived, exchange_size, exchange_text, grown, hash_with, key, signed_text};
+ghost use Rattle.sshneg.specs.ExchangeEnd.{HaveOneSource, IsOneExchange, KexEnd, answer_by, choice_at, choice_in, exchange_by, offer_in, source_of_end, source_with};
 ghost use Rattle.sshneg.specs.Fields.{Algorithms, list_of, name_of, position_of};
-ghost use Rattle.sshneg.specs.Markers.{IsRightGuess, first_name, is_marker, methods, other, strict_marker};
+ghost use Rattle.sshneg.specs.Markers.{IsRightGuess, first_name, is_marker, methods, strict_marker};
+
+use sshpacket::AgreeingSuite;
 
 /// The law of choices (RFC 4253 section 7.1): what the answer of `choose` says, for any two KEXINITs
 /// and any suite. `choice` is the choice as a function of what both sides offer, by names.
@@ -67,21 +72,70 @@ pub fn markers_law()
     ensures unmarked { (names : List (List ℕ)) → ((name : List ℕ) → Contains names name → is_marker name ≡ false) → methods names ≡ names }
 {}
 
-/// The law of derived keys (RFC 4253 section 7.2). Both sides derive the keys of a direction by its
-/// sender.
+/// The law of derived keys (RFC 4253 sections 7.2 and 8). Each key is as long as the suite asks for,
+/// and both ends of an exchange make their keys of the same material.
 pub fn derivation_law()
+    // The initialisation vector, the encryption key and the integrity key of either direction have the lengths that the suite
+    // asks for.
     ensures iv { (m : Meaning) → IsLawful m → (x : KeySource) (sender : Role) (cipher mac : List ℕ)
         → length (derived m x sender cipher mac).iv ≡ (m.key_lens cipher mac).iv }
     ensures enc { (m : Meaning) → IsLawful m → (x : KeySource) (sender : Role) (cipher mac : List ℕ)
         → length (derived m x sender cipher mac).enc ≡ (m.key_lens cipher mac).enc }
     ensures mac { (m : Meaning) → IsLawful m → (x : KeySource) (sender : Role) (cipher mac : List ℕ)
         → length (derived m x sender cipher mac).mac_key ≡ (m.key_lens cipher mac).mac }
-    // From the same material, what either side seals with is what the other unseals with.
-    ensures both { (m : Meaning) (own peer : KeySource) (role : Role) (cipher mac : List ℕ) → own ≡ peer
-        → (sealing m own role cipher mac ≡ unsealing m peer (other role) cipher mac)
-        × (unsealing m own role cipher mac ≡ sealing m peer (other role) cipher mac) }
     // As few hashes as reach the length give the key.
     ensures hashes { (m : Meaning) → IsLawful m → (x : KeySource) (letter len n : ℕ) → n ≤ len
         → len ≤ length (grown m x (hash_with m x (letter ∷ x.session)) n)
         → key m x letter len ≡ take len (grown m x (hash_with m x (letter ∷ x.session)) n) }
+    // The two ends of one exchange by a method, whose random bytes agree under it, each make their keys of one and the same
+    // source: the client of what it has itself, the server of what it has itself. So what either seals with, by its own source,
+    // is what the other unseals with, by its own, in both directions and under every cipher and mac.
+    ensures both { (m : Meaning) (kex : List ℕ) (client server : KexEnd) → Agrees m kex client.random server.random
+        → IsOneExchange m kex client server → HaveOneSource m (source_with m Client kex client) (source_with m Server kex server) }
+    // The same where each end finds the method itself, in the KEXINIT that it sent and the one that it received.
+    ensures ends { (m : Meaning) (kex : List ℕ) (client server : KexEnd) (a : Algorithms)
+        → choice_in m client.kexinit server.kexinit ≡ Ok a → a.kex ≡ kex
+        → Agrees m kex client.random server.random → IsOneExchange m kex client server
+        → HaveOneSource m (source_of_end m Client client) (source_of_end m Server server) }
+{}
+
+/// The law of what both ends of an exchange have (RFC 4253 sections 7.1 and 8), and of the lengths of
+/// what they hash and sign (RFC 4253 section 8, RFC 4252 section 7).
+pub fn exchange_law()
+    // A written KEXINIT offers what it was written for.
+    ensures offered { (offer : Offer) → IsWellFormed (KexInit offer) → offer_in (written (KexInit offer)) ≡ Some offer }
+    // So two written KEXINITs have the choice of what they were written for.
+    ensures chosen { (m : Meaning) (client server : Offer) → IsWellFormed (KexInit client) → IsWellFormed (KexInit server)
+        → choice_in m (written (KexInit client)) (written (KexInit server)) ≡ choice m client server }
+    // Both ends of one exchange make one choice, that of the two KEXINITs as sent.
+    ensures choices { (m : Meaning) (kex : List ℕ) (client server : KexEnd) → IsOneExchange m kex client server
+        → (choice_at m Client client ≡ choice_in m client.kexinit server.kexinit)
+        × (choice_at m Server server ≡ choice_in m client.kexinit server.kexinit) }
+    // Where their random bytes agree under the method, both come to one answer, which is the server's share and the shared
+    // number: the client from the share that it has received, the server from the client's.
+    ensures answers { (m : Meaning) (kex : List ℕ) (client server : KexEnd) → Agrees m kex client.random server.random
+        → IsOneExchange m kex client server → (r : ResponseData) × (answer_by Client m kex client.random client.peer_share ≡ Some r)
+        × (answer_by Server m kex server.random server.peer_share ≡ Some r) }
+    // And both hash the same, whatever the answer is.
+    ensures hashed { (m : Meaning) (kex : List ℕ) (client server : KexEnd) → IsOneExchange m kex client server
+        → (r : ResponseData) → exchange_by m Client kex client r ≡ exchange_by m Server kex server r }
+    // The input of the exchange hash is as long as its eight parts and the four bytes of each one's length.
+    ensures text_length { (x : ExchangeData) → length (exchange_text x) ≡ exchange_size x + 32 }
+    // What a publickey request signs is as long as its parts, the five lengths of four bytes each, the message's number, the
+    // boolean, and `publickey` with its length.
+    ensures signed_length { (session user service algorithm key : List ℕ) → length (signed_text session user service algorithm key)
+        ≡ length session + length user + length service + length algorithm + length key + 35 }
+{
+    sshmsg::written_law();
+}
+
+/// What the two ends of a suite whose ends agree come to.
+pub fn agreement_law<S: AgreeingSuite>(suite: &S, kex: &str, client: &[u8], server: &[u8])
+    requires client { length client.now ≡ 32 }
+    requires server { length server.now ≡ 32 }
+    // Under every method any random bytes of a client and of a server agree, so both ends of one exchange have one key source.
+    ensures agrees { Agrees (S.meaning suite.now) kex.now client.now server.now }
+    // A client that reads the share of the server's answer has the same answer: that share, and the same shared number.
+    ensures one { (r : ResponseData) → (S.meaning suite.now).respond kex.now server.now ((S.meaning suite.now).share kex.now client.now) ≡ Some r
+        → answer_by Client (S.meaning suite.now) kex.now client.now r.share ≡ Some r }
 {}

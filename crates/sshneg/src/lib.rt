@@ -12,7 +12,7 @@ mod strict;
 pub use choice::{Chosen, NoCommon, choose};
 pub use derivations::{Exchange, KeyMaterial, exchange_input, keys_of, signed_request};
 pub use guess::guess_right;
-pub use law::{choice_law, derivation_law, markers_law};
+pub use law::{agreement_law, choice_law, derivation_law, exchange_law, markers_law};
 pub use markers::{is_marker, strict_marker};
 pub use role::Role;
 pub use strict::strict_of;

@@ -3,7 +3,7 @@
 
 use crate::{Exchange, NoCommon, Role, exchange_input, guess_right, signed_request, strict_of};
 use sshmsg::KexInit;
-use sshwire::{Mpint, NameList};
+use sshwire::NameList;
 use std::alloc::Global;
 use std::test::Fail;
 
@@ -61,9 +61,9 @@ fn joins_an_exchange(rt: HostRuntime) -> Result<(), Fail> {
         client_kexinit: b"\x14",
         server_kexinit: b"\x14",
         host_key: b"",
-        client_share: Mpint::new(b"\x02")?,
-        server_share: Mpint::new(b"\x03")?,
-        shared: Mpint::new(b"\x00\x80")?,
+        client_share: b"\x02",
+        server_share: b"\x03",
+        shared: b"\x00\x80",
     };
     let input = exchange_input(rt.alloc(), &exchange)?;
     let wanted =

@@ -4,44 +4,44 @@ use Rattle.std.proofs.Common.{◌≡◌, ℕ, ◌+◌, ◌%◌, ◌<◌, ◌≤�
 use Rattle.std.proofs.lemmas.Bool.{and_parts, eq-eqb, eqb-true, le-leb, le-ltb, leb-true, lt-ltb}
 use Rattle.sshpacket.specs.declared.fault.PacketFault.TheVariants.{Length}
 use Rattle.sshpacket.specs.Front.{OfPacket, Way, front, is_length, refused, total, unfinished, unsealed}
-use Rattle.sshpacket.specs.Packet.{IsLength, unit}
+use Rattle.sshpacket.specs.Packet.{IsLength, counted, unit}
 
-pub length_from : (block tag n : ℕ) → IsLength block tag n → is_length block tag n ≡ true
-length_from block tag n h = rw (le-leb 12 n h.least, le-leb (4 + n + tag) 35000 h.limit, eq-eqb ((4 + n) % unit block) 0 h.multiple) refl
+pub length_from : (counts : Bool) (block tag n : ℕ) → IsLength counts block tag n → is_length counts block tag n ≡ true
+length_from counts block tag n h = rw (le-leb (8 + counted counts) n h.least, le-leb (4 + n + tag) 35000 h.limit, eq-eqb ((counted counts + n) % unit block) 0 h.multiple) refl
 
-pub length_of : (block tag n : ℕ) → is_length block tag n ≡ true → IsLength block tag n
-length_of block tag n t =
-    let a = and_parts (leb 12 n) (leb (4 + n + tag) 35000 && eqb ((4 + n) % unit block) 0) t in
-    let b = and_parts (leb (4 + n + tag) 35000) (eqb ((4 + n) % unit block) 0) a.1 in
-    record { multiple = eqb-true ((4 + n) % unit block) 0 b.1; least = leb-true 12 n a.0; limit = leb-true (4 + n + tag) 35000 b.0 }
+pub length_of : (counts : Bool) (block tag n : ℕ) → is_length counts block tag n ≡ true → IsLength counts block tag n
+length_of counts block tag n t =
+    let a = and_parts (leb (8 + counted counts) n) (leb (4 + n + tag) 35000 && eqb ((counted counts + n) % unit block) 0) t in
+    let b = and_parts (leb (4 + n + tag) 35000) (eqb ((counted counts + n) % unit block) 0) a.1 in
+    record { multiple = eqb-true ((counted counts + n) % unit block) 0 b.1; least = leb-true (8 + counted counts) n a.0; limit = leb-true (4 + n + tag) 35000 b.0 }
 
 not_true : (b : Bool) → b ≡ false → b ≡ true → ⊥
 not_true b f t = let bad : true ≡ false = sym t ∙ f in cc
 
-pub length_never : (block tag n : ℕ) → is_length block tag n ≡ false → IsLength block tag n → ⊥
-length_never block tag n f h = not_true (is_length block tag n) f (length_from block tag n h)
+pub length_never : (counts : Bool) (block tag n : ℕ) → is_length counts block tag n ≡ false → IsLength counts block tag n → ⊥
+length_never counts block tag n f h = not_true (is_length counts block tag n) f (length_from counts block tag n h)
 
 false_where : (b : Bool) → (b ≡ true → ⊥) → b ≡ false
 false_where true never = absurd (never refl)
 false_where false never = refl
 
-pub length_not : (block tag n : ℕ) → (IsLength block tag n → ⊥) → is_length block tag n ≡ false
-length_not block tag n never = false_where (is_length block tag n) (λ t. never (length_of block tag n t))
+pub length_not : (counts : Bool) (block tag n : ℕ) → (IsLength counts block tag n → ⊥) → is_length counts block tag n ≡ false
+length_not counts block tag n never = false_where (is_length counts block tag n) (λ t. never (length_of counts block tag n t))
 
 module _ (w : Way) (bytes : List ℕ) where
   pub front_short : length bytes < 4 → front w bytes ≡ unfinished
   unfolding front
   front_short h = rw (lt-ltb (length bytes) 4 h) refl
 
-  pub front_bad : 4 ≤ length bytes → is_length w.block w.tag (w.head (take 4 bytes)) ≡ false → front w bytes ≡ refused (OfPacket Length) 4
+  pub front_bad : 4 ≤ length bytes → is_length w.counts w.block w.tag (w.head (take 4 bytes)) ≡ false → front w bytes ≡ refused (OfPacket Length) 4
   unfolding front
   front_bad h f = rw (le-ltb (length bytes) 4 h, f) refl
 
-  pub front_part : 4 ≤ length bytes → is_length w.block w.tag (w.head (take 4 bytes)) ≡ true → length bytes < total w bytes → front w bytes ≡ unfinished
+  pub front_part : 4 ≤ length bytes → is_length w.counts w.block w.tag (w.head (take 4 bytes)) ≡ true → length bytes < total w bytes → front w bytes ≡ unfinished
   unfolding front
   front_part h t less = rw (le-ltb (length bytes) 4 h, t, lt-ltb (length bytes) (total w bytes) less) refl
 
-  pub front_full : 4 ≤ length bytes → is_length w.block w.tag (w.head (take 4 bytes)) ≡ true → total w bytes ≤ length bytes
+  pub front_full : 4 ≤ length bytes → is_length w.counts w.block w.tag (w.head (take 4 bytes)) ≡ true → total w bytes ≤ length bytes
       → front w bytes ≡ unsealed (w.unseal (take (total w bytes) bytes)) (total w bytes)
   unfolding front
   front_full h t all = rw (le-ltb (length bytes) 4 h, t, le-ltb (length bytes) (total w bytes) all) refl

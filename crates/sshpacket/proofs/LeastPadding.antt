@@ -4,7 +4,7 @@ use Rattle.std.proofs.Common.{◌≡◌, ◌≢◌, ℕ, ◌+◌, ◌-◌, ◌%�
 use Rattle.std.proofs.Math.Nat.{add-mod_right, le-max_left, mod-add-mod, mod-eq_of_lt, mod_self}
 use Rattle.std.proofs.lemmas.Bool.{eqb-false, eqb-true, ltb-false, ltb-true}
 use Rattle.std.proofs.lemmas.Nat.{mod_below}
-use Rattle.sshpacket.specs.Packet.{IsLeastPadding, IsPadding, least_padding, to_multiple, unit}
+use Rattle.sshpacket.specs.Packet.{IsLeastPadding, IsPadding, counted, least_padding, to_multiple, unit, with_four}
 
 -- what lies a little behind a multiple isn't one
 behind_multiple : (u n j : ℕ) → n % u + j < u → (n + j) % u ≡ n % u + j
@@ -59,12 +59,17 @@ next_multiple u n j true e f some t =
     omega (arith, same, some)
 next_multiple u n j false e f some t = ltb-false j u t
 
-module _ (block len : ℕ) where
+-- packet_length has four bytes at most that count
+pub counted_high : (counts : Bool) → counted counts ≤ 4
+counted_high true = omega arith
+counted_high false = omega arith
+
+module _ (counts : Bool) (block len : ℕ) where
   abbrev u : ℕ
   u = unit block
 
   abbrev n : ℕ
-  n = 9 + len
+  n = with_four counts len
 
   wide : 8 ≤ u
   wide = le-max_left 8 block
@@ -75,18 +80,18 @@ module _ (block len : ℕ) where
   up : (n + to_multiple u n) % u ≡ 0
   up = to_multiple_is u n (eqb (n % u) 0) some refl
 
-  reached : (padding : ℕ) → IsPadding block len padding → to_multiple u n ≤ padding - 4
+  reached : (padding : ℕ) → IsPadding counts block len padding → to_multiple u n ≤ padding - 4
   reached padding h =
       let low : 4 ≤ padding = h.low in
-      let same : 5 + len + padding ≡ n + (padding - 4) = omega arith in
+      let same : counted counts + (1 + len + padding) ≡ n + (padding - 4) = omega arith in
       to_multiple_least u n (padding - 4) (eqb (n % u) 0) some refl (ap (λ (k : ℕ). k % u) (sym same) ∙ h.multiple)
 
-  plain : 16 ≤ n + to_multiple u n → IsLeastPadding block len (4 + to_multiple u n)
+  plain : 8 + counted counts ≤ 5 + len + to_multiple u n → IsLeastPadding counts block len (4 + to_multiple u n)
   plain enough = record {
     allowed = record {
       low = omega arith;
-      multiple = (let same : 5 + len + (4 + to_multiple u n) ≡ n + to_multiple u n = omega arith in ap (λ (k : ℕ). k % u) same ∙ up);
-      enough = omega (arith, wide, enough);
+      multiple = (let same : counted counts + (1 + len + (4 + to_multiple u n)) ≡ n + to_multiple u n = omega arith in ap (λ (k : ℕ). k % u) same ∙ up);
+      enough = omega (arith, enough);
     };
     least = λ other h.
         let below : to_multiple u n ≤ other - 4 = reached other h in
@@ -94,31 +99,33 @@ module _ (block len : ℕ) where
         omega arith;
   }
 
-  one_more : n + to_multiple u n < 16 → IsLeastPadding block len (4 + to_multiple u n + u)
+  one_more : 5 + len + to_multiple u n < 8 + counted counts → IsLeastPadding counts block len (4 + to_multiple u n + u)
   one_more few = record {
     allowed = record {
       low = omega arith;
-      multiple = (let same : 5 + len + (4 + to_multiple u n + u) ≡ n + to_multiple u n + u = omega arith in
+      multiple = (let same : counted counts + (1 + len + (4 + to_multiple u n + u)) ≡ n + to_multiple u n + u = omega arith in
           ap (λ (k : ℕ). k % u) same ∙ (add-mod_right (n + to_multiple u n) u ∙ up));
-      enough = omega (arith, wide);
+      enough = (let high : counted counts ≤ 4 = counted_high counts in omega (arith, wide));
     };
     least = λ other h.
         let below : to_multiple u n ≤ other - 4 = reached other h in
         let low : 4 ≤ other = h.low in
-        let enough : 16 ≤ 5 + len + other = h.enough in
+        let enough : 8 + counted counts ≤ 1 + len + other = h.enough in
         let more : ℕ = other - 4 - to_multiple u n in
-        let same : 5 + len + other ≡ n + to_multiple u n + more = omega arith in
+        let same : counted counts + (1 + len + other) ≡ n + to_multiple u n + more = omega arith in
         let further : (n + to_multiple u n + more) % u ≡ 0 = ap (λ (k : ℕ). k % u) (sym same) ∙ h.multiple in
         let away : u ≤ more = next_multiple u (n + to_multiple u n) more (ltb more u) up further (omega arith) refl in
         omega (arith, away, below);
   }
 
-  least_by : (b : Bool) → ltb (n + to_multiple u n) 16 ≡ b → IsLeastPadding block len (cond b (4 + to_multiple u n + u) (4 + to_multiple u n))
-  least_by true t = one_more (ltb-true (n + to_multiple u n) 16 t)
-  least_by false f = plain (ltb-false (n + to_multiple u n) 16 f)
+  least_by : (b : Bool) → ltb (5 + len + to_multiple u n) (8 + counted counts) ≡ b
+      → IsLeastPadding counts block len (cond b (4 + to_multiple u n + u) (4 + to_multiple u n))
+  least_by true t = one_more (ltb-true (5 + len + to_multiple u n) (8 + counted counts) t)
+  least_by false f = plain (ltb-false (5 + len + to_multiple u n) (8 + counted counts) f)
 
-pub least_is : (block len : ℕ) → IsLeastPadding block len (least_padding block len)
-least_is block len = least_by block len (ltb (n block len + to_multiple (u block len) (n block len)) 16) refl
+pub least_is : (counts : Bool) (block len : ℕ) → IsLeastPadding counts block len (least_padding counts block len)
+least_is counts block len =
+    least_by counts block len (ltb (5 + len + to_multiple (u counts block len) (n counts block len)) (8 + counted counts)) refl
 
-pub least_from : (block len padding : ℕ) → padding ≡ least_padding block len → IsLeastPadding block len padding
-least_from block len padding e = rw e (least_is block len)
+pub least_from : (counts : Bool) (block len padding : ℕ) → padding ≡ least_padding counts block len → IsLeastPadding counts block len padding
+least_from counts block len padding e = rw e (least_is counts block len)

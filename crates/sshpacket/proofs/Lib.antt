@@ -1,9 +1,13 @@
+pub mod AnswerLemmas
 pub mod ByteLemmas
 pub mod FrontLemmas
+pub mod HearingLemmas
+pub mod JoinedLemmas
 pub mod LeastPadding
 pub mod Looks
 pub mod Opening
 pub mod Places
+pub mod Shares
 pub mod StepLemmas
 pub mod Streams
 pub mod UnitLaws

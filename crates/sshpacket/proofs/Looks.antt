@@ -26,12 +26,12 @@ take_more n bytes more h = take-append-le n bytes more h
 total_more : (w : Way) (bytes more : List ℕ) → 4 ≤ length bytes → total w (bytes ++ more) ≡ total w bytes
 total_more w bytes more h = ap (λ (head : List ℕ). 4 + w.head head + w.tag) (take_more 4 bytes more h)
 
-length_more : (w : Way) (bytes more : List ℕ) (b : Bool) → 4 ≤ length bytes → is_length w.block w.tag (w.head (take 4 bytes)) ≡ b
-    → is_length w.block w.tag (w.head (take 4 (bytes ++ more))) ≡ b
-length_more w bytes more b h e = ap (λ (head : List ℕ). is_length w.block w.tag (w.head head)) (take_more 4 bytes more h) ∙ e
+length_more : (w : Way) (bytes more : List ℕ) (b : Bool) → 4 ≤ length bytes → is_length w.counts w.block w.tag (w.head (take 4 bytes)) ≡ b
+    → is_length w.counts w.block w.tag (w.head (take 4 (bytes ++ more))) ≡ b
+length_more w bytes more b h e = ap (λ (head : List ℕ). is_length w.counts w.block w.tag (w.head head)) (take_more 4 bytes more h) ∙ e
 
 -- more bytes behind change no answer
-front_more_by : (w : Way) (bytes more : List ℕ) (s t u : Bool) → ltb (length bytes) 4 ≡ s → is_length w.block w.tag (w.head (take 4 bytes)) ≡ t → ltb (length bytes) (total w bytes) ≡ u
+front_more_by : (w : Way) (bytes more : List ℕ) (s t u : Bool) → ltb (length bytes) 4 ≡ s → is_length w.counts w.block w.tag (w.head (take 4 bytes)) ≡ t → ltb (length bytes) (total w bytes) ≡ u
     → (front w bytes ≡ unfinished → ⊥) → front w (bytes ++ more) ≡ front w bytes
 front_more_by w bytes more true t u a b c some = absurd (some (front_short w bytes (ltb-true (length bytes) 4 a)))
 front_more_by w bytes more false false u a b c some =
@@ -93,7 +93,7 @@ unsealed_place None all = refl
 unsealed_place (Some clear) all = opened_place clear all
 
 -- the bytes of a packet are enough to answer it, and four bytes to refuse its length
-front_again_by : (w : Way) (bytes : List ℕ) (answer : Front) (s t u : Bool) → ltb (length bytes) 4 ≡ s → is_length w.block w.tag (w.head (take 4 bytes)) ≡ t → ltb (length bytes) (total w bytes) ≡ u
+front_again_by : (w : Way) (bytes : List ℕ) (answer : Front) (s t u : Bool) → ltb (length bytes) 4 ≡ s → is_length w.counts w.block w.tag (w.head (take 4 bytes)) ≡ t → ltb (length bytes) (total w bytes) ≡ u
     → front w bytes ≡ answer → (answer ≡ unfinished → ⊥) → IsAgain (front w) bytes answer
 front_again_by w bytes answer true t u a b c e some = absurd (some (sym e ∙ front_short w bytes (ltb-true (length bytes) 4 a)))
 front_again_by w bytes answer false false u a b c e some =
@@ -101,7 +101,7 @@ front_again_by w bytes answer false false u a b c e some =
     let is : answer ≡ refused (OfPacket Length) 4 = sym e ∙ front_bad w bytes headed b in
     let head : take 4 (take 4 bytes) ≡ take 4 bytes = take-take 4 4 bytes (omega arith) in
     let size : length (take 4 bytes) ≡ 4 = length-take-le 4 bytes headed in
-    let bad : is_length w.block w.tag (w.head (take 4 (take 4 bytes))) ≡ false = ap (λ (xs : List ℕ). is_length w.block w.tag (w.head xs)) head ∙ b in
+    let bad : is_length w.counts w.block w.tag (w.head (take 4 (take 4 bytes))) ≡ false = ap (λ (xs : List ℕ). is_length w.counts w.block w.tag (w.head xs)) head ∙ b in
     again_at (front w) bytes answer 4 (ap place_of is) headed (front_bad w (take 4 bytes) (omega (arith, size)) bad ∙ sym is)
 front_again_by w bytes answer false true true a b c e some =
     absurd (some (sym e ∙ front_part w bytes (ltb-false (length bytes) 4 a) b (ltb-true (length bytes) (total w bytes) c)))
@@ -112,7 +112,7 @@ front_again_by w bytes answer false true false a b c e some =
     let is : answer ≡ unsealed (w.unseal (take all bytes)) all = sym e ∙ front_full w bytes headed b full in
     let head : take 4 (take all bytes) ≡ take 4 bytes = take-take 4 all bytes (omega arith) in
     let size : length (take all bytes) ≡ all = length-take-le all bytes full in
-    let fits : is_length w.block w.tag (w.head (take 4 (take all bytes))) ≡ true = ap (λ (xs : List ℕ). is_length w.block w.tag (w.head xs)) head ∙ b in
+    let fits : is_length w.counts w.block w.tag (w.head (take 4 (take all bytes))) ≡ true = ap (λ (xs : List ℕ). is_length w.counts w.block w.tag (w.head xs)) head ∙ b in
     let same : total w (take all bytes) ≡ all = ap (λ (xs : List ℕ). 4 + w.head xs + w.tag) head in
     let own : take (total w (take all bytes)) (take all bytes) ≡ take all bytes = ap (λ (n : ℕ). take n (take all bytes)) same ∙ take-take all all bytes (omega arith) in
     again_at (front w) bytes answer all (ap place_of is ∙ unsealed_place (w.unseal (take all bytes)) all) full

@@ -8,7 +8,7 @@ use Rattle.sshwire.specs.TypeReadings.{IsReading, uint32_at}
 use Rattle.sshwire.specs.Types.{IsBytes, Uint32Text, uint32}
 use Rattle.sshpacket.specs.declared.fault.PacketFault.TheVariants.{Empty, Padding}
 use Rattle.sshpacket.specs.Front.{OfPacket, opened, refused, whole}
-use Rattle.sshpacket.specs.Packet.{IsLength, IsPacket, length_field, number, number_read, packet}
+use Rattle.sshpacket.specs.Packet.{IsLength, IsPacket, counted, length_field, number, number_read, packet}
 use Rattle.sshpacket.specs.Suite.{Keeps}
 
 or_true : (b : Bool) → b || true ≡ true
@@ -59,8 +59,8 @@ opened_parts payload padding len low some =
     opened_whole (packet payload padding) (length padding) (1 + length payload + length padding) len (packet_padding payload padding) rest low (omega arith)
     ∙ ap (λ (xs : List ℕ). whole xs len) front
 
-pub opened_packet : (block tag : ℕ) (payload clear : List ℕ) (len : ℕ) → IsPacket block tag payload clear → opened clear len ≡ whole payload len
-opened_packet block tag payload clear len k =
+pub opened_packet : (counts : Bool) (block tag : ℕ) (payload clear : List ℕ) (len : ℕ) → IsPacket counts block tag payload clear → opened clear len ≡ whole payload len
+opened_packet counts block tag payload clear len k =
     ap (λ (xs : List ℕ). opened xs len) k.bytes_are ∙ opened_parts payload k.padding len k.padding_low k.not_empty
 
 -- the length field and its number
@@ -110,7 +110,7 @@ first_and_more [] h = absurd (omega (arith, h))
 first_and_more (x ∷ xs) h = refl
 
 -- A clear packet with a taken length field is the packet of what stands between its padding's length and its padding.
-module _ (r : IsReading Uint32Text uint32_at) (block tag n : ℕ) (clear : List ℕ) (k : Keeps n clear) where
+module _ (r : IsReading Uint32Text uint32_at) (counts : Bool) (block tag n : ℕ) (clear : List ℕ) (k : Keeps n clear) where
   abbrev p : ℕ
   p = slice_index clear 4
 
@@ -123,11 +123,11 @@ module _ (r : IsReading Uint32Text uint32_at) (block tag n : ℕ) (clear : List 
   abbrev padding : List ℕ
   padding = drop (length clear - 4 - p - 1) behind
 
-  pub packet_of_parts : IsLength block tag n → 4 ≤ p → p + 1 < n → IsPacket block tag payload clear
+  pub packet_of_parts : IsLength counts block tag n → 4 ≤ p → p + 1 < n → IsPacket counts block tag payload clear
   packet_of_parts fits low some =
       let long : length clear ≡ 4 + n = k.length_is in
       let field : number clear ≡ n = k.field_is in
-      let least : 12 ≤ n = fits.least in
+      let least : 8 + counted counts ≤ n = fits.least in
       let h = headed r clear k.bytes_are (omega arith) in
       let rest : length (drop 4 clear) ≡ length clear - 4 = length-drop 4 clear in
       let left : length behind ≡ length clear - 5 = length-drop 5 clear in

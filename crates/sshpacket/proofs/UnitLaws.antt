@@ -53,8 +53,8 @@ module _ (r : IsReading Uint32Text uint32_at) (w : Way) (bytes : List ℕ) (f : 
         let some : p + 1 < n = (let ne = eqb-false (p + 1) n t in omega (arith, ne, less)) in
         let size : length (take (total w bytes) bytes) ≡ total w (take (total w bytes) bytes)
         = length-take-le (total w bytes) bytes whole_is.there ∙ sym (same_total w bytes (total w bytes) (omega arith)) in
-        let packet : IsPacket w.block w.tag (take (n - p - 1) (drop 5 clear)) clear
-        = rw rest_is at (packet_of_parts r w.block w.tag n clear k whole_is.fits low some) in
+        let packet : IsPacket w.counts w.block w.tag (take (n - p - 1) (drop 5 clear)) clear
+        = rw rest_is at (packet_of_parts r w.counts w.block w.tag n clear k whole_is.fits low some) in
         rw (opened_whole clear p n (total w bytes) refl rest_is low some)
         (whole_is.there, record { clear = clear; size = size; opens = e; spells = packet })
 
@@ -76,41 +76,41 @@ module _ (r : IsReading Uint32Text uint32_at) (w : Way) (bytes : List ℕ) (f : 
   unseals whole_is None e = (whole_is, e)
   unseals whole_is (Some clear) e = opens whole_is clear e (kept w bytes f h clear whole_is.there e) (ltb (slice_index clear 4) 4) refl
 
-  means_by : (s t u : Bool) → ltb (length bytes) 4 ≡ s → is_length w.block w.tag n ≡ t → ltb (length bytes) (total w bytes) ≡ u → Means w bytes (front w bytes)
+  means_by : (s t u : Bool) → ltb (length bytes) 4 ≡ s → is_length w.counts w.block w.tag n ≡ t → ltb (length bytes) (total w bytes) ≡ u → Means w bytes (front w bytes)
   means_by true t u a b c = let short : length bytes < 4 = ltb-true (length bytes) 4 a in rw (front_short w bytes short) (inl short)
   means_by false false u a b c =
       let headed : 4 ≤ length bytes = ltb-false (length bytes) 4 a in
-      rw (front_bad w bytes headed b) (headed, refl, length_never w.block w.tag n b)
+      rw (front_bad w bytes headed b) (headed, refl, length_never w.counts w.block w.tag n b)
   means_by false true true a b c =
       let headed : 4 ≤ length bytes = ltb-false (length bytes) 4 a in
       let less : length bytes < total w bytes = ltb-true (length bytes) (total w bytes) c in
-      rw (front_part w bytes headed b less) (inr (record { headed = headed; fits = length_of w.block w.tag n b; lacks = less }))
+      rw (front_part w bytes headed b less) (inr (record { headed = headed; fits = length_of w.counts w.block w.tag n b; lacks = less }))
   means_by false true false a b c =
       let headed : 4 ≤ length bytes = ltb-false (length bytes) 4 a in
       let all : total w bytes ≤ length bytes = ltb-false (length bytes) (total w bytes) c in
       rw (front_full w bytes headed b all)
-      (unseals (record { headed = headed; fits = length_of w.block w.tag n b; size = refl; there = all }) (w.unseal (take (total w bytes) bytes)) refl)
+      (unseals (record { headed = headed; fits = length_of w.counts w.block w.tag n b; size = refl; there = all }) (w.unseal (take (total w bytes) bytes)) refl)
 
   pub means : Means w bytes (front w bytes)
-  means = means_by (ltb (length bytes) 4) (is_length w.block w.tag n) (ltb (length bytes) (total w bytes)) refl refl refl
+  means = means_by (ltb (length bytes) 4) (is_length w.counts w.block w.tag n) (ltb (length bytes) (total w bytes)) refl refl refl
 
 -- what the first four bytes and the whole packet decide
 front_whole : (w : Way) (bytes : List ℕ) (len : ℕ) → IsWhole w bytes len → front w bytes ≡ unsealed (w.unseal (take len bytes)) len
 front_whole w bytes len k =
     let size : len ≡ total w bytes = k.size in
     let all : total w bytes ≤ length bytes = (let there : len ≤ length bytes = k.there in omega arith) in
-    front_full w bytes k.headed (length_from w.block w.tag (w.head (take 4 bytes)) k.fits) all
+    front_full w bytes k.headed (length_from w.counts w.block w.tag (w.head (take 4 bytes)) k.fits) all
     ∙ ap (λ (m : ℕ). unsealed (w.unseal (take m bytes)) m) (sym size)
 
 -- a unit at the front is read as its payload; no law is needed
 pub front_unit : (w : Way) (payload clear bytes : List ℕ) (len : ℕ) → len ≤ length bytes → len ≡ total w bytes → w.unseal (take len bytes) ≡ Some clear
-    → IsPacket w.block w.tag payload clear → length clear ≡ 4 + w.head (take 4 bytes) → 4 ≤ len → front w bytes ≡ whole payload len
+    → IsPacket w.counts w.block w.tag payload clear → length clear ≡ 4 + w.head (take 4 bytes) → 4 ≤ len → front w bytes ≡ whole payload len
 front_unit w payload clear bytes len there size opens packet long wide =
     let parts : length clear ≡ 5 + length payload + length packet.padding
     = ap (λ (xs : List ℕ). length xs) packet.bytes_are ∙ packet_length_is payload packet.padding in
     let head : 1 + length payload + length packet.padding ≡ w.head (take 4 bytes) = omega arith in
     front_whole w bytes len (record { headed = omega arith; fits = rw head at packet.fits; size = size; there = there })
-    ∙ (ap (λ (o : Option (List ℕ)). unsealed o len) opens ∙ opened_packet w.block w.tag payload clear len packet)
+    ∙ (ap (λ (o : Option (List ℕ)). unsealed o len) opens ∙ opened_packet w.counts w.block w.tag payload clear len packet)
 
 -- a whole packet that was unsealed
 opened_at : (w : Way) (bytes : List ℕ) (place : ℕ) (clear : List ℕ) → IsWhole w bytes place → w.unseal (take place bytes) ≡ Some clear
@@ -139,7 +139,7 @@ read_unit w bytes payload len f h there u =
 reads_packet : (w : Way) (bytes : List ℕ) → IsFaithful w → IsBytes bytes → (fault : PacketFault) (place : ℕ) → Refuses w bytes fault place
     → front w bytes ≡ refused (OfPacket fault) place
 reads_packet w bytes f h Length place (headed, at_four, never) =
-    front_bad w bytes headed (length_not w.block w.tag (w.head (take 4 bytes)) never) ∙ ap (λ (k : ℕ). refused (OfPacket Length) k) (sym at_four)
+    front_bad w bytes headed (length_not w.counts w.block w.tag (w.head (take 4 bytes)) never) ∙ ap (λ (k : ℕ). refused (OfPacket Length) k) (sym at_four)
 reads_packet w bytes f h Mac place (k, none) = front_whole w bytes place k ∙ ap (λ (o : Option (List ℕ)). unsealed o place) none
 reads_packet w bytes f h Padding place (k, clear, e, cause) =
     opened_at w bytes place clear k e
@@ -152,7 +152,7 @@ reads_packet w bytes f h Memory place bad = absurd bad
 pub reads : (w : Way) (bytes : List ℕ) → IsFaithful w → IsBytes bytes → (answer : Front) → Means w bytes answer → front w bytes ≡ answer
 reads w bytes f h unfinished (inl short) = front_short w bytes short
 reads w bytes f h unfinished (inr part) =
-    front_part w bytes part.headed (length_from w.block w.tag (w.head (take 4 bytes)) part.fits) part.lacks
+    front_part w bytes part.headed (length_from w.counts w.block w.tag (w.head (take 4 bytes)) part.fits) part.lacks
 reads w bytes f h (whole payload len) (there, u) = read_unit w bytes payload len f h there u
 reads w bytes f h (refused (OfPacket fault) place) m = reads_packet w bytes f h fault place m
 reads w bytes f h (refused (OfLine fault) place) m = absurd m
@@ -178,7 +178,7 @@ faithful m law None seq h = record { keeps = keeps_clear }
 faithful m law (Some keys) seq h = record { keeps = λ bytes clear each size e. law.unsealed keys seq bytes clear h each size e }
 
 -- a clear packet is a unit in clear, and the other way round
-packet_size : IsReading Uint32Text uint32_at → (payload bytes : List ℕ) → IsPacket 8 0 payload bytes → length bytes ≡ 4 + number (take 4 bytes) + 0
+packet_size : IsReading Uint32Text uint32_at → (payload bytes : List ℕ) → IsPacket true 8 0 payload bytes → length bytes ≡ 4 + number (take 4 bytes) + 0
 packet_size r payload bytes packet =
     let limit : 4 + (1 + length payload + length packet.padding) + 0 ≤ 35000 = packet.fits.limit in
     let parts : length bytes ≡ 5 + length payload + length packet.padding
@@ -188,9 +188,9 @@ packet_size r payload bytes packet =
     let first : number (take 4 bytes) ≡ number bytes = number_first bytes in
     omega arith
 
-pub unit_of_packet : IsReading Uint32Text uint32_at → (m : Meaning) (seq : ℕ) (payload bytes : List ℕ) → IsPacket 8 0 payload bytes → IsUnit (way m None seq) payload bytes
+pub unit_of_packet : IsReading Uint32Text uint32_at → (m : Meaning) (seq : ℕ) (payload bytes : List ℕ) → IsPacket true 8 0 payload bytes → IsUnit (way m None seq) payload bytes
 unit_of_packet r m seq payload bytes packet =
     record { clear = bytes; size = packet_size r payload bytes packet; opens = refl; spells = packet }
 
-pub packet_of_unit : (m : Meaning) (seq : ℕ) (payload bytes : List ℕ) → IsUnit (way m None seq) payload bytes → IsPacket 8 0 payload bytes
+pub packet_of_unit : (m : Meaning) (seq : ℕ) (payload bytes : List ℕ) → IsUnit (way m None seq) payload bytes → IsPacket true 8 0 payload bytes
 packet_of_unit m seq payload bytes u = let same : u.clear ≡ bytes = sym (some_one bytes u.clear u.opens) in rw same at u.spells

@@ -8,7 +8,7 @@ use Rattle.sshwire.specs.TypeReadings.{IsReading, uint32_at}
 use Rattle.sshwire.specs.Types.{IsBytes, Uint32Text}
 use Rattle.sshpacket.specs.Front.{front, way, whole}
 use Rattle.sshpacket.specs.KeyData.{KeyData}
-use Rattle.sshpacket.specs.Packet.{IsLeastPadding, IsLength, IsPacket, least_padding, length_field, number, packet, to_multiple, unit}
+use Rattle.sshpacket.specs.Packet.{IsLeastPadding, IsLength, IsPacket, counted, least_padding, length_field, number, packet, to_multiple, unit, with_four}
 use Rattle.sshpacket.specs.Suite.{IsLawful, Meaning}
 use Rattle.sshpacket.specs.Written.{IsWritten, written}
 use Rattle.sshpacket.proofs.ByteLemmas.{bytes_append, bytes_cons, bytes_field}
@@ -24,34 +24,33 @@ high_by : (u n : ℕ) (b : Bool) → 0 < u → u ≤ 64 → cond b (4 + to_multi
 high_by u n true some h = let low : to_multiple u n < u = mod_below (u - n % u) u some in omega arith
 high_by u n false some h = let low : to_multiple u n < u = mod_below (u - n % u) u some in omega arith
 
-pub padding_high : (block len : ℕ) → block ≤ 64 → least_padding block len ≤ 131
-padding_high block len h =
+pub padding_high : (counts : Bool) (block len : ℕ) → block ≤ 64 → least_padding counts block len ≤ 131
+padding_high counts block len h =
     let wide : 8 ≤ unit block = le-max_left 8 block in
-    high_by (unit block) (9 + len) (ltb (9 + len + to_multiple (unit block) (9 + len)) 16) (omega (arith, wide)) (max_high block h (ltb 8 block) refl)
+    high_by (unit block) (with_four counts len) (ltb (5 + len + to_multiple (unit block) (with_four counts len)) (8 + counted counts)) (omega (arith, wide)) (max_high block h (ltb 8 block) refl)
 
 -- the written packet is a packet with the least padding
-fits_packet : (block tag len padding : ℕ) → IsLeastPadding block len padding → padding ≤ 131 → tag ≤ 64 → len ≤ 32768 → IsLength block tag (1 + len + padding)
-fits_packet block tag len padding k high low short =
-    let enough : 16 ≤ 5 + len + padding = k.allowed.enough in
-    let same : 4 + (1 + len + padding) ≡ 5 + len + padding = omega arith in
-    record { multiple = ap (λ (n : ℕ). n % unit block) same ∙ k.allowed.multiple; least = omega arith; limit = omega arith }
+fits_packet : (counts : Bool) (block tag len padding : ℕ) → IsLeastPadding counts block len padding → padding ≤ 131 → tag ≤ 64 → len ≤ 32768
+    → IsLength counts block tag (1 + len + padding)
+fits_packet counts block tag len padding k high low short =
+    record { multiple = k.allowed.multiple; least = k.allowed.enough; limit = omega arith }
 
-pub written_is : (m : Meaning) → IsLawful m → (block tag : ℕ) (seed : List ℕ) (seq : ℕ) (payload : List ℕ) → block ≤ 64 → tag ≤ 64
-    → 0 < length payload → length payload ≤ 32768 → IsWritten block tag payload (written m block seed seq payload)
+pub written_is : (m : Meaning) → IsLawful m → (counts : Bool) (block tag : ℕ) (seed : List ℕ) (seq : ℕ) (payload : List ℕ) → block ≤ 64 → tag ≤ 64
+    → 0 < length payload → length payload ≤ 32768 → IsWritten counts block tag payload (written m counts block seed seq payload)
 unfolding written
-written_is m law block tag seed seq payload low few some short =
-    let padding : List ℕ = m.padding seed seq (least_padding block (length payload)) in
-    let size : length (m.padding seed seq (least_padding block (length payload))) ≡ least_padding block (length payload)
-    = law.padding_length seed seq (least_padding block (length payload)) in
-    let least : IsLeastPadding block (length payload) (least_padding block (length payload)) = least_is block (length payload) in
-    let high : least_padding block (length payload) ≤ 131 = padding_high block (length payload) low in
-    let from : 4 ≤ least_padding block (length payload) = least.allowed.low in
-    let sized : IsLeastPadding block (length payload) (length (m.padding seed seq (least_padding block (length payload)))) = rw size least in
+written_is m law counts block tag seed seq payload low few some short =
+    let padding : List ℕ = m.padding seed seq (least_padding counts block (length payload)) in
+    let size : length (m.padding seed seq (least_padding counts block (length payload))) ≡ least_padding counts block (length payload)
+    = law.padding_length seed seq (least_padding counts block (length payload)) in
+    let least : IsLeastPadding counts block (length payload) (least_padding counts block (length payload)) = least_is counts block (length payload) in
+    let high : least_padding counts block (length payload) ≤ 131 = padding_high counts block (length payload) low in
+    let from : 4 ≤ least_padding counts block (length payload) = least.allowed.low in
+    let sized : IsLeastPadding counts block (length payload) (length (m.padding seed seq (least_padding counts block (length payload)))) = rw size least in
     record {
       spells = record {
-        padding = m.padding seed seq (least_padding block (length payload));
+        padding = m.padding seed seq (least_padding counts block (length payload));
         bytes_are = refl;
-        fits = fits_packet block tag (length payload) (length (m.padding seed seq (least_padding block (length payload)))) sized (omega arith) few short;
+        fits = fits_packet counts block tag (length payload) (length (m.padding seed seq (least_padding counts block (length payload)))) sized (omega arith) few short;
         padding_low = omega arith;
         padding_high = omega arith;
         not_empty = some;
@@ -65,52 +64,52 @@ packet_bytes payload padding short each more =
     (bytes_field (1 + length payload + length padding))
     (bytes_cons (length padding) (payload ++ padding) short (bytes_append payload padding each more))
 
-pub written_bytes : (m : Meaning) → IsLawful m → (block : ℕ) (seed : List ℕ) (seq : ℕ) (payload : List ℕ) → block ≤ 64 → IsBytes payload
-    → IsBytes (written m block seed seq payload)
+pub written_bytes : (m : Meaning) → IsLawful m → (counts : Bool) (block : ℕ) (seed : List ℕ) (seq : ℕ) (payload : List ℕ) → block ≤ 64 → IsBytes payload
+    → IsBytes (written m counts block seed seq payload)
 unfolding written
-written_bytes m law block seed seq payload low each =
-    packet_bytes payload (m.padding seed seq (least_padding block (length payload)))
-    (let size : length (m.padding seed seq (least_padding block (length payload))) ≡ least_padding block (length payload)
-    = law.padding_length seed seq (least_padding block (length payload)) in
-    let high : least_padding block (length payload) ≤ 131 = padding_high block (length payload) low in omega arith)
-    each (law.padding_bytes seed seq (least_padding block (length payload)))
+written_bytes m law counts block seed seq payload low each =
+    packet_bytes payload (m.padding seed seq (least_padding counts block (length payload)))
+    (let size : length (m.padding seed seq (least_padding counts block (length payload))) ≡ least_padding counts block (length payload)
+    = law.padding_length seed seq (least_padding counts block (length payload)) in
+    let high : least_padding counts block (length payload) ≤ 131 = padding_high counts block (length payload) low in omega arith)
+    each (law.padding_bytes seed seq (least_padding counts block (length payload)))
 
 -- the first four bytes are the same with more behind
 first_same : (xs rest : List ℕ) → 4 ≤ length xs → take 4 (xs ++ rest) ≡ take 4 xs
 first_same xs rest h = take-append-le 4 xs rest h
 
 -- a packet's number counts it
-packet_counts : IsReading Uint32Text uint32_at → (block tag : ℕ) (payload clear : List ℕ) → IsPacket block tag payload clear → length clear ≡ 4 + number clear
-packet_counts r block tag payload clear k =
+packet_counts : IsReading Uint32Text uint32_at → (counts : Bool) (block tag : ℕ) (payload clear : List ℕ) → IsPacket counts block tag payload clear → length clear ≡ 4 + number clear
+packet_counts r counts block tag payload clear k =
     let limit : 4 + (1 + length payload + length k.padding) + tag ≤ 35000 = k.fits.limit in
     let parts : length clear ≡ 5 + length payload + length k.padding = ap (λ (xs : List ℕ). length xs) k.bytes_are ∙ packet_length_is payload k.padding in
     let counts : number clear ≡ 1 + length payload + length k.padding = ap number k.bytes_are ∙ packet_number r payload k.padding (omega arith) in
     omega arith
 
-packet_long : (block tag : ℕ) (payload clear : List ℕ) → IsPacket block tag payload clear → 16 ≤ length clear
-packet_long block tag payload clear k =
-    let least : 12 ≤ 1 + length payload + length k.padding = k.fits.least in
+packet_long : (counts : Bool) (block tag : ℕ) (payload clear : List ℕ) → IsPacket counts block tag payload clear → 12 ≤ length clear
+packet_long counts block tag payload clear k =
+    let least : 8 + counted counts ≤ 1 + length payload + length k.padding = k.fits.least in
     let parts : length clear ≡ 5 + length payload + length k.padding = ap (λ (xs : List ℕ). length xs) k.bytes_are ∙ packet_length_is payload k.padding in
     omega arith
 
-pub clear_again : IsReading Uint32Text uint32_at → (m : Meaning) (seq : ℕ) (payload clear rest : List ℕ) → IsPacket 8 0 payload clear
+pub clear_again : IsReading Uint32Text uint32_at → (m : Meaning) (seq : ℕ) (payload clear rest : List ℕ) → IsPacket true 8 0 payload clear
     → front (way m None seq) (clear ++ rest) ≡ whole payload (length clear)
 clear_again r m seq payload clear rest k =
-    let wide : 16 ≤ length clear = packet_long 8 0 payload clear k in
+    let wide : 12 ≤ length clear = packet_long true 8 0 payload clear k in
     let all : length (clear ++ rest) ≡ length clear + length rest = length-append clear rest in
-    let counts : length clear ≡ 4 + number clear = packet_counts r 8 0 payload clear k in
+    let counts : length clear ≡ 4 + number clear = packet_counts r true 8 0 payload clear k in
     let head : number (take 4 (clear ++ rest)) ≡ number clear = ap number (first_same clear rest (omega arith)) ∙ number_first clear in
     front_unit (way m None seq) payload clear (clear ++ rest) (length clear) (omega arith) (omega arith)
     (ap (λ (xs : List ℕ). Some xs) (take_at clear rest (length clear) refl)) k (omega arith) (omega arith)
 
 pub sealed_again : IsReading Uint32Text uint32_at → (m : Meaning) → IsLawful m → (keys : KeyData) (seq : ℕ) (payload clear rest : List ℕ) → seq < 2 ^ 32 → IsBytes clear
-    → IsPacket (m.block keys.cipher) (m.tag_len keys.cipher keys.mac) payload clear
+    → IsPacket (m.counts_length keys.cipher keys.mac) (m.block keys.cipher) (m.tag_len keys.cipher keys.mac) payload clear
     → front (way m (Some keys) seq) (m.seal keys seq clear ++ rest) ≡ whole payload (length (m.seal keys seq clear))
 sealed_again r m law keys seq payload clear rest low each k =
-    let wide : 16 ≤ length clear = packet_long (m.block keys.cipher) (m.tag_len keys.cipher keys.mac) payload clear k in
+    let wide : 12 ≤ length clear = packet_long (m.counts_length keys.cipher keys.mac) (m.block keys.cipher) (m.tag_len keys.cipher keys.mac) payload clear k in
     let size : length (m.seal keys seq clear) ≡ length clear + m.tag_len keys.cipher keys.mac = law.seal_length keys seq payload clear low (each, k) in
     let all : length (m.seal keys seq clear ++ rest) ≡ length (m.seal keys seq clear) + length rest = length-append (m.seal keys seq clear) rest in
-    let counts : length clear ≡ 4 + number clear = packet_counts r (m.block keys.cipher) (m.tag_len keys.cipher keys.mac) payload clear k in
+    let counts : length clear ≡ 4 + number clear = packet_counts r (m.counts_length keys.cipher keys.mac) (m.block keys.cipher) (m.tag_len keys.cipher keys.mac) payload clear k in
     let first : take 4 (m.seal keys seq clear ++ rest) ≡ take 4 (m.seal keys seq clear) = first_same (m.seal keys seq clear) rest (omega arith) in
     let head : m.head keys seq (take 4 (m.seal keys seq clear ++ rest)) ≡ number clear
     = ap (λ (xs : List ℕ). m.head keys seq xs) first ∙ law.head_of_seal keys seq payload clear low (each, k) in

@@ -1,12 +1,12 @@
 -- What stands at the front of the bytes of one direction, as a function. The promise is in Unit; the law function
 -- `packet_law` ties the two.
 
-use Rattle.std.specs.Prelude.{Bool, ◌==◌, ◌&&◌, ◌||◌, ℕ, ◌+◌, ◌-◌, ◌%◌, nat_le, nat_lt, if◌then◌else◌, List, length, take, drop, slice_index, Option, None, Some}
+use Rattle.std.specs.Prelude.{Bool, true, ◌==◌, ◌&&◌, ◌||◌, ℕ, ◌+◌, ◌-◌, ◌%◌, nat_le, nat_lt, if◌then◌else◌, List, length, take, drop, slice_index, Option, None, Some}
 use Rattle.sshwire.specs.declared.fault.WireFault.{WireFault}
 use Rattle.sshpacket.specs.declared.fault.PacketFault.{PacketFault}
 use Rattle.sshpacket.specs.declared.fault.PacketFault.TheVariants.{Empty, Length, Mac, Padding}
 use Rattle.sshpacket.specs.KeyData.{KeyData}
-use Rattle.sshpacket.specs.Packet.{number, unit}
+use Rattle.sshpacket.specs.Packet.{counted, number, unit}
 use Rattle.sshpacket.specs.Suite.{Meaning}
 
 -- why a stream is refused: as lines, or as packets
@@ -21,22 +21,23 @@ pub data Front : Type 0 where
   whole : List ℕ → ℕ → Front
   refused : Refusal → ℕ → Front
 
--- how packets are read, in clear or sealed: the block, the length of the tag, packet_length from the first four bytes, and
--- the clear packet from all bytes of it
+-- how packets are read, in clear or sealed: whether packet_length counts towards the multiple, the block, the length of the tag,
+-- packet_length from the first four bytes, and the clear packet from all bytes of it
 pub record Way : Type 0 where
+  pub counts : Bool
   pub block : ℕ
   pub tag : ℕ
   pub head : List ℕ → ℕ
   pub unseal : List ℕ → Option (List ℕ)
 
--- in clear the block is 8 and there is no tag
+-- in clear packet_length counts, the block is 8 and there is no tag
 abbrev pub way : Meaning → Option KeyData → ℕ → Way
-way m None seq = record { block = 8; tag = 0; head = number; unseal = Some }
-way m (Some keys) seq = record { block = m.block keys.cipher; tag = m.tag_len keys.cipher keys.mac; head = m.head keys seq; unseal = m.unseal keys seq }
+way m None seq = record { counts = true; block = 8; tag = 0; head = number; unseal = Some }
+way m (Some keys) seq = record { counts = m.counts_length keys.cipher keys.mac; block = m.block keys.cipher; tag = m.tag_len keys.cipher keys.mac; head = m.head keys seq; unseal = m.unseal keys seq }
 
 -- IsLength, as a test
-abbrev pub is_length : ℕ → ℕ → ℕ → Bool
-is_length block tag n = nat_le 12 n && (nat_le (4 + n + tag) 35000 && ((4 + n) % unit block == 0))
+abbrev pub is_length : Bool → ℕ → ℕ → ℕ → Bool
+is_length counts block tag n = nat_le (8 + counted counts) n && (nat_le (4 + n + tag) 35000 && ((counted counts + n) % unit block == 0))
 
 -- a clear packet of which all is there, with so many bytes in the stream
 unfoldable pub opened : List ℕ → ℕ → Front
@@ -57,6 +58,6 @@ total w bytes = 4 + w.head (take 4 bytes) + w.tag
 unfoldable pub front : Way → List ℕ → Front
 front w bytes =
     if nat_lt (length bytes) 4 then unfinished
-    else if is_length w.block w.tag (w.head (take 4 bytes)) then
+    else if is_length w.counts w.block w.tag (w.head (take 4 bytes)) then
     (if nat_lt (length bytes) (total w bytes) then unfinished else unsealed (w.unseal (take (total w bytes) bytes)) (total w bytes))
     else refused (OfPacket Length) 4

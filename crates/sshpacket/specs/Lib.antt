@@ -1,4 +1,6 @@
 pub mod Front
+pub mod Hearing
+pub mod Joined
 pub mod KeyData
 pub mod KeyNames
 pub mod LineLook
@@ -6,6 +8,7 @@ pub mod Packet
 pub mod Places
 pub mod ReaderState
 pub mod ReaderSteps
+pub mod Shares
 pub mod Stream
 pub mod Suite
 pub mod Unit

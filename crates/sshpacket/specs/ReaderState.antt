@@ -1,66 +1,104 @@
--- What the reader of packets answers, in terms of what stands at the front of the unfinished bytes and the piece.
+-- What contracts see of a packet reader, and what it answers, in the terms of the packet at hand: the bytes that it holds and
+-- the piece.
 
-use Rattle.std.specs.Prelude.{◌≡◌, ◌≢◌, ℕ, ◌+◌, ◌%◌, ◌^◌, ◌≤◌, List, [], ◌++◌, length, take, drop, Option, None, Some, Result, Ok, Err}
+use Rattle.std.specs.Prelude.{◌≡◌, ◌≢◌, ◌⊎◌, ℕ, ◌+◌, ◌%◌, ◌^◌, ◌<◌, ◌≤◌, List, [], ◌++◌, length, take, drop, Option, None, Some, Result, Ok, Err}
 use Rattle.sshpacket.specs.declared.fault.PacketFault.{PacketFault}
 use Rattle.sshpacket.specs.declared.fault.PacketFault.TheVariants.{Memory}
 use Rattle.sshpacket.specs.declared.reader.PacketReader.{PacketReader}
 use Rattle.sshpacket.specs.declared.reader.PacketStep.{PacketStep}
 use Rattle.sshpacket.specs.declared.reader.PacketStep.TheVariants.{More, Payload}
-use Rattle.sshpacket.specs.Front.{Front, OfPacket, front, refused, unfinished, way, whole}
+use Rattle.sshpacket.specs.Front.{Front, OfPacket, Way, front, refused, unfinished, way, whole}
 use Rattle.sshpacket.specs.KeyData.{KeyData}
 use Rattle.sshpacket.specs.ReaderSteps.{needed}
 use Rattle.sshpacket.specs.Suite.{Meaning}
+use Rattle.sshpacket.specs.Unit.{IsUnit, Means, Refuses}
 
--- what clauses see of a reader: its keys, the next packet's number, the unfinished bytes, and the fault that it found
+-- its keys, the next packet's number, the bytes of the unfinished packet, and the fault that it found
 pub record ReaderState : Type 0 where
   pub keys : Option KeyData
   pub seq : ℕ
   pub held : List ℕ
   pub fault : Option PacketFault
 
-abbrev pub state : PacketReader → ReaderState
-state r = record { keys = r.keys; seq = r.seq; held = drop r.start r.bytes.items; fault = r.fault }
+unfoldable pub state : PacketReader → ReaderState
+state r = record { keys = r.keys; seq = r.seq; held = r.unfinished.items; fault = r.fault }
+
+-- how many bytes of the piece the last call used
+unfoldable pub last_used : PacketReader → ℕ
+last_used r = r.taken
+
+-- how the packet at hand is read
+abbrev pub way_at : Meaning → ReaderState → Way
+way_at m s = way m s.keys s.seq
 
 -- what stands at the front, the piece included
 abbrev pub ahead : Meaning → ReaderState → List ℕ → Front
-ahead m s piece = front (way m s.keys s.seq) (s.held ++ piece)
+ahead m s piece = front (way_at m s) (s.held ++ piece)
 
--- the reader waits for more: what it holds is unfinished for this suite
-pub record Waits (m : Meaning) (r : PacketReader) : Type 0 where
-  pub unfinished_is : front (way m r.keys r.seq) (drop r.start r.bytes.items) ≡ unfinished
-  pub target : r.target ≡ needed (way m r.keys r.seq) (drop r.start r.bytes.items)
+-- the reader waits for more of this suite's packet: what it holds is unfinished, and it knows how much is wanted
+pub record ReaderWaits (m : Meaning) (r : PacketReader) : Type 0 where
+  pub no_fault : (state r).fault ≡ None
+  pub unfinished_is : front (way_at m (state r)) (state r).held ≡ unfinished
+  pub wanted : r.target ≡ needed (way_at m (state r)) (state r).held
 
--- what is answered to a piece; where a growth was refused, that says nothing of the bytes
-abbrev pub Answers : Meaning → ReaderState → List ℕ → Result PacketStep PacketFault → Type 0
-Answers m s piece (Err f) = f ≢ Memory → (used : ℕ) × (used ≤ length piece) × (ahead m s piece ≡ refused (OfPacket f) (length s.held + used))
-Answers m s piece (Ok More) = ahead m s piece ≡ unfinished
-Answers m s piece (Ok (Payload payload seq used)) =
-    (used ≤ length piece) × (ahead m s piece ≡ whole payload.now (length s.held + used)) × (seq ≡ s.seq)
-
--- and how the reader is left: with all unfinished bytes, with none behind a packet, with none and the fault
-abbrev pub Leaves : Meaning → PacketReader → List ℕ → Result PacketStep PacketFault → PacketReader → Type 0
-Leaves m old piece (Err f) new =
-    (state new ≡ record (state old) { held = []; fault = Some f }) × (new.taken ≤ length piece)
-    × (f ≢ Memory → ahead m (state old) piece ≡ refused (OfPacket f) (length (state old).held + new.taken))
-Leaves m old piece (Ok More) new =
-    (state new ≡ record (state old) { held = (state old).held ++ piece }) × (new.taken ≡ length piece) × Waits m new
-Leaves m old piece (Ok (Payload payload seq used)) new =
-    (state new ≡ record (state old) { held = []; seq = (old.seq + 1) % 2 ^ 32 }) × (new.taken ≡ used) × Waits m new
-
--- the same of the step below `next`, which answers the length of the payload in the packet
-abbrev pub Advances : Meaning → PacketReader → List ℕ → Result (Option ℕ) PacketFault → PacketReader → Type 0
-Advances m old piece (Err f) new =
-    (state new ≡ record (state old) { held = []; fault = Some f })
-    × (f ≢ Memory → ahead m (state old) piece ≡ refused (OfPacket f) (length (state old).held + new.taken))
-Advances m old piece (Ok None) new =
-    (state new ≡ record (state old) { held = (state old).held ++ piece }) × (new.taken ≡ length piece)
-    × (ahead m (state old) piece ≡ unfinished) × Waits m new
-Advances m old piece (Ok (Some payload_len)) new =
-    (state new ≡ record (state old) { held = []; seq = (old.seq + 1) % 2 ^ 32 })
-    × (payload_len + 5 ≤ length new.packet.items)
-    × (ahead m (state old) piece ≡ whole (take payload_len (drop 5 new.packet.items)) (length (state old).held + new.taken)) × Waits m new
-
--- a packet of this payload and number
+-- it answers this payload with this number, and so many bytes were used
 abbrev pub IsStep : List ℕ → ℕ → ℕ → PacketStep → Type 0
 IsStep payload seq used More = ⊥
 IsStep payload seq used (Payload lent number taken) = (lent.now ≡ payload) × (number ≡ seq) × (taken ≡ used)
+
+abbrev pub IsPayload : List ℕ → ℕ → ℕ → Result PacketStep PacketFault → Type 0
+IsPayload payload seq used (Ok step) = IsStep payload seq used step
+IsPayload payload seq used (Err f) = ⊥
+
+-- What the answer says of the packet at hand: that it is unfinished; that with so many bytes of the piece it is a packet of the
+-- payload, whose number is the next; or that it is refused for this cause, which so many bytes of the piece decide. Where a growth
+-- was refused, nothing.
+abbrev pub PacketTells : Meaning → ReaderState → List ℕ → Result PacketStep PacketFault → Type 0
+PacketTells m s piece (Ok More) = Means (way_at m s) (s.held ++ piece) unfinished
+PacketTells m s piece (Ok (Payload payload seq used)) =
+    (used ≤ length piece) × (seq ≡ s.seq) × IsUnit (way_at m s) payload.now (s.held ++ take used piece)
+PacketTells m s piece (Err f) = f ≢ Memory → (used : ℕ) × (used ≤ length piece) × Refuses (way_at m s) (s.held ++ piece) f (length s.held + used)
+
+-- No other answer comes than the one that the packet at hand has, want of memory apart.
+pub record OnlyPacketAnswer (m : Meaning) (s : ReaderState) (piece : List ℕ) (result : Result PacketStep PacketFault) : Type 0 where
+  pub more : Means (way_at m s) (s.held ++ piece) unfinished → (result ≡ Ok More) ⊎ (result ≡ Err Memory)
+  pub payload : (payload : List ℕ) (used : ℕ) → used ≤ length piece → IsUnit (way_at m s) payload (s.held ++ take used piece)
+      → IsPayload payload s.seq used result ⊎ (result ≡ Err Memory)
+  pub refused : (f : PacketFault) (place : ℕ) → Refuses (way_at m s) (s.held ++ piece) f place → (result ≡ Err f) ⊎ (result ≡ Err Memory)
+
+-- the same as the answer of the function
+abbrev pub PacketAnswer : Meaning → ReaderState → List ℕ → Result PacketStep PacketFault → Type 0
+PacketAnswer m s piece (Err f) = f ≢ Memory → (used : ℕ) × (used ≤ length piece) × (ahead m s piece ≡ refused (OfPacket f) (length s.held + used))
+PacketAnswer m s piece (Ok More) = ahead m s piece ≡ unfinished
+PacketAnswer m s piece (Ok (Payload payload seq used)) =
+    (used ≤ length piece) × (ahead m s piece ≡ whole payload.now (length s.held + used)) × (seq ≡ s.seq)
+
+-- and how the reader is left: with all unfinished bytes, with none behind a packet, with none and the fault
+abbrev pub ReaderLeaves : Meaning → ReaderState → List ℕ → Result PacketStep PacketFault → PacketReader → Type 0
+ReaderLeaves m old piece (Err f) new =
+    (state new ≡ record old { held = []; fault = Some f }) × (last_used new ≤ length piece)
+    × (f ≢ Memory → ahead m old piece ≡ refused (OfPacket f) (length old.held + last_used new))
+ReaderLeaves m old piece (Ok More) new = (state new ≡ record old { held = old.held ++ piece }) × (last_used new ≡ length piece) × ReaderWaits m new
+ReaderLeaves m old piece (Ok (Payload payload seq used)) new =
+    (state new ≡ record old { held = []; seq = (old.seq + 1) % 2 ^ 32 }) × (last_used new ≡ used) × ReaderWaits m new
+
+-- a packet uses some bytes of a piece of this length, and no more than it has
+abbrev pub Uses : ℕ → PacketStep → Type 0
+Uses len More = Unit {0}
+Uses len (Payload payload seq used) = (0 < used) × (used ≤ len)
+
+-- behind a payload nothing is held
+abbrev pub HoldsNothingBehind : Result PacketStep PacketFault → ReaderState → Type 0
+HoldsNothingBehind (Ok (Payload payload seq used)) new = new.held ≡ []
+HoldsNothingBehind _ new = Unit {0}
+
+-- the same of the step below `next`, which answers the length of the payload in the packet
+abbrev pub Advances : Meaning → ReaderState → List ℕ → Result (Option ℕ) PacketFault → PacketReader → Type 0
+Advances m old piece (Err f) new =
+    (state new ≡ record old { held = []; fault = Some f })
+    × (f ≢ Memory → ahead m old piece ≡ refused (OfPacket f) (length old.held + last_used new))
+Advances m old piece (Ok None) new =
+    (state new ≡ record old { held = old.held ++ piece }) × (last_used new ≡ length piece) × (ahead m old piece ≡ unfinished) × ReaderWaits m new
+Advances m old piece (Ok (Some payload_len)) new =
+    (state new ≡ record old { held = []; seq = (old.seq + 1) % 2 ^ 32 })
+    × (ahead m old piece ≡ whole (take payload_len (drop 5 new.packet)) (length old.held + last_used new)) × ReaderWaits m new

@@ -1,63 +1,81 @@
 -- What the steps of the packet reader do, each on plain bytes.
 
-use Rattle.std.specs.Prelude.{◌≡◌, ◌≢◌, ℕ, ◌+◌, ◌<◌, ◌≤◌, nat_lt, if◌then◌else◌, true, List, ◌++◌, length, take, drop, Result, Ok, Err}
+use Rattle.std.specs.Prelude.{◌≡◌, ◌≢◌, ℕ, ◌+◌, ◌<◌, ◌≤◌, nat_lt, if◌then◌else◌, true, List, [], ◌++◌, length, take, drop, None, Some, Result, Ok, Err}
 use Rattle.sshpacket.specs.declared.fault.PacketFault.{PacketFault}
 use Rattle.sshpacket.specs.declared.fault.PacketFault.TheVariants as fault
-use Rattle.sshpacket.specs.declared.reader.Step.{Step}
-use Rattle.sshpacket.specs.declared.reader.Step.TheVariants as step
-use Rattle.sshpacket.specs.declared.reader.Head.{Head}
-use Rattle.sshpacket.specs.declared.reader.Head.TheVariants as head
+use Rattle.sshpacket.specs.declared.protection.Opened.{Opened}
+use Rattle.sshpacket.specs.declared.reader.Filled.{Filled}
+use Rattle.sshpacket.specs.declared.reader.Filled.TheVariants as filled
+use Rattle.sshpacket.specs.declared.reader.Read.{Read}
+use Rattle.sshpacket.specs.declared.reader.Read.TheVariants as read
 use Rattle.sshpacket.specs.Front.{OfPacket, Way, front, is_length, refused, total, unfinished, unsealed, whole}
-
--- so many bytes of the piece were appended, as many as there are up to the target
-pub record Fills (held target : ℕ) (piece old new : List ℕ) (used : ℕ) : Type 0 where
-  pub within : used ≤ length piece
-  pub appended : new ≡ old ++ take used piece
-  pub upto : held + used ≤ target
-  pub all : held + used < target → used ≡ length piece
 
 -- the length of the packet by its first four bytes
 pub record Counts (w : Way) (first : List ℕ) (len : ℕ) : Type 0 where
-  pub taken : is_length w.block w.tag (w.head first) ≡ true
+  pub taken : is_length w.counts w.block w.tag (w.head first) ≡ true
   pub len_is : len ≡ 4 + w.head first + w.tag
 
--- a packet of which all is there was opened: the clear packet, and the length of its payload
-abbrev pub Opens : Way → List ℕ → List ℕ → Result ℕ PacketFault → Type 0
-Opens w sealed packet (Err f) = f ≢ fault.Memory → unsealed (w.unseal sealed) (length sealed) ≡ refused (OfPacket f) (length sealed)
-Opens w sealed packet (Ok payload_len) =
-    (payload_len + 5 ≤ length packet) × (unsealed (w.unseal sealed) (length sealed) ≡ whole (take payload_len (drop 5 packet)) (length sealed))
+-- the packet was unsealed, or has a wrong tag
+abbrev pub Unseals : Way → List ℕ → Result (List ℕ) PacketFault → Type 0
+Unseals w sealed (Ok clear) = w.unseal sealed ≡ Some clear
+Unseals w sealed (Err f) = f ≢ fault.Memory → (f ≡ fault.Mac) × (w.unseal sealed ≡ None)
 
--- the first four bytes and a piece behind fewer
-abbrev pub ReadsHead : Way → List ℕ → List ℕ → List ℕ → Result Head PacketFault → Type 0
-ReadsHead w held piece new (Err f) =
-    f ≢ fault.Memory → (f ≡ fault.Length) × (length new ≡ 4) × (front w (held ++ piece) ≡ refused (OfPacket fault.Length) 4)
-ReadsHead w held piece new (Ok head.Part) = (new ≡ held ++ piece) × (length held + length piece < 4)
-ReadsHead w held piece new (Ok (head.Whole used len)) =
-    (used ≤ length piece) × (length held + used ≡ 4) × (new ≡ held ++ take used piece) × Counts w (take 4 new) len
+-- a packet of which all is there was opened
+abbrev pub Opens : Way → List ℕ → Result Opened PacketFault → Type 0
+Opens w sealed (Err f) = f ≢ fault.Memory → unsealed (w.unseal sealed) (length sealed) ≡ refused (OfPacket f) (length sealed)
+Opens w sealed (Ok opened) = unsealed (w.unseal sealed) (length sealed) ≡ whole (take opened.payload_len (drop 5 opened.packet)) (length sealed)
+
+-- as many bytes of the piece as there are were appended, up to so many in all
+pub record Fills (target : ℕ) (piece held new : List ℕ) (used : ℕ) : Type 0 where
+  pub within : used ≤ length piece
+  pub appended : new ≡ held ++ take used piece
+  pub upto : length held + used ≤ target
+  pub all : length held + used < target → used ≡ length piece
 
 -- how many bytes there must be before more is judged
 abbrev pub needed : Way → List ℕ → ℕ
 needed w held = if nat_lt (length held) 4 then 4 else total w held
 
--- what is held and a piece: the bytes that are held then, and the last packet in clear
-abbrev pub ReadsPacket : Way → List ℕ → List ℕ → List ℕ → List ℕ → Result Step PacketFault → Type 0
-ReadsPacket w held piece new packet (Err f) = f ≢ fault.Memory → front w (held ++ piece) ≡ refused (OfPacket f) (length new)
-ReadsPacket w held piece new packet (Ok (step.Part target)) =
+-- what is held and a piece: a part of a packet, or all of it, or a length that isn't taken
+abbrev pub FillsPacket : Way → List ℕ → List ℕ → List ℕ → Result Filled PacketFault → Type 0
+FillsPacket w held piece new (Err f) = f ≢ fault.Memory → front w (held ++ piece) ≡ refused (OfPacket f) (length new)
+FillsPacket w held piece new (Ok (filled.Part target)) =
     (new ≡ held ++ piece) × (front w (held ++ piece) ≡ unfinished) × (target ≡ needed w new)
-ReadsPacket w held piece new packet (Ok (step.Whole payload_len)) =
-    (payload_len + 5 ≤ length packet) × (front w (held ++ piece) ≡ whole (take payload_len (drop 5 packet)) (length new))
+FillsPacket w held piece new (Ok filled.Whole) = front w (held ++ piece) ≡ unsealed (w.unseal new) (length new)
 
--- there is room for more up to the target
-abbrev pub HasRoom : ℕ → Step → Type 0
-HasRoom held (step.Part target) = (held < target) × (4 ≤ target) × (target ≤ 35000)
-HasRoom held (step.Whole payload_len) = Unit {0}
+-- there is room for more up to the target, or there are no more bytes than a packet has
+abbrev pub HasRoom : ℕ → Filled → Type 0
+HasRoom held (filled.Part target) = (held < target) × (4 ≤ target) × (target ≤ 35000)
+HasRoom held filled.Whole = held ≤ 35000
 
--- how many bytes are held behind a length: fewer than four, or exactly those, with the packet's length
-abbrev pub HeadLen : ℕ → Head → Type 0
-HeadLen held head.Part = held < 4
-HeadLen held (head.Whole used len) = (held ≡ 4) × (16 ≤ len) × (len ≤ 35000)
+-- some bytes were used for a whole packet
+abbrev pub Grows : ℕ → ℕ → Filled → Type 0
+Grows before after (filled.Part target) = before ≤ after
+Grows before after filled.Whole = before < after
 
--- the payload lies in the packet
-abbrev pub HasPayload : ℕ → Step → Type 0
-HasPayload packet_len (step.Part target) = Unit {0}
-HasPayload packet_len (step.Whole payload_len) = payload_len + 5 ≤ packet_len
+-- bytes were appended up to the length of the packet
+abbrev pub FillsBody : ℕ → List ℕ → List ℕ → List ℕ → Result Filled PacketFault → Type 0
+FillsBody len piece held new (Err f) = f ≡ fault.Memory
+FillsBody len piece held new (Ok (filled.Part target)) = (new ≡ held ++ piece) × (target ≡ len) × (length new < len)
+FillsBody len piece held new (Ok filled.Whole) = (length new ≡ len) × (used : ℕ) × (used ≤ length piece) × (new ≡ held ++ take used piece)
+
+-- what was filled is opened, where it is whole, and is held no longer; else nothing changes
+abbrev pub OpensFilled : Way → List ℕ → List ℕ → Result Filled PacketFault → Result Read PacketFault → Type 0
+OpensFilled w old new (Err f) result = (result ≡ Err f) × (new ≡ old)
+OpensFilled w old new (Ok (filled.Part target)) result = (result ≡ Ok (read.Part target)) × (new ≡ old)
+OpensFilled w old new (Ok filled.Whole) (Ok (read.Part target)) = ⊥
+OpensFilled w old new (Ok filled.Whole) (Ok (read.Whole opened)) = (new ≡ []) × Opens w old (Ok opened)
+OpensFilled w old new (Ok filled.Whole) (Err f) = Opens w old (Err f)
+
+-- what is held and a piece, of which so many bytes were used
+abbrev pub ReadsOn : Way → List ℕ → List ℕ → List ℕ → ℕ → Result Read PacketFault → Type 0
+ReadsOn w held piece new used (Err f) = f ≢ fault.Memory → front w (held ++ piece) ≡ refused (OfPacket f) (length held + used)
+ReadsOn w held piece new used (Ok (read.Part target)) =
+    (new ≡ held ++ piece) × (used ≡ length piece) × (front w (held ++ piece) ≡ unfinished) × (target ≡ needed w new)
+ReadsOn w held piece new used (Ok (read.Whole opened)) =
+    (new ≡ []) × (front w (held ++ piece) ≡ whole (take opened.payload_len (drop 5 opened.packet)) (length held + used))
+
+-- there is room up to the target; behind a whole packet nothing is held, and some bytes were used
+abbrev pub ReadRoom : List ℕ → ℕ → Read → Type 0
+ReadRoom new used (read.Part target) = (length new < target) × (4 ≤ target) × (target ≤ 35000)
+ReadRoom new used (read.Whole opened) = (new ≡ []) × (0 < used)

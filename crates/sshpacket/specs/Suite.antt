@@ -1,26 +1,40 @@
 -- What a suite of algorithms answers, as functions on byte lists, and the laws that hold of them.
 
-use Rattle.std.specs.Prelude.{◌≡◌, ℕ, ◌+◌, ◌^◌, ◌<◌, ◌≤◌, Bool, true, List, length, take, slice_index, Option, Some}
+use Rattle.std.specs.Prelude.{◌≡◌, ℕ, ◌+◌, ◌^◌, ◌<◌, ◌≤◌, ◌⊎◌, Bool, true, false, List, [], length, take, slice_index, Option, Some, option_map}
 use Rattle.sshwire.specs.Types.{IsBytes, IsName}
 use Rattle.sshpacket.specs.declared.suite.Capability.{Capability}
 use Rattle.sshpacket.specs.declared.suite.KeyLens.{KeyLens}
 use Rattle.sshpacket.specs.declared.suite.Need.{Need}
+use Rattle.sshpacket.specs.declared.suite.Response.{Response}
+use Rattle.sshwire.specs.declared.share_form.ShareForm.{ShareForm}
+use Rattle.sshwire.specs.declared.share_form.ShareForm.TheVariants.{Hybrid, Mpint, OctetString}
 use Rattle.sshpacket.specs.KeyData.{KeyData}
 use Rattle.sshpacket.specs.Packet.{IsPacket, number}
 
--- the answers of a suite, one function for each call
+-- the server's answer to a client's share: its own share, and the shared number
+pub record ResponseData : Type 0 where
+  pub share : List ℕ
+  pub shared : List ℕ
+
+abbrev pub response_data : Response → ResponseData
+response_data r = record { share = r.share.items; shared = r.shared.items }
+
+-- the answers of a suite, one function for each call; `share` is that of the call `public`
 pub record Meaning : Type 0 where
   pub need : List ℕ → Need
   pub can : List ℕ → Capability
   pub block : List ℕ → ℕ
   pub tag_len : List ℕ → List ℕ → ℕ
+  pub counts_length : List ℕ → List ℕ → Bool
   pub key_lens : List ℕ → List ℕ → KeyLens
   pub seal : KeyData → ℕ → List ℕ → List ℕ
   pub head : KeyData → ℕ → List ℕ → ℕ
   pub unseal : KeyData → ℕ → List ℕ → Option (List ℕ)
   pub padding : List ℕ → ℕ → ℕ → List ℕ
+  pub share_form : List ℕ → ShareForm
   pub share : List ℕ → List ℕ → List ℕ
   pub shared : List ℕ → List ℕ → List ℕ → Option (List ℕ)
+  pub respond : List ℕ → List ℕ → List ℕ → Option ResponseData
   pub digest : List ℕ → List ℕ → List ℕ
   pub blob : List ℕ → List ℕ → List ℕ
   pub sign : List ℕ → List ℕ → List ℕ → List ℕ
@@ -33,6 +47,33 @@ pub record IsPositiveBody (body : List ℕ) : Type 0 where
   pub shortest : slice_index body 0 ≡ 0 → (1 < length body) × (128 ≤ slice_index body 1)
   pub short : length body ≤ 4096
 
+-- of a positive number, or of zero, whose body has no byte
+abbrev pub IsNumberBody : List ℕ → Type 0
+IsNumberBody body = (body ≡ []) ⊎ IsPositiveBody body
+
+-- whether a method's shares are numbers, and whether what both sides share is one; else they are bytes
+abbrev pub has_number_shares : ShareForm → Bool
+has_number_shares Mpint = true
+has_number_shares OctetString = false
+has_number_shares Hybrid = false
+
+abbrev pub shares_number : ShareForm → Bool
+shares_number Mpint = true
+shares_number OctetString = true
+shares_number Hybrid = false
+
+-- what a share is in this form
+abbrev pub FitsShare : ShareForm → List ℕ → Type 0
+FitsShare Mpint share = IsPositiveBody share
+FitsShare OctetString share = length share ≤ 4096
+FitsShare Hybrid share = length share ≤ 4096
+
+-- what both sides share is in this form: a curve has points whose number is zero
+abbrev pub FitsShared : ShareForm → List ℕ → Type 0
+FitsShared Mpint shared = IsPositiveBody shared
+FitsShared OctetString shared = IsNumberBody shared
+FitsShared Hybrid shared = length shared ≤ 4096
+
 -- a clear packet with this packet_length
 pub record Keeps (n : ℕ) (clear : List ℕ) : Type 0 where
   pub length_is : length clear ≡ 4 + n
@@ -41,9 +82,9 @@ pub record Keeps (n : ℕ) (clear : List ℕ) : Type 0 where
 
 -- the packet is one that is sealed with these keys
 abbrev pub IsSealable : Meaning → KeyData → List ℕ → List ℕ → Type 0
-IsSealable m keys payload clear = IsBytes clear × IsPacket (m.block keys.cipher) (m.tag_len keys.cipher keys.mac) payload clear
+IsSealable m keys payload clear = IsBytes clear × IsPacket (m.counts_length keys.cipher keys.mac) (m.block keys.cipher) (m.tag_len keys.cipher keys.mac) payload clear
 
--- The laws. Outside the conditions of a call its function may be chosen as one likes, so the laws ask for no names
+-- The laws of one end. Outside the conditions of a call its function may be chosen as one likes, so the laws ask for no names
 -- where they don't need them.
 pub record IsLawful (m : Meaning) : Type 0 where
   -- sealing adds the tag, keeps the length field readable from the first four bytes alone, and is undone by unsealing
@@ -57,14 +98,11 @@ pub record IsLawful (m : Meaning) : Type 0 where
   pub unsealed : (keys : KeyData) (seq : ℕ) (sealed clear : List ℕ) → seq < 2 ^ 32 → IsBytes sealed
       → length sealed ≡ 4 + m.head keys seq (take 4 sealed) + m.tag_len keys.cipher keys.mac
       → m.unseal keys seq sealed ≡ Some clear → Keeps (m.head keys seq (take 4 sealed)) clear
-  -- both sides come to one shared number
-  pub agreed : (kex a b : List ℕ) → length a ≡ 32 → length b ≡ 32 → m.shared kex a (m.share kex b) ≡ m.shared kex b (m.share kex a)
-  pub present : (kex a b : List ℕ) → length a ≡ 32 → length b ≡ 32 → (body : List ℕ) × (m.shared kex a (m.share kex b) ≡ Some body)
-  -- a signature is verified
-  pub signed : (alg secret input : List ℕ) → m.verify alg (m.blob alg secret) input (m.sign alg secret input) ≡ true
-  -- shares and shared numbers are positive
-  pub share_positive : (kex a : List ℕ) → length a ≡ 32 → IsPositiveBody (m.share kex a)
-  pub shared_positive : (kex a peer body : List ℕ) → length a ≡ 32 → m.shared kex a peer ≡ Some body → IsPositiveBody body
+  -- shares and shared numbers have the method's form
+  pub share_fits : (kex a : List ℕ) → length a ≡ 32 → FitsShare (m.share_form kex) (m.share kex a)
+  pub shared_fits : (kex a peer body : List ℕ) → length a ≡ 32 → m.shared kex a peer ≡ Some body → FitsShared (m.share_form kex) body
+  pub response_fits : (kex a peer : List ℕ) (r : ResponseData) → length a ≡ 32 → m.respond kex a peer ≡ Some r
+      → FitsShare (m.share_form kex) r.share × FitsShared (m.share_form kex) r.shared
   -- ranges
   pub block_low : (cipher : List ℕ) → 8 ≤ m.block cipher
   pub block_high : (cipher : List ℕ) → m.block cipher ≤ 64
@@ -82,3 +120,28 @@ pub record IsLawful (m : Meaning) : Type 0 where
   pub seal_bytes : (keys : KeyData) (seq : ℕ) (clear : List ℕ) → IsBytes clear → IsBytes (m.seal keys seq clear)
   pub padding_bytes : (seed : List ℕ) (seq len : ℕ) → IsBytes (m.padding seed seq len)
   pub share_bytes : (kex a : List ℕ) → IsBytes a → IsBytes (m.share kex a)
+  pub shared_bytes : (kex a peer body : List ℕ) → IsBytes a → IsBytes peer → m.shared kex a peer ≡ Some body → IsBytes body
+  pub response_bytes : (kex a peer : List ℕ) (r : ResponseData) → IsBytes a → IsBytes peer → m.respond kex a peer ≡ Some r
+      → IsBytes r.share × IsBytes r.shared
+
+-- to the client's share of the one random the other is answered, and the client has the same shared number from that answer
+pub record Agrees (m : Meaning) (kex client server : List ℕ) : Type 0 where
+  pub answer : ResponseData
+  pub responds : m.respond kex server (m.share kex client) ≡ Some answer
+  pub same : m.shared kex client answer.share ≡ Some answer.shared
+
+-- what is signed with this secret is verified by its blob
+abbrev pub Signs : Meaning → List ℕ → List ℕ → Type 0
+Signs m alg secret = (input : List ℕ) → m.verify alg (m.blob alg secret) input (m.sign alg secret input) ≡ true
+
+-- the method answers as a Diffie-Hellman does: with the share of the own random, and the shared number from the peer's share
+abbrev pub AnswersAsDiffieHellman : Meaning → List ℕ → Type 0
+AnswersAsDiffieHellman m kex =
+    (a peer : List ℕ) → m.respond kex a peer ≡ option_map (λ body. record { share = m.share kex a; shared = body }) (m.shared kex a peer)
+
+-- The laws of two ends.
+pub record IsAgreeing (m : Meaning) : Type 0 where
+  -- both come to one shared number
+  pub agreed : (kex client server : List ℕ) → length client ≡ 32 → length server ≡ 32 → IsBytes client → IsBytes server → Agrees m kex client server
+  -- every key signs
+  pub signed : (alg secret : List ℕ) → Signs m alg secret

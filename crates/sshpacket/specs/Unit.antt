@@ -17,24 +17,24 @@ pub record IsUnit (w : Way) (payload bytes : List ℕ) : Type 0 where
   pub clear : List ℕ
   pub size : length bytes ≡ total w bytes
   pub opens : w.unseal bytes ≡ Some clear
-  pub spells : IsPacket w.block w.tag payload clear
+  pub spells : IsPacket w.counts w.block w.tag payload clear
 
 -- packet_length is taken, and the first len bytes are all that it counts
 pub record IsWhole (w : Way) (bytes : List ℕ) (len : ℕ) : Type 0 where
   pub headed : 4 ≤ length bytes
-  pub fits : IsLength w.block w.tag (w.head (take 4 bytes))
+  pub fits : IsLength w.counts w.block w.tag (w.head (take 4 bytes))
   pub size : len ≡ total w bytes
   pub there : len ≤ length bytes
 
 -- packet_length is taken, and not all that it counts is there
 pub record IsPart (w : Way) (bytes : List ℕ) : Type 0 where
   pub headed : 4 ≤ length bytes
-  pub fits : IsLength w.block w.tag (w.head (take 4 bytes))
+  pub fits : IsLength w.counts w.block w.tag (w.head (take 4 bytes))
   pub lacks : length bytes < total w bytes
 
 -- the packet at the front is refused for this cause, once so many bytes are there
 abbrev pub Refuses : Way → List ℕ → PacketFault → ℕ → Type 0
-Refuses w bytes Length place = (4 ≤ length bytes) × (place ≡ 4) × (IsLength w.block w.tag (w.head (take 4 bytes)) → ⊥)
+Refuses w bytes Length place = (4 ≤ length bytes) × (place ≡ 4) × (IsLength w.counts w.block w.tag (w.head (take 4 bytes)) → ⊥)
 Refuses w bytes Mac place = IsWhole w bytes place × (w.unseal (take place bytes) ≡ None)
 Refuses w bytes Padding place =
     IsWhole w bytes place × (clear : List ℕ) × (w.unseal (take place bytes) ≡ Some clear)

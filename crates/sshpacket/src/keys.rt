@@ -5,6 +5,22 @@ ghost use Rattle.sshwire.specs.Types.{IsName};
 
 use std::marker::Model;
 
+/// What [`Keys`] are made of, each part by its name (RFC 4253 section 7.2). They can't be printed, since
+/// they are secret.
+#[derive(Drop)]
+pub struct KeyParts {
+    /// The name of the cipher.
+    pub cipher: String,
+    /// The name of the MAC.
+    pub mac: String,
+    /// The initialisation vector.
+    pub iv: Vec<u8>,
+    /// The encryption key.
+    pub enc: Vec<u8>,
+    /// The integrity key.
+    pub mac_key: Vec<u8>,
+}
+
 /// The algorithms and keys of one direction (RFC 4253 section 7.2): the names of the cipher and of
 /// the MAC, the initialisation vector and the two keys.
 ///
@@ -33,19 +49,19 @@ impl Model for Keys {
 impl Keys {
     ghost use Rattle.std.specs.Prelude.{string_bytes};
 
-    /// These algorithms and keys. The caller's condition is that the names are names (RFC 4251
-    /// section 6).
-    pub fn new(cipher: String, mac: String, iv: Vec<u8>, enc: Vec<u8>, mac_key: Vec<u8>) -> Keys
-        requires cipher { IsName (string_bytes cipher) }
-        requires mac { IsName (string_bytes mac) }
-        ensures { result ≡ record { cipher = string_bytes cipher; mac = string_bytes mac; iv = iv.items; enc = enc.items; mac_key = mac_key.items } }
+    /// Keys of these parts. The caller's condition is that the names are names (RFC 4251 section 6).
+    /// It takes no memory.
+    pub fn new(parts: KeyParts) -> Keys
+        requires cipher { IsName (string_bytes parts.cipher) }
+        requires mac { IsName (string_bytes parts.mac) }
+        ensures { result ≡ record { cipher = string_bytes parts.cipher; mac = string_bytes parts.mac; iv = parts.iv.items; enc = parts.enc.items; mac_key = parts.mac_key.items } }
     {
         Keys {
-            cipher,
-            mac,
-            iv,
-            enc,
-            mac_key,
+            cipher: parts.cipher,
+            mac: parts.mac,
+            iv: parts.iv,
+            enc: parts.enc,
+            mac_key: parts.mac_key,
         }
     }
 

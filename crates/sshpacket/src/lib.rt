@@ -8,18 +8,20 @@ mod fault;
 mod keys;
 mod packet_laws;
 mod padding;
+mod protection;
 mod reader;
 mod stream_laws;
 mod suite;
 mod write;
 
 pub use fault::PacketFault;
-pub use keys::Keys;
-pub use packet_laws::{packet_law, writing_law};
-pub use padding::padding_len;
+pub use keys::{KeyParts, Keys};
+pub use packet_laws::{packet_law, shares_law, writing_law};
+pub use padding::{padding_len, padding_len_uncounted};
 pub use reader::{PacketReader, PacketStep};
-pub use stream_laws::{look_law, places_law, stream_law};
-pub use suite::{Capability, KeyLens, Need, Suite};
+pub use sshwire::ShareForm;
+pub use stream_laws::{hearing_law, joined_law, look_law, places_law, stream_law};
+pub use suite::{AgreeingSuite, Capability, KeyLens, Need, Response, Suite};
 pub use write::{write_clear, write_sealed};
 
 #[cfg(test)]

@@ -1,12 +1,13 @@
 //! What the layers above may rest on: packets as a claim and as a function are one, and what is
 //! written is read again.
 
-ghost use Rattle.std.specs.Prelude.{◌≡◌, ◌<◌, ◌≤◌, ◌^◌, ◌++◌, ℕ, List, Option, None, Some, length};
+ghost use Rattle.std.specs.Prelude.{◌≡◌, Bool, true, ◌<◌, ◌≤◌, ◌^◌, ◌++◌, ℕ, List, Option, None, Some, length};
 ghost use Rattle.sshwire.specs.Types.{IsBytes};
 ghost use Rattle.sshpacket.specs.Front.{Front, Way, front, way, whole};
 ghost use Rattle.sshpacket.specs.KeyData.{KeyData};
 ghost use Rattle.sshpacket.specs.Packet.{IsPacket};
-ghost use Rattle.sshpacket.specs.Suite.{IsLawful, Meaning};
+ghost use Rattle.sshpacket.specs.Suite.{IsLawful, Meaning, ResponseData, has_number_shares, shares_number};
+ghost use Rattle.sshpacket.specs.Shares.{IsShare};
 ghost use Rattle.sshpacket.specs.Unit.{IsFaithful, IsUnit, Means};
 ghost use Rattle.sshpacket.specs.Written.{IsWritten, written, written_clear, written_sealed};
 
@@ -18,8 +19,8 @@ pub fn packet_law()
     ensures found { (w : Way) (bytes : List ℕ) → IsFaithful w → IsBytes bytes → Means w bytes (front w bytes) }
     ensures only { (w : Way) (bytes : List ℕ) → IsFaithful w → IsBytes bytes → (answer : Front) → Means w bytes answer → front w bytes ≡ answer }
     // In clear a unit is a packet.
-    ensures unit { (m : Meaning) (seq : ℕ) (payload bytes : List ℕ) → IsPacket 8 0 payload bytes → IsUnit (way m None seq) payload bytes }
-    ensures packet { (m : Meaning) (seq : ℕ) (payload bytes : List ℕ) → IsUnit (way m None seq) payload bytes → IsPacket 8 0 payload bytes }
+    ensures unit { (m : Meaning) (seq : ℕ) (payload bytes : List ℕ) → IsPacket true 8 0 payload bytes → IsUnit (way m None seq) payload bytes }
+    ensures packet { (m : Meaning) (seq : ℕ) (payload bytes : List ℕ) → IsUnit (way m None seq) payload bytes → IsPacket true 8 0 payload bytes }
 {
     sshwire::types_law();
 }
@@ -27,15 +28,27 @@ pub fn packet_law()
 /// The law of writing: a written packet is one, with the least padding, of bytes, and is read again
 /// as its payload, whatever follows.
 pub fn writing_law()
-    ensures written { (m : Meaning) → IsLawful m → (block tag : ℕ) (seed : List ℕ) (seq : ℕ) (payload : List ℕ) → block ≤ 64 → tag ≤ 64
-        → 0 < length payload → length payload ≤ 32768 → IsWritten block tag payload (written m block seed seq payload) }
-    ensures bytes { (m : Meaning) → IsLawful m → (block : ℕ) (seed : List ℕ) (seq : ℕ) (payload : List ℕ) → block ≤ 64 → IsBytes payload
-        → IsBytes (written m block seed seq payload) }
+    ensures written { (m : Meaning) → IsLawful m → (counts : Bool) (block tag : ℕ) (seed : List ℕ) (seq : ℕ) (payload : List ℕ) → block ≤ 64 → tag ≤ 64
+        → 0 < length payload → length payload ≤ 32768 → IsWritten counts block tag payload (written m counts block seed seq payload) }
+    ensures bytes { (m : Meaning) → IsLawful m → (counts : Bool) (block : ℕ) (seed : List ℕ) (seq : ℕ) (payload : List ℕ) → block ≤ 64 → IsBytes payload
+        → IsBytes (written m counts block seed seq payload) }
     ensures clear { (m : Meaning) → IsLawful m → (seed : List ℕ) (seq : ℕ) (payload rest : List ℕ) → 0 < length payload → length payload ≤ 32768
         → front (way m None seq) (written_clear m seed seq payload ++ rest) ≡ whole payload (length (written_clear m seed seq payload)) }
     ensures sealed { (m : Meaning) → IsLawful m → (keys : KeyData) (seed : List ℕ) (seq : ℕ) (payload rest : List ℕ) → seq < 2 ^ 32 → IsBytes payload
         → 0 < length payload → length payload ≤ 32768
         → front (way m (Some keys) seq) (written_sealed m keys seed seq payload ++ rest) ≡ whole payload (length (written_sealed m keys seed seq payload)) }
+{
+    sshwire::types_law();
+}
+
+/// The law of shares: what a suite makes of random bytes and of a peer's share are bytes, at most 4096
+/// of them, and the shortest body of an mpint where the method's form asks for one.
+pub fn shares_law()
+    ensures share { (m : Meaning) → IsLawful m → (kex a : List ℕ) → length a ≡ 32 → IsBytes a → IsShare (has_number_shares (m.share_form kex)) (m.share kex a) }
+    ensures shared { (m : Meaning) → IsLawful m → (kex a peer body : List ℕ) → length a ≡ 32 → IsBytes a → IsBytes peer
+        → m.shared kex a peer ≡ Some body → IsShare (shares_number (m.share_form kex)) body }
+    ensures response { (m : Meaning) → IsLawful m → (kex a peer : List ℕ) (r : ResponseData) → length a ≡ 32 → IsBytes a → IsBytes peer
+        → m.respond kex a peer ≡ Some r → IsShare (has_number_shares (m.share_form kex)) r.share × IsShare (shares_number (m.share_form kex)) r.shared }
 {
     sshwire::types_law();
 }

@@ -1,11 +1,20 @@
 //! What the layers above may rest on: places of lists, readers of one unit, and streams of units.
 
-ghost use Rattle.std.specs.Prelude.{◌≡◌, ◌≤◌, ◌+◌, ℕ, Bool, true, if◌then◌else◌, List, [], ◌∷◌, ◌++◌, length, drop, take, Option, None, Some};
+ghost use Rattle.std.specs.Prelude.{◌≡◌, ◌≤◌, ◌+◌, ℕ, Bool, true, if◌then◌else◌, List, [], ◌∷◌, ◌++◌, length, drop, take, Option, None, Some, Result};
 ghost use Rattle.sshwire.specs.Lines.{Preamble};
+ghost use Rattle.sshwire.specs.Types.{IsBytes};
+ghost use Rattle.sshpacket.specs.declared.fault.PacketFault.{PacketFault};
+ghost use Rattle.sshpacket.specs.declared.reader.PacketReader.{PacketReader};
+ghost use Rattle.sshpacket.specs.declared.reader.PacketStep.{PacketStep};
 ghost use Rattle.sshpacket.specs.Front.{Front, Refusal, Way, front, refused, unfinished, whole};
+ghost use Rattle.sshpacket.specs.Hearing.{Hears};
+ghost use Rattle.sshpacket.specs.Joined.{Joined};
 ghost use Rattle.sshpacket.specs.LineLook.{MeansLines, look_of_lines};
 ghost use Rattle.sshpacket.specs.Places.{EachPlace, IsFront, after_first, count_places, first_of, flat_places, stands};
+ghost use Rattle.sshpacket.specs.ReaderState.{PacketAnswer, ReaderLeaves, ReaderState, way_at};
 ghost use Rattle.sshpacket.specs.Stream.{Heard, HeardAll, IsLook, IsRest, Linked, Look, Read, Said, Same, Spelled, Units};
+ghost use Rattle.sshpacket.specs.Suite.{Meaning};
+ghost use Rattle.sshpacket.specs.Unit.{IsFaithful};
 
 /// The law of places: what one more unit at the end of a list changes, and more units. The same
 /// holds for lists of anything; the lemmas of `Places` say so.
@@ -108,3 +117,26 @@ pub fn stream_law()
     ensures said_same { (spells others : Units → List ℕ → List ℕ) (stream : List ℕ) (us : Units)
         → EachPlace (λ before u. spells before u ≡ others before u) [] us → Said spells stream us → Said others stream us }
 {}
+
+/// The law of hearing: a packet reader that stands at the rest of a stream goes on standing there, for
+/// each answer of `next`, in whatever pieces the stream comes.
+///
+/// Its premises are what `next` ensures of the reader before and after, and that the next unit of the
+/// stream is read as the reader reads.
+pub fn hearing_law()
+    ensures hears { (m : Meaning) (looks : Units → Look) → ((us : Units) → IsLook (looks us)) → (stream : List ℕ) (us : Units)
+        (old : ReaderState) (new : PacketReader) (piece : List ℕ) (result : Result PacketStep PacketFault)
+        → Heard looks stream us old.held None → looks us ≡ front (way_at m old)
+        → PacketAnswer m old piece result → ReaderLeaves m old piece result new → Hears looks stream us old piece result new }
+{}
+
+/// The law of joined packets: what is read of a stream behind its version line is packets one after
+/// another by the standard's own definition of a packet (RFC 4253 section 6), and nothing else is read.
+pub fn joined_law()
+    ensures found { (looks : Units → Look) (at : Units → Way) (version : List ℕ) → ((us : Units) → looks (version ∷ us) ≡ front (at us)) → ((us : Units) → IsFaithful (at us))
+        → (before : Units) (bytes : List ℕ) (ps : Units) (rest : List ℕ) → IsBytes bytes → Read looks (version ∷ before) bytes ps rest → Joined at before bytes ps rest }
+    ensures only { (looks : Units → Look) (at : Units → Way) (version : List ℕ) → ((us : Units) → looks (version ∷ us) ≡ front (at us)) → ((us : Units) → IsFaithful (at us))
+        → (before : Units) (bytes : List ℕ) (ps : Units) (rest : List ℕ) → IsBytes bytes → Joined at before bytes ps rest → Read looks (version ∷ before) bytes ps rest }
+{
+    crate::packet_laws::packet_law();
+}

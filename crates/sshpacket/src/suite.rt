@@ -2,10 +2,10 @@
 
 ghost use Rattle.std.specs.Prelude.{◌≡◌, ◌<◌, ◌^◌, IfOk, length, option_map};
 ghost use Rattle.sshwire.specs.Types.{IsName};
-ghost use Rattle.sshpacket.specs.Suite.{IsLawful, Meaning};
+ghost use Rattle.sshpacket.specs.Suite.{IsAgreeing, IsLawful, Meaning, response_data};
 
 use crate::keys::Keys;
-use sshwire::Memory;
+use sshwire::{Memory, ShareForm};
 use std::alloc::Global;
 
 /// What a key exchange method needs of the host key (RFC 4253 section 7.1).
@@ -37,6 +37,15 @@ pub struct KeyLens {
     pub mac: u8,
 }
 
+/// A server's answer to a client's share. It can't be printed, since it holds the shared number.
+#[derive(Drop)]
+pub struct Response {
+    /// The server's share.
+    pub share: Vec<u8>,
+    /// The shared number.
+    pub shared: Vec<u8>,
+}
+
 /// A suite of algorithms: all cryptography that SSH up to authentication asks for.
 ///
 /// Who writes a suite gives it a *meaning*, one function on byte lists for each call, and shows that
@@ -50,13 +59,31 @@ pub struct KeyLens {
 ///   by unsealing with the same keys and number; else no packet that is sent could be read. What
 ///   unsealing gives has the length that was read from the first four bytes, whoever sent it: a
 ///   reader stands on it.
-/// - Both sides come to one shared number from each other's share: else their keys differ.
-/// - A signature is verified by its own key's blob: else no host is known.
-/// - Shares and shared numbers are positive mpints of at most 4096 bytes, and the ranges that each
-///   call names hold: so every message and packet keeps its bounds.
-/// - Padding, sealed packets and shares are bytes, that is numbers below 256: what is sent is known
-///   to be bytes before any call has made it.
-/// - Each answer depends on its arguments alone: the meaning is a function.
+/// - Shares, and what both sides share, are mpints or bytes, by the method's form ([`ShareForm`]), of
+///   at most 4096 bytes, and the ranges that each call names hold: so every message and packet keeps
+///   its bounds. A number is positive; what both sides share may be zero where the shares are bytes.
+/// - Padding, sealed packets and shares are bytes, that is numbers below 256, and so is what is made
+///   of whatever bytes came in: what is sent is known to be bytes before any call has made it.
+/// - Each answer depends on its arguments alone: the meaning is a function, in which the call `public`
+///   is `share`. So ECDSA has to sign by RFC 6979, whose nonce comes from the key and the input, and a
+///   hybrid draws all its keys from the 32 random bytes by a function.
+///
+/// The laws can't see strength:
+///
+/// - An unknown cipher must not mean none, though a cipher that changes nothing has the laws of sealing.
+/// - What is no private key of its algorithm, or of an algorithm that the suite doesn't know, must not
+///   be given a blob that verifies everything, nor a signature that anyone can make; it may be hashed
+///   to a private key of another algorithm.
+/// - A number comes again after 2^32 packets, with the same keys.
+/// - A MAC is chosen and named also for a cipher with a tag of its own, and is then ignored by the
+///   suite.
+///
+/// Of what is deployed, these fit: chacha20-poly1305@openssh.com; AES-GCM where numbers begin at 0
+/// with the keys, as under strict key exchange, since its counter is then the number;
+/// curve25519-sha256, the curves of RFC 5656, the groups of RFC 8268, mlkem768x25519-sha256 and
+/// sntrup761x25519-sha512; ssh-ed25519, rsa-sha2-256 and ECDSA. These don't, since sealing depends on
+/// the packets before: aes-ctr and every -cbc. So the MACs -etm fit, but no cipher that is deployed
+/// beside them does. Group exchange (RFC 4419) has other messages.
 pub trait Suite {
     ghost meaning: { Self → Meaning };
 
@@ -80,6 +107,14 @@ pub trait Suite {
         requires cipher { IsName cipher.now }
         requires mac { IsName mac.now }
         ensures { result ≡ (meaning self.now).tag_len cipher.now mac.now };
+
+    /// Whether the four bytes of packet_length count towards the multiple of the block. They do by RFC
+    /// 4253 section 6; they don't in AES-GCM (RFC 5647 section 7.2), in chacha20-poly1305@openssh.com,
+    /// and with the MACs -etm of OpenSSH PROTOCOL, such as hmac-sha2-256-etm@openssh.com.
+    fn counts_length(&self, cipher: &str, mac: &str) -> bool
+        requires cipher { IsName cipher.now }
+        requires mac { IsName mac.now }
+        ensures { result ≡ (meaning self.now).counts_length cipher.now mac.now };
 
     /// The lengths of the keys.
     fn key_lens(&self, cipher: &str, mac: &str) -> KeyLens
@@ -114,15 +149,21 @@ pub trait Suite {
         requires { length seed.now < 2 ^ 32 }
         ensures { IfOk result (λ v. v.items ≡ (meaning self.now).padding seed.now seq len) };
 
-    /// The share of a side in the key exchange, as the body of an mpint, from 32 random bytes
-    /// (RFC 4253 section 8: e or f).
+    /// The form of a method's shares, the client's and the server's alike, and of what both share: of
+    /// curve25519-sha256 it is `OctetString` (RFC 8731 section 3).
+    fn share_form(&self, kex: &str) -> ShareForm
+        requires { IsName kex.now }
+        ensures { result ≡ (meaning self.now).share_form kex.now };
+
+    /// The client's share in the key exchange from 32 random bytes (RFC 4253 section 8: e), as the body
+    /// of an mpint or as bytes, by the method's form.
     fn public(&self, alloc: Global, kex: &str, random: &[u8]) -> Result<Vec<u8>, Memory>
         requires kex { IsName kex.now }
         requires random { length random.now ≡ 32 }
         ensures { IfOk result (λ v. v.items ≡ (meaning self.now).share kex.now random.now) };
 
-    /// The shared number, as the body of an mpint, from 32 random bytes and the peer's share
-    /// (RFC 4253 section 8: K); none where the share is refused.
+    /// The client's shared number (RFC 4253 section 8: K), from the same random bytes and the share that
+    /// the server answered; none where that is refused.
     fn shared(
         &self,
         alloc: Global,
@@ -134,6 +175,21 @@ pub trait Suite {
         requires random { length random.now ≡ 32 }
         requires peer { length peer.now < 2 ^ 32 }
         ensures { IfOk result (λ o. option_map (λ v. v.items) o ≡ (meaning self.now).shared kex.now random.now peer.now) };
+
+    /// The server's share and its shared number, from 32 random bytes and the client's share; none
+    /// where that is refused. In a Diffie-Hellman they are `public` of the random bytes and `shared`
+    /// with the client's share; in mlkem768x25519-sha256 the server's share depends on the client's.
+    fn respond(
+        &self,
+        alloc: Global,
+        kex: &str,
+        random: &[u8],
+        peer: &[u8],
+    ) -> Result<Option<Response>, Memory>
+        requires kex { IsName kex.now }
+        requires random { length random.now ≡ 32 }
+        requires peer { length peer.now < 2 ^ 32 }
+        ensures { IfOk result (λ o. option_map (λ r. response_data r) o ≡ (meaning self.now).respond kex.now random.now peer.now) };
 
     /// The hash of a key exchange method, 1 to 64 bytes, as many for every input.
     fn digest(&self, alloc: Global, kex: &str, input: &[u8]) -> Result<Vec<u8>, Memory>
@@ -170,4 +226,13 @@ pub trait Suite {
         ensures { IfOk result (λ b. b ≡ (meaning self.now).verify alg.now blob.now input.now signature.now) };
 
     ghost lawful: { (s : Self) → IsLawful (meaning s) };
+}
+
+/// A suite of which two ends understand each other: they come to one shared number, and a signature is
+/// verified by its own key's blob. What is proved of one end needs none of it.
+///
+/// Not every suite is one: decapsulation in ML-KEM fails for a few random bytes, and not all secrets
+/// are keys. Of one method with two random values the condition is `Agrees`, of one secret `Signs`.
+pub trait AgreeingSuite: Suite {
+    ghost agrees: { (s : Self) → IsAgreeing (Self.Suite.meaning s) };
 }

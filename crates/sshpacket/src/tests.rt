@@ -1,6 +1,6 @@
 //! Examples of padding and of what faults print. Packets are tested with a suite, in `sshlab`.
 
-use crate::{Keys, PacketFault, padding_len};
+use crate::{KeyParts, Keys, PacketFault, padding_len, padding_len_uncounted};
 use std::test::Fail;
 
 #[test]
@@ -12,6 +12,17 @@ fn pads_as_little_as_it_may(rt: HostRuntime) {
     assert_eq!(rt; padding_len(16, 1), 10);
     assert_eq!(rt; padding_len(64, 1), 58);
     assert_eq!(rt; padding_len(64, 56), 67);
+}
+
+#[test]
+fn pads_what_stands_behind_the_length(rt: HostRuntime) {
+    assert_eq!(rt; padding_len_uncounted(8, 1), 6);
+    assert_eq!(rt; padding_len_uncounted(8, 3), 4);
+    assert_eq!(rt; padding_len_uncounted(8, 4), 11);
+    assert_eq!(rt; padding_len_uncounted(16, 1), 14);
+    assert_eq!(rt; padding_len_uncounted(16, 17), 14);
+    assert_eq!(rt; padding_len_uncounted(16, 25), 6);
+    assert_eq!(rt; padding_len_uncounted(64, 60), 67);
 }
 
 #[test]
@@ -43,13 +54,13 @@ fn faults_have_texts(rt: HostRuntime) -> Result<(), Fail> {
 #[test]
 fn keys_lend_their_parts(rt: HostRuntime) -> Result<(), Fail> {
     let alloc = rt.alloc();
-    let keys = Keys::new(
-        String::from_str(alloc, "c")?,
-        String::from_str(alloc, "m")?,
-        Vec::from_slice(alloc, b"iv")?,
-        Vec::from_slice(alloc, b"enc")?,
-        Vec::from_slice(alloc, b"mac")?,
-    );
+    let keys = Keys::new(KeyParts {
+        cipher: String::from_str(alloc, "c")?,
+        mac: String::from_str(alloc, "m")?,
+        iv: Vec::from_slice(alloc, b"iv")?,
+        enc: Vec::from_slice(alloc, b"enc")?,
+        mac_key: Vec::from_slice(alloc, b"mac")?,
+    });
     assert_eq!(rt; keys.cipher(), "c");
     assert_eq!(rt; keys.mac(), "m");
     assert_eq!(rt; keys.iv(), b"iv".as_slice());

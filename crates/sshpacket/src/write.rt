@@ -1,13 +1,13 @@
 //! Writes packets.
 
-ghost use Rattle.std.specs.Prelude.{◌≡◌, ◌+◌, ◌<◌, ◌≤◌, ◌^◌, ◌++◌, IfOk, OnOk, if◌then◌else◌, is_ok, length};
+ghost use Rattle.std.specs.Prelude.{◌≡◌, true, ◌+◌, ◌<◌, ◌≤◌, ◌^◌, ◌++◌, IfOk, OnOk, if◌then◌else◌, is_ok, length};
 ghost use Rattle.sshwire.specs.Types.{IsBytes};
 ghost use Rattle.sshpacket.specs.Packet.{packet};
 ghost use Rattle.sshpacket.specs.Suite.{Meaning};
 ghost use Rattle.sshpacket.specs.Written.{IsWritten, written, written_clear, written_sealed};
 
 use crate::keys::Keys;
-use crate::padding::padding_len;
+use crate::padding::least_padding_len;
 use crate::suite::Suite;
 use sshwire::{Memory, put_u32};
 use std::alloc::Global;
@@ -30,10 +30,10 @@ pub fn write_clear<S: Suite>(
     requires seed { length seed.now < 2 ^ 32 }
     ensures appends { out.new.items ≡ (if is_ok result then out.old.items ++ written_clear (S.meaning suite.now) seed.now seq payload.now else out.old.items) }
     // What is appended is a packet of the payload with the least padding.
-    ensures packet { IsWritten 8 0 payload.now (written_clear (S.meaning suite.now) seed.now seq payload.now) }
+    ensures packet { IsWritten true 8 0 payload.now (written_clear (S.meaning suite.now) seed.now seq payload.now) }
 {
     crate::packet_laws::writing_law();
-    let clear = clear_packet(alloc, suite, 8, seq, payload, seed)?;
+    let clear = clear_packet(alloc, suite, true, 8, seq, payload, seed)?;
     out.extend_from_slice(&clear)?;
     Ok(())
 }
@@ -53,12 +53,13 @@ pub fn write_sealed<S: Suite>(
     requires seed { length seed.now < 2 ^ 32 }
     ensures appends { out.new.items ≡ (if is_ok result then out.old.items ++ written_sealed (S.meaning suite.now) keys.now seed.now seq payload.now else out.old.items) }
     // What is sealed is a packet of the payload with the least padding.
-    ensures packet { IsWritten ((S.meaning suite.now).block keys.now.cipher) ((S.meaning suite.now).tag_len keys.now.cipher keys.now.mac) payload.now
-        (written (S.meaning suite.now) ((S.meaning suite.now).block keys.now.cipher) seed.now seq payload.now) }
+    ensures packet { IsWritten ((S.meaning suite.now).counts_length keys.now.cipher keys.now.mac) ((S.meaning suite.now).block keys.now.cipher) ((S.meaning suite.now).tag_len keys.now.cipher keys.now.mac) payload.now
+        (written (S.meaning suite.now) ((S.meaning suite.now).counts_length keys.now.cipher keys.now.mac) ((S.meaning suite.now).block keys.now.cipher) seed.now seq payload.now) }
 {
     sealed_is_packet(suite, keys, seq, payload, seed);
     let block = suite.block(keys.cipher());
-    let clear = clear_packet(alloc, suite, block, seq, payload, seed)?;
+    let counts = suite.counts_length(keys.cipher(), keys.mac());
+    let clear = clear_packet(alloc, suite, counts, block, seq, payload, seed)?;
     let sealed = suite.seal(alloc, keys, seq, &clear)?;
     out.extend_from_slice(&sealed)?;
     Ok(())
@@ -68,17 +69,18 @@ pub fn write_sealed<S: Suite>(
 fn sealed_is_packet<S: Suite>(suite: &S, keys: &Keys, seq: u32, payload: &[u8], seed: &[u8])
     requires some { 0 < length payload.now }
     requires payload { length payload.now ≤ 32768 }
-    ensures { IsWritten ((S.meaning suite.now).block keys.now.cipher) ((S.meaning suite.now).tag_len keys.now.cipher keys.now.mac) payload.now
-        (written (S.meaning suite.now) ((S.meaning suite.now).block keys.now.cipher) seed.now seq payload.now) }
+    ensures { IsWritten ((S.meaning suite.now).counts_length keys.now.cipher keys.now.mac) ((S.meaning suite.now).block keys.now.cipher) ((S.meaning suite.now).tag_len keys.now.cipher keys.now.mac) payload.now
+        (written (S.meaning suite.now) ((S.meaning suite.now).counts_length keys.now.cipher keys.now.mac) ((S.meaning suite.now).block keys.now.cipher) seed.now seq payload.now) }
 {
     crate::packet_laws::writing_law();
 }
 
-/// The packet of a payload in clear, for this block.
+/// The packet of a payload in clear, for this block, where packet_length counts or not.
 #[tactic(auto, unfolding(crate::specs::Written::written))]
 fn clear_packet<S: Suite>(
     alloc: Global,
     suite: &S,
+    counts: bool,
     block: u8,
     seq: u32,
     payload: &[u8],
@@ -87,10 +89,10 @@ fn clear_packet<S: Suite>(
     requires block { block ≤ 64 }
     requires payload { length payload.now ≤ 32768 }
     requires seed { length seed.now < 2 ^ 32 }
-    ensures packet { IfOk result (λ v. v.items ≡ written (S.meaning suite.now) block seed.now seq payload.now) }
+    ensures packet { IfOk result (λ v. v.items ≡ written (S.meaning suite.now) counts block seed.now seq payload.now) }
     ensures short { IfOk result (λ v. length v.items < 2 ^ 32) }
 {
-    let len = padding_len(block, payload.len());
+    let len = least_padding_len(counts, block, payload.len());
     let padding = suite.padding(alloc, seed, seq, len)?;
     let mut clear = Vec::new(alloc);
     put_packet(&mut clear, payload, &padding)?;

@@ -10,6 +10,7 @@ mod mpint;
 mod name_list;
 mod put;
 mod reader;
+mod share_form;
 mod version_line;
 
 pub use fault::{Memory, WireFault};
@@ -19,6 +20,7 @@ pub use mpint::Mpint;
 pub use name_list::NameList;
 pub use put::{put_boolean, put_mpint, put_string, put_u32};
 pub use reader::Reader;
+pub use share_form::ShareForm;
 pub use version_line::VersionLine;
 
 #[cfg(test)]

@@ -1,5 +1,6 @@
 use Rattle.sshneg.specs.Derivations.{derived, enc_letter, iv_letter, mac_letter}
-use Rattle.sshneg.proofs.KeyLemmas.{both_keys, key_by, key_length}
+use Rattle.sshneg.proofs.EndLemmas.{one_end, one_source}
+use Rattle.sshneg.proofs.KeyLemmas.{key_by, key_length}
 use Rattle.sshneg.proofs.law.derivation_law.Goals as goal
 
 pub returns-clause-iv : goal.returns-clause-iv
@@ -18,4 +19,7 @@ pub returns-clause-hashes : goal.returns-clause-hashes
 returns-clause-hashes c = key_by
 
 pub returns-clause-both : goal.returns-clause-both
-returns-clause-both c = both_keys
+returns-clause-both c = one_source
+
+pub returns-clause-ends : goal.returns-clause-ends
+returns-clause-ends c = one_end

@@ -1,4 +1,4 @@
-use Rattle.std.proofs.Common.{lit≤}
+use Rattle.std.proofs.Common.{lit≤, true}
 use Rattle.sshpacket.specs.Written.{written}
 use Rattle.sshpacket.proofs.Writings.{clear_again, sealed_again, written_bytes, written_is}
 use Rattle.sshpacket.proofs.packet_laws.writing_law.Goals as goal
@@ -11,12 +11,12 @@ returns-clause-bytes c = written_bytes
 
 pub returns-clause-clear : goal.returns-clause-clear
 returns-clause-clear c = λ m law seed seq payload rest some short.
-    clear_again c.types_law.ensures.uint32 m seq payload (written m 8 seed seq payload) rest
-    (written_is m law 8 0 seed seq payload (lit≤ tt) (lit≤ tt) some short).spells
+    clear_again c.types_law.ensures.uint32 m seq payload (written m true 8 seed seq payload) rest
+    (written_is m law true 8 0 seed seq payload (lit≤ tt) (lit≤ tt) some short).spells
 
 pub returns-clause-sealed : goal.returns-clause-sealed
 returns-clause-sealed c = λ m law keys seed seq payload rest low each some short.
-    sealed_again c.types_law.ensures.uint32 m law keys seq payload (written m (m.block keys.cipher) seed seq payload) rest low
-    (written_bytes m law (m.block keys.cipher) seed seq payload (law.block_high keys.cipher) each)
-    (written_is m law (m.block keys.cipher) (m.tag_len keys.cipher keys.mac) seed seq payload (law.block_high keys.cipher)
+    sealed_again c.types_law.ensures.uint32 m law keys seq payload (written m (m.counts_length keys.cipher keys.mac) (m.block keys.cipher) seed seq payload) rest low
+    (written_bytes m law (m.counts_length keys.cipher keys.mac) (m.block keys.cipher) seed seq payload (law.block_high keys.cipher) each)
+    (written_is m law (m.counts_length keys.cipher keys.mac) (m.block keys.cipher) (m.tag_len keys.cipher keys.mac) seed seq payload (law.block_high keys.cipher)
     (law.tag_high keys.cipher keys.mac) some short).spells

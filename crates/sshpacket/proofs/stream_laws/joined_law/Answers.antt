@@ -1,0 +1,8 @@
+use Rattle.sshpacket.proofs.JoinedLemmas.{found, only}
+use Rattle.sshpacket.proofs.stream_laws.joined_law.Goals as goal
+
+pub returns-clause-found : goal.returns-clause-found
+returns-clause-found c = λ looks at version same each. found looks at version same each c.packet_law.ensures.found
+
+pub returns-clause-only : goal.returns-clause-only
+returns-clause-only c = only

@@ -1,0 +1,137 @@
+//! How one packet is judged.
+
+ghost use Rattle.std.specs.Prelude.{◌≡◌, ◌≢◌, ◌+◌, ◌<◌, ◌≤◌, ◌^◌, ℕ, IfErr, IfOk, IfSome, None, Some, drop, false, length, take, true};
+ghost use Rattle.sshpacket.specs.Front.{OfPacket, is_length, opened, refused, way, whole};
+ghost use Rattle.sshpacket.specs.Packet.{number};
+
+use crate::fault::PacketFault;
+use crate::keys::Keys;
+use crate::padding::counted;
+use crate::suite::Suite;
+use bytes::Bytes;
+use sshwire::Reader;
+use std::alloc::Global;
+
+/// The most bytes of a packet with its tag (RFC 4253 section 6.1).
+pub(crate) const PACKET_LIMIT: usize = 35000;
+
+/// How the packet at hand is protected (RFC 4253 section 6): in clear, or sealed by a suite with these
+/// keys and the packet's number.
+#[derive(Drop)]
+pub(crate) struct Protection<'a, S: Suite> {
+    pub(crate) suite: &'a S,
+    pub(crate) keys: &'a Option<Keys>,
+    pub(crate) seq: u32,
+}
+
+/// A packet that was opened.
+#[derive(Drop)]
+pub(crate) struct Opened {
+    /// The packet in clear.
+    pub(crate) packet: Bytes,
+    /// How many bytes of payload stand in it, behind the first five.
+    pub(crate) payload_len: usize,
+    ghost within: { payload_len + 5 ≤ length packet },
+}
+
+impl<'a, S: Suite> Protection<'a, S> {
+    ghost use Rattle.sshpacket.specs.ReaderSteps.{Counts, Opens, Unseals};
+
+    /// The length of the packet with its tag, by its first four bytes; none where packet_length isn't
+    /// taken.
+    pub(crate) fn packet_len(&self, first: [u8; 4]) -> Option<usize>
+        ensures some { IfSome result (λ len. Counts (way (S.meaning self.now.suite.now) self.now.keys.now self.now.seq) first len) }
+        ensures none { result ≡ None → (let w = way (S.meaning self.now.suite.now) self.now.keys.now self.now.seq in is_length w.counts w.block w.tag (w.head first) ≡ false) }
+        ensures bound { IfSome result (λ len. (12 ≤ len) × (len ≤ 35000)) }
+    {
+        match self.keys {
+            None => packet_len(true, 8, 0, number_of(&first)),
+            Some(keys) => packet_len(
+                self.suite.counts_length(keys.cipher(), keys.mac()),
+                self.suite.block(keys.cipher()),
+                self.suite.tag_len(keys.cipher(), keys.mac()),
+                self.suite.head(keys, self.seq, first),
+            ),
+        }
+    }
+
+    /// Opens the packet, of which all is there: its tag is judged first, then the padding, then that
+    /// the payload isn't empty.
+    pub(crate) fn open(&self, alloc: Global, sealed: Bytes) -> Result<Opened, PacketFault>
+        requires { length sealed < 2 ^ 32 }
+        ensures { Opens (way (S.meaning self.now.suite.now) self.now.keys.now self.now.seq) sealed result }
+    {
+        let packet = self.unseal(alloc, sealed)?;
+        let payload_len = payload_len(packet.as_slice())?;
+        Ok(Opened {
+            packet,
+            payload_len,
+        })
+    }
+
+    /// The packet in clear. One that was sent in clear isn't copied.
+    fn unseal(&self, alloc: Global, sealed: Bytes) -> Result<Bytes, PacketFault>
+        requires { length sealed < 2 ^ 32 }
+        ensures { Unseals (way (S.meaning self.now.suite.now) self.now.keys.now self.now.seq) sealed result }
+    {
+        let Some(keys) = self.keys else {
+            return Ok(sealed);
+        };
+        match self.suite.unseal(alloc, keys, self.seq, sealed.as_slice()) {
+            Ok(Some(clear)) => match Bytes::from_vec(clear) {
+                Ok(clear) => Ok(clear),
+                Err(_) => Err(PacketFault::Memory),
+            },
+            Ok(None) => Err(PacketFault::Mac),
+            Err(_) => Err(PacketFault::Memory),
+        }
+    }
+}
+
+/// The number in the first four bytes.
+#[tactic(auto, unfolding(crate::specs::Packet::number))]
+fn number_of(first: &[u8; 4]) -> u32
+    ensures { result ≡ number first.now }
+{
+    match Reader::new(first).u32() {
+        Ok(number) => number,
+        Err(_) => 0,
+    }
+}
+
+/// The length of a packet with its tag; none where packet_length isn't taken.
+fn packet_len(counts: bool, block: u8, tag: u8, packet_length: u32) -> Option<usize>
+    ensures some { IfSome result (λ len. (is_length counts block tag packet_length ≡ true) × (len ≡ 4 + packet_length + tag)) }
+    ensures none { result ≡ None → is_length counts block tag packet_length ≡ false }
+    ensures bound { IfSome result (λ len. (12 ≤ len) × (len ≤ 35000)) }
+{
+    let unit = usize::from(block.max(8));
+    let counted = counted(counts);
+    let behind = packet_length as usize;
+    let len = 4 + behind + usize::from(tag);
+    if behind >= 8 + counted && len <= PACKET_LIMIT && (counted + behind) % unit == 0 {
+        Some(len)
+    } else {
+        None
+    }
+}
+
+/// The length of the payload of a clear packet of which all is there (RFC 4253 section 6).
+#[tactic(auto, using(crate::proofs::Opening::opened_padding, crate::proofs::Opening::opened_empty, crate::proofs::Opening::opened_whole))]
+fn payload_len(clear: &[u8]) -> Result<usize, PacketFault>
+    ensures ok { IfOk result (λ n. (n + 5 ≤ length clear.now) × ((len : ℕ) → opened clear.now len ≡ whole (take n (drop 5 clear.now)) len)) }
+    ensures err { IfErr result (λ f. (f ≢ PacketFault.Memory) × ((len : ℕ) → opened clear.now len ≡ refused (OfPacket f) len)) }
+{
+    let padding = match clear.get(4) {
+        Some(padding) => usize::from(*padding),
+        None => 0,
+    };
+    let packet_length = clear.len().saturating_sub(4);
+    if padding < 4 || padding >= packet_length {
+        return Err(PacketFault::Padding);
+    }
+    if padding + 1 == packet_length {
+        return Err(PacketFault::Empty);
+    }
+    Ok(packet_length - padding - 1)
+}
