@@ -9,7 +9,7 @@ use Rattle.sshwire.specs.LineState.{Finished, Progress, Waits}
 use Rattle.sshwire.specs.LineState as progress
 use Rattle.sshwire.specs.Reading.{Got, More, Reading, Stop}
 use Rattle.sshwire.specs.Feeding.{StandsOpen}
-use Rattle.sshwire.specs.Meaning.{BeginsPreamble, EndsPreamble, IsLineRefused, Means}
+use Rattle.sshwire.specs.Meaning.{BeginsPreamble, EndsPreamble, IsLineRefused, ReadingMeans}
 use Rattle.sshlab.specs.declared.delivery.Side.{Side}
 use Rattle.sshlab.specs.declared.delivery.Side.TheVariants.{Client, Server}
 use Rattle.sshlab.specs.declared.delivery.Delivery.{Delivery}
@@ -18,17 +18,18 @@ use Rattle.sshlab.specs.declared.greetings.Hearing.{Hearing}
 use Rattle.sshlab.specs.declared.greetings.Hearing.TheVariants as hearing
 use Rattle.sshlab.specs.Receivers.{Follows, HasAll, MayRead, Stands}
 use Rattle.sshlab.specs.Greetings.{Greets, Hears, NothingWaits, asked, count_for, moved}
+use Rattle.sshwire.specs.declared.limits.TheConstants.{OTHER_LINE_LIMIT}
 
 -- the clauses of the law
 pub record IsLaw : Type 0 where
-  pub one : (k : ℕ) (bytes : List ℕ) (r s : Reading) → Means k bytes r → Means k bytes s → r ≡ s
+  pub one : (k : ℕ) (bytes : List ℕ) (r s : Reading) → ReadingMeans k bytes r → ReadingMeans k bytes s → r ≡ s
   pub stays : (k : ℕ) (bytes more : List ℕ) (place : ℕ) (code : WireFault) → LineRefused k bytes place code → LineRefused k (bytes ++ more) place code
 
 -- a preamble at the front stays, whatever follows
 preamble_stays : (k : ℕ) (text bytes rest more : List ℕ) → EndsPreamble k bytes text rest → EndsPreamble k (bytes ++ more) text (rest ++ more)
 preamble_stays k text bytes rest more ends = record {
-  front = ends.front;
-  bytes_are = ap (λ (xs : List ℕ). xs ++ more) ends.bytes_are ∙ append_assoc ends.front rest more;
+  prefix = ends.prefix;
+  bytes_are = ap (λ (xs : List ℕ). xs ++ more) ends.bytes_are ∙ append_assoc ends.prefix rest more;
   preamble = ends.preamble;
 }
 
@@ -79,7 +80,7 @@ all_moved k all sent receiver d =
 -- What a side has heard has one reading.
 pub record Shows (k : ℕ) (heard : List ℕ) (h : Hearing) : Type 0 where
   pub reading : Reading
-  pub means : Means k heard reading
+  pub means : ReadingMeans k heard reading
   pub got : (text rest : List ℕ) → reading ≡ Got text rest → h ≡ hearing.Got text
   pub refused : (code : WireFault) (rest : List ℕ) → reading ≡ Stop code rest → h ≡ hearing.Refused code
 
@@ -164,7 +165,7 @@ whole_line : (text : List ℕ) → IsVersionText text → (k : ℕ) → Preamble
 whole_line text v k = record { others = []; few = omega arith; each = tt; version = v; bytes_are = refl }
 
 whole_ends : (k : ℕ) (text : List ℕ) → IsVersionText text → EndsPreamble k (version_line text) text []
-whole_ends k text v = record { front = version_line text; bytes_are = sym (append-nil (version_line text)); preamble = whole_line text v k }
+whole_ends k text v = record { prefix = version_line text; bytes_are = sym (append-nil (version_line text)); preamble = whole_line text v k }
 
 line_got : IsLaw → (k all : ℕ) (text : List ℕ) (progress : Progress) (h : Hearing) → IsVersionText text
     → Follows k (take all (version_line text)) progress h → NothingWaits (take all (version_line text)) (version_line text) h → h ≡ hearing.Got text
@@ -190,7 +191,7 @@ pub done_follows : (k : ℕ) (heard piece text : List ℕ) (used : ℕ) → Prea
 done_follows k heard piece text used preamble = (
   drop used piece,
   record {
-    front = heard ++ take used piece;
+    prefix = heard ++ take used piece;
     bytes_are = ap (λ (xs : List ℕ). heard ++ xs) (sym (take-append-drop used piece)) ∙ sym (append_assoc heard (take used piece) (drop used piece));
     preamble = preamble;
   },
@@ -202,7 +203,7 @@ waiting_stands k heard progress (hearing.Waiting m) n e f = f.0
 waiting_stands k heard progress (hearing.Got text) n e f = cc
 waiting_stands k heard progress (hearing.Refused code) n e f = cc
 
--- a side that was given a front of what was sent was given as many bytes as it counts
+-- a side that was given a prefix of what was sent was given as many bytes as it counts
 pub stands_front : (k m n : ℕ) (sent : List ℕ) (receiver : Receiver) → Stands k (take m sent ++ take (m + n - m) (drop m sent)) receiver → Stands k (take receiver.moved sent) receiver
 stands_front k m n sent receiver stands =
     let rest : m + n - m ≡ n = omega arith in
@@ -266,28 +267,28 @@ done side schedule i k sent receiver past d =
     record { follows = (let s : Stands k (take (asked side schedule) sent) receiver = (let e = all_moved k (asked side schedule) sent receiver at in rw e at at.stands) in s.follows) }
 
 pub greets : IsLaw → (client server : List ℕ) (schedule : List Delivery) (at_client at_server : Receiver) (complete : Bool)
-    → Done 20 (asked Client schedule) server at_client → Done 0 (asked Server schedule) client at_server
+    → Done OTHER_LINE_LIMIT (asked Client schedule) server at_client → Done 0 (asked Server schedule) client at_server
     → (IsTrue complete ↔ (HasAll at_client.hearing (length server) × HasAll at_server.hearing (length client)))
     → Greets client server schedule (record { client = at_client.hearing; server = at_server.hearing; complete = complete })
 greets law client server schedule at_client at_server complete c s both =
     let to_complete : IsTrue complete → NothingWaits (moved Client schedule server) server at_client.hearing × NothingWaits (moved Server schedule client) client at_server.hearing
     = λ t. let all = both.0 t in (
-      has_all_waits 20 (asked Client schedule) server at_client.reader.progress at_client.hearing c.follows all.0,
+      has_all_waits OTHER_LINE_LIMIT (asked Client schedule) server at_client.reader.progress at_client.hearing c.follows all.0,
       has_all_waits 0 (asked Server schedule) client at_server.reader.progress at_server.hearing s.follows all.1,
     ) in
     record {
-      to_client = hears law 20 (moved Client schedule server) at_client.reader.progress at_client.hearing c.follows;
+      to_client = hears law OTHER_LINE_LIMIT (moved Client schedule server) at_client.reader.progress at_client.hearing c.follows;
       to_server = hears law 0 (moved Server schedule client) at_server.reader.progress at_server.hearing s.follows;
       complete = (
         to_complete,
         λ nothing. both.1 (
-          waits_has_all 20 (asked Client schedule) server at_client.reader.progress at_client.hearing c.follows nothing.0,
+          waits_has_all OTHER_LINE_LIMIT (asked Client schedule) server at_client.reader.progress at_client.hearing c.follows nothing.0,
           waits_has_all 0 (asked Server schedule) client at_server.reader.progress at_server.hearing s.follows nothing.1,
         ),
       );
       met = λ clients servers cv sv c_is s_is t.
           let nothing = to_complete t in (
-            rest_got law 20 (asked Client schedule) servers server at_client.reader.progress at_client.hearing sv s_is c.follows nothing.0,
+            rest_got law OTHER_LINE_LIMIT (asked Client schedule) servers server at_client.reader.progress at_client.hearing sv s_is c.follows nothing.0,
             rest_got law 0 (asked Server schedule) clients client at_server.reader.progress at_server.hearing cv c_is s.follows nothing.1,
           );
     }

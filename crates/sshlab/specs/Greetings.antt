@@ -10,6 +10,7 @@ use Rattle.sshlab.specs.declared.delivery.Delivery.{Delivery}
 use Rattle.sshlab.specs.declared.greetings.Hearing.{Hearing}
 use Rattle.sshlab.specs.declared.greetings.Hearing.TheVariants.{Got, Refused, Waiting}
 use Rattle.sshlab.specs.declared.greetings.Greeting.{Greeting}
+use Rattle.sshwire.specs.declared.limits.TheConstants.{OTHER_LINE_LIMIT}
 
 -- what a delivery to the first side asks for the second
 abbrev pub count_for : Side → Side → ℕ → ℕ
@@ -40,7 +41,7 @@ NothingWaits bytes sent _ = Unit {0}
 -- Each side has heard what the bytes moved to it say, and both have each other's version line
 -- once the schedule is complete, if they sent one.
 pub record Greets (client server : List ℕ) (schedule : List Delivery) (greeting : Greeting) : Type 0 where
-  pub to_client : Hears 20 (moved Client schedule server) greeting.client
+  pub to_client : Hears OTHER_LINE_LIMIT (moved Client schedule server) greeting.client
   pub to_server : Hears 0 (moved Server schedule client) greeting.server
   pub complete : IsTrue greeting.complete
       ↔ (NothingWaits (moved Client schedule server) server greeting.client

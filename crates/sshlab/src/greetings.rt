@@ -7,14 +7,11 @@ ghost use Rattle.sshlab.specs.Receivers.{Follows, HasAll, MayRead};
 ghost use Rattle.sshlab.specs.Greetings.{Greets};
 
 use crate::delivery::{Delivery, Side};
-use sshwire::{LineReader, LineStep, Memory, VersionLine, WireFault};
+use sshwire::{LineReader, LineStep, Memory, OTHER_LINE_LIMIT, VersionLine, WireFault};
 use std::alloc::Global;
 use std::fmt;
 
-/// How many other lines a client accepts before the version line (profile).
-const CLIENT_OTHERS: u32 = 20;
-
-/// How many a server accepts: none (profile).
+/// How many other lines a server accepts before the version line: none (profile).
 const SERVER_OTHERS: u32 = 0;
 
 /// What one side has heard of the other.
@@ -74,7 +71,7 @@ pub fn greet(
 ) -> Result<Greeting, Memory>
     ensures { IfOk result (Greets client.now server.now schedule.now) }
 {
-    let mut at_client = Receiver::new(alloc, CLIENT_OTHERS);
+    let mut at_client = Receiver::new(alloc, OTHER_LINE_LIMIT);
     let mut at_server = Receiver::new(alloc, SERVER_OTHERS);
     for delivery in schedule {
         match delivery.to {

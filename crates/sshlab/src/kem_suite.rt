@@ -4,9 +4,11 @@ ghost use Rattle.std.specs.Prelude.{◌≡◌, ◌^◌, ◌<◌, IfOk, drop, len
 ghost use Rattle.sshlab.specs.Kem.{crossed, kem, kem_number, kem_tag};
 ghost use Rattle.sshlab.specs.KemLaws.{kem_agreeing, kem_lawful};
 
-use crate::lab_suite::{LabSuite, blob, masked, number, signature, stream, xor_with};
+use crate::lab_suite::{LabSuite, blob, masked, signature, stream, xor_with};
 use sha2::{Digest, Sha256};
-use sshpacket::{AgreeingSuite, Capability, KeyLens, Keys, Need, Response, ShareForm, Suite};
+use sshpacket::{
+    AgreeingSuite, Capability, KeyLens, Keys, Need, Response, ShareForm, Suite, leading_uint32,
+};
 use sshwire::Memory;
 use std::alloc::Global;
 
@@ -62,7 +64,7 @@ impl Suite for KemSuite {
     }
 
     fn head(&self, _keys: &Keys, _seq: u32, first: [u8; 4]) -> u32 {
-        number(&first)
+        leading_uint32(&first)
     }
 
     #[tactic(auto, unfolding(crate::specs::Kem::kem_unseal, crate::specs::Kem::kem_checked))]

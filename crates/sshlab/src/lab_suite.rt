@@ -3,14 +3,15 @@
 ghost use Rattle.std.specs.Prelude.{◌≡◌, List, Some, ℕ, ◌^◌, ◌<◌, ◌≤◌, ◌++◌, IfOk, length};
 ghost use Rattle.sha2.specs.Sha256.{sha256};
 ghost use Rattle.sshwire.specs.Types.{IsName};
-ghost use Rattle.sshpacket.specs.Packet.{number};
 ghost use Rattle.sshlab.specs.Lab.{block_input, blocks_for, lab, lab_blob, masked, signature_by, stream, tag, xored};
 ghost use Rattle.sshpacket.specs.Suite.{AnswersAsDiffieHellman};
 ghost use Rattle.sshlab.specs.LabLaws.{lab_agreeing, lab_lawful};
 
 use sha2::{Digest, Sha256};
-use sshpacket::{AgreeingSuite, Capability, KeyLens, Keys, Need, Response, ShareForm, Suite};
-use sshwire::{Memory, Reader, put_string};
+use sshpacket::{
+    AgreeingSuite, Capability, KeyLens, Keys, Need, Response, ShareForm, Suite, leading_uint32,
+};
+use sshwire::{Memory, put_string};
 use std::alloc::Global;
 
 /// How many bytes a tag has, and a block of a stream.
@@ -78,7 +79,7 @@ impl Suite for LabSuite {
     fn head(&self, keys: &Keys, seq: u32, first: [u8; 4]) -> u32 {
         let mut first = first;
         xor_with(&mut first, &stream_block(keys.enc(), keys.iv(), seq, 0));
-        number(&first)
+        leading_uint32(&first)
     }
 
     #[tactic(auto, unfolding(crate::specs::Lab::lab_unseal, crate::specs::Lab::checked))]
@@ -95,7 +96,7 @@ impl Suite for LabSuite {
         let (front, found) = sealed.split_at(sealed.len() - HASH_LEN);
         let clear = masked(alloc, keys, seq, front)?;
         if found == tag(keys, seq, &clear).as_slice()
-            && number(&clear) as usize + 4 == clear.len()
+            && leading_uint32(&clear) as usize + 4 == clear.len()
         {
             Ok(Some(clear))
         } else {
@@ -288,16 +289,5 @@ pub(crate) fn xor_with(bytes: &mut [u8], mask: &[u8])
 {
     for i in 0..bytes.len() {
         bytes[i] ^= mask[i];
-    }
-}
-
-/// The uint32 that the bytes begin with, 0 where there are fewer than four.
-#[tactic(auto, unfolding(sshpacket::specs::Packet::number))]
-pub(crate) fn number(bytes: &[u8]) -> u32
-    ensures { result ≡ number bytes.now }
-{
-    match Reader::new(bytes).u32() {
-        Ok(value) => value,
-        Err(_) => 0,
     }
 }

@@ -16,16 +16,3 @@ pub use kem_suite::KemSuite;
 pub use lab_suite::{LabSuite, lab_law};
 pub use program::{refuse_words, tool};
 pub use streams::{Broken, Sink, Source, StreamSink, StreamSource};
-
-#[cfg(test)]
-mod choice_tests;
-#[cfg(test)]
-mod kem_tests;
-#[cfg(test)]
-mod key_tests;
-#[cfg(test)]
-mod lab_tests;
-#[cfg(test)]
-mod packet_tests;
-#[cfg(test)]
-mod tests;

@@ -85,6 +85,8 @@ pub fn tool<I: Source, O: Sink, E: Sink>(
     // Bad words, bad input and want of memory leave the output as it was.
     ensures kept { 2 ≤ result → result ≤ 3 → Keeps (O.contents output.old) (O.contents output.new) }
     ensures broken { (result ≡ 4) ↔ ((I.has_failed input.new || O.has_failed output.new) ≡ true) }
+    // No byte of the input is read, since no form of the words asks for it yet.
+    ensures unread { input.new ≡ input.old }
 {
     let _ = input;
     match answer_of(alloc, words) {

@@ -25,7 +25,7 @@ pub record IsTypesLaw : Type 0 where
 bytes_behind : (text rest : List ℕ) → IsBytes (text ++ rest) → IsBytes rest
 bytes_behind text rest h = λ i. rw (← get_or-append-add text rest i 0) (h (length text + i))
 
-bind_ok : {A B : Type 0} (r : Result A WireFault) (f : A → Result B WireFault) (y : B) → (r >>= f) ≡ Ok y → (x : A) × (r ≡ Ok x) × (f x ≡ Ok y)
+pub bind_ok : {A B : Type 0} (r : Result A WireFault) (f : A → Result B WireFault) (y : B) → (r >>= f) ≡ Ok y → (x : A) × (r ≡ Ok x) × (f x ≡ Ok y)
 bind_ok (Ok x) f y e = (x, refl, e)
 bind_ok (Err d) f y e = cc
 
@@ -136,7 +136,7 @@ form_complete law (Then f next) content text (value, a, b, t, more, is) =
 form_complete law (Rest next) content text is = rw is refl
 
 -- A payload reads as the message that it spells.
-whole_ok : (n : ℕ) (r : Result (Content × List ℕ) WireFault) (m : Content) → whole n r ≡ Ok m → r ≡ Ok (m, [])
+pub whole_ok : (n : ℕ) (r : Result (Content × List ℕ) WireFault) (m : Content) → whole n r ≡ Ok m → r ≡ Ok (m, [])
 whole_ok n (Ok (content, [])) m e = let same : content ≡ m = cc in ap (λ (c : Content). Ok (c, [])) same
 whole_ok n (Ok (content, b ∷ bs)) m e = cc
 whole_ok n (Err d) m e = cc

@@ -7,8 +7,9 @@ use Rattle.sshwire.specs.Types.{string}
 use Rattle.sshmsg.specs.declared.message.Extension.{Extension}
 use Rattle.sshmsg.specs.Content.{ExtInfo}
 use Rattle.sshmsg.specs.View.{pair_of, pairs_of}
-use Rattle.sshmsg.specs.Written.{pair_written, pairs_written, written}
+use Rattle.sshmsg.specs.Written.{pair_written, pairs_written, written_message}
 use Rattle.sshmsg.proofs.PutLemmas.{pairs_more}
+use Rattle.sshwire.specs.declared.limits.TheConstants.{PAYLOAD_LIMIT}
 
 -- some pairs are no longer than all
 front_within : (xs : List Extension) (i : ℕ) → length (pairs_written (pairs_of (take i xs))) ≤ length (pairs_written (pairs_of xs))
@@ -23,13 +24,13 @@ front_within (x ∷ xs) (suc i) =
     omega arith
 
 -- a front that is too long is told as the whole is
-pub too_long : (xs : List Extension) (i len : ℕ) → len ≡ 5 + length (pairs_written (pairs_of (take i xs))) → 32768 < len
-    → nat_le len 32768 ≡ nat_le (length (written (ExtInfo (pairs_of xs)))) 32768
-unfolding written
+pub too_long : (xs : List Extension) (i len : ℕ) → len ≡ 5 + length (pairs_written (pairs_of (take i xs))) → PAYLOAD_LIMIT < len
+    → nat_le len PAYLOAD_LIMIT ≡ nat_le (length (written_message (ExtInfo (pairs_of xs)))) PAYLOAD_LIMIT
+unfolding written_message
 too_long xs i len is over =
     let within : length (pairs_written (pairs_of (take i xs))) ≤ length (pairs_written (pairs_of xs)) = front_within xs i in
-    let whole : 32768 < length (written (ExtInfo (pairs_of xs))) = omega arith in
-    lt-leb len 32768 over ∙ sym (lt-leb (length (written (ExtInfo (pairs_of xs)))) 32768 whole)
+    let whole : PAYLOAD_LIMIT < length (written_message (ExtInfo (pairs_of xs))) = omega arith in
+    lt-leb len PAYLOAD_LIMIT over ∙ sym (lt-leb (length (written_message (ExtInfo (pairs_of xs)))) PAYLOAD_LIMIT whole)
 
 -- one more pair
 pub length_more : (xs : List Extension) (i len : ℕ) (x : Extension) → i < length xs → x ≡ get_or xs i x
@@ -45,8 +46,8 @@ length_more xs i len x h e is =
 
 -- all pairs
 pub length_all : (xs : List Extension) (i len : ℕ) → length xs ≤ i → len ≡ 5 + length (pairs_written (pairs_of (take i xs)))
-    → len ≡ length (written (ExtInfo (pairs_of xs)))
-unfolding written
+    → len ≡ length (written_message (ExtInfo (pairs_of xs)))
+unfolding written_message
 length_all xs i len h is =
     let same : length (pairs_written (pairs_of (take i xs))) ≡ length (pairs_written (pairs_of xs))
     = ap (λ (ys : List Extension). length (pairs_written (pairs_of ys))) (take_all i xs h) in

@@ -1,6 +1,10 @@
 pub mod FormLemmas
 pub mod ExtensionLemmas
 pub mod LengthLemmas
+pub mod NumberLemmas
 pub mod PutLemmas
+pub mod SizeLemmas
+pub mod TableLemmas
 pub mod UserLemmas
+pub mod WellLemmas
 pub mod WrittenLemmas

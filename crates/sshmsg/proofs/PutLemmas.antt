@@ -7,7 +7,8 @@ use Rattle.sshwire.specs.Types.{string, uint32}
 use Rattle.sshmsg.specs.declared.message.Extension.{Extension}
 use Rattle.sshmsg.specs.Content.{ExtInfo}
 use Rattle.sshmsg.specs.View.{pair_of, pairs_of}
-use Rattle.sshmsg.specs.Written.{IsPair, IsWellFormed, pair_written, pairs_written, written}
+use Rattle.sshmsg.specs.Written.{IsPair, IsWellFormed, pair_written, pairs_written, written_message}
+use Rattle.sshwire.specs.declared.limits.TheConstants.{PAYLOAD_LIMIT}
 
 -- what keeps more than a front keeps the front
 pub keeps_on : {A E : Type 0} (r : Result A E) (old more mid new : List ℕ) → mid ≡ old ++ more
@@ -38,7 +39,7 @@ few_pairs (p ∷ ps) =
     let name : length (string p.0) ≡ 4 + length p.0 = length-append (uint32 (length p.0)) p.0 in
     omega arith
 
-pub short_pairs : (pairs : List (List ℕ × List ℕ)) → length (pairs_written pairs) ≤ 32768 → AllByRecursion IsPair pairs
+pub short_pairs : (pairs : List (List ℕ × List ℕ)) → length (pairs_written pairs) ≤ PAYLOAD_LIMIT → AllByRecursion IsPair pairs
 short_pairs [] h = tt
 short_pairs (p ∷ ps) h =
     let all : length (pairs_written (p ∷ ps)) ≡ length (pair_written p) + length (pairs_written ps) = length-append (pair_written p) (pairs_written ps) in
@@ -73,9 +74,9 @@ few_extensions xs =
     let few : length (pairs_of xs) ≤ length (pairs_written (pairs_of xs)) = few_pairs (pairs_of xs) in
     omega arith
 
-pub well_formed_pairs : {A E : Type 0} (r : Result A E) (xs : List Extension) → length (written (ExtInfo (pairs_of xs))) ≤ 32768
+pub well_formed_pairs : {A E : Type 0} (r : Result A E) (xs : List Extension) → length (written_message (ExtInfo (pairs_of xs))) ≤ PAYLOAD_LIMIT
     → OnOk r (IsWellFormed (ExtInfo (pairs_of xs)))
-unfolding written
+unfolding written_message
 well_formed_pairs (Ok x) xs h =
     let few : length (pairs_of xs) ≤ length (pairs_written (pairs_of xs)) = few_pairs (pairs_of xs) in
     (omega (arith, h, few), short_pairs (pairs_of xs) (omega (arith, h)))

@@ -9,7 +9,7 @@ use Rattle.sshmsg.specs.Content.{Content, Debug, Disconnect, ExtInfo, Ignore, Ke
 use Rattle.sshmsg.specs.Form.{Bytes, Done, FillsForm, Form, Rest, Then}
 use Rattle.sshmsg.specs.Messages.{Spells, debug, disconnect, ext_info, extensions, form_of, ignore, is_named, kexdh_init, kexdh_reply, kexinit, method_form, newkeys, password, publickey, service_accept, service_request, unimplemented, userauth_banner, userauth_failure, userauth_request, userauth_success}
 use Rattle.sshmsg.specs.Owned.{IsNumber}
-use Rattle.sshmsg.specs.Written.{IsMethod, IsNameList, IsOffer, IsPair, IsString, IsWellFormed, method_fields, method_name, offer_written, pairs_written, written}
+use Rattle.sshmsg.specs.Written.{IsMethod, IsNameList, IsOffer, IsPair, IsString, IsWellFormed, method_fields, method_name, offer_written, pairs_written, written_message}
 
 boolean_text : (value : Bool) → BooleanText value (boolean value)
 boolean_text true = refl
@@ -342,8 +342,8 @@ request_fills user service m (utf8, u, s, n, h) = (
   refl,
 )
 
-pub written_spells : (m : Content) → IsWellFormed m → Spells m (written m)
-unfolding written form_of ignore unimplemented service_request service_accept newkeys userauth_success
+pub written_spells : (m : Content) → IsWellFormed m → Spells m (written_message m)
+unfolding written_message form_of ignore unimplemented service_request service_accept newkeys userauth_success
 written_spells (Disconnect reason description language) h =
     record { number = 1; form = disconnect; fields = _; known = refl; fills = disconnect_fills reason description language h; payload_is = refl }
 written_spells (Ignore content) h =

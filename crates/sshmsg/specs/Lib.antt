@@ -1,6 +1,8 @@
 pub mod Content
 pub mod Form
+pub mod Lengths
 pub mod Messages
+pub mod Numbers
 pub mod Owned
 pub mod View
 pub mod Written

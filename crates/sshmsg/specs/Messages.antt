@@ -5,6 +5,7 @@ use Rattle.std.specs.Str.{bytes_eq}
 use Rattle.sshwire.specs.declared.fault.WireFault.{WireFault}
 use Rattle.sshmsg.specs.declared.fault.MsgFault.{MsgFault}
 use Rattle.sshmsg.specs.declared.fault.MsgFault.TheVariants.{Malformed, Unrecognised}
+use Rattle.sshmsg.specs.declared.numbers.TheConstants.{SSH_MSG_DEBUG, SSH_MSG_DISCONNECT, SSH_MSG_EXT_INFO, SSH_MSG_IGNORE, SSH_MSG_KEXDH_INIT, SSH_MSG_KEXDH_REPLY, SSH_MSG_KEXINIT, SSH_MSG_NEWKEYS, SSH_MSG_SERVICE_ACCEPT, SSH_MSG_SERVICE_REQUEST, SSH_MSG_UNIMPLEMENTED, SSH_MSG_USERAUTH_BANNER, SSH_MSG_USERAUTH_FAILURE, SSH_MSG_USERAUTH_REQUEST, SSH_MSG_USERAUTH_SUCCESS}
 use Rattle.sshmsg.specs.Content.{Content, Debug, Disconnect, ExtInfo, Ignore, KexInit, KexdhInit, KexdhReply, NewKeys, NoMethod, OtherMethod, Password, PasswordChange, PublicKey, PublicKeyQuery, ServiceAccept, ServiceRequest, Unimplemented, UserauthBanner, UserauthFailure, UserauthRequest, UserauthSuccess}
 use Rattle.sshmsg.specs.Form.{BigNumber, Bytes, Cookie, Done, FillsForm, Flag, Form, Names, Number, Reserved, Rest, Then, Utf8, form_at}
 
@@ -117,21 +118,21 @@ userauth_banner = Then Bytes λ text. Then Bytes λ language. Done (UserauthBann
 -- the form of each number that has one
 unfoldable pub form_of : ℕ → Option Form
 form_of n =
-    if n == 1 then Some disconnect
-    else if n == 2 then Some ignore
-    else if n == 3 then Some unimplemented
-    else if n == 4 then Some debug
-    else if n == 5 then Some service_request
-    else if n == 6 then Some service_accept
-    else if n == 7 then Some ext_info
-    else if n == 20 then Some kexinit
-    else if n == 21 then Some newkeys
-    else if n == 30 then Some kexdh_init
-    else if n == 31 then Some kexdh_reply
-    else if n == 50 then Some userauth_request
-    else if n == 51 then Some userauth_failure
-    else if n == 52 then Some userauth_success
-    else if n == 53 then Some userauth_banner
+    if n == SSH_MSG_DISCONNECT then Some disconnect
+    else if n == SSH_MSG_IGNORE then Some ignore
+    else if n == SSH_MSG_UNIMPLEMENTED then Some unimplemented
+    else if n == SSH_MSG_DEBUG then Some debug
+    else if n == SSH_MSG_SERVICE_REQUEST then Some service_request
+    else if n == SSH_MSG_SERVICE_ACCEPT then Some service_accept
+    else if n == SSH_MSG_EXT_INFO then Some ext_info
+    else if n == SSH_MSG_KEXINIT then Some kexinit
+    else if n == SSH_MSG_NEWKEYS then Some newkeys
+    else if n == SSH_MSG_KEXDH_INIT then Some kexdh_init
+    else if n == SSH_MSG_KEXDH_REPLY then Some kexdh_reply
+    else if n == SSH_MSG_USERAUTH_REQUEST then Some userauth_request
+    else if n == SSH_MSG_USERAUTH_FAILURE then Some userauth_failure
+    else if n == SSH_MSG_USERAUTH_SUCCESS then Some userauth_success
+    else if n == SSH_MSG_USERAUTH_BANNER then Some userauth_banner
     else None
 
 -- the payload spells the message: its number, and fields that fill the number's form

@@ -49,24 +49,24 @@ method_fields (PublicKey algorithm key signature) = boolean true ++ (string algo
 method_fields (PublicKeyQuery algorithm key) = boolean false ++ (string algorithm ++ string key)
 method_fields (OtherMethod name fields) = fields
 
--- the payload that is written for a message
-unfoldable pub written : Content → List ℕ
-written (Disconnect reason description language) = 1 ∷ (uint32 reason ++ (string description ++ string language))
-written (Ignore content) = 2 ∷ string content
-written (Unimplemented sequence_number) = 3 ∷ uint32 sequence_number
-written (Debug always_display text language) = 4 ∷ (boolean always_display ++ (string text ++ string language))
-written (ServiceRequest service) = 5 ∷ string service
-written (ServiceAccept service) = 6 ∷ string service
-written (ExtInfo pairs) = 7 ∷ (uint32 (length pairs) ++ pairs_written pairs)
-written (KexInit offer) = 20 ∷ offer_written offer
-written NewKeys = 21 ∷ []
-written (KexdhInit e) = 30 ∷ string e
-written (KexdhReply host_key f signature) = 31 ∷ (string host_key ++ (string f ++ string signature))
-written (UserauthRequest user service method) =
+-- the payload that is written for a message; its number stands here as digits, apart from the constants of the code
+unfoldable pub written_message : Content → List ℕ
+written_message (Disconnect reason description language) = 1 ∷ (uint32 reason ++ (string description ++ string language))
+written_message (Ignore content) = 2 ∷ string content
+written_message (Unimplemented sequence_number) = 3 ∷ uint32 sequence_number
+written_message (Debug always_display text language) = 4 ∷ (boolean always_display ++ (string text ++ string language))
+written_message (ServiceRequest service) = 5 ∷ string service
+written_message (ServiceAccept service) = 6 ∷ string service
+written_message (ExtInfo pairs) = 7 ∷ (uint32 (length pairs) ++ pairs_written pairs)
+written_message (KexInit offer) = 20 ∷ offer_written offer
+written_message NewKeys = 21 ∷ []
+written_message (KexdhInit e) = 30 ∷ string e
+written_message (KexdhReply host_key f signature) = 31 ∷ (string host_key ++ (string f ++ string signature))
+written_message (UserauthRequest user service method) =
     50 ∷ (string user ++ (string service ++ (string (method_name method) ++ method_fields method)))
-written (UserauthFailure methods partial_success) = 51 ∷ (name_list methods ++ boolean partial_success)
-written UserauthSuccess = 52 ∷ []
-written (UserauthBanner text language) = 53 ∷ (string text ++ string language)
+written_message (UserauthFailure methods partial_success) = 51 ∷ (name_list methods ++ boolean partial_success)
+written_message UserauthSuccess = 52 ∷ []
+written_message (UserauthBanner text language) = 53 ∷ (string text ++ string language)
 
 -- What the fields of a message have to be, so that they can be written: lengths and numbers fit a uint32,
 -- names are names, mpints are the shortest, the user is UTF-8, a cookie has 16 bytes.

@@ -1,22 +1,21 @@
 //! How long the payload of a message is.
 
+ghost use Rattle.sshwire.specs.declared.limits.TheConstants.{PAYLOAD_LIMIT};
 ghost use Rattle.std.specs.Prelude.{◌≡◌, ◌<◌, ◌^◌, ◌++◌, length, nat_le};
 ghost use Rattle.sshwire.specs.Types.{string};
 ghost use Rattle.sshmsg.specs.Content as content;
 ghost use Rattle.sshmsg.specs.View.{content_of, method_of, offer_of, pair_of, pairs_of};
-ghost use Rattle.sshmsg.specs.Written.{method_fields, method_name, pair_written, pairs_written, written};
+ghost use Rattle.sshmsg.specs.Written.{method_fields, method_name, pair_written, pairs_written, written_message};
 
 use crate::message::{Extension, KexInit, Message, Method};
-
-/// The most bytes of a payload (RFC 4253 section 6.1).
-const PAYLOAD_LIMIT: u128 = 32768;
+use sshwire::PAYLOAD_LIMIT;
 
 impl Message {
     /// Whether the payload that [`write`](crate::write) appends has at most 32768 bytes. Takes no
     /// memory.
-    #[tactic(auto, unfolding(crate::specs::Written::written))]
+    #[tactic(auto, unfolding(crate::specs::Written::written_message))]
     pub fn fits(&self) -> bool
-        ensures { result ≡ nat_le (length (written (content_of self.now))) 32768 }
+        ensures { result ≡ nat_le (length (written_message (content_of self.now))) PAYLOAD_LIMIT }
     {
         let len = match self {
             Message::Disconnect {
@@ -49,7 +48,7 @@ impl Message {
                 1 + string_len(text) + string_len(language)
             }
         };
-        len <= PAYLOAD_LIMIT
+        len <= PAYLOAD_LIMIT as u128
     }
 }
 
@@ -59,9 +58,9 @@ fn string_len(bytes: &[u8]) -> u128
     4 + bytes.len() as u128
 }
 
-#[tactic(auto, unfolding(crate::specs::Written::written))]
+#[tactic(auto, unfolding(crate::specs::Written::written_message))]
 fn kexinit_len(kexinit: &KexInit) -> u128
-    ensures { result ≡ length (written (content.KexInit (offer_of kexinit.now))) }
+    ensures { result ≡ length (written_message (content.KexInit (offer_of kexinit.now))) }
 {
     let algorithms = kexinit.kex_algorithms.written_len() as u128
         + kexinit.server_host_key_algorithms.written_len() as u128
@@ -98,11 +97,11 @@ fn method_len(method: &Method) -> u128
 /// The length of an EXT_INFO, or some length above the limit where its own is.
 #[tactic(auto, using(crate::proofs::LengthLemmas::too_long, crate::proofs::LengthLemmas::length_more, crate::proofs::LengthLemmas::length_all))]
 fn ext_info_len(extensions: &[Extension]) -> u128
-    ensures { nat_le result 32768 ≡ nat_le (length (written (content.ExtInfo (pairs_of extensions.now)))) 32768 }
+    ensures { nat_le result PAYLOAD_LIMIT ≡ nat_le (length (written_message (content.ExtInfo (pairs_of extensions.now)))) PAYLOAD_LIMIT }
 {
     let mut len = 5;
     for extension in extensions {
-        if len > PAYLOAD_LIMIT {
+        if len > PAYLOAD_LIMIT as u128 {
             return len;
         }
         len += string_len(&extension.name) + string_len(&extension.value);

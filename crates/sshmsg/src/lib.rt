@@ -5,17 +5,26 @@
 //! message.
 #![tactic(auto)]
 
+mod debug;
 mod fault;
 mod fits;
 mod law;
 mod message;
+mod numbers;
 mod reading;
-#[cfg(test)]
-mod tests;
 mod writing;
 
 pub use fault::MsgFault;
-pub use law::{messages_law, written_law};
+pub use law::{lengths_law, messages_law, numbers_law, refusals_law, spelled_law, written_law};
 pub use message::{Extension, KexInit, Message, Method, MpintBuf, OtherMethod};
+pub use numbers::{
+    SSH_DISCONNECT_HOST_KEY_NOT_VERIFIABLE, SSH_DISCONNECT_KEY_EXCHANGE_FAILED,
+    SSH_DISCONNECT_MAC_ERROR, SSH_DISCONNECT_NO_MORE_AUTH_METHODS_AVAILABLE,
+    SSH_DISCONNECT_PROTOCOL_ERROR, SSH_DISCONNECT_SERVICE_NOT_AVAILABLE, SSH_MSG_DEBUG,
+    SSH_MSG_DISCONNECT, SSH_MSG_EXT_INFO, SSH_MSG_IGNORE, SSH_MSG_KEXDH_INIT, SSH_MSG_KEXDH_REPLY,
+    SSH_MSG_KEXINIT, SSH_MSG_NEWKEYS, SSH_MSG_SERVICE_ACCEPT, SSH_MSG_SERVICE_REQUEST,
+    SSH_MSG_UNIMPLEMENTED, SSH_MSG_USERAUTH_BANNER, SSH_MSG_USERAUTH_FAILURE,
+    SSH_MSG_USERAUTH_REQUEST, SSH_MSG_USERAUTH_SUCCESS,
+};
 pub use reading::read;
 pub use writing::write;

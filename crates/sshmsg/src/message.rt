@@ -84,8 +84,8 @@ pub struct Extension {
 
 /// A method that is none of `none`, `password` and `publickey`, with its fields unread.
 ///
-/// Contracts see the name and the fields.
-#[derive(Debug, Drop)]
+/// Contracts see the name and the fields. `Debug` prints the name alone.
+#[derive(Drop)]
 pub struct OtherMethod {
     name: Vec<u8>,
     fields: Vec<u8>,
@@ -105,7 +105,17 @@ impl Model for OtherMethod {
 impl OtherMethod {
     ghost use Rattle.sshmsg.specs.Messages.{is_named};
 
-    /// The method of this name, which isn't one of the three.
+    /// Whether a name is one of `none`, `password` and `publickey`. Takes no memory.
+    pub fn is_known(name: &[u8]) -> bool
+        ensures exact { result ≡ is_named name.now }
+    {
+        name == b"none".as_slice()
+            || name == b"password".as_slice()
+            || name == b"publickey".as_slice()
+    }
+
+    /// The method of this name. The caller's condition is that the name isn't one of the three, which
+    /// [`is_known`](OtherMethod::is_known) tells. Takes no memory.
     pub fn new(name: Vec<u8>, fields: Vec<u8>) -> OtherMethod
         requires { is_named name.items ≡ false }
         ensures { result ≡ (name.items, fields.items) }
@@ -113,7 +123,7 @@ impl OtherMethod {
         OtherMethod { name, fields }
     }
 
-    /// The method's name.
+    /// The method's name. Takes no memory.
     pub fn name(&self) -> &[u8]
         ensures name { result.now ≡ self.now.0 }
         ensures other { is_named self.now.0 ≡ false }
@@ -121,7 +131,7 @@ impl OtherMethod {
         &self.name
     }
 
-    /// All bytes behind the name.
+    /// All bytes behind the name. Takes no memory.
     pub fn fields(&self) -> &[u8]
         ensures fields { result.now ≡ self.now.1 }
         ensures other { is_named self.now.0 ≡ false }
@@ -130,29 +140,38 @@ impl OtherMethod {
     }
 }
 
-/// The method of a USERAUTH_REQUEST with its fields (RFC 4252 sections 5 to 8).
-#[derive(Debug, Drop)]
+/// The method of a USERAUTH_REQUEST with its fields (RFC 4252 sections 5 to 8). `Debug` prints no
+/// password and no signature.
+#[derive(Drop)]
 pub enum Method {
     /// `none`.
     None,
     /// `password` with FALSE.
     Password {
+        /// Any bytes.
         password: Vec<u8>,
     },
     /// `password` with TRUE: a change.
     PasswordChange {
+        /// The password until now, any bytes.
         old: Vec<u8>,
+        /// The password from now on, any bytes.
         new: Vec<u8>,
     },
     /// `publickey` with TRUE.
     PublicKey {
+        /// The name of the key's algorithm, any bytes.
         algorithm: Vec<u8>,
+        /// The public key, any bytes.
         key: Vec<u8>,
+        /// The signature by the key, any bytes.
         signature: Vec<u8>,
     },
     /// `publickey` with FALSE: a query.
     PublicKeyQuery {
+        /// The name of the key's algorithm, any bytes.
         algorithm: Vec<u8>,
+        /// The public key, any bytes.
         key: Vec<u8>,
     },
     /// Any other.
@@ -178,38 +197,50 @@ impl Method {
 }
 
 /// A message up to authentication (RFC 4253, RFC 4252, message 7 of RFC 8308). It owns its strings.
-#[derive(Debug, Drop)]
+/// `Debug` prints no password and no signature, and of an IGNORE no content.
+#[derive(Drop)]
 pub enum Message {
     /// DISCONNECT (1, RFC 4253 section 11.1).
     Disconnect {
+        /// The reason's code.
         reason: u32,
+        /// A text for people, any bytes.
         description: Vec<u8>,
+        /// The text's language tag, any bytes.
         language: Vec<u8>,
     },
     /// IGNORE (2, RFC 4253 section 11.2).
     Ignore {
+        /// Any bytes.
         content: Vec<u8>,
     },
     /// UNIMPLEMENTED (3, RFC 4253 section 11.4).
     Unimplemented {
+        /// The number of the packet that wasn't understood.
         sequence_number: u32,
     },
     /// DEBUG (4, RFC 4253 section 11.3).
     Debug {
+        /// Whether the text should be shown in any case.
         always_display: bool,
+        /// A text for people, any bytes.
         text: Vec<u8>,
+        /// The text's language tag, any bytes.
         language: Vec<u8>,
     },
     /// SERVICE_REQUEST (5, RFC 4253 section 10).
     ServiceRequest {
+        /// The service's name, any bytes.
         service: Vec<u8>,
     },
     /// SERVICE_ACCEPT (6, RFC 4253 section 10).
     ServiceAccept {
+        /// The service's name, any bytes.
         service: Vec<u8>,
     },
     /// EXT_INFO (7, RFC 8308 section 2.3).
     ExtInfo {
+        /// The extensions in their order.
         extensions: Vec<Extension>,
     },
     /// KEXINIT (20, RFC 4253 section 7.1).
@@ -218,30 +249,41 @@ pub enum Message {
     NewKeys,
     /// KEXDH_INIT (30, RFC 4253 section 8).
     KexdhInit {
+        /// The client's share.
         e: MpintBuf,
     },
     /// KEXDH_REPLY (31, RFC 4253 section 8).
     KexdhReply {
+        /// The server's host key, any bytes.
         host_key: Vec<u8>,
+        /// The server's share.
         f: MpintBuf,
+        /// The signature of the exchange hash, any bytes.
         signature: Vec<u8>,
     },
     /// USERAUTH_REQUEST (50, RFC 4252 section 5).
     UserauthRequest {
+        /// The user's name.
         user: String,
+        /// The name of the service that is to start, any bytes.
         service: Vec<u8>,
+        /// The method with its fields.
         method: Method,
     },
     /// USERAUTH_FAILURE (51, RFC 4252 section 5.1).
     UserauthFailure {
+        /// The methods that may go on.
         methods: NameList,
+        /// Whether the request succeeded as one of several.
         partial_success: bool,
     },
     /// USERAUTH_SUCCESS (52, RFC 4252 section 5.1).
     UserauthSuccess,
     /// USERAUTH_BANNER (53, RFC 4252 section 5.4).
     UserauthBanner {
+        /// A text for people, any bytes.
         text: Vec<u8>,
+        /// The text's language tag, any bytes.
         language: Vec<u8>,
     },
 }

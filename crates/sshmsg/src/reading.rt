@@ -9,6 +9,12 @@ ghost use Rattle.sshmsg.specs.View.{Answers, Goes, ReadsNumbered, content_of, me
 
 use crate::fault::MsgFault;
 use crate::message::{Extension, KexInit, Message, Method, MpintBuf, OtherMethod};
+use crate::numbers::{
+    SSH_MSG_DEBUG, SSH_MSG_DISCONNECT, SSH_MSG_EXT_INFO, SSH_MSG_IGNORE, SSH_MSG_KEXDH_INIT,
+    SSH_MSG_KEXDH_REPLY, SSH_MSG_KEXINIT, SSH_MSG_NEWKEYS, SSH_MSG_SERVICE_ACCEPT,
+    SSH_MSG_SERVICE_REQUEST, SSH_MSG_UNIMPLEMENTED, SSH_MSG_USERAUTH_BANNER,
+    SSH_MSG_USERAUTH_FAILURE, SSH_MSG_USERAUTH_REQUEST, SSH_MSG_USERAUTH_SUCCESS,
+};
 use sshwire::{Reader, WireFault};
 use std::alloc::Global;
 use std::str;
@@ -61,21 +67,21 @@ fn read_numbered(
     ensures { ReadsNumbered number reader.old reader.new result }
 {
     let message = match number {
-        1 => read_disconnect(alloc, reader),
-        2 => read_ignore(alloc, reader),
-        3 => read_unimplemented(reader),
-        4 => read_debug(alloc, reader),
-        5 => read_service_request(alloc, reader),
-        6 => read_service_accept(alloc, reader),
-        7 => read_ext_info(alloc, reader),
-        20 => read_kexinit(alloc, reader),
-        21 => Ok(Message::NewKeys),
-        30 => read_kexdh_init(alloc, reader),
-        31 => read_kexdh_reply(alloc, reader),
-        50 => read_userauth_request(alloc, reader),
-        51 => read_userauth_failure(alloc, reader),
-        52 => Ok(Message::UserauthSuccess),
-        53 => read_userauth_banner(alloc, reader),
+        SSH_MSG_DISCONNECT => read_disconnect(alloc, reader),
+        SSH_MSG_IGNORE => read_ignore(alloc, reader),
+        SSH_MSG_UNIMPLEMENTED => read_unimplemented(reader),
+        SSH_MSG_DEBUG => read_debug(alloc, reader),
+        SSH_MSG_SERVICE_REQUEST => read_service_request(alloc, reader),
+        SSH_MSG_SERVICE_ACCEPT => read_service_accept(alloc, reader),
+        SSH_MSG_EXT_INFO => read_ext_info(alloc, reader),
+        SSH_MSG_KEXINIT => read_kexinit(alloc, reader),
+        SSH_MSG_NEWKEYS => Ok(Message::NewKeys),
+        SSH_MSG_KEXDH_INIT => read_kexdh_init(alloc, reader),
+        SSH_MSG_KEXDH_REPLY => read_kexdh_reply(alloc, reader),
+        SSH_MSG_USERAUTH_REQUEST => read_userauth_request(alloc, reader),
+        SSH_MSG_USERAUTH_FAILURE => read_userauth_failure(alloc, reader),
+        SSH_MSG_USERAUTH_SUCCESS => Ok(Message::UserauthSuccess),
+        SSH_MSG_USERAUTH_BANNER => read_userauth_banner(alloc, reader),
         _ => return None,
     };
     Some(message)

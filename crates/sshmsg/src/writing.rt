@@ -1,13 +1,20 @@
 //! Writes a message as a payload.
 
+ghost use Rattle.sshwire.specs.declared.limits.TheConstants.{PAYLOAD_LIMIT};
 ghost use Rattle.std.specs.Prelude.{◌≡◌, ◌≤◌, ◌++◌, ◌∷◌, [], OnErr, OnOk, if◌then◌else◌, is_ok, length, string_bytes, take};
 ghost use Rattle.sshwire.specs.Types.{string};
 ghost use Rattle.sshmsg.specs.Content as content;
 ghost use Rattle.sshmsg.specs.Messages.{Spells};
 ghost use Rattle.sshmsg.specs.View.{content_of, method_of, offer_of, pair_of, pairs_of};
-ghost use Rattle.sshmsg.specs.Written.{IsMethod, IsWellFormed, method_fields, pair_written, pairs_written, written};
+ghost use Rattle.sshmsg.specs.Written.{IsMethod, IsWellFormed, method_fields, pair_written, pairs_written, written_message};
 
 use crate::message::{Extension, KexInit, Message, Method, MpintBuf};
+use crate::numbers::{
+    SSH_MSG_DEBUG, SSH_MSG_DISCONNECT, SSH_MSG_EXT_INFO, SSH_MSG_IGNORE, SSH_MSG_KEXDH_INIT,
+    SSH_MSG_KEXDH_REPLY, SSH_MSG_KEXINIT, SSH_MSG_NEWKEYS, SSH_MSG_SERVICE_ACCEPT,
+    SSH_MSG_SERVICE_REQUEST, SSH_MSG_UNIMPLEMENTED, SSH_MSG_USERAUTH_BANNER,
+    SSH_MSG_USERAUTH_FAILURE, SSH_MSG_USERAUTH_REQUEST, SSH_MSG_USERAUTH_SUCCESS,
+};
 use sshwire::{Memory, NameList, put_boolean, put_string, put_u32};
 
 /// Appends the payload of a message (RFC 4253, RFC 4252, RFC 8308): booleans as 0 or 1, the reserved
@@ -16,10 +23,10 @@ use sshwire::{Memory, NameList, put_boolean, put_string, put_u32};
 /// The caller's condition is that the message [`fits`](Message::fits). For want of memory the vector
 /// is unchanged.
 pub fn write(message: &Message, out: &mut Vec<u8>) -> Result<(), Memory>
-    requires { length (written (content_of message.now)) ≤ 32768 }
-    ensures appends { out.new.items ≡ (if is_ok result then out.old.items ++ written (content_of message.now) else out.old.items) }
+    requires { length (written_message (content_of message.now)) ≤ PAYLOAD_LIMIT }
+    ensures appends { out.new.items ≡ (if is_ok result then out.old.items ++ written_message (content_of message.now) else out.old.items) }
     // What is appended spells the message, and so is read again as it.
-    ensures spells { OnOk result (Spells (content_of message.now) (written (content_of message.now))) }
+    ensures spells { OnOk result (Spells (content_of message.now) (written_message (content_of message.now))) }
 {
     crate::law::written_law();
     let start = out.len();
@@ -30,11 +37,11 @@ pub fn write(message: &Message, out: &mut Vec<u8>) -> Result<(), Memory>
     Ok(())
 }
 
-/// Appends a message; for want of memory a front of it may stand there, as with every function below.
-#[tactic(auto, unfolding(crate::specs::Written::written))]
+/// Appends a message; for want of memory a prefix of it may stand there, as with every function below.
+#[tactic(auto, unfolding(crate::specs::Written::written_message))]
 fn put_message(out: &mut Vec<u8>, message: &Message) -> Result<(), Memory>
-    requires { length (written (content_of message.now)) ≤ 32768 }
-    ensures ok { OnOk result (out.new.items ≡ out.old.items ++ written (content_of message.now)) }
+    requires { length (written_message (content_of message.now)) ≤ PAYLOAD_LIMIT }
+    ensures ok { OnOk result (out.new.items ≡ out.old.items ++ written_message (content_of message.now)) }
     ensures well { OnOk result (IsWellFormed (content_of message.now)) }
     ensures err { OnErr result (take (length out.old.items) out.new.items ≡ out.old.items) }
 {
@@ -44,18 +51,22 @@ fn put_message(out: &mut Vec<u8>, message: &Message) -> Result<(), Memory>
             description,
             language,
         } => put_disconnect(out, *reason, description, language),
-        Message::Ignore { content } => put_one_string(out, 2, content),
+        Message::Ignore { content } => put_one_string(out, SSH_MSG_IGNORE, content),
         Message::Unimplemented { sequence_number } => put_unimplemented(out, *sequence_number),
         Message::Debug {
             always_display,
             text,
             language,
         } => put_debug(out, *always_display, text, language),
-        Message::ServiceRequest { service } => put_one_string(out, 5, service),
-        Message::ServiceAccept { service } => put_one_string(out, 6, service),
+        Message::ServiceRequest { service } => put_one_string(
+            out,
+            SSH_MSG_SERVICE_REQUEST,
+            service,
+        ),
+        Message::ServiceAccept { service } => put_one_string(out, SSH_MSG_SERVICE_ACCEPT, service),
         Message::ExtInfo { extensions } => put_ext_info(out, extensions),
         Message::KexInit(kexinit) => put_kexinit(out, kexinit),
-        Message::NewKeys => put_number(out, 21),
+        Message::NewKeys => put_number(out, SSH_MSG_NEWKEYS),
         Message::KexdhInit { e } => put_kexdh_init(out, e),
         Message::KexdhReply {
             host_key,
@@ -71,7 +82,7 @@ fn put_message(out: &mut Vec<u8>, message: &Message) -> Result<(), Memory>
             methods,
             partial_success,
         } => put_userauth_failure(out, methods, *partial_success),
-        Message::UserauthSuccess => put_number(out, 52),
+        Message::UserauthSuccess => put_number(out, SSH_MSG_USERAUTH_SUCCESS),
         Message::UserauthBanner { text, language } => put_userauth_banner(out, text, language),
     }
 }
@@ -86,7 +97,7 @@ fn put_number(out: &mut Vec<u8>, number: u8) -> Result<(), Memory>
 
 /// A message whose one field is a string.
 fn put_one_string(out: &mut Vec<u8>, number: u8, bytes: &[u8]) -> Result<(), Memory>
-    requires { length (number ∷ string bytes.now) ≤ 32768 }
+    requires { length (number ∷ string bytes.now) ≤ PAYLOAD_LIMIT }
     ensures ok { OnOk result (out.new.items ≡ out.old.items ++ number ∷ string bytes.now) }
     ensures err { OnErr result (take (length out.old.items) out.new.items ≡ out.old.items) }
 {
@@ -94,59 +105,59 @@ fn put_one_string(out: &mut Vec<u8>, number: u8, bytes: &[u8]) -> Result<(), Mem
     put_string(out, bytes)
 }
 
-#[tactic(auto, unfolding(crate::specs::Written::written))]
+#[tactic(auto, unfolding(crate::specs::Written::written_message))]
 fn put_disconnect(
     out: &mut Vec<u8>,
     reason: u32,
     description: &[u8],
     language: &[u8],
 ) -> Result<(), Memory>
-    requires { length (written (content.Disconnect reason description.now language.now)) ≤ 32768 }
-    ensures ok { OnOk result (out.new.items ≡ out.old.items ++ written (content.Disconnect reason description.now language.now)) }
+    requires { length (written_message (content.Disconnect reason description.now language.now)) ≤ PAYLOAD_LIMIT }
+    ensures ok { OnOk result (out.new.items ≡ out.old.items ++ written_message (content.Disconnect reason description.now language.now)) }
     ensures well { OnOk result (IsWellFormed (content.Disconnect reason description.now language.now)) }
     ensures err { OnErr result (take (length out.old.items) out.new.items ≡ out.old.items) }
 {
-    out.push(1)?;
+    out.push(SSH_MSG_DISCONNECT)?;
     put_u32(out, reason)?;
     put_string(out, description)?;
     put_string(out, language)
 }
 
-#[tactic(auto, unfolding(crate::specs::Written::written))]
+#[tactic(auto, unfolding(crate::specs::Written::written_message))]
 fn put_unimplemented(out: &mut Vec<u8>, sequence_number: u32) -> Result<(), Memory>
-    ensures ok { OnOk result (out.new.items ≡ out.old.items ++ written (content.Unimplemented sequence_number)) }
+    ensures ok { OnOk result (out.new.items ≡ out.old.items ++ written_message (content.Unimplemented sequence_number)) }
     ensures well { OnOk result (IsWellFormed (content.Unimplemented sequence_number)) }
     ensures err { OnErr result (take (length out.old.items) out.new.items ≡ out.old.items) }
 {
-    out.push(3)?;
+    out.push(SSH_MSG_UNIMPLEMENTED)?;
     put_u32(out, sequence_number)
 }
 
-#[tactic(auto, unfolding(crate::specs::Written::written))]
+#[tactic(auto, unfolding(crate::specs::Written::written_message))]
 fn put_debug(
     out: &mut Vec<u8>,
     always_display: bool,
     text: &[u8],
     language: &[u8],
 ) -> Result<(), Memory>
-    requires { length (written (content.Debug always_display text.now language.now)) ≤ 32768 }
-    ensures ok { OnOk result (out.new.items ≡ out.old.items ++ written (content.Debug always_display text.now language.now)) }
+    requires { length (written_message (content.Debug always_display text.now language.now)) ≤ PAYLOAD_LIMIT }
+    ensures ok { OnOk result (out.new.items ≡ out.old.items ++ written_message (content.Debug always_display text.now language.now)) }
     ensures well { OnOk result (IsWellFormed (content.Debug always_display text.now language.now)) }
     ensures err { OnErr result (take (length out.old.items) out.new.items ≡ out.old.items) }
 {
-    out.push(4)?;
+    out.push(SSH_MSG_DEBUG)?;
     put_boolean(out, always_display)?;
     put_string(out, text)?;
     put_string(out, language)
 }
 
-#[tactic(auto, unfolding(crate::specs::Written::written))]
+#[tactic(auto, unfolding(crate::specs::Written::written_message))]
 fn put_kexinit(out: &mut Vec<u8>, kexinit: &KexInit) -> Result<(), Memory>
-    ensures ok { OnOk result (out.new.items ≡ out.old.items ++ written (content.KexInit (offer_of kexinit.now))) }
+    ensures ok { OnOk result (out.new.items ≡ out.old.items ++ written_message (content.KexInit (offer_of kexinit.now))) }
     ensures well { OnOk result (IsWellFormed (content.KexInit (offer_of kexinit.now))) }
     ensures err { OnErr result (take (length out.old.items) out.new.items ≡ out.old.items) }
 {
-    out.push(20)?;
+    out.push(SSH_MSG_KEXINIT)?;
     out.extend_from_slice(&kexinit.cookie)?;
     kexinit.kex_algorithms.write(out)?;
     kexinit.server_host_key_algorithms.write(out)?;
@@ -163,74 +174,74 @@ fn put_kexinit(out: &mut Vec<u8>, kexinit: &KexInit) -> Result<(), Memory>
     Ok(())
 }
 
-#[tactic(auto, unfolding(crate::specs::Written::written))]
+#[tactic(auto, unfolding(crate::specs::Written::written_message))]
 fn put_kexdh_init(out: &mut Vec<u8>, e: &MpintBuf) -> Result<(), Memory>
-    ensures ok { OnOk result (out.new.items ≡ out.old.items ++ written (content.KexdhInit e.now)) }
+    ensures ok { OnOk result (out.new.items ≡ out.old.items ++ written_message (content.KexdhInit e.now)) }
     ensures well { OnOk result (IsWellFormed (content.KexdhInit e.now)) }
     ensures err { OnErr result (take (length out.old.items) out.new.items ≡ out.old.items) }
 {
-    out.push(30)?;
+    out.push(SSH_MSG_KEXDH_INIT)?;
     put_string(out, e.body())
 }
 
-#[tactic(auto, unfolding(crate::specs::Written::written))]
+#[tactic(auto, unfolding(crate::specs::Written::written_message))]
 fn put_kexdh_reply(
     out: &mut Vec<u8>,
     host_key: &[u8],
     f: &MpintBuf,
     signature: &[u8],
 ) -> Result<(), Memory>
-    requires { length (written (content.KexdhReply host_key.now f.now signature.now)) ≤ 32768 }
-    ensures ok { OnOk result (out.new.items ≡ out.old.items ++ written (content.KexdhReply host_key.now f.now signature.now)) }
+    requires { length (written_message (content.KexdhReply host_key.now f.now signature.now)) ≤ PAYLOAD_LIMIT }
+    ensures ok { OnOk result (out.new.items ≡ out.old.items ++ written_message (content.KexdhReply host_key.now f.now signature.now)) }
     ensures well { OnOk result (IsWellFormed (content.KexdhReply host_key.now f.now signature.now)) }
     ensures err { OnErr result (take (length out.old.items) out.new.items ≡ out.old.items) }
 {
-    out.push(31)?;
+    out.push(SSH_MSG_KEXDH_REPLY)?;
     put_string(out, host_key)?;
     put_string(out, f.body())?;
     put_string(out, signature)
 }
 
-#[tactic(auto, unfolding(crate::specs::Written::written))]
+#[tactic(auto, unfolding(crate::specs::Written::written_message))]
 fn put_userauth_failure(
     out: &mut Vec<u8>,
     methods: &NameList,
     partial_success: bool,
 ) -> Result<(), Memory>
-    ensures ok { OnOk result (out.new.items ≡ out.old.items ++ written (content.UserauthFailure methods.now partial_success)) }
+    ensures ok { OnOk result (out.new.items ≡ out.old.items ++ written_message (content.UserauthFailure methods.now partial_success)) }
     ensures well { OnOk result (IsWellFormed (content.UserauthFailure methods.now partial_success)) }
     ensures err { OnErr result (take (length out.old.items) out.new.items ≡ out.old.items) }
 {
-    out.push(51)?;
+    out.push(SSH_MSG_USERAUTH_FAILURE)?;
     methods.write(out)?;
     put_boolean(out, partial_success)
 }
 
-#[tactic(auto, unfolding(crate::specs::Written::written))]
+#[tactic(auto, unfolding(crate::specs::Written::written_message))]
 fn put_userauth_banner(out: &mut Vec<u8>, text: &[u8], language: &[u8]) -> Result<(), Memory>
-    requires { length (written (content.UserauthBanner text.now language.now)) ≤ 32768 }
-    ensures ok { OnOk result (out.new.items ≡ out.old.items ++ written (content.UserauthBanner text.now language.now)) }
+    requires { length (written_message (content.UserauthBanner text.now language.now)) ≤ PAYLOAD_LIMIT }
+    ensures ok { OnOk result (out.new.items ≡ out.old.items ++ written_message (content.UserauthBanner text.now language.now)) }
     ensures well { OnOk result (IsWellFormed (content.UserauthBanner text.now language.now)) }
     ensures err { OnErr result (take (length out.old.items) out.new.items ≡ out.old.items) }
 {
-    out.push(53)?;
+    out.push(SSH_MSG_USERAUTH_BANNER)?;
     put_string(out, text)?;
     put_string(out, language)
 }
 
-#[tactic(auto, unfolding(crate::specs::Written::written))]
+#[tactic(auto, unfolding(crate::specs::Written::written_message))]
 fn put_userauth_request(
     out: &mut Vec<u8>,
     user: &str,
     service: &[u8],
     method: &Method,
 ) -> Result<(), Memory>
-    requires { length (written (content.UserauthRequest user.now service.now (method_of method.now))) ≤ 32768 }
-    ensures ok { OnOk result (out.new.items ≡ out.old.items ++ written (content.UserauthRequest user.now service.now (method_of method.now))) }
+    requires { length (written_message (content.UserauthRequest user.now service.now (method_of method.now))) ≤ PAYLOAD_LIMIT }
+    ensures ok { OnOk result (out.new.items ≡ out.old.items ++ written_message (content.UserauthRequest user.now service.now (method_of method.now))) }
     ensures well { OnOk result (IsWellFormed (content.UserauthRequest user.now service.now (method_of method.now))) }
     ensures err { OnErr result (take (length out.old.items) out.new.items ≡ out.old.items) }
 {
-    out.push(50)?;
+    out.push(SSH_MSG_USERAUTH_REQUEST)?;
     put_string(out, user.as_bytes())?;
     put_string(out, service)?;
     put_string(out, method.name())?;
@@ -239,7 +250,7 @@ fn put_userauth_request(
 
 /// Appends the fields of a method, which stand behind its name.
 fn put_method_fields(out: &mut Vec<u8>, method: &Method) -> Result<(), Memory>
-    requires { length (method_fields (method_of method.now)) ≤ 32768 }
+    requires { length (method_fields (method_of method.now)) ≤ PAYLOAD_LIMIT }
     ensures ok { OnOk result (out.new.items ≡ out.old.items ++ method_fields (method_of method.now)) }
     ensures well { IsMethod (method_of method.now) }
     ensures err { OnErr result (take (length out.old.items) out.new.items ≡ out.old.items) }
@@ -259,7 +270,7 @@ fn put_method_fields(out: &mut Vec<u8>, method: &Method) -> Result<(), Memory>
 }
 
 fn put_password(out: &mut Vec<u8>, password: &[u8]) -> Result<(), Memory>
-    requires { length (method_fields (content.Password password.now)) ≤ 32768 }
+    requires { length (method_fields (content.Password password.now)) ≤ PAYLOAD_LIMIT }
     ensures ok { OnOk result (out.new.items ≡ out.old.items ++ method_fields (content.Password password.now)) }
     ensures err { OnErr result (take (length out.old.items) out.new.items ≡ out.old.items) }
 {
@@ -268,7 +279,7 @@ fn put_password(out: &mut Vec<u8>, password: &[u8]) -> Result<(), Memory>
 }
 
 fn put_password_change(out: &mut Vec<u8>, old: &[u8], new: &[u8]) -> Result<(), Memory>
-    requires { length (method_fields (content.PasswordChange old.now new.now)) ≤ 32768 }
+    requires { length (method_fields (content.PasswordChange old.now new.now)) ≤ PAYLOAD_LIMIT }
     ensures ok { OnOk result (out.new.items ≡ out.old.items ++ method_fields (content.PasswordChange old.now new.now)) }
     ensures err { OnErr result (take (length out.old.items) out.new.items ≡ out.old.items) }
 {
@@ -283,7 +294,7 @@ fn put_publickey(
     key: &[u8],
     signature: &[u8],
 ) -> Result<(), Memory>
-    requires { length (method_fields (content.PublicKey algorithm.now key.now signature.now)) ≤ 32768 }
+    requires { length (method_fields (content.PublicKey algorithm.now key.now signature.now)) ≤ PAYLOAD_LIMIT }
     ensures ok { OnOk result (out.new.items ≡ out.old.items ++ method_fields (content.PublicKey algorithm.now key.now signature.now)) }
     ensures err { OnErr result (take (length out.old.items) out.new.items ≡ out.old.items) }
 {
@@ -294,7 +305,7 @@ fn put_publickey(
 }
 
 fn put_publickey_query(out: &mut Vec<u8>, algorithm: &[u8], key: &[u8]) -> Result<(), Memory>
-    requires { length (method_fields (content.PublicKeyQuery algorithm.now key.now)) ≤ 32768 }
+    requires { length (method_fields (content.PublicKeyQuery algorithm.now key.now)) ≤ PAYLOAD_LIMIT }
     ensures ok { OnOk result (out.new.items ≡ out.old.items ++ method_fields (content.PublicKeyQuery algorithm.now key.now)) }
     ensures err { OnErr result (take (length out.old.items) out.new.items ≡ out.old.items) }
 {
@@ -311,15 +322,15 @@ fn put_bytes(out: &mut Vec<u8>, bytes: &[u8]) -> Result<(), Memory>
     Ok(())
 }
 
-#[tactic(auto, unfolding(crate::specs::Written::written))]
+#[tactic(auto, unfolding(crate::specs::Written::written_message))]
 fn put_ext_info(out: &mut Vec<u8>, extensions: &[Extension]) -> Result<(), Memory>
-    requires { length (written (content.ExtInfo (pairs_of extensions.now))) ≤ 32768 }
-    ensures ok { OnOk result (out.new.items ≡ out.old.items ++ written (content.ExtInfo (pairs_of extensions.now))) }
+    requires { length (written_message (content.ExtInfo (pairs_of extensions.now))) ≤ PAYLOAD_LIMIT }
+    ensures ok { OnOk result (out.new.items ≡ out.old.items ++ written_message (content.ExtInfo (pairs_of extensions.now))) }
     ensures well { OnOk result (IsWellFormed (content.ExtInfo (pairs_of extensions.now))) }
     ensures err { OnErr result (take (length out.old.items) out.new.items ≡ out.old.items) }
 {
     let count = extensions.len() as u32;
-    out.push(7)?;
+    out.push(SSH_MSG_EXT_INFO)?;
     put_u32(out, count)?;
     put_extensions(out, extensions)
 }
@@ -327,7 +338,7 @@ fn put_ext_info(out: &mut Vec<u8>, extensions: &[Extension]) -> Result<(), Memor
 /// Appends pairs of a name and a value.
 #[tactic(auto, using(crate::proofs::PutLemmas::pairs_more))]
 fn put_extensions(out: &mut Vec<u8>, extensions: &[Extension]) -> Result<(), Memory>
-    requires { length (pairs_written (pairs_of extensions.now)) ≤ 32768 }
+    requires { length (pairs_written (pairs_of extensions.now)) ≤ PAYLOAD_LIMIT }
     ensures ok { OnOk result (out.new.items ≡ out.old.items ++ pairs_written (pairs_of extensions.now)) }
     ensures err { OnErr result (take (length out.old.items) out.new.items ≡ out.old.items) }
 {
@@ -338,7 +349,7 @@ fn put_extensions(out: &mut Vec<u8>, extensions: &[Extension]) -> Result<(), Mem
 }
 
 fn put_extension(out: &mut Vec<u8>, extension: &Extension) -> Result<(), Memory>
-    requires { length (pair_written (pair_of extension.now)) ≤ 32768 }
+    requires { length (pair_written (pair_of extension.now)) ≤ PAYLOAD_LIMIT }
     ensures ok { OnOk result (out.new.items ≡ out.old.items ++ pair_written (pair_of extension.now)) }
     ensures err { OnErr result (take (length out.old.items) out.new.items ≡ out.old.items) }
 {

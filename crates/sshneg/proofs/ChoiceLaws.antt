@@ -55,9 +55,6 @@ choice_sound m client server a e =
     (common_sound client.compression_client_to_server server.compression_client_to_server s₆.0 s₆.1)
     (common_sound client.compression_server_to_client server.compression_server_to_client s₇.0 s₇.1))
 
-with_some : (f : NoCommon) (o : Option (List ℕ)) (n : List ℕ) (next : List ℕ → Result Algorithms NoCommon) → o ≡ Some n → with_name f o next ≡ next n
-with_some f o n next e = rw e refl
-
 pub choice_complete : (m : Meaning) (client server : Offer) (a : Algorithms) → IsChoice m client server a → choice m client server ≡ Ok a
 unfolding choice choice_of_directions
 choice_complete m client server a is = rw (

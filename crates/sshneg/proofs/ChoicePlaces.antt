@@ -10,7 +10,7 @@ use Rattle.sshpacket.specs.Suite.{Meaning}
 use Rattle.sshneg.specs.declared.choice.Chosen.{Chosen}
 use Rattle.sshneg.specs.declared.choice.NoCommon.{NoCommon}
 use Rattle.sshneg.specs.declared.choice.NoCommon.TheVariants as field
-use Rattle.sshneg.specs.Choice.{ArePositions, FirstUsable, IsChoice, IsFirst, IsHostKeyFor, IsKex, IsPosition, IsUsable, SameFirst, Tells, serves}
+use Rattle.sshneg.specs.Choice.{ArePositions, FirstUsable, IsChoice, IsFirst, IsHostKeyFor, IsKex, IsPosition, IsUsable, SameFirst, ChoiceAnswer, serves}
 use Rattle.sshneg.specs.ChoiceLaw.{AreEarliest, IsAllowed, StandsAt}
 use Rattle.sshneg.specs.ChoiceReadings.{answer, answered, choice, is_in, is_served, kex_choice, position_in, positions}
 use Rattle.sshneg.specs.Fields.{Algorithms, list_of, name_of, position_of}
@@ -147,22 +147,22 @@ pub placed : (m : Meaning) (client server : Offer) (a : Algorithms) (chosen : Ch
 placed m client server a chosen is = (are_those client a chosen, λ e. rw e (are_positions m client server a is))
 
 -- an answer tells the truth exactly where it is the function's
-pub tells : (m : Meaning) (client server : Offer) (r : Result Chosen NoCommon) → Tells m client server r → r ≡ answer m client server
+pub tells : (m : Meaning) (client server : Offer) (r : Result Chosen NoCommon) → ChoiceAnswer m client server r → r ≡ answer m client server
 unfolding answer
 tells m client server (Ok chosen) (a, is, at) =
     ap (λ (c : Chosen). Ok c) (are_those client a chosen at) ∙ sym (ap (λ (x : Result Algorithms NoCommon). answered client x) (choice_complete m client server a is))
 tells m client server (Err f) first = sym (ap (λ (x : Result Algorithms NoCommon). answered client x) (without_complete m client server f first))
 
-told_by : (m : Meaning) (client server : Offer) (r : Result Algorithms NoCommon) → choice m client server ≡ r → Tells m client server (answered client r)
+told_by : (m : Meaning) (client server : Offer) (r : Result Algorithms NoCommon) → choice m client server ≡ r → ChoiceAnswer m client server (answered client r)
 told_by m client server (Ok a) e =
     let is = choice_sound m client server a e in (a, is, are_positions m client server a is)
 told_by m client server (Err f) e = without_sound m client server f e
 
-pub told : (m : Meaning) (client server : Offer) → Tells m client server (answer m client server)
+pub told : (m : Meaning) (client server : Offer) → ChoiceAnswer m client server (answer m client server)
 unfolding answer
 told m client server = told_by m client server (choice m client server) refl
 
-pub told_when : (m : Meaning) (client server : Offer) (r : Result Chosen NoCommon) → r ≡ answer m client server → Tells m client server r
+pub told_when : (m : Meaning) (client server : Offer) (r : Result Chosen NoCommon) → r ≡ answer m client server → ChoiceAnswer m client server r
 told_when m client server r e = rw e (told m client server)
 
 same_chosen : (x y : Chosen) → ◌≡◌ {A = Result Chosen NoCommon} (Ok x) (Ok y) → x ≡ y

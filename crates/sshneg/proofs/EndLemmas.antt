@@ -5,7 +5,7 @@ use Rattle.std.specs.Prelude.{option_map}
 use Rattle.sshmsg.specs.declared.fault.MsgFault.{MsgFault}
 use Rattle.sshmsg.specs.Content.{Content, KexInit, Offer}
 use Rattle.sshmsg.specs.Messages.{message_in}
-use Rattle.sshmsg.specs.Written.{IsWellFormed, written}
+use Rattle.sshmsg.specs.Written.{IsWellFormed, written_message}
 use Rattle.sshneg.specs.declared.role.Role.{Role}
 use Rattle.sshneg.specs.declared.role.Role.TheVariants.{Client, Server}
 use Rattle.sshneg.specs.ChoiceReadings.{choice}
@@ -97,13 +97,13 @@ one_end m kex client server a chosen is agrees one =
     (source_by_choice m Server server a kex (choices.1 ∙ chosen) is ∙ x.of_server)
 
 -- what is written for a KEXINIT offers what it was written for
-pub written_offer : ((c : Content) → IsWellFormed c → message_in (written c) ≡ Ok c)
-    → (offer : Offer) → IsWellFormed (KexInit offer) → offer_in (written (KexInit offer)) ≡ Some offer
+pub written_offer : ((c : Content) → IsWellFormed c → message_in (written_message c) ≡ Ok c)
+    → (offer : Offer) → IsWellFormed (KexInit offer) → offer_in (written_message (KexInit offer)) ≡ Some offer
 written_offer again offer well = ap (λ (r : Result Content MsgFault). offer_by r) (again (KexInit offer) well)
 
-pub written_choice : ((c : Content) → IsWellFormed c → message_in (written c) ≡ Ok c)
+pub written_choice : ((c : Content) → IsWellFormed c → message_in (written_message c) ≡ Ok c)
     → (m : Meaning) (client server : Offer) → IsWellFormed (KexInit client) → IsWellFormed (KexInit server)
-    → choice_in m (written (KexInit client)) (written (KexInit server)) ≡ choice m client server
+    → choice_in m (written_message (KexInit client)) (written_message (KexInit server)) ≡ choice m client server
 written_choice again m client server c s =
-    ap (λ (o : Option Offer). choice_by m o (offer_in (written (KexInit server)))) (written_offer again client c)
+    ap (λ (o : Option Offer). choice_by m o (offer_in (written_message (KexInit server)))) (written_offer again client c)
     ∙ ap (λ (o : Option Offer). choice_by m (Some client) o) (written_offer again server s)

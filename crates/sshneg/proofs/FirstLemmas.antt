@@ -67,12 +67,6 @@ none_found test (x ∷ xs) e n c = elim (cases_Bool (test x)) [
       ]
 ]
 
-pub finds_none : (test : List ℕ → Bool) (names : List (List ℕ)) → ((n : List ℕ) → Contains names n → test n ≡ false) → find test names ≡ None
-finds_none test [] none = refl
-finds_none test (x ∷ xs) none =
-    let here : test x ≡ false = none x (contains_here x xs) in
-    rw here (finds_none test xs (λ n c. none n (contains_behind x xs n c)))
-
 -- the first that passes is found behind those that don't
 pub finds_behind : (test : List ℕ → Bool) (before behind : List (List ℕ)) (n : List ℕ) → ((k : List ℕ) → Contains before k → test k ≡ false)
     → test n ≡ true → find test (before ++ n ∷ behind) ≡ Some n

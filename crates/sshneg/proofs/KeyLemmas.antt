@@ -10,7 +10,7 @@ one_more : (m : Meaning) (x : KeySource) (first : List ℕ) (n : ℕ) → grown 
 one_more m x first n = let on : n + 1 ≡ suc n = omega arith in ap (λ (k : ℕ). grown m x first k) on
 
 pub grows_start : (m : Meaning) (x : KeySource) (first : List ℕ) (len : ℕ) → length first ≤ 64 → Grows m x first len 0 first
-grows_start m x first len h = record { same_front = refl; same = λ less. refl; short = omega arith }
+grows_start m x first len h = record { same_prefix = refl; same = λ less. refl; short = omega arith }
 
 pub grows_on : (m : Meaning) (x : KeySource) (first : List ℕ) (len count : ℕ) (bytes more : List ℕ) → len ≤ 255 → length bytes < len → length more ≤ 64
     → more ≡ hash_with m x bytes → Grows m x first len count bytes → Grows m x first len (count + 1) (bytes ++ more)
@@ -19,12 +19,12 @@ grows_on m x first len count bytes more low less few is g =
     let all : bytes ++ more ≡ grown m x first (count + 1) =
     ap (λ (xs : List ℕ). bytes ++ xs) is ∙ (ap (λ (xs : List ℕ). xs ++ hash_with m x xs) e ∙ sym (one_more m x first count)) in
     let size : length (bytes ++ more) ≡ length bytes + length more = length-append bytes more in
-    record { same_front = ap (λ (xs : List ℕ). take len xs) all; same = λ less. all; short = omega arith }
+    record { same_prefix = ap (λ (xs : List ℕ). take len xs) all; same = λ less. all; short = omega arith }
 
 take_short : (n : ℕ) (xs : List ℕ) → length (take n xs) ≤ length xs
 take_short n xs = let size : length (take n xs) ≡ min n (length xs) = length-take n xs in omega arith
 
--- the front of enough bytes stays
+-- the prefix of enough bytes stays
 front_stays : (len : ℕ) (bytes all more : List ℕ) → len ≤ length bytes → take len bytes ≡ take len all → take len bytes ≡ take len (all ++ more)
 front_stays len bytes all more enough e =
     let a : length (take len bytes) ≡ len = length-take-le len bytes enough in
@@ -35,7 +35,7 @@ front_stays len bytes all more enough e =
 pub grows_stays : (m : Meaning) (x : KeySource) (first : List ℕ) (len count : ℕ) (bytes : List ℕ) → len ≤ length bytes → Grows m x first len count bytes
     → Grows m x first len (count + 1) bytes
 grows_stays m x first len count bytes enough g = record {
-  same_front = front_stays len bytes (grown m x first count) (hash_with m x (grown m x first count)) enough g.same_front
+  same_prefix = front_stays len bytes (grown m x first count) (hash_with m x (grown m x first count)) enough g.same_prefix
       ∙ ap (λ (xs : List ℕ). take len xs) (sym (one_more m x first count));
   same = λ less. absurd (omega (arith, less, enough));
   short = g.short;

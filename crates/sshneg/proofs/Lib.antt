@@ -11,3 +11,4 @@ pub mod LengthLemmas
 pub mod PartLemmas
 pub mod PositionLemmas
 pub mod SearchLemmas
+pub mod StrictnessLemmas

@@ -97,6 +97,6 @@ abbrev pub ArePositions : Offer → Algorithms → Chosen → Type 0
 ArePositions client a chosen = (f : NoCommon) → IsPosition (list_of f client) (name_of f a) (position_of f chosen)
 
 -- what an answer says: the positions of a choice, or the first field without one
-abbrev pub Tells : Meaning → Offer → Offer → Result Chosen NoCommon → Type 0
-Tells m client server (Ok chosen) = (a : Algorithms) × IsChoice m client server a × ArePositions client a chosen
-Tells m client server (Err f) = IsFirstWithout m client server f
+abbrev pub ChoiceAnswer : Meaning → Offer → Offer → Result Chosen NoCommon → Type 0
+ChoiceAnswer m client server (Ok chosen) = (a : Algorithms) × IsChoice m client server a × ArePositions client a chosen
+ChoiceAnswer m client server (Err f) = IsFirstWithout m client server f

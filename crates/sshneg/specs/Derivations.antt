@@ -64,7 +64,7 @@ abbrev pub grown : Meaning → KeySource → List ℕ → ℕ → List ℕ
 grown m x first zero = first
 grown m x first (suc n) = grown m x first n ++ hash_with m x (grown m x first n)
 
--- a key of so many bytes: the front of HASH(K || H || letter || session_id) and as many hashes more as are needed, each of
+-- a key of so many bytes: the prefix of HASH(K || H || letter || session_id) and as many hashes more as are needed, each of
 -- which has at least one byte
 unfoldable pub key : Meaning → KeySource → ℕ → ℕ → List ℕ
 key m x letter len = take len (grown m x (hash_with m x (letter ∷ x.session)) len)

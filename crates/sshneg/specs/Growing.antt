@@ -4,8 +4,8 @@ use Rattle.std.specs.Prelude.{◌≡◌, ℕ, ◌<◌, ◌≤◌, List, length, 
 use Rattle.sshneg.specs.Derivations.{KeySource, grown}
 use Rattle.sshpacket.specs.Suite.{Meaning}
 
--- after so many rounds there is the front of as many hashes, and all of them while it is too short
+-- after so many rounds there is the prefix of as many hashes, and all of them while it is too short
 pub record Grows (m : Meaning) (x : KeySource) (first : List ℕ) (len count : ℕ) (bytes : List ℕ) : Type 0 where
-  pub same_front : take len bytes ≡ take len (grown m x first count)
+  pub same_prefix : take len bytes ≡ take len (grown m x first count)
   pub same : length bytes < len → bytes ≡ grown m x first count
   pub short : length bytes ≤ 319

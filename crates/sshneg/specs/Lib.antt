@@ -7,3 +7,4 @@ pub mod ExchangeView
 pub mod Fields
 pub mod Growing
 pub mod Markers
+pub mod Strictness

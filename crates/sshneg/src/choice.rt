@@ -5,7 +5,7 @@ ghost use Rattle.std.specs.List.{list_any, position, slice_get};
 ghost use Rattle.sshwire.specs.Types.{AreNames, IsName};
 ghost use Rattle.sshmsg.specs.View.{offer_of};
 ghost use Rattle.sshneg.specs.declared.choice.NoCommon.TheVariants as field;
-ghost use Rattle.sshneg.specs.Choice.{Tells, serves};
+ghost use Rattle.sshneg.specs.Choice.{ChoiceAnswer, serves};
 ghost use Rattle.sshneg.specs.Markers.{is_marker};
 ghost use Rattle.sshneg.specs.ChoiceReadings.{answer, answered, choice_of_directions, first_common, host_key_choice, is_in, kex_choice, position_in, positioned};
 
@@ -83,7 +83,7 @@ impl Error for NoCommon {}
 /// The algorithms that two KEXINITs come to (RFC 4253 section 7.1), or the first field, in the order
 /// of a KEXINIT, that has none. Takes no memory.
 pub fn choose<S: Suite>(client: &KexInit, server: &KexInit, suite: &S) -> Result<Chosen, NoCommon>
-    ensures tells { Tells (S.meaning suite.now) (offer_of client.now) (offer_of server.now) result }
+    ensures tells { ChoiceAnswer (S.meaning suite.now) (offer_of client.now) (offer_of server.now) result }
     ensures exact { result ≡ answer (S.meaning suite.now) (offer_of client.now) (offer_of server.now) }
 {
     let kex = choose_kex(client, server, suite)?;

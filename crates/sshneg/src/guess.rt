@@ -20,8 +20,8 @@ pub fn guess_right(client: &KexInit, server: &KexInit) -> bool
         first_method(&server.kex_algorithms),
     );
     let host_key = same_name(
-        first_of(&client.server_host_key_algorithms),
-        first_of(&server.server_host_key_algorithms),
+        first_name(&client.server_host_key_algorithms),
+        first_name(&server.server_host_key_algorithms),
     );
     kex && host_key
 }
@@ -62,7 +62,7 @@ fn find_unmarked(names: &[String]) -> Option<&String>
 }
 
 /// The first name of a list.
-fn first_of(list: &NameList) -> Option<&str>
+fn first_name(list: &NameList) -> Option<&str>
     ensures { option_map (λ name. name.now) result ≡ first_name list.now }
 {
     match list.names().first() {

@@ -1,22 +1,23 @@
 //! What the layers above may rest on: what a choice is, which names of a kex list are methods, that
 //! keys are as long as the suite asks for, and that both ends of an exchange make the same keys.
 
-ghost use Rattle.std.specs.Prelude.{◌≡◌, ◌+◌, ◌≤◌, ◌∷◌, ◌++◌, ◌↔◌, ℕ, Contains, Err, List, Ok, Result, Some, [], codes, false, length, take, true};
+ghost use Rattle.std.specs.Prelude.{◌≡◌, ◌+◌, ◌≤◌, ◌∷◌, ◌++◌, ◌↔◌, ℕ, Bool, Contains, Err, List, Ok, Result, Some, [], codes, false, length, take, true};
 ghost use Rattle.sshwire.specs.Types.{AreNames, IsName};
 ghost use Rattle.sshmsg.specs.Content.{KexInit, Offer};
-ghost use Rattle.sshmsg.specs.Written.{IsWellFormed, written};
+ghost use Rattle.sshmsg.specs.Written.{IsWellFormed, written_message};
 ghost use Rattle.sshpacket.specs.Suite.{Agrees, IsLawful, Meaning, ResponseData};
 ghost use Rattle.sshneg.specs.declared.role.Role.TheVariants.{Client, Server};
 ghost use Rattle.sshneg.specs.declared.choice.Chosen.{Chosen};
 ghost use Rattle.sshneg.specs.declared.choice.NoCommon.{NoCommon};
 ghost use Rattle.sshneg.specs.declared.role.Role.{Role};
-ghost use Rattle.sshneg.specs.Choice.{AreFirstMethods, ArePositions, HasChoice, IsChoice, IsFirstWithout, IsKex, Tells, serves};
+ghost use Rattle.sshneg.specs.Choice.{AreFirstMethods, ArePositions, HasChoice, IsChoice, IsFirstWithout, IsKex, ChoiceAnswer, serves};
 ghost use Rattle.sshneg.specs.ChoiceLaw.{AreEarliest, AreListed, OfferAlike, OfferSame, StandsAt};
 ghost use Rattle.sshneg.specs.ChoiceReadings.{answer, choice, positions};
 ghost use Rattle.sshneg.specs.Derivations.{ExchangeData, KeySource, derived, exchange_size, exchange_text, grown, hash_with, key, signed_text};
 ghost use Rattle.sshneg.specs.ExchangeEnd.{HaveOneSource, IsOneExchange, KexEnd, answer_by, choice_at, choice_in, exchange_by, offer_in, source_of_end, source_with};
 ghost use Rattle.sshneg.specs.Fields.{Algorithms, list_of, name_of, position_of};
-ghost use Rattle.sshneg.specs.Markers.{IsRightGuess, first_name, is_marker, methods, strict_marker};
+ghost use Rattle.sshneg.specs.Strictness.{is_right_guess, is_strict, marked_list};
+ghost use Rattle.sshneg.specs.Markers.{IsRightGuess, IsStrict, first_name, is_marker, methods, other, strict_marker};
 
 use sshpacket::AgreeingSuite;
 
@@ -24,7 +25,7 @@ use sshpacket::AgreeingSuite;
 /// and any suite. `choice` is the choice as a function of what both sides offer, by names.
 pub fn choice_law()
     // An answer tells the choice exactly where it is `answer`, which has the positions of the names that `choice` has.
-    ensures tells { (m : Meaning) (client server : Offer) (r : Result Chosen NoCommon) → Tells m client server r ↔ (r ≡ answer m client server) }
+    ensures tells { (m : Meaning) (client server : Offer) (r : Result Chosen NoCommon) → ChoiceAnswer m client server r ↔ (r ≡ answer m client server) }
     ensures answers { (m : Meaning) (client server : Offer) (chosen : Chosen) → (answer m client server ≡ Ok chosen)
         ↔ ((a : Algorithms) × (choice m client server ≡ Ok a) × (chosen ≡ positions client a)) }
     ensures refuses { (m : Meaning) (client server : Offer) (f : NoCommon) → (answer m client server ≡ Err f) ↔ (choice m client server ≡ Err f) }
@@ -70,6 +71,15 @@ pub fn markers_law()
     // A marker changes no method, wherever it is added. Where there is none every name is a method.
     ensures added { (marker : List ℕ) (before behind : List (List ℕ)) → is_marker marker ≡ true → methods (before ++ marker ∷ behind) ≡ methods (before ++ behind) }
     ensures unmarked { (names : List (List ℕ)) → ((name : List ℕ) → Contains names name → is_marker name ≡ false) → methods names ≡ names }
+    // Strictness and a right guess are decided by a test of flag, role and offers.
+    ensures strictness { (flag : Bool) (role : Role) (peer : Offer) → (is_strict flag role peer ≡ true) ↔ IsStrict flag role peer }
+    ensures right { (client server : Offer) → (is_right_guess client server ≡ true) ↔ IsRightGuess client server }
+    // Of two endpoints that put their own marker behind methods: the methods are the same, and strictness is both flags.
+    ensures own_methods { (flag : Bool) (role : Role) (names : List (List ℕ)) → ((name : List ℕ) → Contains names name → is_marker name ≡ false)
+        → methods (marked_list role flag names) ≡ names }
+    ensures both_flags { (flag other_flag : Bool) (role : Role) (names : List (List ℕ)) (peer : Offer)
+        → ((name : List ℕ) → Contains names name → is_marker name ≡ false) → peer.kex_algorithms ≡ marked_list (other role) other_flag names
+        → IsStrict flag role peer ↔ ((flag ≡ true) × (other_flag ≡ true)) }
 {}
 
 /// The law of derived keys (RFC 4253 sections 7.2 and 8). Each key is as long as the suite asks for,
@@ -103,10 +113,10 @@ pub fn derivation_law()
 /// what they hash and sign (RFC 4253 section 8, RFC 4252 section 7).
 pub fn exchange_law()
     // A written KEXINIT offers what it was written for.
-    ensures offered { (offer : Offer) → IsWellFormed (KexInit offer) → offer_in (written (KexInit offer)) ≡ Some offer }
+    ensures offered { (offer : Offer) → IsWellFormed (KexInit offer) → offer_in (written_message (KexInit offer)) ≡ Some offer }
     // So two written KEXINITs have the choice of what they were written for.
     ensures chosen { (m : Meaning) (client server : Offer) → IsWellFormed (KexInit client) → IsWellFormed (KexInit server)
-        → choice_in m (written (KexInit client)) (written (KexInit server)) ≡ choice m client server }
+        → choice_in m (written_message (KexInit client)) (written_message (KexInit server)) ≡ choice m client server }
     // Both ends of one exchange make one choice, that of the two KEXINITs as sent.
     ensures choices { (m : Meaning) (kex : List ℕ) (client server : KexEnd) → IsOneExchange m kex client server
         → (choice_at m Client client ≡ choice_in m client.kexinit server.kexinit)

@@ -16,6 +16,3 @@ pub use law::{agreement_law, choice_law, derivation_law, exchange_law, markers_l
 pub use markers::{is_marker, strict_marker};
 pub use role::Role;
 pub use strict::strict_of;
-
-#[cfg(test)]
-mod tests;

@@ -8,12 +8,12 @@ use Rattle.sshpacket.specs.declared.fault.PacketFault.{PacketFault}
 use Rattle.sshpacket.specs.declared.fault.PacketFault.TheVariants.{Empty, Length, Mac, Memory, Padding}
 use Rattle.sshpacket.specs.declared.reader.PacketStep.{PacketStep}
 use Rattle.sshpacket.specs.declared.reader.PacketStep.TheVariants.{More, Payload}
-use Rattle.sshpacket.specs.Front.{Front, OfPacket, refused, unfinished, whole}
+use Rattle.sshpacket.specs.Parse.{Parse, OfPacket, refused, unfinished, whole}
 use Rattle.sshpacket.specs.declared.reader.PacketReader.{PacketReader}
-use Rattle.sshpacket.specs.ReaderState.{HoldsNothingBehind, IsPayload, IsStep, ReaderLeaves, ReaderWaits, Uses, last_used, state, OnlyPacketAnswer, PacketAnswer, PacketTells, ReaderState, ahead, way_at}
+use Rattle.sshpacket.specs.ReaderState.{HoldsNothingBehind, IsPayload, IsStep, ReaderLeaves, ReaderWaits, Uses, last_used, state, OnlyPacketAnswer, ParseAnswer, PacketAnswer, ReaderState, ahead, protection_at}
 use Rattle.sshpacket.specs.Suite.{Meaning}
-use Rattle.sshpacket.specs.Unit.{IsFaithful, IsUnit, Means}
-use Rattle.sshpacket.proofs.UnitLaws.{reads}
+use Rattle.sshpacket.specs.ProtectedPacket.{IsFaithful, IsProtectedPacket, PacketMeans}
+use Rattle.sshpacket.proofs.ProtectedLaws.{reads}
 
 is_memory : (f : PacketFault) → (f ≡ Memory) ⊎ (f ≢ Memory)
 is_memory Length = inr (λ e. cc)
@@ -32,25 +32,25 @@ module _ (m : Meaning) (s : ReaderState) (piece : List ℕ) where
   bytes_used : (used : ℕ) → take (length s.held + used) (s.held ++ piece) ≡ s.held ++ take used piece
   bytes_used used = take-append-add s.held piece used
 
-  pub tells_of : (result : Result PacketStep PacketFault) → Means (way_at m s) (s.held ++ piece) (ahead m s piece) → PacketAnswer m s piece result → PacketTells m s piece result
+  pub tells_of : (result : Result PacketStep PacketFault) → PacketMeans (protection_at m s) (s.held ++ piece) (ahead m s piece) → ParseAnswer m s piece result → PacketAnswer m s piece result
   tells_of (Ok More) means answer = rw answer at means
   tells_of (Ok (Payload payload seq used)) means answer =
-      let told : Means (way_at m s) (s.held ++ piece) (whole payload.now (length s.held + used)) = rw answer.1 at means in
+      let told : PacketMeans (protection_at m s) (s.held ++ piece) (whole payload.now (length s.held + used)) = rw answer.1 at means in
       (answer.0, answer.2, rw (bytes_used used) at told.1)
   tells_of (Err f) means answer = λ other.
       let a = answer other in
-      let told : Means (way_at m s) (s.held ++ piece) (refused (OfPacket f) (length s.held + a.0)) = rw a.2 at means in
+      let told : PacketMeans (protection_at m s) (s.held ++ piece) (refused (OfPacket f) (length s.held + a.0)) = rw a.2 at means in
       (a.0, a.1, told)
 
   -- which answer is told of bytes that mean this
-  same_answer : IsFaithful (way_at m s) → IsBytes (s.held ++ piece) → (found : Front) → Means (way_at m s) (s.held ++ piece) found → ahead m s piece ≡ found
-  same_answer faithful bytes found means = reads (way_at m s) (s.held ++ piece) faithful bytes found means
+  same_answer : IsFaithful (protection_at m s) → IsBytes (s.held ++ piece) → (found : Parse) → PacketMeans (protection_at m s) (s.held ++ piece) found → ahead m s piece ≡ found
+  same_answer faithful bytes found means = reads (protection_at m s) (s.held ++ piece) faithful bytes found means
 
   -- an error that isn't want of memory tells its own refusal
-  told_error : (f : PacketFault) → PacketAnswer m s piece (Err f) → (f ≢ Memory) → (used : ℕ) × (ahead m s piece ≡ refused (OfPacket f) (length s.held + used))
+  told_error : (f : PacketFault) → ParseAnswer m s piece (Err f) → (f ≢ Memory) → (used : ℕ) × (ahead m s piece ≡ refused (OfPacket f) (length s.held + used))
   told_error f answer other = let a = answer other in (a.0, a.2)
 
-  only_error : {A : Type 0} → (f : PacketFault) → PacketAnswer m s piece (Err f)
+  only_error : {A : Type 0} → (f : PacketFault) → ParseAnswer m s piece (Err f)
       → ((used : ℕ) → ahead m s piece ≡ refused (OfPacket f) (length s.held + used) → A ⊎ (◌≡◌ {A = Result PacketStep PacketFault} (Err f) (Err Memory)))
       → A ⊎ (◌≡◌ {A = Result PacketStep PacketFault} (Err f) (Err Memory))
   only_error f answer else_is = elim (is_memory f) [
@@ -58,37 +58,37 @@ module _ (m : Meaning) (s : ReaderState) (piece : List ℕ) where
     | inr other ↦ (let a = told_error f answer other in else_is a.0 a.1)
   ]
 
-  more_by : (result : Result PacketStep PacketFault) → PacketAnswer m s piece result → ahead m s piece ≡ unfinished → (result ≡ Ok More) ⊎ (result ≡ Err Memory)
+  more_by : (result : Result PacketStep PacketFault) → ParseAnswer m s piece result → ahead m s piece ≡ unfinished → (result ≡ Ok More) ⊎ (result ≡ Err Memory)
   more_by (Ok More) answer e = inl refl
-  more_by (Ok (Payload payload seq used)) answer e = absurd (let bad : ◌≡◌ {A = Front} unfinished (whole payload.now (length s.held + used)) = sym e ∙ answer.1 in cc)
-  more_by (Err f) answer e = only_error f answer (λ used told. absurd (let bad : ◌≡◌ {A = Front} unfinished (refused (OfPacket f) (length s.held + used)) = sym e ∙ told in cc))
+  more_by (Ok (Payload payload seq used)) answer e = absurd (let bad : ◌≡◌ {A = Parse} unfinished (whole payload.now (length s.held + used)) = sym e ∙ answer.1 in cc)
+  more_by (Err f) answer e = only_error f answer (λ used told. absurd (let bad : ◌≡◌ {A = Parse} unfinished (refused (OfPacket f) (length s.held + used)) = sym e ∙ told in cc))
 
-  payload_by : (wanted : List ℕ) (len : ℕ) (result : Result PacketStep PacketFault) → PacketAnswer m s piece result → ahead m s piece ≡ whole wanted (length s.held + len)
+  payload_by : (wanted : List ℕ) (len : ℕ) (result : Result PacketStep PacketFault) → ParseAnswer m s piece result → ahead m s piece ≡ whole wanted (length s.held + len)
       → IsPayload wanted s.seq len result ⊎ (result ≡ Err Memory)
-  payload_by wanted len (Ok More) answer e = absurd (let bad : ◌≡◌ {A = Front} unfinished (whole wanted (length s.held + len)) = sym answer ∙ e in cc)
+  payload_by wanted len (Ok More) answer e = absurd (let bad : ◌≡◌ {A = Parse} unfinished (whole wanted (length s.held + len)) = sym answer ∙ e in cc)
   payload_by wanted len (Ok (Payload payload seq used)) answer e =
       let same = same_whole payload.now wanted (length s.held + used) (length s.held + len) (sym answer.1 ∙ e) in
       let sum : length s.held + used ≡ length s.held + len = same.1 in
       inl (same.0, answer.2, omega arith)
   payload_by wanted len (Err f) answer e = only_error f answer
-      (λ used told. absurd (let bad : ◌≡◌ {A = Front} (whole wanted (length s.held + len)) (refused (OfPacket f) (length s.held + used)) = sym e ∙ told in cc))
+      (λ used told. absurd (let bad : ◌≡◌ {A = Parse} (whole wanted (length s.held + len)) (refused (OfPacket f) (length s.held + used)) = sym e ∙ told in cc))
 
-  refused_by : (wanted : PacketFault) (place : ℕ) (result : Result PacketStep PacketFault) → PacketAnswer m s piece result → ahead m s piece ≡ refused (OfPacket wanted) place
+  refused_by : (wanted : PacketFault) (place : ℕ) (result : Result PacketStep PacketFault) → ParseAnswer m s piece result → ahead m s piece ≡ refused (OfPacket wanted) place
       → (result ≡ Err wanted) ⊎ (result ≡ Err Memory)
-  refused_by wanted place (Ok More) answer e = absurd (let bad : ◌≡◌ {A = Front} unfinished (refused (OfPacket wanted) place) = sym answer ∙ e in cc)
+  refused_by wanted place (Ok More) answer e = absurd (let bad : ◌≡◌ {A = Parse} unfinished (refused (OfPacket wanted) place) = sym answer ∙ e in cc)
   refused_by wanted place (Ok (Payload payload seq used)) answer e =
-      absurd (let bad : ◌≡◌ {A = Front} (whole payload.now (length s.held + used)) (refused (OfPacket wanted) place) = sym answer.1 ∙ e in cc)
+      absurd (let bad : ◌≡◌ {A = Parse} (whole payload.now (length s.held + used)) (refused (OfPacket wanted) place) = sym answer.1 ∙ e in cc)
   refused_by wanted place (Err f) answer e = only_error f answer
       (λ used told. inl (ap (λ (x : PacketFault). let r : Result PacketStep PacketFault = Err x in r) (same_fault f wanted _ place (sym told ∙ e))))
 
   -- a packet within the piece
-  unit_means : (payload : List ℕ) (used : ℕ) → used ≤ length piece → IsUnit (way_at m s) payload (s.held ++ take used piece)
-      → Means (way_at m s) (s.held ++ piece) (whole payload (length s.held + used))
+  unit_means : (payload : List ℕ) (used : ℕ) → used ≤ length piece → IsProtectedPacket (protection_at m s) payload (s.held ++ take used piece)
+      → PacketMeans (protection_at m s) (s.held ++ piece) (whole payload (length s.held + used))
   unit_means payload used low unit =
       let all : length (s.held ++ piece) ≡ length s.held + length piece = length-append s.held piece in
       (omega arith, rw (bytes_used used) unit)
 
-  pub only_of : (result : Result PacketStep PacketFault) → IsFaithful (way_at m s) → IsBytes (s.held ++ piece) → PacketAnswer m s piece result → OnlyPacketAnswer m s piece result
+  pub only_of : (result : Result PacketStep PacketFault) → IsFaithful (protection_at m s) → IsBytes (s.held ++ piece) → ParseAnswer m s piece result → OnlyPacketAnswer m s piece result
   only_of result faithful bytes answer = record {
     more = λ found. more_by result answer (same_answer faithful bytes unfinished found);
     payload = λ payload used low unit. payload_by payload used result answer
@@ -99,7 +99,7 @@ module _ (m : Meaning) (s : ReaderState) (piece : List ℕ) where
   -- what is said by the payload that is lent
   module _ (payload : List ℕ) (used : ℕ) where
     pub step_answer : (step : PacketStep) → IsStep payload s.seq used step → used ≤ length piece → ahead m s piece ≡ whole payload (length s.held + used)
-        → PacketAnswer m s piece (Ok step)
+        → ParseAnswer m s piece (Ok step)
     step_answer More is low e = absurd is
     step_answer (Payload lent seq taken) is low e =
         (omega (arith, is.2, low), e ∙ (ap (λ (xs : List ℕ). whole xs (length s.held + used)) (sym is.0) ∙ ap (λ (n : ℕ). whole lent.now (length s.held + n)) (sym is.2)), is.1)

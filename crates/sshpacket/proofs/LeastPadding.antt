@@ -4,7 +4,7 @@ use Rattle.std.proofs.Common.{◌≡◌, ◌≢◌, ℕ, ◌+◌, ◌-◌, ◌%�
 use Rattle.std.proofs.Math.Nat.{add-mod_right, le-max_left, mod-add-mod, mod-eq_of_lt, mod_self}
 use Rattle.std.proofs.lemmas.Bool.{eqb-false, eqb-true, ltb-false, ltb-true}
 use Rattle.std.proofs.lemmas.Nat.{mod_below}
-use Rattle.sshpacket.specs.Packet.{IsLeastPadding, IsPadding, counted, least_padding, to_multiple, unit, with_four}
+use Rattle.sshpacket.specs.Packet.{IsLeastPadding, IsPadding, counted, least_padding, to_multiple, alignment, with_four}
 
 -- what lies a little behind a multiple isn't one
 behind_multiple : (u n j : ℕ) → n % u + j < u → (n + j) % u ≡ n % u + j
@@ -66,7 +66,7 @@ counted_high false = omega arith
 
 module _ (counts : Bool) (block len : ℕ) where
   abbrev u : ℕ
-  u = unit block
+  u = alignment block
 
   abbrev n : ℕ
   n = with_four counts len

@@ -7,7 +7,7 @@ use Rattle.std.proofs.lemmas.List.{drop-drop, get_or-drop, length-append, length
 use Rattle.sshwire.specs.TypeReadings.{IsReading, uint32_at}
 use Rattle.sshwire.specs.Types.{IsBytes, Uint32Text, uint32}
 use Rattle.sshpacket.specs.declared.fault.PacketFault.TheVariants.{Empty, Padding}
-use Rattle.sshpacket.specs.Front.{OfPacket, opened, refused, whole}
+use Rattle.sshpacket.specs.Parse.{OfPacket, opened, refused, whole}
 use Rattle.sshpacket.specs.Packet.{IsLength, IsPacket, counted, length_field, number, number_read, packet}
 use Rattle.sshpacket.specs.Suite.{Keeps}
 
@@ -53,11 +53,11 @@ opened_parts payload padding len low some =
     let p : ℕ = length padding in
     let rest : length (packet payload padding) - 4 ≡ 1 + length payload + length padding = omega (arith, long) in
     let size : 1 + length payload + length padding - length padding - 1 ≡ length payload = omega arith in
-    let front : take (1 + length payload + length padding - length padding - 1) (drop 5 (packet payload padding)) ≡ payload
+    let same : take (1 + length payload + length padding - length padding - 1) (drop 5 (packet payload padding)) ≡ payload
     = ap (λ (k : ℕ). take k (drop 5 (packet payload padding))) size
     ∙ (ap (λ (xs : List ℕ). take (length payload) xs) (packet_rest payload padding) ∙ take_at payload padding (length payload) refl) in
     opened_whole (packet payload padding) (length padding) (1 + length payload + length padding) len (packet_padding payload padding) rest low (omega arith)
-    ∙ ap (λ (xs : List ℕ). whole xs len) front
+    ∙ ap (λ (xs : List ℕ). whole xs len) same
 
 pub opened_packet : (counts : Bool) (block tag : ℕ) (payload clear : List ℕ) (len : ℕ) → IsPacket counts block tag payload clear → opened clear len ≡ whole payload len
 opened_packet counts block tag payload clear len k =

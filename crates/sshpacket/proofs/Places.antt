@@ -3,7 +3,7 @@
 use Rattle.std.proofs.Common.{◌≡◌, ◌+◌, Bool, true, List, [], ◌∷◌, ◌++◌, refl, sym, ap, ◌∙◌, arith, cond, subst, inl, inr, append_assoc}
 use Rattle.std.proofs.lemmas.Bool.{cases_Bool}
 use Rattle.std.proofs.lemmas.List.{append-nil}
-use Rattle.sshpacket.specs.Places.{IsFront, EachPlace, flat_places, stands, first_of, after_first, count_places}
+use Rattle.sshpacket.specs.Places.{IsPrefix, EachPlace, flat_places, stands, first_where, after_first, count_places}
 
 module _ {A : Type 0} where
   -- the accumulator with one element more
@@ -14,9 +14,9 @@ module _ {A : Type 0} where
   each-append Q before [] ys p q = subst (λ (b : List A). EachPlace Q b ys) (append-nil before) q
   each-append Q before (x ∷ xs) ys p q = (p.0, each-append Q (before ++ x ∷ []) xs ys p.1 (subst (λ (b : List A). EachPlace Q b ys) (sym (passed before x xs)) q))
 
-  pub each-front : (Q : List A → A → Type 0) (before xs ys : List A) → EachPlace Q before (xs ++ ys) → EachPlace Q before xs
-  each-front Q before [] ys p = tt
-  each-front Q before (x ∷ xs) ys p = (p.0, each-front Q (before ++ x ∷ []) xs ys p.1)
+  pub each-prefix : (Q : List A → A → Type 0) (before xs ys : List A) → EachPlace Q before (xs ++ ys) → EachPlace Q before xs
+  each-prefix Q before [] ys p = tt
+  each-prefix Q before (x ∷ xs) ys p = (p.0, each-prefix Q (before ++ x ∷ []) xs ys p.1)
 
   pub each-behind : (Q : List A → A → Type 0) (before xs ys : List A) → EachPlace Q before (xs ++ ys) → EachPlace Q (before ++ xs) ys
   each-behind Q before [] ys p = subst (λ (b : List A). EachPlace Q b ys) (sym (append-nil before)) p
@@ -56,12 +56,12 @@ module _ {A : Type 0} where
   ]
 
   pub first-append : (other : A) (t : List A → A → Bool) (before xs ys : List A)
-      → first_of other t before (xs ++ ys) ≡ cond (stands t before xs) (first_of other t before xs) (first_of other t (before ++ xs) ys)
-  first-append other t before [] ys = ap (λ (b : List A). first_of other t b ys) (sym (append-nil before))
+      → first_where other t before (xs ++ ys) ≡ cond (stands t before xs) (first_where other t before xs) (first_where other t (before ++ xs) ys)
+  first-append other t before [] ys = ap (λ (b : List A). first_where other t b ys) (sym (append-nil before))
   first-append other t before (x ∷ xs) ys = elim (cases_Bool (t before x)) [
     | inl h ↦ rw h refl
     | inr h ↦ rw h (first-append other t (before ++ x ∷ []) xs ys
-        ∙ ap (λ (b : List A). cond (stands t (before ++ x ∷ []) xs) (first_of other t (before ++ x ∷ []) xs) (first_of other t b ys)) (passed before x xs))
+        ∙ ap (λ (b : List A). cond (stands t (before ++ x ∷ []) xs) (first_where other t (before ++ x ∷ []) xs) (first_where other t b ys)) (passed before x xs))
   ]
 
   pub after-append : (t : List A → A → Bool) (before xs ys : List A)
@@ -90,7 +90,7 @@ module _ {A : Type 0} where
   ]
 
   pub first-push : (other : A) (t : List A → A → Bool) (before xs : List A) (x : A)
-      → first_of other t before (xs ++ x ∷ []) ≡ cond (stands t before xs) (first_of other t before xs) (cond (t (before ++ xs) x) x other)
+      → first_where other t before (xs ++ x ∷ []) ≡ cond (stands t before xs) (first_where other t before xs) (cond (t (before ++ xs) x) x other)
   first-push other t before xs x = first-append other t before xs (x ∷ [])
 
   pub after-push : (t : List A → A → Bool) (before xs : List A) (x : A)
@@ -109,22 +109,46 @@ module _ {A : Type 0} where
         | inr h ↦ rw h (omega arith)
       ]
 
-  -- fronts
-  pub front-append : (xs ys : List A) → IsFront xs (xs ++ ys)
-  front-append xs ys = record { rest = ys; whole_is = refl }
+  -- prefixes
+  pub prefix-append : (xs ys : List A) → IsPrefix xs (xs ++ ys)
+  prefix-append xs ys = record { rest = ys; whole_is = refl }
 
-  pub front-all : (xs : List A) → IsFront xs xs
-  front-all xs = record { rest = []; whole_is = sym (append-nil xs) }
+  pub prefix-all : (xs : List A) → IsPrefix xs xs
+  prefix-all xs = record { rest = []; whole_is = sym (append-nil xs) }
 
-  pub front-through : (xs ys zs : List A) → IsFront xs ys → IsFront ys zs → IsFront xs zs
-  front-through xs ys zs p q = record { rest = p.rest ++ q.rest; whole_is = q.whole_is ∙ (ap (λ (l : List A). l ++ q.rest) p.whole_is ∙ append_assoc xs p.rest q.rest) }
+  pub prefix-through : (xs ys zs : List A) → IsPrefix xs ys → IsPrefix ys zs → IsPrefix xs zs
+  prefix-through xs ys zs p q = record { rest = p.rest ++ q.rest; whole_is = q.whole_is ∙ (ap (λ (l : List A). l ++ q.rest) p.whole_is ∙ append_assoc xs p.rest q.rest) }
 
-  pub front-cons : (x : A) (xs ys : List A) → IsFront xs ys → IsFront (x ∷ xs) (x ∷ ys)
-  front-cons x xs ys p = record { rest = p.rest; whole_is = ap (λ (l : List A). x ∷ l) p.whole_is }
+  pub prefix-cons : (x : A) (xs ys : List A) → IsPrefix xs ys → IsPrefix (x ∷ xs) (x ∷ ys)
+  prefix-cons x xs ys p = record { rest = p.rest; whole_is = ap (λ (l : List A). x ∷ l) p.whole_is }
 
-  -- a front in which the test holds decides what stands first
-  pub stands-front : (t : List A → A → Bool) (xs ys : List A) → IsFront xs ys → stands t [] xs ≡ true → stands t [] ys ≡ true
-  stands-front t xs ys p h = rw p.whole_is (stands-append t [] xs p.rest ∙ rw h refl)
+  -- a prefix in which the test holds decides what stands first
+  pub stands-prefix : (t : List A → A → Bool) (xs ys : List A) → IsPrefix xs ys → stands t [] xs ≡ true → stands t [] ys ≡ true
+  stands-prefix t xs ys p h = rw p.whole_is (stands-append t [] xs p.rest ∙ rw h refl)
 
-  pub first-front : (other : A) (t : List A → A → Bool) (xs ys : List A) → IsFront xs ys → stands t [] xs ≡ true → first_of other t [] ys ≡ first_of other t [] xs
-  first-front other t xs ys p h = rw p.whole_is (first-append other t [] xs p.rest ∙ rw h refl)
+  pub first-prefix : (other : A) (t : List A → A → Bool) (xs ys : List A) → IsPrefix xs ys → stands t [] xs ≡ true → first_where other t [] ys ≡ first_where other t [] xs
+  first-prefix other t xs ys p h = rw p.whole_is (first-append other t [] xs p.rest ∙ rw h refl)
+
+  -- what holds at each place holds there too with an element more in front
+  pub each-shift : (Q R : List A → A → Type 0) (v : A) → ((before : List A) (x : A) → Q before x → R (v ∷ before) x)
+      → (before xs : List A) → EachPlace Q before xs → EachPlace R (v ∷ before) xs
+  each-shift Q R v f before [] e = tt
+  each-shift Q R v f before (x ∷ xs) e = (f before x e.0, each-shift Q R v f (before ++ x ∷ []) xs e.1)
+
+  -- what holds of every element by what stands before it holds at each place
+  pub each-from : (Q : List A → A → Type 0) (before xs : List A)
+      → ((front : List A) (x : A) (behind : List A) → xs ≡ front ++ x ∷ behind → Q (before ++ front) x) → EachPlace Q before xs
+  each-from Q before [] f = tt
+  each-from Q before (x ∷ xs) f = (
+    subst (λ (b : List A). Q b x) (append-nil before) (f [] x xs refl),
+    each-from Q (before ++ x ∷ []) xs
+        (λ front y behind e. subst (λ (b : List A). Q b y) (sym (append_assoc before (x ∷ []) front)) (f (x ∷ front) y behind (ap (λ (l : List A). x ∷ l) e))),
+  )
+
+  -- no list but the empty one is a prefix of the empty one, and a prefix begins with the same element
+  pub prefix-nil : (xs : List A) → IsPrefix xs [] → xs ≡ []
+  prefix-nil [] p = refl
+  prefix-nil (x ∷ xs) p = let bad : [] ≡ x ∷ (xs ++ p.rest) = p.whole_is in cc
+
+  pub prefix-tail : (x y : A) (xs ys : List A) → IsPrefix (x ∷ xs) (y ∷ ys) → (x ≡ y) × IsPrefix xs ys
+  prefix-tail x y xs ys p = let e : y ∷ ys ≡ x ∷ (xs ++ p.rest) = p.whole_is in (cc, record { rest = p.rest; whole_is = cc })

@@ -9,6 +9,7 @@ use Rattle.sshwire.specs.Types.{IsBytes, IsShortestBody}
 use Rattle.sshwire.specs.TypeReadings.{is_canonical}
 use Rattle.sshpacket.specs.Suite.{FitsShare, FitsShared, IsLawful, IsNumberBody, IsPositiveBody, Meaning, ResponseData, has_number_shares, shares_number}
 use Rattle.sshpacket.specs.Shares.{IsShare}
+use Rattle.sshpacket.specs.declared.limits.TheConstants.{SHARE_LIMIT}
 
 canonical : (body : List ℕ) → IsPositiveBody body → is_canonical body ≡ true
 canonical [] h = absurd (let x : 0 < 0 = h.some in omega arith)
@@ -28,7 +29,7 @@ number_canonical : (body : List ℕ) → IsNumberBody body → is_canonical body
 number_canonical body (inl none) = rw none refl
 number_canonical body (inr h) = canonical body h
 
-number_short : (body : List ℕ) → IsNumberBody body → length body ≤ 4096
+number_short : (body : List ℕ) → IsNumberBody body → length body ≤ SHARE_LIMIT
 number_short body (inl none) = rw none (omega arith)
 number_short body (inr h) = h.short
 

@@ -3,18 +3,18 @@
 use Rattle.std.proofs.Common.{◌≡◌, ◌<◌, ℕ, List, [], length, Option, None, lit<, sym, ap, ◌∙◌, arith}
 use Rattle.sshpacket.specs.declared.fault.PacketFault.{PacketFault}
 use Rattle.sshpacket.specs.declared.reader.PacketReader.{PacketReader}
-use Rattle.sshpacket.specs.Front.{Way, front, unfinished}
+use Rattle.sshpacket.specs.Parse.{Protection, parse_packet, unfinished}
 use Rattle.sshpacket.specs.KeyData.{KeyData}
-use Rattle.sshpacket.specs.ReaderState.{ReaderState, ReaderWaits, state, way_at}
+use Rattle.sshpacket.specs.ReaderState.{ReaderState, ReaderWaits, state, protection_at}
 use Rattle.sshpacket.specs.ReaderSteps.{needed}
 use Rattle.sshpacket.specs.Suite.{Meaning}
-use Rattle.sshpacket.proofs.FrontLemmas.{front_short}
+use Rattle.sshpacket.proofs.ParseLemmas.{parse_short}
 use Rattle.sshpacket.proofs.StepLemmas.{needed_short}
 
-none_unfinished : (w : Way) (held : List ℕ) → held ≡ [] → front w held ≡ unfinished
-none_unfinished w held none = ap (λ (xs : List ℕ). front w xs) none ∙ front_short w [] (lit< tt)
+none_unfinished : (w : Protection) (held : List ℕ) → held ≡ [] → parse_packet w held ≡ unfinished
+none_unfinished w held none = ap (λ (xs : List ℕ). parse_packet w xs) none ∙ parse_short w [] (lit< tt)
 
-none_needed : (w : Way) (held : List ℕ) → held ≡ [] → needed w held ≡ 4
+none_needed : (w : Protection) (held : List ℕ) → held ≡ [] → needed w held ≡ 4
 none_needed w held none = ap (λ (xs : List ℕ). needed w xs) none ∙ needed_short w [] (lit< tt)
 
 -- where nothing is held, whatever the suite
@@ -22,8 +22,8 @@ pub waits_empty : (m : Meaning) (r : PacketReader) → r.fault ≡ None → r.un
 unfolding state
 waits_empty m r no_fault none four = record {
   no_fault = no_fault;
-  unfinished_is = none_unfinished (way_at m (state r)) r.unfinished.items none;
-  wanted = four ∙ sym (none_needed (way_at m (state r)) r.unfinished.items none);
+  unfinished_is = none_unfinished (protection_at m (state r)) r.unfinished.items none;
+  wanted = four ∙ sym (none_needed (protection_at m (state r)) r.unfinished.items none);
 }
 
 pub none_held : (held : List ℕ) → held ≡ [] → length held < 4

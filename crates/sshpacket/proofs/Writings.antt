@@ -6,18 +6,20 @@ use Rattle.std.proofs.lemmas.List.{length-append, take-append-le, take_at}
 use Rattle.std.proofs.lemmas.Nat.{mod_below}
 use Rattle.sshwire.specs.TypeReadings.{IsReading, uint32_at}
 use Rattle.sshwire.specs.Types.{IsBytes, Uint32Text}
-use Rattle.sshpacket.specs.Front.{front, way, whole}
+use Rattle.sshpacket.specs.Parse.{parse_packet, protection, whole}
 use Rattle.sshpacket.specs.KeyData.{KeyData}
-use Rattle.sshpacket.specs.Packet.{IsLeastPadding, IsLength, IsPacket, counted, least_padding, length_field, number, packet, to_multiple, unit, with_four}
+use Rattle.sshpacket.specs.Packet.{IsLeastPadding, IsLength, IsPacket, counted, least_padding, length_field, number, packet, to_multiple, alignment, with_four}
 use Rattle.sshpacket.specs.Suite.{IsLawful, Meaning}
 use Rattle.sshpacket.specs.Written.{IsWritten, written}
 use Rattle.sshpacket.proofs.ByteLemmas.{bytes_append, bytes_cons, bytes_field}
 use Rattle.sshpacket.proofs.LeastPadding.{least_is}
 use Rattle.sshpacket.proofs.Opening.{packet_length_is, packet_number, number_first}
-use Rattle.sshpacket.proofs.UnitLaws.{front_unit}
+use Rattle.sshpacket.proofs.ProtectedLaws.{parse_unit}
+use Rattle.sshpacket.specs.declared.limits.TheConstants.{PACKET_LIMIT}
+use Rattle.sshwire.specs.declared.limits.TheConstants.{PAYLOAD_LIMIT}
 
 -- bounds of the padding
-max_high : (block : ℕ) → block ≤ 64 → (b : Bool) → ltb 8 block ≡ b → unit block ≤ 64
+max_high : (block : ℕ) → block ≤ 64 → (b : Bool) → ltb 8 block ≡ b → alignment block ≤ 64
 max_high block h b e = omega arith
 
 high_by : (u n : ℕ) (b : Bool) → 0 < u → u ≤ 64 → cond b (4 + to_multiple u n + u) (4 + to_multiple u n) ≤ 131
@@ -26,17 +28,17 @@ high_by u n false some h = let low : to_multiple u n < u = mod_below (u - n % u)
 
 pub padding_high : (counts : Bool) (block len : ℕ) → block ≤ 64 → least_padding counts block len ≤ 131
 padding_high counts block len h =
-    let wide : 8 ≤ unit block = le-max_left 8 block in
-    high_by (unit block) (with_four counts len) (ltb (5 + len + to_multiple (unit block) (with_four counts len)) (8 + counted counts)) (omega (arith, wide)) (max_high block h (ltb 8 block) refl)
+    let wide : 8 ≤ alignment block = le-max_left 8 block in
+    high_by (alignment block) (with_four counts len) (ltb (5 + len + to_multiple (alignment block) (with_four counts len)) (8 + counted counts)) (omega (arith, wide)) (max_high block h (ltb 8 block) refl)
 
 -- the written packet is a packet with the least padding
-fits_packet : (counts : Bool) (block tag len padding : ℕ) → IsLeastPadding counts block len padding → padding ≤ 131 → tag ≤ 64 → len ≤ 32768
+fits_packet : (counts : Bool) (block tag len padding : ℕ) → IsLeastPadding counts block len padding → padding ≤ 131 → tag ≤ 64 → len ≤ PAYLOAD_LIMIT
     → IsLength counts block tag (1 + len + padding)
 fits_packet counts block tag len padding k high low short =
     record { multiple = k.allowed.multiple; least = k.allowed.enough; limit = omega arith }
 
 pub written_is : (m : Meaning) → IsLawful m → (counts : Bool) (block tag : ℕ) (seed : List ℕ) (seq : ℕ) (payload : List ℕ) → block ≤ 64 → tag ≤ 64
-    → 0 < length payload → length payload ≤ 32768 → IsWritten counts block tag payload (written m counts block seed seq payload)
+    → 0 < length payload → length payload ≤ PAYLOAD_LIMIT → IsWritten counts block tag payload (written m counts block seed seq payload)
 unfolding written
 written_is m law counts block tag seed seq payload low few some short =
     let padding : List ℕ = m.padding seed seq (least_padding counts block (length payload)) in
@@ -81,7 +83,7 @@ first_same xs rest h = take-append-le 4 xs rest h
 -- a packet's number counts it
 packet_counts : IsReading Uint32Text uint32_at → (counts : Bool) (block tag : ℕ) (payload clear : List ℕ) → IsPacket counts block tag payload clear → length clear ≡ 4 + number clear
 packet_counts r counts block tag payload clear k =
-    let limit : 4 + (1 + length payload + length k.padding) + tag ≤ 35000 = k.fits.limit in
+    let limit : 4 + (1 + length payload + length k.padding) + tag ≤ PACKET_LIMIT = k.fits.limit in
     let parts : length clear ≡ 5 + length payload + length k.padding = ap (λ (xs : List ℕ). length xs) k.bytes_are ∙ packet_length_is payload k.padding in
     let counts : number clear ≡ 1 + length payload + length k.padding = ap number k.bytes_are ∙ packet_number r payload k.padding (omega arith) in
     omega arith
@@ -93,18 +95,18 @@ packet_long counts block tag payload clear k =
     omega arith
 
 pub clear_again : IsReading Uint32Text uint32_at → (m : Meaning) (seq : ℕ) (payload clear rest : List ℕ) → IsPacket true 8 0 payload clear
-    → front (way m None seq) (clear ++ rest) ≡ whole payload (length clear)
+    → parse_packet (protection m None seq) (clear ++ rest) ≡ whole payload (length clear)
 clear_again r m seq payload clear rest k =
     let wide : 12 ≤ length clear = packet_long true 8 0 payload clear k in
     let all : length (clear ++ rest) ≡ length clear + length rest = length-append clear rest in
     let counts : length clear ≡ 4 + number clear = packet_counts r true 8 0 payload clear k in
     let head : number (take 4 (clear ++ rest)) ≡ number clear = ap number (first_same clear rest (omega arith)) ∙ number_first clear in
-    front_unit (way m None seq) payload clear (clear ++ rest) (length clear) (omega arith) (omega arith)
+    parse_unit (protection m None seq) payload clear (clear ++ rest) (length clear) (omega arith) (omega arith)
     (ap (λ (xs : List ℕ). Some xs) (take_at clear rest (length clear) refl)) k (omega arith) (omega arith)
 
 pub sealed_again : IsReading Uint32Text uint32_at → (m : Meaning) → IsLawful m → (keys : KeyData) (seq : ℕ) (payload clear rest : List ℕ) → seq < 2 ^ 32 → IsBytes clear
     → IsPacket (m.counts_length keys.cipher keys.mac) (m.block keys.cipher) (m.tag_len keys.cipher keys.mac) payload clear
-    → front (way m (Some keys) seq) (m.seal keys seq clear ++ rest) ≡ whole payload (length (m.seal keys seq clear))
+    → parse_packet (protection m (Some keys) seq) (m.seal keys seq clear ++ rest) ≡ whole payload (length (m.seal keys seq clear))
 sealed_again r m law keys seq payload clear rest low each k =
     let wide : 12 ≤ length clear = packet_long (m.counts_length keys.cipher keys.mac) (m.block keys.cipher) (m.tag_len keys.cipher keys.mac) payload clear k in
     let size : length (m.seal keys seq clear) ≡ length clear + m.tag_len keys.cipher keys.mac = law.seal_length keys seq payload clear low (each, k) in
@@ -113,7 +115,7 @@ sealed_again r m law keys seq payload clear rest low each k =
     let first : take 4 (m.seal keys seq clear ++ rest) ≡ take 4 (m.seal keys seq clear) = first_same (m.seal keys seq clear) rest (omega arith) in
     let head : m.head keys seq (take 4 (m.seal keys seq clear ++ rest)) ≡ number clear
     = ap (λ (xs : List ℕ). m.head keys seq xs) first ∙ law.head_of_seal keys seq payload clear low (each, k) in
-    front_unit (way m (Some keys) seq) payload clear (m.seal keys seq clear ++ rest) (length (m.seal keys seq clear)) (omega arith) (omega arith)
+    parse_unit (protection m (Some keys) seq) payload clear (m.seal keys seq clear ++ rest) (length (m.seal keys seq clear)) (omega arith) (omega arith)
     (ap (λ (xs : List ℕ). m.unseal keys seq xs) (take_at (m.seal keys seq clear) rest (length (m.seal keys seq clear)) refl)
     ∙ law.unseal_of_seal keys seq payload clear low (each, k))
     k (omega arith) (omega arith)

@@ -4,6 +4,7 @@ use Rattle.std.specs.Prelude.{◌≡◌, Bool, true, false, ℕ, ◌+◌, ◌-�
 use Rattle.sshwire.specs.declared.fault.WireFault.{WireFault}
 use Rattle.sshwire.specs.Types.{uint32}
 use Rattle.sshwire.specs.TypeReadings.{uint32_at}
+use Rattle.sshpacket.specs.declared.limits.TheConstants.{PACKET_LIMIT}
 
 -- the length field of a packet: packet_length, a uint32
 unfoldable pub length_field : ℕ → List ℕ
@@ -19,8 +20,8 @@ unfoldable pub number : List ℕ → ℕ
 number bytes = number_read (uint32_at bytes)
 
 -- what packets are multiples of: 'the cipher block size or 8, whichever is larger'
-abbrev pub unit : ℕ → ℕ
-unit block = max 8 block
+abbrev pub alignment : ℕ → ℕ
+alignment block = max 8 block
 
 -- how many bytes of packet_length count towards the multiple: all four (RFC 4253 section 6), or none where the cipher or the
 -- MAC leaves it out (RFC 5647 section 7.2; chacha20-poly1305@openssh.com and the MACs -etm of OpenSSH)
@@ -31,9 +32,9 @@ counted false = 0
 -- a packet_length that is taken, where it counts or not, at this block and tag: what counts is a multiple and has at least 16
 -- bytes, or 8 without packet_length; and with the tag there are at most 35000 in all
 pub record IsLength (counts : Bool) (block tag n : ℕ) : Type 0 where
-  pub multiple : (counted counts + n) % unit block ≡ 0
+  pub multiple : (counted counts + n) % alignment block ≡ 0
   pub least : 8 + counted counts ≤ n
-  pub limit : 4 + n + tag ≤ 35000
+  pub limit : 4 + n + tag ≤ PACKET_LIMIT
 
 -- packet_length, padding_length, payload and padding
 abbrev pub packet : List ℕ → List ℕ → List ℕ
@@ -51,7 +52,7 @@ pub record IsPacket (counts : Bool) (block tag : ℕ) (payload bytes : List ℕ)
 -- so many bytes of padding are allowed behind a payload of this length
 pub record IsPadding (counts : Bool) (block len padding : ℕ) : Type 0 where
   pub low : 4 ≤ padding
-  pub multiple : (counted counts + (1 + len + padding)) % unit block ≡ 0
+  pub multiple : (counted counts + (1 + len + padding)) % alignment block ≡ 0
   pub enough : 8 + counted counts ≤ 1 + len + padding
 
 -- and no fewer are
@@ -71,6 +72,6 @@ with_four counts len = counted counts + 5 + len
 -- low, which happens only where it counts
 abbrev pub least_padding : Bool → ℕ → ℕ → ℕ
 least_padding counts block len =
-    if nat_lt (5 + len + to_multiple (unit block) (with_four counts len)) (8 + counted counts) then
-    4 + to_multiple (unit block) (with_four counts len) + unit block
-    else 4 + to_multiple (unit block) (with_four counts len)
+    if nat_lt (5 + len + to_multiple (alignment block) (with_four counts len)) (8 + counted counts) then
+    4 + to_multiple (alignment block) (with_four counts len) + alignment block
+    else 4 + to_multiple (alignment block) (with_four counts len)

@@ -3,8 +3,8 @@
 
 use Rattle.std.specs.Prelude.{◌≡◌, ℕ, ◌+◌, Bool, true, false, if◌then◌else◌, List, [], ◌∷◌, ◌++◌}
 
--- the first list is a front of the second
-pub record IsFront {A : Type 0} (xs ys : List A) : Type 0 where
+-- the first list is a prefix of the second
+pub record IsPrefix {A : Type 0} (xs ys : List A) : Type 0 where
   pub rest : List A
   pub whole_is : ys ≡ xs ++ rest
 
@@ -25,9 +25,9 @@ module _ {A : Type 0} where
   stands t before (x ∷ xs) = if t before x then true else stands t (before ++ x ∷ []) xs
 
   -- what stands at the first place where the test holds, or the default where there is none
-  abbrev pub first_of : A → (List A → A → Bool) → List A → List A → A
-  first_of default t before [] = default
-  first_of default t before (x ∷ xs) = if t before x then x else first_of default t (before ++ x ∷ []) xs
+  abbrev pub first_where : A → (List A → A → Bool) → List A → List A → A
+  first_where default t before [] = default
+  first_where default t before (x ∷ xs) = if t before x then x else first_where default t (before ++ x ∷ []) xs
 
   -- what stands behind that place, or nothing where there is none
   abbrev pub after_first : (List A → A → Bool) → List A → List A → List A

@@ -7,11 +7,11 @@ use Rattle.sshpacket.specs.declared.fault.PacketFault.TheVariants.{Memory}
 use Rattle.sshpacket.specs.declared.reader.PacketReader.{PacketReader}
 use Rattle.sshpacket.specs.declared.reader.PacketStep.{PacketStep}
 use Rattle.sshpacket.specs.declared.reader.PacketStep.TheVariants.{More, Payload}
-use Rattle.sshpacket.specs.Front.{Front, OfPacket, Way, front, refused, unfinished, way, whole}
+use Rattle.sshpacket.specs.Parse.{Parse, OfPacket, Protection, parse_packet, refused, unfinished, protection, whole}
 use Rattle.sshpacket.specs.KeyData.{KeyData}
 use Rattle.sshpacket.specs.ReaderSteps.{needed}
 use Rattle.sshpacket.specs.Suite.{Meaning}
-use Rattle.sshpacket.specs.Unit.{IsUnit, Means, Refuses}
+use Rattle.sshpacket.specs.ProtectedPacket.{IsProtectedPacket, PacketMeans, Refuses}
 
 -- its keys, the next packet's number, the bytes of the unfinished packet, and the fault that it found
 pub record ReaderState : Type 0 where
@@ -28,18 +28,18 @@ unfoldable pub last_used : PacketReader → ℕ
 last_used r = r.taken
 
 -- how the packet at hand is read
-abbrev pub way_at : Meaning → ReaderState → Way
-way_at m s = way m s.keys s.seq
+abbrev pub protection_at : Meaning → ReaderState → Protection
+protection_at m s = protection m s.keys s.seq
 
 -- what stands at the front, the piece included
-abbrev pub ahead : Meaning → ReaderState → List ℕ → Front
-ahead m s piece = front (way_at m s) (s.held ++ piece)
+abbrev pub ahead : Meaning → ReaderState → List ℕ → Parse
+ahead m s piece = parse_packet (protection_at m s) (s.held ++ piece)
 
 -- the reader waits for more of this suite's packet: what it holds is unfinished, and it knows how much is wanted
 pub record ReaderWaits (m : Meaning) (r : PacketReader) : Type 0 where
   pub no_fault : (state r).fault ≡ None
-  pub unfinished_is : front (way_at m (state r)) (state r).held ≡ unfinished
-  pub wanted : r.target ≡ needed (way_at m (state r)) (state r).held
+  pub unfinished_is : parse_packet (protection_at m (state r)) (state r).held ≡ unfinished
+  pub wanted : r.target ≡ needed (protection_at m (state r)) (state r).held
 
 -- it answers this payload with this number, and so many bytes were used
 abbrev pub IsStep : List ℕ → ℕ → ℕ → PacketStep → Type 0
@@ -53,24 +53,24 @@ IsPayload payload seq used (Err f) = ⊥
 -- What the answer says of the packet at hand: that it is unfinished; that with so many bytes of the piece it is a packet of the
 -- payload, whose number is the next; or that it is refused for this cause, which so many bytes of the piece decide. Where a growth
 -- was refused, nothing.
-abbrev pub PacketTells : Meaning → ReaderState → List ℕ → Result PacketStep PacketFault → Type 0
-PacketTells m s piece (Ok More) = Means (way_at m s) (s.held ++ piece) unfinished
-PacketTells m s piece (Ok (Payload payload seq used)) =
-    (used ≤ length piece) × (seq ≡ s.seq) × IsUnit (way_at m s) payload.now (s.held ++ take used piece)
-PacketTells m s piece (Err f) = f ≢ Memory → (used : ℕ) × (used ≤ length piece) × Refuses (way_at m s) (s.held ++ piece) f (length s.held + used)
+abbrev pub PacketAnswer : Meaning → ReaderState → List ℕ → Result PacketStep PacketFault → Type 0
+PacketAnswer m s piece (Ok More) = PacketMeans (protection_at m s) (s.held ++ piece) unfinished
+PacketAnswer m s piece (Ok (Payload payload seq used)) =
+    (used ≤ length piece) × (seq ≡ s.seq) × IsProtectedPacket (protection_at m s) payload.now (s.held ++ take used piece)
+PacketAnswer m s piece (Err f) = f ≢ Memory → (used : ℕ) × (used ≤ length piece) × Refuses (protection_at m s) (s.held ++ piece) f (length s.held + used)
 
 -- No other answer comes than the one that the packet at hand has, want of memory apart.
 pub record OnlyPacketAnswer (m : Meaning) (s : ReaderState) (piece : List ℕ) (result : Result PacketStep PacketFault) : Type 0 where
-  pub more : Means (way_at m s) (s.held ++ piece) unfinished → (result ≡ Ok More) ⊎ (result ≡ Err Memory)
-  pub payload : (payload : List ℕ) (used : ℕ) → used ≤ length piece → IsUnit (way_at m s) payload (s.held ++ take used piece)
+  pub more : PacketMeans (protection_at m s) (s.held ++ piece) unfinished → (result ≡ Ok More) ⊎ (result ≡ Err Memory)
+  pub payload : (payload : List ℕ) (used : ℕ) → used ≤ length piece → IsProtectedPacket (protection_at m s) payload (s.held ++ take used piece)
       → IsPayload payload s.seq used result ⊎ (result ≡ Err Memory)
-  pub refused : (f : PacketFault) (place : ℕ) → Refuses (way_at m s) (s.held ++ piece) f place → (result ≡ Err f) ⊎ (result ≡ Err Memory)
+  pub refused : (f : PacketFault) (place : ℕ) → Refuses (protection_at m s) (s.held ++ piece) f place → (result ≡ Err f) ⊎ (result ≡ Err Memory)
 
 -- the same as the answer of the function
-abbrev pub PacketAnswer : Meaning → ReaderState → List ℕ → Result PacketStep PacketFault → Type 0
-PacketAnswer m s piece (Err f) = f ≢ Memory → (used : ℕ) × (used ≤ length piece) × (ahead m s piece ≡ refused (OfPacket f) (length s.held + used))
-PacketAnswer m s piece (Ok More) = ahead m s piece ≡ unfinished
-PacketAnswer m s piece (Ok (Payload payload seq used)) =
+abbrev pub ParseAnswer : Meaning → ReaderState → List ℕ → Result PacketStep PacketFault → Type 0
+ParseAnswer m s piece (Err f) = f ≢ Memory → (used : ℕ) × (used ≤ length piece) × (ahead m s piece ≡ refused (OfPacket f) (length s.held + used))
+ParseAnswer m s piece (Ok More) = ahead m s piece ≡ unfinished
+ParseAnswer m s piece (Ok (Payload payload seq used)) =
     (used ≤ length piece) × (ahead m s piece ≡ whole payload.now (length s.held + used)) × (seq ≡ s.seq)
 
 -- and how the reader is left: with all unfinished bytes, with none behind a packet, with none and the fault

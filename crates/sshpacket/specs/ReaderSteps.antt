@@ -8,20 +8,21 @@ use Rattle.sshpacket.specs.declared.reader.Filled.{Filled}
 use Rattle.sshpacket.specs.declared.reader.Filled.TheVariants as filled
 use Rattle.sshpacket.specs.declared.reader.Read.{Read}
 use Rattle.sshpacket.specs.declared.reader.Read.TheVariants as read
-use Rattle.sshpacket.specs.Front.{OfPacket, Way, front, is_length, refused, total, unfinished, unsealed, whole}
+use Rattle.sshpacket.specs.Parse.{OfPacket, Protection, parse_packet, is_length, refused, total, unfinished, unsealed, whole}
+use Rattle.sshpacket.specs.declared.limits.TheConstants.{PACKET_LIMIT}
 
 -- the length of the packet by its first four bytes
-pub record Counts (w : Way) (first : List ℕ) (len : ℕ) : Type 0 where
+pub record Counts (w : Protection) (first : List ℕ) (len : ℕ) : Type 0 where
   pub taken : is_length w.counts w.block w.tag (w.head first) ≡ true
   pub len_is : len ≡ 4 + w.head first + w.tag
 
 -- the packet was unsealed, or has a wrong tag
-abbrev pub Unseals : Way → List ℕ → Result (List ℕ) PacketFault → Type 0
+abbrev pub Unseals : Protection → List ℕ → Result (List ℕ) PacketFault → Type 0
 Unseals w sealed (Ok clear) = w.unseal sealed ≡ Some clear
 Unseals w sealed (Err f) = f ≢ fault.Memory → (f ≡ fault.Mac) × (w.unseal sealed ≡ None)
 
 -- a packet of which all is there was opened
-abbrev pub Opens : Way → List ℕ → Result Opened PacketFault → Type 0
+abbrev pub Opens : Protection → List ℕ → Result Opened PacketFault → Type 0
 Opens w sealed (Err f) = f ≢ fault.Memory → unsealed (w.unseal sealed) (length sealed) ≡ refused (OfPacket f) (length sealed)
 Opens w sealed (Ok opened) = unsealed (w.unseal sealed) (length sealed) ≡ whole (take opened.payload_len (drop 5 opened.packet)) (length sealed)
 
@@ -33,25 +34,25 @@ pub record Fills (target : ℕ) (piece held new : List ℕ) (used : ℕ) : Type 
   pub all : length held + used < target → used ≡ length piece
 
 -- how many bytes there must be before more is judged
-abbrev pub needed : Way → List ℕ → ℕ
+abbrev pub needed : Protection → List ℕ → ℕ
 needed w held = if nat_lt (length held) 4 then 4 else total w held
 
 -- what is held and a piece: a part of a packet, or all of it, or a length that isn't taken
-abbrev pub FillsPacket : Way → List ℕ → List ℕ → List ℕ → Result Filled PacketFault → Type 0
-FillsPacket w held piece new (Err f) = f ≢ fault.Memory → front w (held ++ piece) ≡ refused (OfPacket f) (length new)
+abbrev pub FillsPacket : Protection → List ℕ → List ℕ → List ℕ → Result Filled PacketFault → Type 0
+FillsPacket w held piece new (Err f) = f ≢ fault.Memory → parse_packet w (held ++ piece) ≡ refused (OfPacket f) (length new)
 FillsPacket w held piece new (Ok (filled.Part target)) =
-    (new ≡ held ++ piece) × (front w (held ++ piece) ≡ unfinished) × (target ≡ needed w new)
-FillsPacket w held piece new (Ok filled.Whole) = front w (held ++ piece) ≡ unsealed (w.unseal new) (length new)
+    (new ≡ held ++ piece) × (parse_packet w (held ++ piece) ≡ unfinished) × (target ≡ needed w new)
+FillsPacket w held piece new (Ok filled.Whole) = parse_packet w (held ++ piece) ≡ unsealed (w.unseal new) (length new)
 
 -- there is room for more up to the target, or there are no more bytes than a packet has
 abbrev pub HasRoom : ℕ → Filled → Type 0
-HasRoom held (filled.Part target) = (held < target) × (4 ≤ target) × (target ≤ 35000)
-HasRoom held filled.Whole = held ≤ 35000
+HasRoom held (filled.Part target) = (held < target) × (4 ≤ target) × (target ≤ PACKET_LIMIT)
+HasRoom held filled.Whole = held ≤ PACKET_LIMIT
 
 -- some bytes were used for a whole packet
-abbrev pub Grows : ℕ → ℕ → Filled → Type 0
-Grows before after (filled.Part target) = before ≤ after
-Grows before after filled.Whole = before < after
+abbrev pub FilledSome : ℕ → ℕ → Filled → Type 0
+FilledSome before after (filled.Part target) = before ≤ after
+FilledSome before after filled.Whole = before < after
 
 -- bytes were appended up to the length of the packet
 abbrev pub FillsBody : ℕ → List ℕ → List ℕ → List ℕ → Result Filled PacketFault → Type 0
@@ -60,7 +61,7 @@ FillsBody len piece held new (Ok (filled.Part target)) = (new ≡ held ++ piece)
 FillsBody len piece held new (Ok filled.Whole) = (length new ≡ len) × (used : ℕ) × (used ≤ length piece) × (new ≡ held ++ take used piece)
 
 -- what was filled is opened, where it is whole, and is held no longer; else nothing changes
-abbrev pub OpensFilled : Way → List ℕ → List ℕ → Result Filled PacketFault → Result Read PacketFault → Type 0
+abbrev pub OpensFilled : Protection → List ℕ → List ℕ → Result Filled PacketFault → Result Read PacketFault → Type 0
 OpensFilled w old new (Err f) result = (result ≡ Err f) × (new ≡ old)
 OpensFilled w old new (Ok (filled.Part target)) result = (result ≡ Ok (read.Part target)) × (new ≡ old)
 OpensFilled w old new (Ok filled.Whole) (Ok (read.Part target)) = ⊥
@@ -68,14 +69,14 @@ OpensFilled w old new (Ok filled.Whole) (Ok (read.Whole opened)) = (new ≡ []) 
 OpensFilled w old new (Ok filled.Whole) (Err f) = Opens w old (Err f)
 
 -- what is held and a piece, of which so many bytes were used
-abbrev pub ReadsOn : Way → List ℕ → List ℕ → List ℕ → ℕ → Result Read PacketFault → Type 0
-ReadsOn w held piece new used (Err f) = f ≢ fault.Memory → front w (held ++ piece) ≡ refused (OfPacket f) (length held + used)
+abbrev pub ReadsOn : Protection → List ℕ → List ℕ → List ℕ → ℕ → Result Read PacketFault → Type 0
+ReadsOn w held piece new used (Err f) = f ≢ fault.Memory → parse_packet w (held ++ piece) ≡ refused (OfPacket f) (length held + used)
 ReadsOn w held piece new used (Ok (read.Part target)) =
-    (new ≡ held ++ piece) × (used ≡ length piece) × (front w (held ++ piece) ≡ unfinished) × (target ≡ needed w new)
+    (new ≡ held ++ piece) × (used ≡ length piece) × (parse_packet w (held ++ piece) ≡ unfinished) × (target ≡ needed w new)
 ReadsOn w held piece new used (Ok (read.Whole opened)) =
-    (new ≡ []) × (front w (held ++ piece) ≡ whole (take opened.payload_len (drop 5 opened.packet)) (length held + used))
+    (new ≡ []) × (parse_packet w (held ++ piece) ≡ whole (take opened.payload_len (drop 5 opened.packet)) (length held + used))
 
 -- there is room up to the target; behind a whole packet nothing is held, and some bytes were used
 abbrev pub ReadRoom : List ℕ → ℕ → Read → Type 0
-ReadRoom new used (read.Part target) = (length new < target) × (4 ≤ target) × (target ≤ 35000)
+ReadRoom new used (read.Part target) = (length new < target) × (4 ≤ target) × (target ≤ PACKET_LIMIT)
 ReadRoom new used (read.Whole opened) = (new ≡ []) × (0 < used)

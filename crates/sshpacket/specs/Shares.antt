@@ -2,8 +2,9 @@
 
 use Rattle.std.specs.Prelude.{◌≡◌, Bool, true, ℕ, ◌≤◌, List, length}
 use Rattle.sshwire.specs.Types.{IsBytes, IsShortestBody}
+use Rattle.sshpacket.specs.declared.limits.TheConstants.{SHARE_LIMIT}
 
 pub record IsShare (is_number : Bool) (body : List ℕ) : Type 0 where
   pub bytes : IsBytes body
-  pub short : length body ≤ 4096
+  pub short : length body ≤ SHARE_LIMIT
   pub shortest : is_number ≡ true → IsShortestBody body

@@ -2,50 +2,50 @@
 -- version line, or a payload behind it; how one is read or spelled may depend on the units before it.
 
 use Rattle.std.specs.Prelude.{◌≡◌, ℕ, ◌≤◌, List, [], ◌∷◌, ◌++◌, length, drop, take, Option, None, Some}
-use Rattle.sshpacket.specs.Front.{Front, Refusal, refused, unfinished, whole}
-use Rattle.sshpacket.specs.Places.{IsFront, flat_places}
+use Rattle.sshpacket.specs.Parse.{Parse, Refusal, refused, unfinished, whole}
+use Rattle.sshpacket.specs.Places.{IsPrefix, flat_places}
 
 -- the units of a direction, as they stand in it
 abbrev pub Units : Type 0
 Units = List (List ℕ)
 
 -- how one unit is read at the front of the bytes
-abbrev pub Look : Type 0
-Look = List ℕ → Front
+abbrev pub Parser : Type 0
+Parser = List ℕ → Parse
 
 -- nothing stands in no bytes; more bytes behind change no answer; a unit lies within the bytes; and the bytes up to where a
 -- unit or a refusal ends are enough to answer it
-pub record IsLook (look : Look) : Type 0 where
-  pub none : look [] ≡ unfinished
-  pub more : (bytes more : List ℕ) → (look bytes ≡ unfinished → ⊥) → look (bytes ++ more) ≡ look bytes
-  pub within : (bytes unit : List ℕ) (len : ℕ) → look bytes ≡ whole unit len → len ≤ length bytes
+pub record IsIncremental (parser : Parser) : Type 0 where
+  pub none : parser [] ≡ unfinished
+  pub more : (bytes more : List ℕ) → (parser bytes ≡ unfinished → ⊥) → parser (bytes ++ more) ≡ parser bytes
+  pub within : (bytes unit : List ℕ) (len : ℕ) → parser bytes ≡ whole unit len → len ≤ length bytes
   -- a unit's own bytes read as it
-  pub whole_again : (bytes unit : List ℕ) (len : ℕ) → look bytes ≡ whole unit len → look (take len bytes) ≡ whole unit len
+  pub whole_again : (bytes unit : List ℕ) (len : ℕ) → parser bytes ≡ whole unit len → parser (take len bytes) ≡ whole unit len
   -- what decides a refusal lies within the bytes, and is refused alone
-  pub refused_again : (bytes : List ℕ) (r : Refusal) (len : ℕ) → look bytes ≡ refused r len → (len ≤ length bytes) × (look (take len bytes) ≡ refused r len)
+  pub refused_again : (bytes : List ℕ) (r : Refusal) (len : ℕ) → parser bytes ≡ refused r len → (len ≤ length bytes) × (parser (take len bytes) ≡ refused r len)
 
 -- behind the units before, the bytes read as these units, and the rest stands behind them
-abbrev pub Read : (Units → Look) → Units → List ℕ → Units → List ℕ → Type 0
-Read looks before bytes [] rest = bytes ≡ rest
-Read looks before bytes (u ∷ us) rest = (len : ℕ) × (looks before bytes ≡ whole u len) × Read looks (before ++ u ∷ []) (drop len bytes) us rest
+abbrev pub Read : (Units → Parser) → Units → List ℕ → Units → List ℕ → Type 0
+Read parsers before bytes [] rest = bytes ≡ rest
+Read parsers before bytes (u ∷ us) rest = (len : ℕ) × (parsers before bytes ≡ whole u len) × Read parsers (before ++ u ∷ []) (drop len bytes) us rest
 
 -- in the rest a unit is unfinished, or its last byte decides the refusal
-abbrev pub IsRest : Look → List ℕ → Option Refusal → Type 0
-IsRest look rest None = look rest ≡ unfinished
-IsRest look rest (Some f) = look rest ≡ refused f (length rest)
+abbrev pub IsRest : Parser → List ℕ → Option Refusal → Type 0
+IsRest parser rest None = parser rest ≡ unfinished
+IsRest parser rest (Some f) = parser rest ≡ refused f (length rest)
 
 -- what a stream reads as: its units, the rest behind them, and the refusal, if it is refused there
-pub record Heard (looks : Units → Look) (stream : List ℕ) (units : Units) (rest : List ℕ) (refusal : Option Refusal) : Type 0 where
-  pub read : Read looks [] stream units rest
-  pub then_rest : IsRest (looks units) rest refusal
+pub record Heard (parsers : Units → Parser) (stream : List ℕ) (units : Units) (rest : List ℕ) (refusal : Option Refusal) : Type 0 where
+  pub read : Read parsers [] stream units rest
+  pub then_rest : IsRest (parsers units) rest refusal
 
 -- what a stream was written as: each unit as it is spelled behind those before it
 pub record Said (spells : Units → List ℕ → List ℕ) (stream : List ℕ) (units : Units) : Type 0 where
   pub spelled : stream ≡ flat_places spells [] units
 
 -- what is spelled at this place is read there, whatever follows
-abbrev pub Spelled : (Units → Look) → (Units → List ℕ → List ℕ) → Units → List ℕ → Type 0
-Spelled looks spells before u = (more : List ℕ) → looks before (spells before u ++ more) ≡ whole u (length (spells before u))
+abbrev pub Spelled : (Units → Parser) → (Units → List ℕ → List ℕ) → Units → List ℕ → Type 0
+Spelled parsers spells before u = (more : List ℕ) → parsers before (spells before u ++ more) ≡ whole u (length (spells before u))
 
 -- two readings of one stream are the same
 pub record Same (units other_units : Units) (rest other_rest : List ℕ) (refusal other_refusal : Option Refusal) : Type 0 where
@@ -53,9 +53,9 @@ pub record Same (units other_units : Units) (rest other_rest : List ℕ) (refusa
   pub same_rest : rest ≡ other_rest
   pub same_refusal : refusal ≡ other_refusal
 
--- what is heard of a front of what was said: a front of the units said, and no refusal
+-- what is heard of a prefix of what was said: a prefix of the units said, and no refusal
 pub record Linked (units said : Units) (refusal : Option Refusal) : Type 0 where
-  pub front : IsFront units said
+  pub prefix : IsPrefix units said
   pub no_refusal : refusal ≡ None
 
 -- what is heard of all that was said: all the units said, with nothing behind them, and no refusal

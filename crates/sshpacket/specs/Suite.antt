@@ -10,6 +10,7 @@ use Rattle.sshwire.specs.declared.share_form.ShareForm.{ShareForm}
 use Rattle.sshwire.specs.declared.share_form.ShareForm.TheVariants.{Hybrid, Mpint, OctetString}
 use Rattle.sshpacket.specs.KeyData.{KeyData}
 use Rattle.sshpacket.specs.Packet.{IsPacket, number}
+use Rattle.sshpacket.specs.declared.limits.TheConstants.{BLOB_LIMIT, SHARE_LIMIT}
 
 -- the server's answer to a client's share: its own share, and the shared number
 pub record ResponseData : Type 0 where
@@ -45,7 +46,7 @@ pub record IsPositiveBody (body : List ℕ) : Type 0 where
   pub some : 0 < length body
   pub sign : slice_index body 0 < 128
   pub shortest : slice_index body 0 ≡ 0 → (1 < length body) × (128 ≤ slice_index body 1)
-  pub short : length body ≤ 4096
+  pub short : length body ≤ SHARE_LIMIT
 
 -- of a positive number, or of zero, whose body has no byte
 abbrev pub IsNumberBody : List ℕ → Type 0
@@ -65,14 +66,14 @@ shares_number Hybrid = false
 -- what a share is in this form
 abbrev pub FitsShare : ShareForm → List ℕ → Type 0
 FitsShare Mpint share = IsPositiveBody share
-FitsShare OctetString share = length share ≤ 4096
-FitsShare Hybrid share = length share ≤ 4096
+FitsShare OctetString share = length share ≤ SHARE_LIMIT
+FitsShare Hybrid share = length share ≤ SHARE_LIMIT
 
 -- what both sides share is in this form: a curve has points whose number is zero
 abbrev pub FitsShared : ShareForm → List ℕ → Type 0
 FitsShared Mpint shared = IsPositiveBody shared
 FitsShared OctetString shared = IsNumberBody shared
-FitsShared Hybrid shared = length shared ≤ 4096
+FitsShared Hybrid shared = length shared ≤ SHARE_LIMIT
 
 -- a clear packet with this packet_length
 pub record Keeps (n : ℕ) (clear : List ℕ) : Type 0 where
@@ -114,8 +115,8 @@ pub record IsLawful (m : Meaning) : Type 0 where
   pub digest_low : (kex input : List ℕ) → 1 ≤ length (m.digest kex input)
   pub digest_high : (kex input : List ℕ) → length (m.digest kex input) ≤ 64
   pub digest_even : (kex input other : List ℕ) → length (m.digest kex input) ≡ length (m.digest kex other)
-  pub blob_high : (alg secret : List ℕ) → IsName alg → length (m.blob alg secret) ≤ 8192
-  pub sign_high : (alg secret input : List ℕ) → IsName alg → length (m.sign alg secret input) ≤ 4096
+  pub blob_high : (alg secret : List ℕ) → IsName alg → length (m.blob alg secret) ≤ BLOB_LIMIT
+  pub sign_high : (alg secret input : List ℕ) → IsName alg → length (m.sign alg secret input) ≤ SHARE_LIMIT
   -- what is sent is bytes
   pub seal_bytes : (keys : KeyData) (seq : ℕ) (clear : List ℕ) → IsBytes clear → IsBytes (m.seal keys seq clear)
   pub padding_bytes : (seed : List ℕ) (seq len : ℕ) → IsBytes (m.padding seed seq len)

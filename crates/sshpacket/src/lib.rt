@@ -6,6 +6,7 @@
 
 mod fault;
 mod keys;
+mod limits;
 mod packet_laws;
 mod padding;
 mod protection;
@@ -16,13 +17,12 @@ mod write;
 
 pub use fault::PacketFault;
 pub use keys::{KeyParts, Keys};
+pub use limits::{BLOB_LIMIT, PACKET_LIMIT, SHARE_LIMIT};
 pub use packet_laws::{packet_law, shares_law, writing_law};
 pub use padding::{padding_len, padding_len_uncounted};
+pub use protection::leading_uint32;
 pub use reader::{PacketReader, PacketStep};
 pub use sshwire::ShareForm;
-pub use stream_laws::{hearing_law, joined_law, look_law, places_law, stream_law};
+pub use stream_laws::{hearing_law, joined_law, parser_law, places_law, stream_law};
 pub use suite::{AgreeingSuite, Capability, KeyLens, Need, Response, Suite};
 pub use write::{write_clear, write_sealed};
-
-#[cfg(test)]
-mod tests;

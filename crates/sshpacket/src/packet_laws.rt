@@ -1,26 +1,27 @@
 //! What the layers above may rest on: packets as a claim and as a function are one, and what is
 //! written is read again.
 
+ghost use Rattle.sshwire.specs.declared.limits.TheConstants.{PAYLOAD_LIMIT};
 ghost use Rattle.std.specs.Prelude.{◌≡◌, Bool, true, ◌<◌, ◌≤◌, ◌^◌, ◌++◌, ℕ, List, Option, None, Some, length};
 ghost use Rattle.sshwire.specs.Types.{IsBytes};
-ghost use Rattle.sshpacket.specs.Front.{Front, Way, front, way, whole};
+ghost use Rattle.sshpacket.specs.Parse.{Parse, Protection, parse_packet, protection, whole};
 ghost use Rattle.sshpacket.specs.KeyData.{KeyData};
 ghost use Rattle.sshpacket.specs.Packet.{IsPacket};
 ghost use Rattle.sshpacket.specs.Suite.{IsLawful, Meaning, ResponseData, has_number_shares, shares_number};
 ghost use Rattle.sshpacket.specs.Shares.{IsShare};
-ghost use Rattle.sshpacket.specs.Unit.{IsFaithful, IsUnit, Means};
+ghost use Rattle.sshpacket.specs.ProtectedPacket.{IsFaithful, IsProtectedPacket, PacketMeans};
 ghost use Rattle.sshpacket.specs.Written.{IsWritten, written, written_clear, written_sealed};
 
 /// The law of packets (RFC 4253 section 6): what is read at the front of bytes is what stands there,
 /// and nothing else.
 pub fn packet_law()
     // In clear and with the keys of any suite, what is unsealed has the length that was read.
-    ensures faithful { (m : Meaning) → IsLawful m → (keys : Option KeyData) (seq : ℕ) → seq < 2 ^ 32 → IsFaithful (way m keys seq) }
-    ensures found { (w : Way) (bytes : List ℕ) → IsFaithful w → IsBytes bytes → Means w bytes (front w bytes) }
-    ensures only { (w : Way) (bytes : List ℕ) → IsFaithful w → IsBytes bytes → (answer : Front) → Means w bytes answer → front w bytes ≡ answer }
+    ensures faithful { (m : Meaning) → IsLawful m → (keys : Option KeyData) (seq : ℕ) → seq < 2 ^ 32 → IsFaithful (protection m keys seq) }
+    ensures found { (w : Protection) (bytes : List ℕ) → IsFaithful w → IsBytes bytes → PacketMeans w bytes (parse_packet w bytes) }
+    ensures only { (w : Protection) (bytes : List ℕ) → IsFaithful w → IsBytes bytes → (answer : Parse) → PacketMeans w bytes answer → parse_packet w bytes ≡ answer }
     // In clear a unit is a packet.
-    ensures unit { (m : Meaning) (seq : ℕ) (payload bytes : List ℕ) → IsPacket true 8 0 payload bytes → IsUnit (way m None seq) payload bytes }
-    ensures packet { (m : Meaning) (seq : ℕ) (payload bytes : List ℕ) → IsUnit (way m None seq) payload bytes → IsPacket true 8 0 payload bytes }
+    ensures unit { (m : Meaning) (seq : ℕ) (payload bytes : List ℕ) → IsPacket true 8 0 payload bytes → IsProtectedPacket (protection m None seq) payload bytes }
+    ensures packet { (m : Meaning) (seq : ℕ) (payload bytes : List ℕ) → IsProtectedPacket (protection m None seq) payload bytes → IsPacket true 8 0 payload bytes }
 {
     sshwire::types_law();
 }
@@ -29,14 +30,14 @@ pub fn packet_law()
 /// as its payload, whatever follows.
 pub fn writing_law()
     ensures written { (m : Meaning) → IsLawful m → (counts : Bool) (block tag : ℕ) (seed : List ℕ) (seq : ℕ) (payload : List ℕ) → block ≤ 64 → tag ≤ 64
-        → 0 < length payload → length payload ≤ 32768 → IsWritten counts block tag payload (written m counts block seed seq payload) }
+        → 0 < length payload → length payload ≤ PAYLOAD_LIMIT → IsWritten counts block tag payload (written m counts block seed seq payload) }
     ensures bytes { (m : Meaning) → IsLawful m → (counts : Bool) (block : ℕ) (seed : List ℕ) (seq : ℕ) (payload : List ℕ) → block ≤ 64 → IsBytes payload
         → IsBytes (written m counts block seed seq payload) }
-    ensures clear { (m : Meaning) → IsLawful m → (seed : List ℕ) (seq : ℕ) (payload rest : List ℕ) → 0 < length payload → length payload ≤ 32768
-        → front (way m None seq) (written_clear m seed seq payload ++ rest) ≡ whole payload (length (written_clear m seed seq payload)) }
+    ensures clear { (m : Meaning) → IsLawful m → (seed : List ℕ) (seq : ℕ) (payload rest : List ℕ) → 0 < length payload → length payload ≤ PAYLOAD_LIMIT
+        → parse_packet (protection m None seq) (written_clear m seed seq payload ++ rest) ≡ whole payload (length (written_clear m seed seq payload)) }
     ensures sealed { (m : Meaning) → IsLawful m → (keys : KeyData) (seed : List ℕ) (seq : ℕ) (payload rest : List ℕ) → seq < 2 ^ 32 → IsBytes payload
-        → 0 < length payload → length payload ≤ 32768
-        → front (way m (Some keys) seq) (written_sealed m keys seed seq payload ++ rest) ≡ whole payload (length (written_sealed m keys seed seq payload)) }
+        → 0 < length payload → length payload ≤ PAYLOAD_LIMIT
+        → parse_packet (protection m (Some keys) seq) (written_sealed m keys seed seq payload ++ rest) ≡ whole payload (length (written_sealed m keys seed seq payload)) }
 {
     sshwire::types_law();
 }

@@ -1,5 +1,6 @@
 //! How much padding a packet has.
 
+ghost use Rattle.sshwire.specs.declared.limits.TheConstants.{PAYLOAD_LIMIT};
 ghost use Rattle.std.specs.Prelude.{◌≡◌, ◌≤◌, false, true};
 ghost use Rattle.sshpacket.specs.Packet.{IsLeastPadding, counted, least_padding};
 
@@ -10,7 +11,7 @@ ghost use Rattle.sshpacket.specs.Packet.{IsLeastPadding, counted, least_padding}
 /// The caller's conditions are a block of at most 64 bytes and a payload of at most 32768.
 pub fn padding_len(block: u8, payload_len: usize) -> u8
     requires block { block ≤ 64 }
-    requires payload { payload_len ≤ 32768 }
+    requires payload { payload_len ≤ PAYLOAD_LIMIT }
     ensures least { IsLeastPadding true block payload_len result }
     ensures value { result ≡ least_padding true block payload_len }
 {
@@ -22,7 +23,7 @@ pub fn padding_len(block: u8, payload_len: usize) -> u8
 /// multiple, and has at least 8 bytes.
 pub fn padding_len_uncounted(block: u8, payload_len: usize) -> u8
     requires block { block ≤ 64 }
-    requires payload { payload_len ≤ 32768 }
+    requires payload { payload_len ≤ PAYLOAD_LIMIT }
     ensures least { IsLeastPadding false block payload_len result }
     ensures value { result ≡ least_padding false block payload_len }
 {
@@ -32,7 +33,7 @@ pub fn padding_len_uncounted(block: u8, payload_len: usize) -> u8
 /// The least padding, where packet_length counts or not.
 pub(crate) fn least_padding_len(counts: bool, block: u8, payload_len: usize) -> u8
     requires block { block ≤ 64 }
-    requires payload { payload_len ≤ 32768 }
+    requires payload { payload_len ≤ PAYLOAD_LIMIT }
     ensures least { IsLeastPadding counts block payload_len result }
     ensures value { result ≡ least_padding counts block payload_len }
 {

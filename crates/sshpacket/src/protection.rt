@@ -1,19 +1,18 @@
 //! How one packet is judged.
 
+ghost use Rattle.sshpacket.specs.declared.limits.TheConstants.{PACKET_LIMIT};
 ghost use Rattle.std.specs.Prelude.{◌≡◌, ◌≢◌, ◌+◌, ◌<◌, ◌≤◌, ◌^◌, ℕ, IfErr, IfOk, IfSome, None, Some, drop, false, length, take, true};
-ghost use Rattle.sshpacket.specs.Front.{OfPacket, is_length, opened, refused, way, whole};
+ghost use Rattle.sshpacket.specs.Parse.{OfPacket, is_length, opened, refused, protection, whole};
 ghost use Rattle.sshpacket.specs.Packet.{number};
 
 use crate::fault::PacketFault;
 use crate::keys::Keys;
+use crate::limits::PACKET_LIMIT;
 use crate::padding::counted;
 use crate::suite::Suite;
 use bytes::Bytes;
 use sshwire::Reader;
 use std::alloc::Global;
-
-/// The most bytes of a packet with its tag (RFC 4253 section 6.1).
-pub(crate) const PACKET_LIMIT: usize = 35000;
 
 /// How the packet at hand is protected (RFC 4253 section 6): in clear, or sealed by a suite with these
 /// keys and the packet's number.
@@ -40,12 +39,12 @@ impl<'a, S: Suite> Protection<'a, S> {
     /// The length of the packet with its tag, by its first four bytes; none where packet_length isn't
     /// taken.
     pub(crate) fn packet_len(&self, first: [u8; 4]) -> Option<usize>
-        ensures some { IfSome result (λ len. Counts (way (S.meaning self.now.suite.now) self.now.keys.now self.now.seq) first len) }
-        ensures none { result ≡ None → (let w = way (S.meaning self.now.suite.now) self.now.keys.now self.now.seq in is_length w.counts w.block w.tag (w.head first) ≡ false) }
-        ensures bound { IfSome result (λ len. (12 ≤ len) × (len ≤ 35000)) }
+        ensures some { IfSome result (λ len. Counts (protection (S.meaning self.now.suite.now) self.now.keys.now self.now.seq) first len) }
+        ensures none { result ≡ None → (let w = protection (S.meaning self.now.suite.now) self.now.keys.now self.now.seq in is_length w.counts w.block w.tag (w.head first) ≡ false) }
+        ensures bound { IfSome result (λ len. (12 ≤ len) × (len ≤ PACKET_LIMIT)) }
     {
         match self.keys {
-            None => packet_len(true, 8, 0, number_of(&first)),
+            None => packet_len(true, 8, 0, leading_uint32(&first)),
             Some(keys) => packet_len(
                 self.suite.counts_length(keys.cipher(), keys.mac()),
                 self.suite.block(keys.cipher()),
@@ -59,7 +58,7 @@ impl<'a, S: Suite> Protection<'a, S> {
     /// the payload isn't empty.
     pub(crate) fn open(&self, alloc: Global, sealed: Bytes) -> Result<Opened, PacketFault>
         requires { length sealed < 2 ^ 32 }
-        ensures { Opens (way (S.meaning self.now.suite.now) self.now.keys.now self.now.seq) sealed result }
+        ensures { Opens (protection (S.meaning self.now.suite.now) self.now.keys.now self.now.seq) sealed result }
     {
         let packet = self.unseal(alloc, sealed)?;
         let payload_len = payload_len(packet.as_slice())?;
@@ -72,7 +71,7 @@ impl<'a, S: Suite> Protection<'a, S> {
     /// The packet in clear. One that was sent in clear isn't copied.
     fn unseal(&self, alloc: Global, sealed: Bytes) -> Result<Bytes, PacketFault>
         requires { length sealed < 2 ^ 32 }
-        ensures { Unseals (way (S.meaning self.now.suite.now) self.now.keys.now self.now.seq) sealed result }
+        ensures { Unseals (protection (S.meaning self.now.suite.now) self.now.keys.now self.now.seq) sealed result }
     {
         let Some(keys) = self.keys else {
             return Ok(sealed);
@@ -88,12 +87,13 @@ impl<'a, S: Suite> Protection<'a, S> {
     }
 }
 
-/// The number in the first four bytes.
+/// The uint32 in the first four bytes (RFC 4251 section 5), as packet_length stands in a packet; 0 where
+/// there are fewer. It takes no memory.
 #[tactic(auto, unfolding(crate::specs::Packet::number))]
-fn number_of(first: &[u8; 4]) -> u32
-    ensures { result ≡ number first.now }
+pub fn leading_uint32(bytes: &[u8]) -> u32
+    ensures { result ≡ number bytes.now }
 {
-    match Reader::new(first).u32() {
+    match Reader::new(bytes).u32() {
         Ok(number) => number,
         Err(_) => 0,
     }
@@ -103,7 +103,7 @@ fn number_of(first: &[u8; 4]) -> u32
 fn packet_len(counts: bool, block: u8, tag: u8, packet_length: u32) -> Option<usize>
     ensures some { IfSome result (λ len. (is_length counts block tag packet_length ≡ true) × (len ≡ 4 + packet_length + tag)) }
     ensures none { result ≡ None → is_length counts block tag packet_length ≡ false }
-    ensures bound { IfSome result (λ len. (12 ≤ len) × (len ≤ 35000)) }
+    ensures bound { IfSome result (λ len. (12 ≤ len) × (len ≤ PACKET_LIMIT)) }
 {
     let unit = usize::from(block.max(8));
     let counted = counted(counts);

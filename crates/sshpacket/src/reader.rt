@@ -1,11 +1,12 @@
 //! Reads packets off a stream, however it is cut.
 
+ghost use Rattle.sshpacket.specs.declared.limits.TheConstants.{PACKET_LIMIT};
 ghost use Rattle.std.specs.Prelude.{◌≡◌, ◌≢◌, ◌+◌, ◌++◌, ◌<◌, ◌≤◌, ◌^◌, ℕ, IfErr, IfOk, IfSome, None, OnErr, Some, drop, length, take};
 ghost use Rattle.std.specs.Option.{ForSome};
 ghost use Rattle.sshwire.specs.Types.{IsBytes};
-ghost use Rattle.sshpacket.specs.Front.{front, unfinished, way};
-ghost use Rattle.sshpacket.specs.Unit.{IsFaithful, Means};
-ghost use Rattle.sshpacket.specs.ReaderSteps.{FillsBody, FillsPacket, Fills, Grows, HasRoom, OpensFilled, ReadRoom, ReadsOn, needed};
+ghost use Rattle.sshpacket.specs.Parse.{parse_packet, unfinished, protection};
+ghost use Rattle.sshpacket.specs.ProtectedPacket.{IsFaithful, PacketMeans};
+ghost use Rattle.sshpacket.specs.ReaderSteps.{FillsBody, FillsPacket, Fills, FilledSome, HasRoom, OpensFilled, ReadRoom, ReadsOn, needed};
 
 use crate::fault::PacketFault;
 use crate::keys::Keys;
@@ -51,7 +52,7 @@ pub struct PacketReader {
     taken: usize,
     ghost room: { length unfinished.items < target },
     ghost header: { 4 ≤ target },
-    ghost bound: { target ≤ 35000 },
+    ghost bound: { target ≤ PACKET_LIMIT },
     ghost none_held: { ForSome fault (λ _. length unfinished.items ≡ 0) },
 }
 
@@ -61,7 +62,7 @@ impl PacketReader {
     ghost use Rattle.std.specs.Io.BufRead.{Rests};
     ghost use Rattle.sshpacket.specs.KeyData.{KeyData};
     ghost use Rattle.sshpacket.specs.Suite.{Meaning};
-    ghost use Rattle.sshpacket.specs.ReaderState.{Advances, HoldsNothingBehind, IsStep, OnlyPacketAnswer, PacketAnswer, PacketTells, ReaderLeaves, ReaderState, ReaderWaits, Uses, ahead, last_used, state};
+    ghost use Rattle.sshpacket.specs.ReaderState.{Advances, HoldsNothingBehind, IsStep, OnlyPacketAnswer, ParseAnswer, PacketAnswer, ReaderLeaves, ReaderState, ReaderWaits, Uses, ahead, last_used, state};
     ghost use Rattle.sshpacket.specs.contracts.reader.PacketReader.{the_row};
 
     /// A reader at the beginning of the stream: no keys, number 0, nothing held. It takes no memory.
@@ -113,14 +114,14 @@ impl PacketReader {
     pub fn next<S: Suite>(&mut self, suite: &S, piece: &[u8]) -> Result<PacketStep<'_>, PacketFault>
         // A payload exactly where a packet of it stands at the front, a fault exactly where the packet
         // there is refused, want of memory apart.
-        ensures tells { ReaderWaits (S.meaning suite.now) self.old → PacketTells (S.meaning suite.now) (state self.old) piece.now result }
+        ensures tells { ReaderWaits (S.meaning suite.now) self.old → PacketAnswer (S.meaning suite.now) (state self.old) piece.now result }
         ensures only { ReaderWaits (S.meaning suite.now) self.old → OnlyPacketAnswer (S.meaning suite.now) (state self.old) piece.now result }
         ensures again { IfSome (state self.old).fault (λ f. result ≡ Err f) }
         // In every state: a packet uses some bytes of the piece, and no more than it has.
         ensures uses { IfOk result (λ step. Uses (length piece.now) step) }
         // The same as a function of what the reader holds, and what stands at the front by the standard.
-        ensures answers { ReaderWaits (S.meaning suite.now) self.old → PacketAnswer (S.meaning suite.now) (state self.old) piece.now result }
-        ensures means { Means (way (S.meaning suite.now) (state self.old).keys (state self.old).seq) ((state self.old).held ++ piece.now) (ahead (S.meaning suite.now) (state self.old) piece.now) }
+        ensures answers { ReaderWaits (S.meaning suite.now) self.old → ParseAnswer (S.meaning suite.now) (state self.old) piece.now result }
+        ensures means { PacketMeans (protection (S.meaning suite.now) (state self.old).keys (state self.old).seq) ((state self.old).held ++ piece.now) (ahead (S.meaning suite.now) (state self.old) piece.now) }
         // How the reader is left; in every state nothing is held behind a payload.
         ensures* after { sem 𝓛 (Rests the_row self.entry (λ new.
             (ReaderWaits (S.meaning suite.now) self.old → ReaderLeaves (S.meaning suite.now) (state self.old) piece.now result new)
@@ -158,18 +159,12 @@ impl PacketReader {
         if let Some(fault) = self.fault {
             return Err(fault);
         }
-        let protection = Protection {
+        let guard = Protection {
             suite,
             keys: &self.keys,
             seq: self.seq,
         };
-        let (taken, read) = read_on(
-            self.alloc,
-            &protection,
-            &mut self.unfinished,
-            self.target,
-            piece,
-        );
+        let (taken, read) = read_on(self.alloc, &guard, &mut self.unfinished, self.target, piece);
         self.taken = taken;
         match read {
             Ok(Read::Part { target }) => {
@@ -217,7 +212,7 @@ impl PacketReader {
     #[tactic(auto, unfolding(crate::specs::ReaderState::state))]
     pub fn buffered(&self) -> usize
         ensures held { result ≡ length (state self.now).held }
-        ensures bound { result ≤ 35000 }
+        ensures bound { result ≤ PACKET_LIMIT }
         ensures faulted { IfSome (state self.now).fault (λ _. result ≡ 0) }
     {
         self.unfinished.len()
@@ -252,9 +247,9 @@ impl PacketReader {
 
 /// What the front of the bytes reads as is what stands there, and nothing else does.
 fn front_means<S: Suite>(suite: &S, keys: &Option<Keys>, seq: u32, held: &[u8], piece: &[u8])
-    ensures faithful { IsFaithful (way (S.meaning suite.now) keys.now seq) }
+    ensures faithful { IsFaithful (protection (S.meaning suite.now) keys.now seq) }
     ensures bytes { IsBytes (held.now ++ piece.now) }
-    ensures means { Means (way (S.meaning suite.now) keys.now seq) (held.now ++ piece.now) (front (way (S.meaning suite.now) keys.now seq) (held.now ++ piece.now)) }
+    ensures means { PacketMeans (protection (S.meaning suite.now) keys.now seq) (held.now ++ piece.now) (parse_packet (protection (S.meaning suite.now) keys.now seq) (held.now ++ piece.now)) }
 {
     crate::packet_laws::packet_law();
 }
@@ -272,22 +267,22 @@ enum Read {
 /// many bytes of the piece were used, too.
 fn read_on<S: Suite>(
     alloc: Global,
-    protection: &Protection<'_, S>,
+    guard: &Protection<'_, S>,
     held: &mut BytesMut,
     target: usize,
     piece: &[u8],
 ) -> (usize, Result<Read, PacketFault>)
     requires room { length held.old.items < target }
-    requires bound { target ≤ 35000 }
-    ensures reads { let w = way (S.meaning protection.now.suite.now) protection.now.keys.now protection.now.seq in
-        front w held.old.items ≡ unfinished → target ≡ needed w held.old.items → ReadsOn w held.old.items piece.now held.new.items result.0 result.1 }
+    requires bound { target ≤ PACKET_LIMIT }
+    ensures reads { let w = protection (S.meaning guard.now.suite.now) guard.now.keys.now guard.now.seq in
+        parse_packet w held.old.items ≡ unfinished → target ≡ needed w held.old.items → ReadsOn w held.old.items piece.now held.new.items result.0 result.1 }
     ensures taken { result.0 ≤ length piece.now }
     ensures room { IfOk result.1 (λ read. ReadRoom held.new.items result.0 read) }
 {
     let before = held.len();
-    let filled = fill_packet(protection, held, target, piece);
+    let filled = fill_packet(guard, held, target, piece);
     let taken = held.len() - before;
-    (taken, open_filled(alloc, protection, held, filled))
+    (taken, open_filled(alloc, guard, held, filled))
 }
 
 /// What came of the bytes of the packet at hand.
@@ -302,18 +297,18 @@ enum Filled {
 /// Appends bytes of the piece up to the end of the packet, and judges its length once four bytes are
 /// there.
 fn fill_packet<S: Suite>(
-    protection: &Protection<'_, S>,
+    guard: &Protection<'_, S>,
     held: &mut BytesMut,
     target: usize,
     piece: &[u8],
 ) -> Result<Filled, PacketFault>
     requires room { length held.old.items < target }
-    requires bound { target ≤ 35000 }
-    ensures fills { let w = way (S.meaning protection.now.suite.now) protection.now.keys.now protection.now.seq in
-        front w held.old.items ≡ unfinished → target ≡ needed w held.old.items → FillsPacket w held.old.items piece.now held.new.items result }
+    requires bound { target ≤ PACKET_LIMIT }
+    ensures fills { let w = protection (S.meaning guard.now.suite.now) guard.now.keys.now guard.now.seq in
+        parse_packet w held.old.items ≡ unfinished → target ≡ needed w held.old.items → FillsPacket w held.old.items piece.now held.new.items result }
     ensures room { IfOk result (λ filled. HasRoom (length held.new.items) filled) }
     ensures grows { (length held.old.items ≤ length held.new.items) × (length held.new.items ≤ length held.old.items + length piece.now) }
-    ensures whole { IfOk result (λ filled. Grows (length held.old.items) (length held.new.items) filled) }
+    ensures whole { IfOk result (λ filled. FilledSome (length held.old.items) (length held.new.items) filled) }
 {
     if held.len() >= 4 {
         return fill_body(held, target, piece);
@@ -322,7 +317,7 @@ fn fill_packet<S: Suite>(
     let Some(first) = first_four(held.as_slice()) else {
         return Ok(Filled::Part { target: 4 });
     };
-    match protection.packet_len(first) {
+    match guard.packet_len(first) {
         Some(len) => fill_body(held, len, behind(piece, used)),
         None => Err(PacketFault::Length),
     }
@@ -332,11 +327,11 @@ fn fill_packet<S: Suite>(
 fn fill_body(held: &mut BytesMut, len: usize, piece: &[u8]) -> Result<Filled, PacketFault>
     requires headed { 4 ≤ length held.old.items }
     requires room { length held.old.items < len }
-    requires bound { len ≤ 35000 }
+    requires bound { len ≤ PACKET_LIMIT }
     ensures fills { FillsBody len piece.now held.old.items held.new.items result }
     ensures room { IfOk result (λ filled. HasRoom (length held.new.items) filled) }
     ensures grows { (length held.old.items ≤ length held.new.items) × (length held.new.items ≤ length held.old.items + length piece.now) }
-    ensures whole { IfOk result (λ filled. Grows (length held.old.items) (length held.new.items) filled) }
+    ensures whole { IfOk result (λ filled. FilledSome (length held.old.items) (length held.new.items) filled) }
 {
     fill(held, len, piece)?;
     if held.len() < len {
@@ -376,12 +371,12 @@ fn behind(bytes: &[u8], start: usize) -> &[u8]
 /// Takes the packet out of the buffer and opens it, where all of it is there.
 fn open_filled<S: Suite>(
     alloc: Global,
-    protection: &Protection<'_, S>,
+    guard: &Protection<'_, S>,
     held: &mut BytesMut,
     filled: Result<Filled, PacketFault>,
 ) -> Result<Read, PacketFault>
     requires { IfOk filled (λ filled. HasRoom (length held.old.items) filled) }
-    ensures opens { OpensFilled (way (S.meaning protection.now.suite.now) protection.now.keys.now protection.now.seq) held.old.items held.new.items filled result }
+    ensures opens { OpensFilled (protection (S.meaning guard.now.suite.now) guard.now.keys.now guard.now.seq) held.old.items held.new.items filled result }
 {
     match filled {
         Err(fault) => Err(fault),
@@ -390,7 +385,7 @@ fn open_filled<S: Suite>(
             let Ok(sealed) = held.freeze_to(held.len()) else {
                 return Err(PacketFault::Memory);
             };
-            match protection.open(alloc, sealed) {
+            match guard.open(alloc, sealed) {
                 Ok(opened) => Ok(Read::Whole(opened)),
                 Err(fault) => Err(fault),
             }

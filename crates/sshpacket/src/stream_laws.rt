@@ -6,24 +6,28 @@ ghost use Rattle.sshwire.specs.Types.{IsBytes};
 ghost use Rattle.sshpacket.specs.declared.fault.PacketFault.{PacketFault};
 ghost use Rattle.sshpacket.specs.declared.reader.PacketReader.{PacketReader};
 ghost use Rattle.sshpacket.specs.declared.reader.PacketStep.{PacketStep};
-ghost use Rattle.sshpacket.specs.Front.{Front, Refusal, Way, front, refused, unfinished, whole};
-ghost use Rattle.sshpacket.specs.Hearing.{Hears};
+ghost use Rattle.sshpacket.specs.Parse.{Parse, Refusal, Protection, parse_packet, refused, unfinished, whole};
+ghost use Rattle.sshpacket.specs.Hearing.{HearsOn};
 ghost use Rattle.sshpacket.specs.Joined.{Joined};
-ghost use Rattle.sshpacket.specs.LineLook.{MeansLines, look_of_lines};
-ghost use Rattle.sshpacket.specs.Places.{EachPlace, IsFront, after_first, count_places, first_of, flat_places, stands};
-ghost use Rattle.sshpacket.specs.ReaderState.{PacketAnswer, ReaderLeaves, ReaderState, way_at};
-ghost use Rattle.sshpacket.specs.Stream.{Heard, HeardAll, IsLook, IsRest, Linked, Look, Read, Said, Same, Spelled, Units};
+ghost use Rattle.sshpacket.specs.PreambleParser.{PreambleMeans, preamble_parser};
+ghost use Rattle.sshpacket.specs.Places.{EachPlace, IsPrefix, after_first, count_places, first_where, flat_places, stands};
+ghost use Rattle.sshpacket.specs.ReaderState.{ParseAnswer, ReaderLeaves, ReaderState, protection_at};
+ghost use Rattle.sshpacket.specs.Stream.{Heard, HeardAll, IsIncremental, IsRest, Linked, Parser, Read, Said, Same, Spelled, Units};
 ghost use Rattle.sshpacket.specs.Suite.{Meaning};
-ghost use Rattle.sshpacket.specs.Unit.{IsFaithful};
+ghost use Rattle.sshpacket.specs.ProtectedPacket.{IsFaithful};
 
 /// The law of places: what one more unit at the end of a list changes, and more units. The same
-/// holds for lists of anything; the lemmas of `Places` say so.
+/// holds for lists of anything; the lemmas in `proofs/Places.antt` say so.
+///
+/// What holds at each place (`EachPlace`) has laws that no clause can state, since they are about any
+/// property. They are the lemmas of that file (`each-push`, `each-append`, `each-prefix`, `each-shift`,
+/// `each-from`), and the one place of this crate's proofs that the crates above cite.
 pub fn places_law()
     // One more unit at the end.
     ensures stands_push { (t : Units → List ℕ → Bool) (before us : Units) (u : List ℕ)
         → stands t before (us ++ u ∷ []) ≡ (if stands t before us then true else t (before ++ us) u) }
     ensures first_push { (other : List ℕ) (t : Units → List ℕ → Bool) (before us : Units) (u : List ℕ)
-        → first_of other t before (us ++ u ∷ []) ≡ (if stands t before us then first_of other t before us else if t (before ++ us) u then u else other) }
+        → first_where other t before (us ++ u ∷ []) ≡ (if stands t before us then first_where other t before us else if t (before ++ us) u then u else other) }
     ensures after_push { (t : Units → List ℕ → Bool) (before us : Units) (u : List ℕ)
         → after_first t before (us ++ u ∷ []) ≡ (if stands t before us then after_first t before us ++ u ∷ [] else []) }
     ensures count_push { (t : Units → List ℕ → Bool) (before us : Units) (u : List ℕ)
@@ -37,7 +41,7 @@ pub fn places_law()
     ensures stands_append { (t : Units → List ℕ → Bool) (before us more : Units)
         → stands t before (us ++ more) ≡ (if stands t before us then true else stands t (before ++ us) more) }
     ensures first_append { (other : List ℕ) (t : Units → List ℕ → Bool) (before us more : Units)
-        → first_of other t before (us ++ more) ≡ (if stands t before us then first_of other t before us else first_of other t (before ++ us) more) }
+        → first_where other t before (us ++ more) ≡ (if stands t before us then first_where other t before us else first_where other t (before ++ us) more) }
     ensures after_append { (t : Units → List ℕ → Bool) (before us more : Units)
         → after_first t before (us ++ more) ≡ (if stands t before us then after_first t before us ++ more else after_first t (before ++ us) more) }
     ensures count_append { (t : Units → List ℕ → Bool) (before us more : Units)
@@ -47,67 +51,67 @@ pub fn places_law()
     ensures units_append { (f : Units → List ℕ → Units) (before us more : Units)
         → flat_places f before (us ++ more) ≡ flat_places f before us ++ flat_places f (before ++ us) more }
 
-    // What stands in a front stands in the whole, and first.
-    ensures stands_front { (t : Units → List ℕ → Bool) (us all : Units) → IsFront us all → stands t [] us ≡ true → stands t [] all ≡ true }
-    ensures first_front { (other : List ℕ) (t : Units → List ℕ → Bool) (us all : Units) → IsFront us all → stands t [] us ≡ true
-        → first_of other t [] all ≡ first_of other t [] us }
+    // What stands in a prefix stands in the whole, and first.
+    ensures stands_front { (t : Units → List ℕ → Bool) (us all : Units) → IsPrefix us all → stands t [] us ≡ true → stands t [] all ≡ true }
+    ensures first_front { (other : List ℕ) (t : Units → List ℕ → Bool) (us all : Units) → IsPrefix us all → stands t [] us ≡ true
+        → first_where other t [] all ≡ first_where other t [] us }
 {}
 
 /// The law of readers of one unit: however the bytes are cut, packets (RFC 4253 section 6) and the
 /// lines before them (section 4.2) are read as one unit, or refused, at one place.
-pub fn look_law()
-    ensures packets { (w : Way) → IsLook (front w) }
-    ensures lines { (k : ℕ) → IsLook (look_of_lines k) }
+pub fn parser_law()
+    ensures packets { (w : Protection) → IsIncremental (parse_packet w) }
+    ensures lines { (k : ℕ) → IsIncremental (preamble_parser k) }
 
     // What is read of lines stands there, and what stands there is read: a preamble as its version, whatever follows.
-    ensures found { (k : ℕ) (bytes : List ℕ) → MeansLines k bytes (look_of_lines k bytes) }
-    ensures only { (k : ℕ) (bytes : List ℕ) (f : Front) → MeansLines k bytes f → look_of_lines k bytes ≡ f }
-    ensures preamble { (k : ℕ) (text bytes more : List ℕ) → Preamble k text bytes → look_of_lines k (bytes ++ more) ≡ whole text (length bytes) }
+    ensures found { (k : ℕ) (bytes : List ℕ) → PreambleMeans k bytes (preamble_parser k bytes) }
+    ensures only { (k : ℕ) (bytes : List ℕ) (f : Parse) → PreambleMeans k bytes f → preamble_parser k bytes ≡ f }
+    ensures preamble { (k : ℕ) (text bytes more : List ℕ) → Preamble k text bytes → preamble_parser k (bytes ++ more) ≡ whole text (length bytes) }
 {
     sshwire::reading_law();
 }
 
 /// The law of streams: a stream has one reading, which grows with the stream, and what is heard of
-/// a front of what was said is a front of the units said.
+/// a prefix of what was said is a prefix of the units said.
 pub fn stream_law()
-    ensures one { (looks : Units → Look) (stream : List ℕ) (us vs : Units) (x y : List ℕ) (r q : Option Refusal)
-        → Heard looks stream us x r → Heard looks stream vs y q → Same us vs x y r q }
+    ensures one { (parsers : Units → Parser) (stream : List ℕ) (us vs : Units) (x y : List ℕ) (r q : Option Refusal)
+        → Heard parsers stream us x r → Heard parsers stream vs y q → Same us vs x y r q }
 
     // More bytes behind, and one unit more.
-    ensures nothing { (looks : Units → Look) → ((us : Units) → IsLook (looks us)) → Heard looks [] [] [] None }
-    ensures read_more { (looks : Units → Look) → ((us : Units) → IsLook (looks us)) → (before : Units) (bytes more : List ℕ) (us : Units) (rest : List ℕ)
-        → Read looks before bytes us rest → Read looks before (bytes ++ more) us (rest ++ more) }
-    ensures read_push { (looks : Units → Look) (before : Units) (bytes : List ℕ) (us : Units) (rest u : List ℕ) (len : ℕ)
-        → Read looks before bytes us rest → looks (before ++ us) rest ≡ whole u len → Read looks before bytes (us ++ u ∷ []) (drop len rest) }
-    ensures heard_more { (looks : Units → Look) → ((us : Units) → IsLook (looks us)) → (stream more : List ℕ) (us : Units) (rest : List ℕ) (r q : Option Refusal)
-        → Heard looks stream us rest r → IsRest (looks us) (rest ++ more) q → Heard looks (stream ++ more) us (rest ++ more) q }
-    ensures heard_push { (looks : Units → Look) → ((us : Units) → IsLook (looks us)) → (stream more : List ℕ) (us : Units) (rest u : List ℕ) (r : Option Refusal)
-        → Heard looks stream us rest r → looks us (rest ++ more) ≡ whole u (length (rest ++ more)) → Heard looks (stream ++ more) (us ++ u ∷ []) [] None }
+    ensures nothing { (parsers : Units → Parser) → ((us : Units) → IsIncremental (parsers us)) → Heard parsers [] [] [] None }
+    ensures read_more { (parsers : Units → Parser) → ((us : Units) → IsIncremental (parsers us)) → (before : Units) (bytes more : List ℕ) (us : Units) (rest : List ℕ)
+        → Read parsers before bytes us rest → Read parsers before (bytes ++ more) us (rest ++ more) }
+    ensures read_push { (parsers : Units → Parser) (before : Units) (bytes : List ℕ) (us : Units) (rest u : List ℕ) (len : ℕ)
+        → Read parsers before bytes us rest → parsers (before ++ us) rest ≡ whole u len → Read parsers before bytes (us ++ u ∷ []) (drop len rest) }
+    ensures heard_more { (parsers : Units → Parser) → ((us : Units) → IsIncremental (parsers us)) → (stream more : List ℕ) (us : Units) (rest : List ℕ) (r q : Option Refusal)
+        → Heard parsers stream us rest r → IsRest (parsers us) (rest ++ more) q → Heard parsers (stream ++ more) us (rest ++ more) q }
+    ensures heard_push { (parsers : Units → Parser) → ((us : Units) → IsIncremental (parsers us)) → (stream more : List ℕ) (us : Units) (rest u : List ℕ) (r : Option Refusal)
+        → Heard parsers stream us rest r → parsers us (rest ++ more) ≡ whole u (length (rest ++ more)) → Heard parsers (stream ++ more) (us ++ u ∷ []) [] None }
 
     // A piece behind the rest, which may go on behind what was used of it: it ends a unit, or it
     // is refused, or more bytes are wanted.
-    ensures heard_unit { (looks : Units → Look) → ((us : Units) → IsLook (looks us)) → (stream piece : List ℕ) (us : Units) (rest u : List ℕ) (used : ℕ)
-        → Heard looks stream us rest None → used ≤ length piece → looks us (rest ++ piece) ≡ whole u (length rest + used)
-        → Heard looks (stream ++ take used piece) (us ++ u ∷ []) [] None }
-    ensures heard_refusal { (looks : Units → Look) → ((us : Units) → IsLook (looks us)) → (stream piece : List ℕ) (us : Units) (rest : List ℕ) (r : Refusal) (used : ℕ)
-        → Heard looks stream us rest None → used ≤ length piece → looks us (rest ++ piece) ≡ refused r (length rest + used)
-        → Heard looks (stream ++ take used piece) us (rest ++ take used piece) (Some r) }
-    ensures heard_part { (looks : Units → Look) → ((us : Units) → IsLook (looks us)) → (stream piece : List ℕ) (us : Units) (rest : List ℕ)
-        → Heard looks stream us rest None → looks us (rest ++ piece) ≡ unfinished → Heard looks (stream ++ piece) us (rest ++ piece) None }
+    ensures heard_unit { (parsers : Units → Parser) → ((us : Units) → IsIncremental (parsers us)) → (stream piece : List ℕ) (us : Units) (rest u : List ℕ) (used : ℕ)
+        → Heard parsers stream us rest None → used ≤ length piece → parsers us (rest ++ piece) ≡ whole u (length rest + used)
+        → Heard parsers (stream ++ take used piece) (us ++ u ∷ []) [] None }
+    ensures heard_refusal { (parsers : Units → Parser) → ((us : Units) → IsIncremental (parsers us)) → (stream piece : List ℕ) (us : Units) (rest : List ℕ) (r : Refusal) (used : ℕ)
+        → Heard parsers stream us rest None → used ≤ length piece → parsers us (rest ++ piece) ≡ refused r (length rest + used)
+        → Heard parsers (stream ++ take used piece) us (rest ++ take used piece) (Some r) }
+    ensures heard_part { (parsers : Units → Parser) → ((us : Units) → IsIncremental (parsers us)) → (stream piece : List ℕ) (us : Units) (rest : List ℕ)
+        → Heard parsers stream us rest None → parsers us (rest ++ piece) ≡ unfinished → Heard parsers (stream ++ piece) us (rest ++ piece) None }
 
-    // What is heard of a front of a stream is a front of what is heard of it.
-    ensures front { (looks : Units → Look) → ((us : Units) → IsLook (looks us)) → (stream more : List ℕ) (us vs : Units) (x y : List ℕ) (r q : Option Refusal)
-        → Heard looks stream us x r → Heard looks (stream ++ more) vs y q → IsFront us vs }
+    // What is heard of a prefix of a stream is a prefix of what is heard of it.
+    ensures prefix { (parsers : Units → Parser) → ((us : Units) → IsIncremental (parsers us)) → (stream more : List ℕ) (us vs : Units) (x y : List ℕ) (r q : Option Refusal)
+        → Heard parsers stream us x r → Heard parsers (stream ++ more) vs y q → IsPrefix us vs }
 
-    // The link: what was said is heard, a front of it as a front of its units, and nothing of it is refused.
-    ensures again { (looks : Units → Look) (spells : Units → List ℕ → List ℕ) → ((us : Units) → IsLook (looks us))
-        → (stream : List ℕ) (said : Units) → Said spells stream said → EachPlace (Spelled looks spells) [] said → Heard looks stream said [] None }
-    ensures link { (looks : Units → Look) (spells : Units → List ℕ → List ℕ) → ((us : Units) → IsLook (looks us))
+    // The link: what was said is heard, a prefix of it as a prefix of its units, and nothing of it is refused.
+    ensures again { (parsers : Units → Parser) (spells : Units → List ℕ → List ℕ) → ((us : Units) → IsIncremental (parsers us))
+        → (stream : List ℕ) (said : Units) → Said spells stream said → EachPlace (Spelled parsers spells) [] said → Heard parsers stream said [] None }
+    ensures link { (parsers : Units → Parser) (spells : Units → List ℕ → List ℕ) → ((us : Units) → IsIncremental (parsers us))
         → (stream heard more : List ℕ) (said us : Units) (rest : List ℕ) (r : Option Refusal)
-        → Said spells stream said → EachPlace (Spelled looks spells) [] said → stream ≡ heard ++ more → Heard looks heard us rest r → Linked us said r }
-    ensures all { (looks : Units → Look) (spells : Units → List ℕ → List ℕ) → ((us : Units) → IsLook (looks us))
+        → Said spells stream said → EachPlace (Spelled parsers spells) [] said → stream ≡ heard ++ more → Heard parsers heard us rest r → Linked us said r }
+    ensures all { (parsers : Units → Parser) (spells : Units → List ℕ → List ℕ) → ((us : Units) → IsIncremental (parsers us))
         → (stream : List ℕ) (said us : Units) (rest : List ℕ) (r : Option Refusal)
-        → Said spells stream said → EachPlace (Spelled looks spells) [] said → Heard looks stream us rest r → HeardAll us said rest r }
+        → Said spells stream said → EachPlace (Spelled parsers spells) [] said → Heard parsers stream us rest r → HeardAll us said rest r }
 
     // What is said further is spelled behind.
     ensures said_push { (spells : Units → List ℕ → List ℕ) (stream : List ℕ) (us : Units) (u : List ℕ)
@@ -124,19 +128,19 @@ pub fn stream_law()
 /// Its premises are what `next` ensures of the reader before and after, and that the next unit of the
 /// stream is read as the reader reads.
 pub fn hearing_law()
-    ensures hears { (m : Meaning) (looks : Units → Look) → ((us : Units) → IsLook (looks us)) → (stream : List ℕ) (us : Units)
+    ensures hears { (m : Meaning) (parsers : Units → Parser) → ((us : Units) → IsIncremental (parsers us)) → (stream : List ℕ) (us : Units)
         (old : ReaderState) (new : PacketReader) (piece : List ℕ) (result : Result PacketStep PacketFault)
-        → Heard looks stream us old.held None → looks us ≡ front (way_at m old)
-        → PacketAnswer m old piece result → ReaderLeaves m old piece result new → Hears looks stream us old piece result new }
+        → Heard parsers stream us old.held None → parsers us ≡ parse_packet (protection_at m old)
+        → ParseAnswer m old piece result → ReaderLeaves m old piece result new → HearsOn parsers stream us old piece result new }
 {}
 
 /// The law of joined packets: what is read of a stream behind its version line is packets one after
 /// another by the standard's own definition of a packet (RFC 4253 section 6), and nothing else is read.
 pub fn joined_law()
-    ensures found { (looks : Units → Look) (at : Units → Way) (version : List ℕ) → ((us : Units) → looks (version ∷ us) ≡ front (at us)) → ((us : Units) → IsFaithful (at us))
-        → (before : Units) (bytes : List ℕ) (ps : Units) (rest : List ℕ) → IsBytes bytes → Read looks (version ∷ before) bytes ps rest → Joined at before bytes ps rest }
-    ensures only { (looks : Units → Look) (at : Units → Way) (version : List ℕ) → ((us : Units) → looks (version ∷ us) ≡ front (at us)) → ((us : Units) → IsFaithful (at us))
-        → (before : Units) (bytes : List ℕ) (ps : Units) (rest : List ℕ) → IsBytes bytes → Joined at before bytes ps rest → Read looks (version ∷ before) bytes ps rest }
+    ensures found { (parsers : Units → Parser) (at : Units → Protection) (version : List ℕ) → ((us : Units) → parsers (version ∷ us) ≡ parse_packet (at us)) → ((us : Units) → IsFaithful (at us))
+        → (before : Units) (bytes : List ℕ) (ps : Units) (rest : List ℕ) → IsBytes bytes → Read parsers (version ∷ before) bytes ps rest → Joined at before bytes ps rest }
+    ensures only { (parsers : Units → Parser) (at : Units → Protection) (version : List ℕ) → ((us : Units) → parsers (version ∷ us) ≡ parse_packet (at us)) → ((us : Units) → IsFaithful (at us))
+        → (before : Units) (bytes : List ℕ) (ps : Units) (rest : List ℕ) → IsBytes bytes → Joined at before bytes ps rest → Read parsers (version ∷ before) bytes ps rest }
 {
     crate::packet_laws::packet_law();
 }

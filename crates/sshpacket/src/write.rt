@@ -1,5 +1,6 @@
 //! Writes packets.
 
+ghost use Rattle.sshwire.specs.declared.limits.TheConstants.{PAYLOAD_LIMIT};
 ghost use Rattle.std.specs.Prelude.{◌≡◌, true, ◌+◌, ◌<◌, ◌≤◌, ◌^◌, ◌++◌, IfOk, OnOk, if◌then◌else◌, is_ok, length};
 ghost use Rattle.sshwire.specs.Types.{IsBytes};
 ghost use Rattle.sshpacket.specs.Packet.{packet};
@@ -26,7 +27,7 @@ pub fn write_clear<S: Suite>(
     out: &mut Vec<u8>,
 ) -> Result<(), Memory>
     requires some { 0 < length payload.now }
-    requires payload { length payload.now ≤ 32768 }
+    requires payload { length payload.now ≤ PAYLOAD_LIMIT }
     requires seed { length seed.now < 2 ^ 32 }
     ensures appends { out.new.items ≡ (if is_ok result then out.old.items ++ written_clear (S.meaning suite.now) seed.now seq payload.now else out.old.items) }
     // What is appended is a packet of the payload with the least padding.
@@ -49,7 +50,7 @@ pub fn write_sealed<S: Suite>(
     out: &mut Vec<u8>,
 ) -> Result<(), Memory>
     requires some { 0 < length payload.now }
-    requires payload { length payload.now ≤ 32768 }
+    requires payload { length payload.now ≤ PAYLOAD_LIMIT }
     requires seed { length seed.now < 2 ^ 32 }
     ensures appends { out.new.items ≡ (if is_ok result then out.old.items ++ written_sealed (S.meaning suite.now) keys.now seed.now seq payload.now else out.old.items) }
     // What is sealed is a packet of the payload with the least padding.
@@ -68,7 +69,7 @@ pub fn write_sealed<S: Suite>(
 /// What is sealed for a payload is a packet with the least padding.
 fn sealed_is_packet<S: Suite>(suite: &S, keys: &Keys, seq: u32, payload: &[u8], seed: &[u8])
     requires some { 0 < length payload.now }
-    requires payload { length payload.now ≤ 32768 }
+    requires payload { length payload.now ≤ PAYLOAD_LIMIT }
     ensures { IsWritten ((S.meaning suite.now).counts_length keys.now.cipher keys.now.mac) ((S.meaning suite.now).block keys.now.cipher) ((S.meaning suite.now).tag_len keys.now.cipher keys.now.mac) payload.now
         (written (S.meaning suite.now) ((S.meaning suite.now).counts_length keys.now.cipher keys.now.mac) ((S.meaning suite.now).block keys.now.cipher) seed.now seq payload.now) }
 {
@@ -87,7 +88,7 @@ fn clear_packet<S: Suite>(
     seed: &[u8],
 ) -> Result<Vec<u8>, Memory>
     requires block { block ≤ 64 }
-    requires payload { length payload.now ≤ 32768 }
+    requires payload { length payload.now ≤ PAYLOAD_LIMIT }
     requires seed { length seed.now < 2 ^ 32 }
     ensures packet { IfOk result (λ v. v.items ≡ written (S.meaning suite.now) counts block seed.now seq payload.now) }
     ensures short { IfOk result (λ v. length v.items < 2 ^ 32) }
@@ -99,10 +100,10 @@ fn clear_packet<S: Suite>(
     Ok(clear)
 }
 
-/// Appends a packet; for want of memory a front of it may stand there.
+/// Appends a packet; for want of memory a prefix of it may stand there.
 #[tactic(auto, unfolding(crate::specs::Packet::length_field))]
 fn put_packet(out: &mut Vec<u8>, payload: &[u8], padding: &[u8]) -> Result<(), Memory>
-    requires payload { length payload.now ≤ 32768 }
+    requires payload { length payload.now ≤ PAYLOAD_LIMIT }
     requires padding { length padding.now < 256 }
     ensures packet { OnOk result (out.new.items ≡ out.old.items ++ packet payload.now padding.now) }
     ensures len { OnOk result (length out.new.items ≡ length out.old.items + (5 + length payload.now + length padding.now)) }

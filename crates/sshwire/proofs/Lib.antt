@@ -5,3 +5,5 @@ pub mod Tellings
 pub mod NameLemmas
 pub mod ShortestBody
 pub mod TypeLemmas
+pub mod ByteLemmas
+pub mod TypeRefusals

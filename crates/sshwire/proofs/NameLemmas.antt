@@ -1,6 +1,6 @@
 -- Names and the commas between them.
 
-use Rattle.std.proofs.Common.{◌≡◌, ℕ, zero, suc, ◌+◌, ◌-◌, ◌<◌, ◌≤◌, inl, inr, Bool, true, false, not, ◌&&◌, List, [], ◌∷◌, ◌++◌, length, take, drop, get_or, map, Option, None, Some, Result, Ok, Err, refl, sym, ap, ◌∙◌, arith, cond, eqb, leb, ltb, lit<, ◌↔◌}
+use Rattle.std.proofs.Common.{◌≡◌, ℕ, zero, suc, ◌+◌, ◌-◌, ◌*◌, ◌<◌, ◌≤◌, inl, inr, Bool, true, false, not, ◌&&◌, List, [], ◌∷◌, ◌++◌, length, take, drop, get_or, map, Option, None, Some, Result, Ok, Err, refl, sym, ap, ◌∙◌, arith, cond, eqb, leb, ltb, lit<, ◌↔◌}
 use Rattle.std.specs.Borrow.{Bor}
 use Rattle.std.specs.Option.{option_map}
 use Rattle.std.proofs.lemmas.Slice.Eq.{bytes_eq-Decides}
@@ -151,15 +151,32 @@ names_done body names some t e =
     let all : list_all is_name (parts body) ≡ true = rw split t in
     rw (f, all) (ap (λ (xs : List (List ℕ)). Ok xs) split)
 
+-- a name of a list
+pub name_among : {X : Type 0} (view : X → List ℕ) (xs : List X) (i : ℕ) (d : X) → AreNames (map view xs) → i < length xs → IsName (view (get_or xs i d))
+name_among view [] i d h within = absurd (omega arith)
+name_among view (x ∷ xs) zero d h within = h.0
+name_among view (x ∷ xs) (suc i) d h within = name_among view xs i d h.1 (omega arith)
+
+-- the names taken so far from those that were given, whose body has so many bytes
+pub record PutNames (given own : List (List ℕ)) (len : ℕ) : Type 0 where
+  pub same : own ≡ given
+  pub each : AreNames own
+  pub len_is : len ≡ length (names_body own)
+  pub short : len ≤ 65 * length own
+
+names_push : (names : List (List ℕ)) (name : List ℕ) → AreNames names → IsName name → AreNames (names ++ name ∷ [])
+names_push [] name h n = (n, tt)
+names_push (x ∷ names) name h n = (h.0, names_push names name h.1 n)
+
 -- what a part is as a name
 abbrev pub name_in : List ℕ → Result (List ℕ) WireFault
 name_in part = cond (is_name part) (Ok part) (Err Name)
 
-name_in_ok : (b : Bool) (part name : List ℕ) → is_name part ≡ b → cond b (Ok part) (Err Name) ≡ Ok name → (is_name name ≡ true) × (part ≡ name)
+pub name_in_ok : (b : Bool) (part name : List ℕ) → is_name part ≡ b → cond b (Ok part) (Err Name) ≡ Ok name → (is_name name ≡ true) × (part ≡ name)
 name_in_ok true part name t e = let same : part ≡ name = cc in (rw same at t, same)
 name_in_ok false part name t e = cc
 
-name_in_err : (b : Bool) (part : List ℕ) (code : WireFault) → cond b (Ok part) (Err Name) ≡ Err code → (b ≡ false) × (code ≡ Name)
+pub name_in_err : (b : Bool) (part : List ℕ) (code : WireFault) → cond b (Ok part) (Err Name) ≡ Err code → (b ≡ false) × (code ≡ Name)
 name_in_err true part code e = cc
 name_in_err false part code e = (refl, cc)
 
@@ -178,15 +195,6 @@ names_refused body names part rest code some split e =
 pub record NamesStep (body : List ℕ) (names : List (List ℕ)) (rest : List (List ℕ)) : Type 0 where
   pub names_tested : list_all is_name names ≡ true
   pub split : parts body ≡ names ++ rest
-
-pub names_step : (body : List ℕ) (names : List (List ℕ)) (part name : List ℕ) (rest : List (List ℕ)) → list_all is_name names ≡ true
-    → parts body ≡ names ++ part ∷ rest → name_in part ≡ Ok name → NamesStep body (names ++ name ∷ []) rest
-names_step body names part name rest t split e =
-    let c = name_in_ok (is_name part) part name refl e in
-    record {
-      names_tested = list_all-append is_name names (name ∷ []) ∙ and_from _ _ t (and_from _ _ c.0 refl);
-      split = split ∙ (ap (λ (x : List ℕ). names ++ x ∷ rest) c.1 ∙ sym (append_assoc names (name ∷ []) rest));
-    }
 
 ascii_cell : (b : ℕ) (bs : List ℕ) → b < 128 → IsAscii bs → (i : ℕ) → get_or (b ∷ bs) i 0 < 128
 ascii_cell b bs h more zero = h
@@ -232,6 +240,38 @@ names_fault body code e = (
   λ names each is.
       let bad : ◌≡◌ {A = Result (List (List ℕ)) WireFault} (Err code) (Ok names) = sym e ∙ (ap (λ (xs : List ℕ). names_in xs) is ∙ names_complete names each) in cc,
 )
+
+put_first : (given own : List (List ℕ)) (len : ℕ) (name : List ℕ) → PutNames given own len → length own ≡ 0 → IsName name
+    → PutNames (given ++ name ∷ []) (own ++ name ∷ []) (len + length name)
+put_first given [] len name p none n =
+    let none_yet : len ≡ 0 = p.len_is in
+    let few : length name ≤ 64 = n.short in
+    record { same = ap (λ (xs : List (List ℕ)). xs ++ name ∷ []) p.same; each = (n, tt); len_is = omega arith; short = omega arith }
+put_first given (x ∷ own) len name p none n = absurd (omega arith)
+
+put_further : (given own : List (List ℕ)) (len : ℕ) (name : List ℕ) → PutNames given own len → 0 < length own → IsName name
+    → PutNames (given ++ name ∷ []) (own ++ name ∷ []) (len + 1 + length name)
+put_further given own len name p some n =
+    let few : length name ≤ 64 = n.short in
+    let short : len ≤ 65 * length own = p.short in
+    let before : len ≡ length (names_body own) = p.len_is in
+    let one_more : length (own ++ name ∷ []) ≡ length own + 1 = length-append own (name ∷ []) in
+    let all : length (names_body own ++ 44 ∷ name) ≡ length (names_body own) + length (44 ∷ name) = length-append (names_body own) (44 ∷ name) in
+    let pushed : length (names_body (own ++ name ∷ [])) ≡ length (names_body own ++ 44 ∷ name) = ap (λ (xs : List ℕ). length xs) (body_push own name some) in
+    record { same = ap (λ (xs : List (List ℕ)). xs ++ name ∷ []) p.same; each = names_push own name p.each n; len_is = omega arith; short = omega arith }
+
+pub own_length : {X : Type 0} (view : X → List ℕ) (xs : List X) (i : ℕ) (own : List (List ℕ)) → i ≤ length xs → own ≡ map view (take i xs)
+    → length own ≡ i
+own_length view xs i own within e =
+    ap (λ (names : List (List ℕ)). length names) e ∙ (length-map (take i xs) view ∙ length-take-le i xs within)
+
+pub first_put : (given own given₂ own₂ : List (List ℕ)) (len len₂ : ℕ) (name : List ℕ) → PutNames given own len → IsName name
+    → given₂ ≡ given ++ name ∷ [] → own₂ ≡ own ++ name ∷ [] → length own ≡ 0 → len₂ ≡ len + length name → PutNames given₂ own₂ len₂
+first_put given own given₂ own₂ len len₂ name p n g o none l = rw (g, o, l) (put_first given own len name p none n)
+
+pub further_put : (given own given₂ own₂ : List (List ℕ)) (len len₂ : ℕ) (name : List ℕ) → PutNames given own len → IsName name
+    → given₂ ≡ given ++ name ∷ [] → own₂ ≡ own ++ name ∷ [] → 0 < length own → len₂ ≡ len + 1 + length name → PutNames given₂ own₂ len₂
+further_put given own given₂ own₂ len len₂ name p n g o some l = rw (g, o, l) (put_further given own len name p some n)
 
 -- Whether a name stands in a list.
 any_contains : {X : Type 0} (f : X → List ℕ) (xs : List X) (q : List ℕ) → list_any (λ x. bytes_eq q (f x)) xs ≡ true → Contains (map f xs) q

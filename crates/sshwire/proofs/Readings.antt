@@ -230,7 +230,7 @@ module _ (k left : ℕ) (heard line : List ℕ) (o : LineOpen k heard left line)
   ends_at bs text v is =
       let grouped : line ++ 10 ∷ bs ≡ version_line text ++ bs = search append_assoc ∙ ap (λ (xs : List ℕ). xs ++ bs) is in
       record {
-        front = joined o.others ++ version_line text;
+        prefix = joined o.others ++ version_line text;
         bytes_are = with_byte 10 bs ∙ (ap (λ (xs : List ℕ). joined o.others ++ xs) grouped ∙ sym (append_assoc (joined o.others) (version_line text) bs));
         preamble = record {
           others = o.others;

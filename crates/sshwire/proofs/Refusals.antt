@@ -7,7 +7,7 @@ use Rattle.sshwire.specs.declared.fault.WireFault.{WireFault}
 use Rattle.sshwire.specs.declared.fault.WireFault.TheVariants.{Line, TooLong, TooManyLines, Short, Name, NotCanonical, Memory}
 use Rattle.sshwire.specs.Lines.{IsVersionText, version_line, HasCause, HasNoLf, IsCause, IsLineByte, IsOtherLine, IsPlace, LineOpen, LineRefused, Preamble, joined}
 use Rattle.sshwire.specs.Reading.{Reading, More, Got, Stop, reading, then_on}
-use Rattle.sshwire.specs.Meaning.{EndsPreamble, EndsRefused, IsLeftOf, Means}
+use Rattle.sshwire.specs.Meaning.{EndsPreamble, EndsRefused, IsLeftOf, ReadingMeans}
 use Rattle.sshwire.proofs.Readings.{Parts, Stopped, open_read, preamble_read, read_parts, reading-append, reads_no_version, reads_nul, reads_too_long, reads_too_many}
 
 -- Bytes are cut into lines in one way.
@@ -19,23 +19,20 @@ no_lf_lines : (lines : List (List ℕ)) → AllByRecursion IsOtherLine lines →
 no_lf_lines [] each = tt
 no_lf_lines (line ∷ lines) each = (no_lf_line line each.0.unfinished.bytes, no_lf_lines lines each.1)
 
-record SameFront (a b x y : List ℕ) : Type 0 where
-  front : a ≡ b
+record SamePrefix (a b x y : List ℕ) : Type 0 where
+  prefix : a ≡ b
   rest : x ≡ y
 
-cons_same : (c : ℕ) (a b x y : List ℕ) → SameFront a b x y → SameFront (c ∷ a) (c ∷ b) x y
-cons_same c a b x y s = record { front = ap (λ (xs : List ℕ). c ∷ xs) s.front; rest = s.rest }
-
 -- two lines that end at their first LF
-same_line : (a b x y : List ℕ) → HasNoLf a → HasNoLf b → a ++ 10 ∷ x ≡ b ++ 10 ∷ y → SameFront a b x y
-same_line [] [] x y p q e = record { front = refl; rest = cc }
+same_line : (a b x y : List ℕ) → HasNoLf a → HasNoLf b → a ++ 10 ∷ x ≡ b ++ 10 ∷ y → SamePrefix a b x y
+same_line [] [] x y p q e = record { prefix = refl; rest = cc }
 same_line [] (d ∷ b) x y p q e = let is : d ≡ 10 = cc in absurd (q.0 is)
 same_line (c ∷ a) [] x y p q e = let is : c ≡ 10 = cc in absurd (p.0 is)
 same_line (c ∷ a) (d ∷ b) x y p q e =
     let head : c ≡ d = cc in
     let tail : a ++ 10 ∷ x ≡ b ++ 10 ∷ y = cc in
     let s = same_line a b x y p.1 q.1 tail in
-    record { front = (let f : a ≡ b = s.front in cc); rest = s.rest }
+    record { prefix = (let f : a ≡ b = s.prefix in cc); rest = s.rest }
 
 -- no LF stands in a line that has none
 no_lf_in : (a b x : List ℕ) → HasNoLf a → a ≡ b ++ 10 ∷ x → ⊥
@@ -59,7 +56,7 @@ same_cut (a ∷ ls) [] l m p p' q q' e = absurd (no_lf_in m a (joined ls ++ l) q
 same_cut (a ∷ ls) (b ∷ ms) l m p p' q q' e =
     let s = same_line a b (joined ls ++ l) (joined ms ++ m) p.0 q.0 (sym (joined-cons a ls l) ∙ (e ∙ joined-cons b ms m)) in
     let r = same_cut ls ms l m p.1 p' q.1 q' s.rest in
-    record { lines = (let f : a ≡ b = s.front in let g : ls ≡ ms = r.lines in cc); line = r.line }
+    record { lines = (let f : a ≡ b = s.prefix in let g : ls ≡ ms = r.lines in cc); line = r.line }
 
 -- A cause behind other lines and an unfinished one stops the reading.
 cause_stops : (k left : ℕ) (lines : List (List ℕ)) (line : List ℕ) (byte : ℕ) (code : WireFault) (bs : List ℕ)
@@ -156,7 +153,7 @@ refused_read_from : (k : ℕ) (bytes : List ℕ) (i : ℕ) (code : WireFault) (r
     → reading k [] (take i bytes) ≡ r → Parts k (take i bytes) r → StopsAt k bytes i code
 refused_read_from k bytes i code (More left line) refused read parts = cause_at k bytes i code left line refused.cause read
 refused_read_from k bytes i code (Got text rest) refused read parts =
-    let front : List ℕ = parts.front in
+    let front : List ℕ = parts.prefix in
     let all : length (take i bytes) ≡ length front + length rest = ap (λ (xs : List ℕ). length xs) parts.bytes_are ∙ length-append front rest in
     let within : length front ≤ i = (let cut = length-take i bytes in omega arith) in
     let same : take (length front) bytes ≡ front
@@ -221,22 +218,22 @@ stopped_refused k bytes code rest stop s =
       rest_is = cuts.behind;
     }
 
-sound_from : (k : ℕ) (bytes : List ℕ) (r : Reading) → reading k [] bytes ≡ r → Parts k bytes r → Means k bytes r
+sound_from : (k : ℕ) (bytes : List ℕ) (r : Reading) → reading k [] bytes ≡ r → Parts k bytes r → ReadingMeans k bytes r
 sound_from k bytes (More left line) read parts = parts
 sound_from k bytes (Got text rest) read parts = parts
 sound_from k bytes (Stop code rest) read parts = stopped_refused k bytes code rest read parts
 
-pub reading_sound : (k : ℕ) (bytes : List ℕ) → Means k bytes (reading k [] bytes)
+pub reading_sound : (k : ℕ) (bytes : List ℕ) → ReadingMeans k bytes (reading k [] bytes)
 reading_sound k bytes = sound_from k bytes (reading k [] bytes) refl (read_parts k bytes)
 
-pub reading_complete : (k : ℕ) (bytes : List ℕ) (r : Reading) → Means k bytes r → reading k [] bytes ≡ r
+pub reading_complete : (k : ℕ) (bytes : List ℕ) (r : Reading) → ReadingMeans k bytes r → reading k [] bytes ≡ r
 reading_complete k bytes (More left line) m = open_read k bytes left line m
-reading_complete k bytes (Got text rest) m = ap (λ (xs : List ℕ). reading k [] xs) m.bytes_are ∙ preamble_read k text m.front rest m.preamble
+reading_complete k bytes (Got text rest) m = ap (λ (xs : List ℕ). reading k [] xs) m.bytes_are ∙ preamble_read k text m.prefix rest m.preamble
 reading_complete k bytes (Stop code rest) m =
     let s = refused_read k bytes m.place code m.refused in
     s.stops ∙ ap (λ (xs : List ℕ). Stop code xs) (s.behind ∙ sym m.rest_is)
 
-pub one_meaning : (k : ℕ) (bytes : List ℕ) (r s : Reading) → Means k bytes r → Means k bytes s → r ≡ s
+pub one_meaning : (k : ℕ) (bytes : List ℕ) (r s : Reading) → ReadingMeans k bytes r → ReadingMeans k bytes s → r ≡ s
 one_meaning k bytes r s m n = sym (reading_complete k bytes r m) ∙ reading_complete k bytes s n
 
 pub refused_within : (k : ℕ) (bytes : List ℕ) (place : ℕ) (code : WireFault) → LineRefused k bytes place code → place < length bytes
@@ -249,8 +246,8 @@ refused_within k bytes place code refused =
 pub preamble_behind : (k : ℕ) (bytes text rest : List ℕ) → reading k [] bytes ≡ Got text rest → IsLeftOf bytes rest
 preamble_behind k bytes text rest read =
     let means : EndsPreamble k bytes text rest = (let m = reading_sound k bytes in rw read at m) in
-    let all : length bytes ≡ length means.front + length rest = ap (λ (xs : List ℕ). length xs) means.bytes_are ∙ length-append means.front rest in
-    (length means.front, omega arith, sym (ap (λ (xs : List ℕ). drop (length means.front) xs) means.bytes_are ∙ drop_at means.front rest (length means.front) refl))
+    let all : length bytes ≡ length means.prefix + length rest = ap (λ (xs : List ℕ). length xs) means.bytes_are ∙ length-append means.prefix rest in
+    (length means.prefix, omega arith, sym (ap (λ (xs : List ℕ). drop (length means.prefix) xs) means.bytes_are ∙ drop_at means.prefix rest (length means.prefix) refl))
 
 pub refused_stays : (k : ℕ) (bytes more : List ℕ) (place : ℕ) (code : WireFault) → LineRefused k bytes place code
     → LineRefused k (bytes ++ more) place code

@@ -1,7 +1,7 @@
 -- The test `is_canonical` decides the claim `IsShortestBody`.
 -- A size is what follows `pos` or `negsuc`: in m + 1 bytes it is below 128 * 256 ^ m, which a canonical body of m + 2 bytes reaches.
 
-use Rattle.std.proofs.Common.{◌≡◌, ◌≢◌, ℕ, zero, suc, ◌+◌, ◌-◌, ◌*◌, ◌^◌, ◌<◌, ◌≤◌, inl, inr, true, false, not, ◌&&◌, eqb, ltb, leb, List, [], ◌∷◌, length, refl, ap, ℤ, pos, negsuc, arith}
+use Rattle.std.proofs.Common.{◌≡◌, ◌≢◌, ℕ, zero, suc, ◌+◌, ◌-◌, ◌*◌, ◌^◌, ◌<◌, ◌≤◌, inl, inr, true, false, not, ◌&&◌, eqb, ltb, leb, List, [], ◌∷◌, length, refl, sym, ap, ℤ, pos, negsuc, arith}
 use Rattle.std.proofs.Math.Nat.{pow-suc, mul-le-mul_right}
 use Rattle.std.proofs.lemmas.Nat.{mul-add-lt}
 use Rattle.std.proofs.lemmas.Bool.{cases_Bool, cases_lt, ltb-true, ltb-false, lt-ltb, le-ltb, leb-true, leb-false, eqb-true, eqb-false, not-true, and_parts, and_cases}
@@ -167,3 +167,70 @@ shortest_canonical (a ∷ b ∷ more) h s =
         | inr g ↦ rw (f, g) refl
       ]
     ]
+
+-- Bodies of one length with one value are one.
+digit_not_less : (p b c u v : ℕ) → u < p → b < c → b * p + u ≡ c * p + v → ⊥
+digit_not_less p b c u v l less e =
+    let s : b * p + u < p * c = mul-add-lt b p u c less l in omega arith
+
+one_digit : (p b c u v : ℕ) → u < p → v < p → b * p + u ≡ c * p + v → b ≡ c
+one_digit p b c u v l m e = elim (cases_lt b c) [
+  | inl less ↦ absurd (digit_not_less p b c u v l less e)
+  | inr more ↦ elim (cases_lt c b) [
+    | inl less ↦ absurd (digit_not_less p c b v u m less (sym e))
+    | inr more₂ ↦ omega arith
+  ]
+]
+
+unsigned_unique : (body other : List ℕ) → IsBytes body → IsBytes other → length body ≡ length other → unsigned_value body ≡ unsigned_value other
+    → body ≡ other
+unsigned_unique [] [] h k l e = refl
+unsigned_unique [] (c ∷ cs) h k l e = absurd (omega arith)
+unsigned_unique (b ∷ bs) [] h k l e = absurd (omega arith)
+unsigned_unique (b ∷ bs) (c ∷ cs) h k l e =
+    let long : length bs ≡ length cs = omega arith in
+    let u : unsigned_value bs < 256 ^ length bs = unsigned_below bs (tail_bytes b bs h) in
+    let v : unsigned_value cs < 256 ^ length bs = rw long (unsigned_below cs (tail_bytes c cs k)) in
+    let same : b * 256 ^ length bs + unsigned_value bs ≡ c * 256 ^ length bs + unsigned_value cs = rw (← long) at e in
+    let first : b ≡ c = one_digit (256 ^ length bs) b c (unsigned_value bs) (unsigned_value cs) u v same in
+    let behind : b * 256 ^ length bs + unsigned_value bs ≡ b * 256 ^ length bs + unsigned_value cs = rw (← first) at same in
+    let more : bs ≡ cs = unsigned_unique bs cs (tail_bytes b bs h) (tail_bytes c cs k) long (omega arith) in
+    cc
+
+complements : (p q u v : ℕ) → u < p → v < q → p ≡ q → p - 1 - u ≡ q - 1 - v → u ≡ v
+complements p q u v l m e f = omega arith
+
+pos_one : (n m : ℕ) → pos n ≡ pos m → n ≡ m
+pos_one n m e = cc
+
+negsuc_one : (n m : ℕ) → negsuc n ≡ negsuc m → n ≡ m
+negsuc_one n m e = cc
+
+signed_unsigned : (body other : List ℕ) → IsBytes body → IsBytes other → length body ≡ length other → signed_value body ≡ signed_value other
+    → unsigned_value body ≡ unsigned_value other
+signed_unsigned [] [] h k l e = refl
+signed_unsigned [] (c ∷ cs) h k l e = absurd (omega arith)
+signed_unsigned (b ∷ bs) [] h k l e = absurd (omega arith)
+signed_unsigned (b ∷ bs) (c ∷ cs) h k l e = elim (cases_Bool (ltb b 128)) [
+  | inl t ↦ elim (cases_Bool (ltb c 128)) [
+    | inl s ↦ pos_one _ _ (rw (t, s) at e)
+    | inr s ↦ let bad = rw (t, s) at e in cc
+  ]
+  | inr t ↦ elim (cases_Bool (ltb c 128)) [
+    | inl s ↦ let bad = rw (t, s) at e in cc
+    | inr s ↦
+        let both : 256 ^ length (b ∷ bs) - 1 - unsigned_value (b ∷ bs) ≡ 256 ^ length (c ∷ cs) - 1 - unsigned_value (c ∷ cs) = negsuc_one _ _ (rw (t, s) at e) in
+        let same : 256 ^ length (b ∷ bs) ≡ 256 ^ length (c ∷ cs) = ap (λ (n : ℕ). 256 ^ n) l in
+        let u : unsigned_value (b ∷ bs) < 256 ^ length (b ∷ bs) = unsigned_below (b ∷ bs) h in
+        let v : unsigned_value (c ∷ cs) < 256 ^ length (c ∷ cs) = unsigned_below (c ∷ cs) k in
+        complements (256 ^ length (b ∷ bs)) (256 ^ length (c ∷ cs)) (unsigned_value (b ∷ bs)) (unsigned_value (c ∷ cs)) u v same both
+  ]
+]
+
+pub shortest_unique : (body other : List ℕ) → IsBytes body → IsBytes other → IsShortestBody body → IsShortestBody other
+    → signed_value body ≡ signed_value other → body ≡ other
+shortest_unique body other h k s t e =
+    let there : length body ≤ length other = s other k (sym e) in
+    let back : length other ≤ length body = t body h e in
+    let long : length body ≡ length other = omega arith in
+    unsigned_unique body other h k long (signed_unsigned body other h k long e)

@@ -8,9 +8,9 @@ use Rattle.sshwire.specs.declared.line_reader.LineStep.{LineStep}
 use Rattle.sshwire.specs.declared.line_reader.LineStep.TheVariants as step
 use Rattle.sshwire.specs.Lines.{LineOpen, LineRefused, Preamble}
 use Rattle.sshwire.specs.Reading.{Reading, More, Got, Stop, Stops, reading, then_on}
-use Rattle.sshwire.specs.Meaning.{EndsPreamble, EndsRefused, Means}
+use Rattle.sshwire.specs.Meaning.{EndsPreamble, EndsRefused, ReadingMeans}
 use Rattle.sshwire.specs.LineState.{LineState, Progress, Waits, Finished, Refused}
-use Rattle.sshwire.specs.Feeding.{OnlyAnswer, Reads, StandsOpen, Tells, TellsRefusal}
+use Rattle.sshwire.specs.Feeding.{OnlyPreambleAnswer, Reads, StandsOpen, PreambleAnswer, TellsRefusal}
 use Rattle.sshwire.proofs.Readings.{open_read, preamble_read, reading-append}
 use Rattle.sshwire.proofs.Refusals.{reading_sound, refused_read, refused_within}
 
@@ -19,17 +19,17 @@ joined_reading : (k left : ℕ) (line heard piece : List ℕ) → LineOpen k hea
 joined_reading k left line heard piece o =
     reading-append k [] heard piece ∙ ap (λ (r : Reading). then_on r piece) (open_read k heard left line o)
 
-means_of : (k left : ℕ) (line heard piece : List ℕ) (r : Reading) → LineOpen k heard left line → reading left line piece ≡ r → Means k (heard ++ piece) r
+means_of : (k left : ℕ) (line heard piece : List ℕ) (r : Reading) → LineOpen k heard left line → reading left line piece ≡ r → ReadingMeans k (heard ++ piece) r
 means_of k left line heard piece r o read =
-    subst (λ (x : Reading). Means k (heard ++ piece) x) (joined_reading k left line heard piece o ∙ read) (reading_sound k (heard ++ piece))
+    subst (λ (x : Reading). ReadingMeans k (heard ++ piece) x) (joined_reading k left line heard piece o ∙ read) (reading_sound k (heard ++ piece))
 
 -- the preamble ends with the last byte used
 ends_at_used : (k : ℕ) (heard piece text : List ℕ) (used : ℕ) → EndsPreamble k (heard ++ piece) text (drop used piece)
     → Preamble k text (heard ++ take used piece)
 ends_at_used k heard piece text used ends =
-    let cut : (heard ++ take used piece) ++ drop used piece ≡ ends.front ++ drop used piece
+    let cut : (heard ++ take used piece) ++ drop used piece ≡ ends.prefix ++ drop used piece
     = append_assoc heard (take used piece) (drop used piece) ∙ (ap (λ (xs : List ℕ). heard ++ xs) (take-append-drop used piece) ∙ ends.bytes_are) in
-    let same : heard ++ take used piece ≡ ends.front = append_cancel_right (heard ++ take used piece) ends.front (drop used piece) cut in
+    let same : heard ++ take used piece ≡ ends.prefix = append_cancel_right (heard ++ take used piece) ends.prefix (drop used piece) cut in
     rw same ends.preamble
 
 refusal_place : (k : ℕ) (heard piece : List ℕ) (code : WireFault) (taken : ℕ) → taken ≤ length piece
@@ -59,7 +59,7 @@ tells_refusal k left line heard piece code new o within stops = λ other.
     refusal_place k heard piece code new.taken within means
 
 tells_waiting : (k left : ℕ) (line heard piece : List ℕ) (result : Result LineStep WireFault) (new : LineState) → LineOpen k heard left line
-    → new.taken ≤ length piece → Reads (reading left line piece) piece result new → Tells k heard piece result new
+    → new.taken ≤ length piece → Reads (reading left line piece) piece result new → PreambleAnswer k heard piece result new
 tells_waiting k left line heard piece (Ok step.More) new o within (left', line', read, waits, taken) =
     let means : LineOpen k (heard ++ piece) left' line' = means_of k left line heard piece (More left' line') o read in
     (rw waits means, taken)
@@ -72,7 +72,7 @@ tells_waiting k left line heard piece (Err code) new o within (stops, refused) =
 -- an open reader waits
 pub tells : (k : ℕ) (heard piece : List ℕ) (result : Result LineStep WireFault) (old : Progress) (new : LineState) → StandsOpen k heard old
     → new.taken ≤ length piece → ((left : ℕ) (line : List ℕ) → old ≡ Waits left line → Reads (reading left line piece) piece result new)
-    → Tells k heard piece result new
+    → PreambleAnswer k heard piece result new
 tells k heard piece result (Waits left line) new o within reads = tells_waiting k left line heard piece result new o within (reads left line refl)
 tells k heard piece result Finished new o within reads = absurd o
 tells k heard piece result (Refused code) new o within reads = absurd o
@@ -114,7 +114,7 @@ answer_of_stop (Err other) r piece new code rest e reads = elim (memory_or_not o
 ]
 
 only_waiting : (k left : ℕ) (line heard piece : List ℕ) (result : Result LineStep WireFault) (new : LineState) → LineOpen k heard left line
-    → new.taken ≤ length piece → Reads (reading left line piece) piece result new → OnlyAnswer k heard piece result
+    → new.taken ≤ length piece → Reads (reading left line piece) piece result new → OnlyPreambleAnswer k heard piece result
 only_waiting k left line heard piece result new o within reads =
     let joins : reading k [] (heard ++ piece) ≡ reading left line piece = joined_reading k left line heard piece o in
     record {
@@ -133,7 +133,7 @@ only_waiting k left line heard piece result new o within reads =
 
 pub only : (k : ℕ) (heard piece : List ℕ) (result : Result LineStep WireFault) (old : Progress) (new : LineState) → StandsOpen k heard old
     → new.taken ≤ length piece → ((left : ℕ) (line : List ℕ) → old ≡ Waits left line → Reads (reading left line piece) piece result new)
-    → OnlyAnswer k heard piece result
+    → OnlyPreambleAnswer k heard piece result
 only k heard piece result (Waits left line) new o within reads = only_waiting k left line heard piece result new o within (reads left line refl)
 only k heard piece result Finished new o within reads = absurd o
 only k heard piece result (Refused code) new o within reads = absurd o

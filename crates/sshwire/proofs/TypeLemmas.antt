@@ -88,11 +88,11 @@ number_below a b c d rest ha hb hc hd = omega arith
 bytes_of_number : (n : ℕ) (rest : List ℕ) → n < 2 ^ 32 → big_number 4 (uint32 n ++ rest) ≡ n
 bytes_of_number n rest h = omega arith
 
-record TakesNumber (bytes : List ℕ) (n : ℕ) (rest : List ℕ) : Type 0 where
-  fits : n < 2 ^ 32
-  bytes_are : bytes ≡ uint32 n ++ rest
+pub record TakesNumber (bytes : List ℕ) (n : ℕ) (rest : List ℕ) : Type 0 where
+  pub fits : n < 2 ^ 32
+  pub bytes_are : bytes ≡ uint32 n ++ rest
 
-number_taken : (bytes : List ℕ) (n : ℕ) (rest : List ℕ) → IsBytes bytes → uint32_at bytes ≡ Ok (n, rest) → TakesNumber bytes n rest
+pub number_taken : (bytes : List ℕ) (n : ℕ) (rest : List ℕ) → IsBytes bytes → uint32_at bytes ≡ Ok (n, rest) → TakesNumber bytes n rest
 unfolding uint32_at
 number_taken [] n rest h e = cc
 number_taken (a ∷ []) n rest h e = cc

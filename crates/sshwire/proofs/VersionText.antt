@@ -1,13 +1,14 @@
 -- The tests on version lines decide the claims.
 
-use Rattle.std.proofs.Common.{◌≡◌, ℕ, suc, ◌+◌, ◌-◌, ◌<◌, ◌≤◌, inl, inr, Bool, true, false, not, ◌&&◌, List, [], ◌∷◌, ◌++◌, length, take, drop, Option, None, Some, IfSome, refl, sym, ap, ◌∙◌, arith, one-add, subst, eqb, leb, ltb}
+use Rattle.std.proofs.Common.{◌≡◌, ℕ, suc, ◌+◌, ◌-◌, ◌<◌, ◌≤◌, inl, inr, Bool, true, false, not, ◌&&◌, List, [], ◌∷◌, ◌++◌, length, take, drop, Option, None, Some, IfSome, refl, sym, ap, ◌∙◌, arith, one-add, subst, cond, eqb, leb, ltb}
 use Rattle.std.specs.List.{AllByRecursion, list_all, position, before_first, after_first, starts_with, ends_with, position_or_len}
 use Rattle.std.proofs.lemmas.Bool.{cases_Bool, leb-true, le-leb, lt-ltb, ltb-true, ltb-false, eqb-true, eqb-false, ne_eqb, and_parts, and_from, not-true, not_from_false, both_ways}
 use Rattle.std.proofs.lemmas.Bool.Decides.{Decides-eqb}
 use Rattle.std.proofs.lemmas.Slice.Eq.{starts_is, ends_is}
-use Rattle.std.proofs.lemmas.List.{append_cancel_right, length-append, take_at}
+use Rattle.std.proofs.lemmas.List.{length-append, take_at}
 use native.Mathlib.Numerals.{unary_clauses}
-use Rattle.sshwire.specs.Lines.{IsSoftwareByte, IsCommentByte, IsVersionText, IsWholeLine, ssh_2_0, comment_part, version_line, text_in}
+use Rattle.sshwire.specs.declared.fault.WireFault.TheVariants.{Line}
+use Rattle.sshwire.specs.Lines.{IsNoVersionLine, IsSoftwareByte, IsCommentByte, IsVersionText, IsWholeLine, ssh_2_0, comment_part, version_line, text_in}
 use Rattle.sshwire.specs.Reading.{is_software_byte, is_comment_byte, is_space, is_software_and_comments, is_version_text, is_version_line}
 
 software_byte : (b : ℕ) → is_software_byte b ≡ true → IsSoftwareByte b
@@ -177,9 +178,6 @@ text_in-version_line text =
     let long : length (version_line text) ≡ length text + 2 = length-append text (13 ∷ 10 ∷ []) in
     take_at text (13 ∷ 10 ∷ []) (length (version_line text) - 2) (omega arith)
 
-pub version_line_injective : (a b : List ℕ) → version_line a ≡ version_line b → a ≡ b
-version_line_injective a b e = append_cancel_right a b (13 ∷ 10 ∷ []) e
-
 pub whole_line_from_test : (line : List ℕ) → is_version_line line ≡ true → IsWholeLine line
 unfolding is_version_line
 whole_line_from_test line t =
@@ -198,6 +196,16 @@ version_line_tested text v =
 -- what the test refuses is no version line
 pub no_line_from_test : (line : List ℕ) → is_version_line line ≡ false → (text : List ℕ) → IsVersionText text → line ≡ version_line text → ⊥
 no_line_from_test line f text v e = both_ways (is_version_line line) f (rw e (version_line_tested text v))
+
+none_tested : (b : Bool) (text : List ℕ) → None ≡ cond b (Some text) None → b ≡ false
+none_tested true text e = cc
+none_tested false text e = refl
+
+-- a line of at most 255 bytes that the test refuses
+pub spelled_no_line : (line bytes text : List ℕ) → line ≡ bytes → length line ≤ 255 → None ≡ cond (is_version_line line) (Some text) None
+    → IsNoVersionLine bytes Line
+spelled_no_line line bytes text same short e =
+    (rw same at short, λ other v is. no_line_from_test line (none_tested (is_version_line line) text e) other v (same ∙ is))
 
 -- what a search for a space answers
 pub position_some : (bytes : List ℕ) (n : ℕ) → position is_space bytes ≡ Some n → n ≡ position_or_len is_space bytes

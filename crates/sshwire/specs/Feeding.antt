@@ -55,14 +55,14 @@ TellsRefusal k heard piece code new =
     code ≢ Memory → (place : ℕ) × (place + 1 ≡ length heard + new.taken) × LineRefused k (heard ++ piece) place code
 
 -- what the answer says of the bytes heard so far and the piece
-abbrev pub Tells : ℕ → List ℕ → List ℕ → Result LineStep WireFault → LineState → Type 0
-Tells k heard piece (Ok step.More) new = StandsOpen k (heard ++ piece) new.progress × (new.taken ≡ length piece)
-Tells k heard piece (Ok (step.Done version used)) new =
+abbrev pub PreambleAnswer : ℕ → List ℕ → List ℕ → Result LineStep WireFault → LineState → Type 0
+PreambleAnswer k heard piece (Ok step.More) new = StandsOpen k (heard ++ piece) new.progress × (new.taken ≡ length piece)
+PreambleAnswer k heard piece (Ok (step.Done version used)) new =
     (used ≤ length piece) × Preamble k version (heard ++ take used piece) × (new.progress ≡ Finished) × (new.taken ≡ used)
-Tells k heard piece (Err code) new = TellsRefusal k heard piece code new × (new.progress ≡ Refused code)
+PreambleAnswer k heard piece (Err code) new = TellsRefusal k heard piece code new × (new.progress ≡ Refused code)
 
 -- No other answer comes than the one that the bytes heard so far and the piece have, want of memory apart.
-pub record OnlyAnswer (k : ℕ) (heard piece : List ℕ) (result : Result LineStep WireFault) : Type 0 where
+pub record OnlyPreambleAnswer (k : ℕ) (heard piece : List ℕ) (result : Result LineStep WireFault) : Type 0 where
   pub more : (left : ℕ) (line : List ℕ) → LineOpen k (heard ++ piece) left line → (result ≡ Ok step.More) ⊎ (result ≡ Err Memory)
   pub done : (used : ℕ) (text : List ℕ) → used ≤ length piece → Preamble k text (heard ++ take used piece)
       → (result ≡ Ok (step.Done text used)) ⊎ (result ≡ Err Memory)

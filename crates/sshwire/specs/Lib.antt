@@ -5,3 +5,4 @@ pub mod LineState
 pub mod Feeding
 pub mod Types
 pub mod TypeReadings
+pub mod TypeRefusals

@@ -5,6 +5,7 @@
 use Rattle.std.specs.Prelude.{◌≡◌, ◌≢◌, ℕ, ◌+◌, ◌-◌, ◌<◌, ◌≤◌, ◌⊎◌, List, [], ◌∷◌, ◌++◌, length, take, Option, None, Some, IfSome}
 use Rattle.std.specs.List.{AllByRecursion, flat_map}
 use Rattle.sshwire.specs.declared.fault.WireFault.{WireFault}
+use Rattle.sshwire.specs.declared.limits.TheConstants.{LINE_LIMIT}
 use Rattle.sshwire.specs.declared.fault.WireFault.TheVariants.{Line, TooLong, TooManyLines, Memory}
 
 -- a byte of the softwareversion: printable US-ASCII, and neither space nor minus sign
@@ -43,7 +44,7 @@ pub record IsVersionText (text : List ℕ) : Type 0 where
   pub not_empty : 0 < length software
   pub software_bytes : AllByRecursion IsSoftwareByte software
   pub comment_bytes : IfSome comments (AllByRecursion IsCommentByte)
-  pub short : length text ≤ 253
+  pub short : length text ≤ LINE_LIMIT - 2
 
 -- the version line of a text: CR LF ends it
 abbrev pub version_line : List ℕ → List ℕ
@@ -66,7 +67,7 @@ pub record IsLineByte (b : ℕ) : Type 0 where
 -- the bytes of a line before its LF, or as many of them as have come: with the LF at most 255
 pub record IsUnfinished (line : List ℕ) : Type 0 where
   pub bytes : AllByRecursion IsLineByte line
-  pub short : length line ≤ 254
+  pub short : length line ≤ LINE_LIMIT - 1
 
 abbrev pub BeginsSsh : List ℕ → Type 0
 BeginsSsh line = (rest : List ℕ) × (line ≡ ssh ++ rest)
@@ -103,13 +104,13 @@ pub record IsPlace (bytes : List ℕ) (i : ℕ) (lines : List (List ℕ)) (line 
   pub each_line : AllByRecursion HasNoLf lines
   pub own_line : HasNoLf line
 
--- why the byte behind these lines and this front of a line is refused: it is a NUL, or the LF of a line that
+-- why the byte behind these lines and this prefix of a line is refused: it is a NUL, or the LF of a line that
 -- begins with SSH- and is no version line; or byte 255 of its line, and neither LF nor NUL;
 -- or the LF of other line k + 1
 abbrev pub IsCause : ℕ → List (List ℕ) → List ℕ → ℕ → WireFault → Type 0
 IsCause k lines line byte Line =
     (byte ≡ 0) ⊎ ((byte ≡ 10) × BeginsSsh line × ((text : List ℕ) → IsVersionText text → with_lf line ≡ version_line text → ⊥))
-IsCause k lines line byte TooLong = (byte ≢ 0) × (byte ≢ 10) × (length line ≡ 254)
+IsCause k lines line byte TooLong = (byte ≢ 0) × (byte ≢ 10) × (length line ≡ LINE_LIMIT - 1)
 IsCause k lines line byte TooManyLines =
     (byte ≡ 10) × IsOtherLine line × AllByRecursion IsOtherLine lines × (length lines ≡ k)
 IsCause k lines line byte _ = ⊥
@@ -138,7 +139,7 @@ pub record LineOpen (k : ℕ) (bytes : List ℕ) (left : ℕ) (line : List ℕ) 
 
 -- why the bytes aren't read as one version line
 abbrev pub IsNoVersionLine : List ℕ → WireFault → Type 0
-IsNoVersionLine bytes TooLong = 255 < length bytes
-IsNoVersionLine bytes Line = (length bytes ≤ 255) × ((text : List ℕ) → IsVersionText text → bytes ≡ version_line text → ⊥)
+IsNoVersionLine bytes TooLong = LINE_LIMIT < length bytes
+IsNoVersionLine bytes Line = (length bytes ≤ LINE_LIMIT) × ((text : List ℕ) → IsVersionText text → bytes ≡ version_line text → ⊥)
 IsNoVersionLine bytes Memory = Unit {0}
 IsNoVersionLine bytes _ = ⊥

@@ -5,11 +5,11 @@ use Rattle.sshwire.specs.declared.fault.WireFault.{WireFault}
 use Rattle.sshwire.specs.Lines.{Preamble, LineRefused, LineOpen}
 use Rattle.sshwire.specs.Reading.{Reading, More, Got, Stop}
 
--- a front of the bytes is a preamble, and the rest stands behind it
+-- a prefix of the bytes is a preamble, and the rest stands behind it
 pub record EndsPreamble (k : ℕ) (bytes text rest : List ℕ) : Type 0 where
-  pub front : List ℕ
-  pub bytes_are : bytes ≡ front ++ rest
-  pub preamble : Preamble k text front
+  pub prefix : List ℕ
+  pub bytes_are : bytes ≡ prefix ++ rest
+  pub preamble : Preamble k text prefix
 
 -- the bytes are refused at a place, and the rest stands behind it
 pub record EndsRefused (k : ℕ) (bytes : List ℕ) (code : WireFault) (rest : List ℕ) : Type 0 where
@@ -18,12 +18,12 @@ pub record EndsRefused (k : ℕ) (bytes : List ℕ) (code : WireFault) (rest : L
   pub rest_is : rest ≡ drop (place + 1) bytes
 
 -- what the bytes are, where at most k other lines are accepted
-abbrev pub Means : ℕ → List ℕ → Reading → Type 0
-Means k bytes (More left line) = LineOpen k bytes left line
-Means k bytes (Got text rest) = EndsPreamble k bytes text rest
-Means k bytes (Stop code rest) = EndsRefused k bytes code rest
+abbrev pub ReadingMeans : ℕ → List ℕ → Reading → Type 0
+ReadingMeans k bytes (More left line) = LineOpen k bytes left line
+ReadingMeans k bytes (Got text rest) = EndsPreamble k bytes text rest
+ReadingMeans k bytes (Stop code rest) = EndsRefused k bytes code rest
 
--- a front of the bytes is a preamble of this version text
+-- a prefix of the bytes is a preamble of this version text
 abbrev pub BeginsPreamble : ℕ → List ℕ → List ℕ → Type 0
 BeginsPreamble k text bytes = (rest : List ℕ) × EndsPreamble k bytes text rest
 

@@ -4,6 +4,7 @@
 use Rattle.std.specs.Prelude.{◌≡◌, ◌≢◌, ℕ, ◌-◌, ◌==◌, ◌&&◌, Bool, nat_le, nat_lt, nat_eq, not, if◌then◌else◌, List, [], ◌∷◌, ◌++◌, length, drop, Option, None, Some, Result, Ok, Err}
 use Rattle.std.specs.List.{starts_with, ends_with, list_all, before_first, after_first}
 use Rattle.sshwire.specs.declared.fault.WireFault.{WireFault}
+use Rattle.sshwire.specs.declared.limits.TheConstants.{LINE_LIMIT}
 use Rattle.sshwire.specs.declared.fault.WireFault.TheVariants.{Line, TooLong, TooManyLines, Memory}
 use Rattle.sshwire.specs.Lines.{IsUnfinished, ssh, ssh_2_0, text_in, with_lf}
 
@@ -24,7 +25,7 @@ is_software_and_comments bytes =
 
 -- IsVersionText, as a test
 unfoldable pub is_version_text : List ℕ → Bool
-is_version_text text = nat_le (length text) 253 && (starts_with nat_eq text ssh_2_0 && is_software_and_comments (drop 8 text))
+is_version_text text = nat_le (length text) (LINE_LIMIT - 2) && (starts_with nat_eq text ssh_2_0 && is_software_and_comments (drop 8 text))
 
 -- IsWholeLine, as a test
 unfoldable pub is_version_line : List ℕ → Bool
@@ -47,7 +48,7 @@ reading left line (b ∷ bs) =
     (if is_version_line (with_lf line) then Got (text_in (with_lf line)) bs else Stop Line bs)
     else if left == 0 then Stop TooManyLines bs
     else reading (left - 1) [] bs)
-    else if nat_le 254 (length line) then Stop TooLong bs
+    else if nat_le (LINE_LIMIT - 1) (length line) then Stop TooLong bs
     else reading left (line ++ b ∷ []) bs
 
 -- goes on with more bytes

@@ -5,6 +5,7 @@ use Rattle.std.specs.Prelude.{◌≡◌, ◌≢◌, ℕ, ◌^◌, ◌==◌, ◌<
 use Rattle.std.specs.List.{list_all, slice_split}
 use Rattle.byteorder.specs.Endian.{big_number}
 use Rattle.sshwire.specs.declared.fault.WireFault.{WireFault}
+use Rattle.sshwire.specs.declared.limits.TheConstants.{NAME_LIMIT}
 use Rattle.sshwire.specs.declared.fault.WireFault.TheVariants.{Short, Name, NotCanonical, Memory}
 use Rattle.sshwire.specs.Types.{AreNames, IsBytes, names_body}
 
@@ -53,7 +54,7 @@ is_name_byte b = nat_le 33 b && (nat_le b 126 && not (b == 44))
 
 -- IsName, as a test
 abbrev pub is_name : List ℕ → Bool
-is_name name = nat_le 1 (length name) && (nat_le (length name) 64 && list_all is_name_byte name)
+is_name name = nat_le 1 (length name) && (nat_le (length name) NAME_LIMIT && list_all is_name_byte name)
 
 abbrev pub is_comma : ℕ → Bool
 is_comma b = b == 44
@@ -106,6 +107,6 @@ pub record IsReading {V : Type 0} (Text : V → List ℕ → Type 0) (read : Lis
   pub sound : (bytes : List ℕ) (value : V) (rest : List ℕ) → IsBytes bytes → read bytes ≡ Ok (value, rest)
       → (text : List ℕ) × Text value text × (bytes ≡ text ++ rest)
   pub complete : (value : V) (text rest : List ℕ) → Text value text → read (text ++ rest) ≡ Ok (value, rest)
-  -- no two readings hold of one text, nor of one front
+  -- no two readings hold of one text, nor of one prefix
   pub one : (value other : V) (text more rest behind : List ℕ) → Text value text → Text other more
       → text ++ rest ≡ more ++ behind → (value ≡ other) × (rest ≡ behind)

@@ -4,6 +4,7 @@
 use Rattle.std.specs.Prelude.{◌≡◌, ◌≢◌, ℕ, ◌+◌, ◌-◌, ◌*◌, ◌^◌, ◌<◌, ◌≤◌, ◌==◌, ℤ, pos, negsuc, Bool, not, nat_lt, if◌then◌else◌, List, [], ◌∷◌, ◌++◌, length, slice_index}
 use Rattle.std.specs.List.{AllByRecursion, join_with_byte}
 use Rattle.byteorder.specs.Endian.{big_bytes}
+use Rattle.sshwire.specs.declared.limits.TheConstants.{NAME_LIMIT}
 
 -- the numbers of the list are bytes
 abbrev pub IsBytes : List ℕ → Type 0
@@ -62,7 +63,7 @@ pub record IsNameByte (b : ℕ) : Type 0 where
 -- a name: 1 to 64 such bytes; the at-sign has no rule of its own (profile)
 pub record IsName (name : List ℕ) : Type 0 where
   pub not_empty : 0 < length name
-  pub short : length name ≤ 64
+  pub short : length name ≤ NAME_LIMIT
   pub bytes : AllByRecursion IsNameByte name
 
 abbrev pub AreNames : List (List ℕ) → Type 0

@@ -1,22 +1,23 @@
 //! What the layers above may rest on: lines and data types as a claim and as a function are one.
 
-ghost use Rattle.std.specs.Prelude.{◌≡◌, ◌<◌, ◌++◌, ◌↔◌, ℕ, Bool, List, Ok, [], length, true};
+ghost use Rattle.std.specs.Prelude.{◌≡◌, ◌<◌, ◌++◌, ◌∷◌, ◌↔◌, ℕ, Bool, List, Ok, [], drop, length, take, true};
 ghost use Rattle.sshwire.specs.declared.fault.WireFault.{WireFault};
 ghost use Rattle.sshwire.specs.Lines.{LineOpen, LineRefused, Preamble};
-ghost use Rattle.sshwire.specs.Meaning.{IsLeftOf, Means};
+ghost use Rattle.sshwire.specs.Meaning.{IsLeftOf, ReadingMeans};
 ghost use Rattle.sshwire.specs.TypeReadings.{IsReading, boolean_at, is_canonical, mpint_at, names_at, names_in, string_at, uint32_at};
-ghost use Rattle.sshwire.specs.Types.{AreNames, BooleanText, IsBytes, IsShortestBody, MpintText, NameListText, StringText, Uint32Text, boolean, names_body};
+ghost use Rattle.sshwire.specs.Types.{AreNames, BooleanText, IsBytes, IsShortestBody, MpintText, NameListText, StringText, Uint32Text, boolean, names_body, signed_value, uint32};
+ghost use Rattle.sshwire.specs.TypeRefusals.{BooleanRefused, MpintRefused, NameListRefused, RefusesExactly, StringRefused, Uint32Refused};
 ghost use Rattle.sshwire.specs.Reading.{Reading, Got, More, Stop, reading, then_on};
 
 /// The law of version lines (RFC 4253 section 4.2): what bytes read as is what they mean, and
 /// nothing else.
 pub fn reading_law()
     // What is read stands there, and what stands there is read.
-    ensures sound { (k : ℕ) (bytes : List ℕ) → Means k bytes (reading k [] bytes) }
-    ensures complete { (k : ℕ) (bytes : List ℕ) (r : Reading) → Means k bytes r → reading k [] bytes ≡ r }
+    ensures sound { (k : ℕ) (bytes : List ℕ) → ReadingMeans k bytes (reading k [] bytes) }
+    ensures complete { (k : ℕ) (bytes : List ℕ) (r : Reading) → ReadingMeans k bytes r → reading k [] bytes ≡ r }
 
     // No two outcomes hold of one input.
-    ensures one { (k : ℕ) (bytes : List ℕ) (r s : Reading) → Means k bytes r → Means k bytes s → r ≡ s }
+    ensures one { (k : ℕ) (bytes : List ℕ) (r s : Reading) → ReadingMeans k bytes r → ReadingMeans k bytes s → r ≡ s }
 
     // What stands behind a preamble lies within the bytes, and so does a refused byte.
     ensures behind { (k : ℕ) (bytes text rest : List ℕ) → reading k [] bytes ≡ Got text rest → IsLeftOf bytes rest }
@@ -37,7 +38,7 @@ pub fn reading_law()
 {}
 
 /// The law of data types (RFC 4251 sections 5 and 6): what is read stands at the front, what stands
-/// there is read, whatever follows, and no two readings hold of one front.
+/// there is read, whatever follows, and no two readings hold of one prefix.
 pub fn types_law()
     ensures boolean { IsReading BooleanText boolean_at }
     ensures uint32 { IsReading Uint32Text uint32_at }
@@ -45,10 +46,32 @@ pub fn types_law()
     ensures mpint { IsReading MpintText mpint_at }
     ensures name_list { IsReading NameListText names_at }
 
+    // Bytes are refused exactly where no value stands at the front, and each code has its reason.
+    ensures boolean_refused { RefusesExactly BooleanRefused boolean_at }
+    ensures uint32_refused { RefusesExactly Uint32Refused uint32_at }
+    ensures string_refused { RefusesExactly StringRefused string_at }
+    ensures mpint_refused { RefusesExactly MpintRefused mpint_at }
+    ensures name_list_refused { RefusesExactly NameListRefused names_at }
+
     // What is written for a boolean stands for it.
     ensures written { (value : Bool) → BooleanText value (boolean value) }
     // The body of an mpint is the shortest of its number exactly where the test says so.
     ensures canonical { (body : List ℕ) → IsBytes body → (is_canonical body ≡ true) ↔ IsShortestBody body }
-    // Names are read from the body that they have.
+    // Names are read from the body that they have, and from no other.
     ensures names { (names : List (List ℕ)) → AreNames names → names_in (names_body names) ≡ Ok names }
+    ensures names_sound { (body : List ℕ) (names : List (List ℕ)) → names_in body ≡ Ok names → AreNames names × (body ≡ names_body names) }
+
+    // One number has one text as a uint32 and one body as an mpint.
+    ensures unique_uint32 { (n : ℕ) (text other : List ℕ) → Uint32Text n text → Uint32Text n other → text ≡ other }
+    ensures unique_mpint { (body other : List ℕ) → IsBytes body → IsBytes other → IsShortestBody body → IsShortestBody other
+        → signed_value body ≡ signed_value other → body ≡ other }
+{}
+
+/// The law of bytes: what is cut from bytes, and what is put together of bytes, is bytes.
+pub fn bytes_law()
+    ensures take { (n : ℕ) (bytes : List ℕ) → IsBytes bytes → IsBytes (take n bytes) }
+    ensures drop { (n : ℕ) (bytes : List ℕ) → IsBytes bytes → IsBytes (drop n bytes) }
+    ensures append { (bytes more : List ℕ) → IsBytes bytes → IsBytes more → IsBytes (bytes ++ more) }
+    ensures cons { (b : ℕ) (bytes : List ℕ) → b < 256 → IsBytes bytes → IsBytes (b ∷ bytes) }
+    ensures uint32 { (n : ℕ) → IsBytes (uint32 n) }
 {}

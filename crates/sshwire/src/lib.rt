@@ -5,6 +5,7 @@
 
 mod fault;
 mod law;
+mod limits;
 mod line_reader;
 mod mpint;
 mod name_list;
@@ -14,14 +15,12 @@ mod share_form;
 mod version_line;
 
 pub use fault::{Memory, WireFault};
-pub use law::{reading_law, types_law};
+pub use law::{bytes_law, reading_law, types_law};
+pub use limits::{LINE_LIMIT, NAME_LIMIT, OTHER_LINE_LIMIT, PAYLOAD_LIMIT};
 pub use line_reader::{LineReader, LineStep};
 pub use mpint::Mpint;
-pub use name_list::NameList;
+pub use name_list::{NameList, as_name};
 pub use put::{put_boolean, put_mpint, put_string, put_u32};
 pub use reader::Reader;
 pub use share_form::ShareForm;
 pub use version_line::VersionLine;
-
-#[cfg(test)]
-mod tests;

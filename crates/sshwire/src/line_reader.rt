@@ -1,12 +1,13 @@
 //! Reads the lines at the start of a stream, up to the version line.
 
-ghost use Rattle.std.specs.Prelude.{◌≡◌, ◌≢◌, ◌≤◌, ℕ, List, [], ◌∷◌, length, drop, None, Ok};
+ghost use Rattle.std.specs.Prelude.{◌≡◌, ◌≢◌, ◌-◌, ◌≤◌, ◌↔◌, ℕ, IsTrue, List, [], ◌∷◌, length, drop, None, Ok};
 ghost use Rattle.sshwire.specs.Lines.{IsUnfinished};
 ghost use Rattle.sshwire.specs.LineState.{Finished, Waits, held};
 ghost use Rattle.sshwire.specs.Reading.{ReadsTo, reading};
 
 use crate::fault::WireFault;
-use crate::version_line::{LINE_LIMIT, VersionLine};
+use crate::limits::LINE_LIMIT;
+use crate::version_line::VersionLine;
 use std::alloc::Global;
 use std::marker::Model;
 use std::mem;
@@ -60,10 +61,11 @@ impl Model for LineReader {
 
 impl LineReader {
     ghost use Rattle.sshwire.specs.declared.fault.WireFault.{WireFault};
-    ghost use Rattle.sshwire.specs.Feeding.{IsAgain, Leaves, OnlyAnswer, Reads, StandsOpen, Tells};
+    ghost use Rattle.sshwire.specs.Feeding.{IsAgain, Leaves, OnlyPreambleAnswer, Reads, StandsOpen, PreambleAnswer};
     ghost use Rattle.sshwire.specs.LineState.{Refused};
 
-    /// A reader that accepts so many other lines before the version line, and has read nothing.
+    /// A reader that accepts so many other lines before the version line, and has read nothing. A
+    /// client gives `OTHER_LINE_LIMIT`; a server takes none (RFC 4253 section 4.2).
     pub fn new(alloc: Global, others: u32) -> LineReader
         ensures state { result ≡ record { progress = Waits others []; taken = 0 } }
         ensures nothing { StandsOpen others [] result.progress }
@@ -90,9 +92,9 @@ impl LineReader {
 
         // Whatever was heard before, in whatever pieces: the answer is that of all bytes together.
         ensures tells { (k : ℕ) (heard : List ℕ) → StandsOpen k heard self.old.progress
-            → Tells k heard piece.now result self.new }
+            → PreambleAnswer k heard piece.now result self.new }
         ensures only { (k : ℕ) (heard : List ℕ) → StandsOpen k heard self.old.progress
-            → OnlyAnswer k heard piece.now result }
+            → OnlyPreambleAnswer k heard piece.now result }
 
         ensures leaves { Leaves result self.new.progress }
         ensures taken { self.new.taken ≤ length piece.now }
@@ -106,6 +108,27 @@ impl LineReader {
         self.advance(piece)
     }
 
+    /// Whether the version line has come, and `feed` may not be called any more. Takes no memory.
+    ///
+    /// This loop reads a stream that comes in pieces:
+    ///
+    /// ```text
+    /// let mut version = None;
+    /// for piece in pieces {
+    ///     if lines.is_done() {
+    ///         break;
+    ///     }
+    ///     if let LineStep::Done { version: line, .. } = lines.feed(piece)? {
+    ///         version = Some(line);
+    ///     }
+    /// }
+    /// ```
+    pub fn is_done(&self) -> bool
+        ensures exact { IsTrue result ↔ (self.now.progress ≡ Finished) }
+    {
+        self.ending == Ending::Done
+    }
+
     /// How many bytes the last call of `feed` used, the refused byte included; 0 before the first.
     pub fn taken(&self) -> usize
         ensures { result ≡ self.now.taken }
@@ -116,7 +139,7 @@ impl LineReader {
     /// How many bytes of the unfinished line are held; 0 once the reader has answered or refused.
     pub fn buffered(&self) -> usize
         ensures held { result ≡ held self.now.progress }
-        ensures bound { result ≤ 254 }
+        ensures bound { result ≤ LINE_LIMIT - 1 }
     {
         self.line.len()
     }

@@ -1,19 +1,17 @@
 //! The name-list of RFC 4251 section 5, of names by section 6.
 
-ghost use Rattle.std.specs.Prelude.{◌≡◌, ◌≢◌, ◌<◌, ◌^◌, ◌++◌, ◌↔◌, ◌∷◌, ℕ, List, [], Contains, Err, IfErr, IfOk, IsTrue, Ok, OnErr, OnOk, if◌then◌else◌, is_ok, length, map, option_map, position, string_bytes, take};
+ghost use Rattle.std.specs.Prelude.{◌≡◌, ◌≢◌, ◌<◌, ◌^◌, ◌++◌, ◌↔◌, ◌∷◌, ℕ, List, [], Contains, Err, IfErr, IfOk, IfSome, IsTrue, None, Ok, OnErr, OnOk, if◌then◌else◌, is_ok, length, map, option_map, position, slice_get, string_bytes, take};
 ghost use Rattle.std.specs.List.{list_all, list_any};
 ghost use Rattle.std.specs.Str.{bytes_eq};
-ghost use Rattle.sshwire.specs.Types.{AreNames, NameListText, name_list, names_body};
+ghost use Rattle.sshwire.specs.Types.{AreNames, IsName, NameListText, name_list, names_body};
 ghost use Rattle.sshwire.specs.TypeReadings.{Gives, is_comma, is_name, is_name_byte, names_in, parts, parts_after};
 
 use crate::fault::{Memory, WireFault};
+use crate::limits::NAME_LIMIT;
 use crate::put::put_u32;
 use std::alloc::Global;
 use std::marker::Model;
 use std::str;
-
-/// The most bytes of a name (RFC 4251 section 6).
-const NAME_LIMIT: usize = 64;
 
 /// Names with single commas between (RFC 4251 sections 5 and 6). A name may stand in it twice.
 ///
@@ -55,6 +53,32 @@ impl NameList {
         })
     }
 
+    /// The list of these names, in order.
+    ///
+    /// Answers `Name` where one of them is none (RFC 4251 section 6), and `Memory` for want of
+    /// memory. Fewer than 2^25 names fit a string, whatever their lengths.
+    pub fn from_names(alloc: Global, names: &[&str]) -> Result<NameList, WireFault>
+        requires { length names.now < 2 ^ 25 }
+        ensures sound { IfOk result (λ list. (list ≡ map (λ name. name.now) names.now) × AreNames list) }
+        ensures complete { IfErr result (λ e. e ≢ WireFault.Memory → (e ≡ WireFault.Name)
+            × (AreNames (map (λ name. name.now) names.now) → ⊥)) }
+    {
+        let mut own = Vec::new(alloc);
+        let mut len = 0;
+        for (i, name) in names.iter().enumerate() {
+            let name = name_of(alloc, name.as_bytes())?;
+            if i > 0 {
+                len += 1;
+            }
+            len += name.len() as u32;
+            match own.push(name) {
+                Ok(()) => {}
+                Err(_) => return Err(WireFault::Memory),
+            }
+        }
+        Ok(NameList { names: own, len })
+    }
+
     /// Appends the whole string, its length included. For want of memory the vector is unchanged.
     pub fn write(&self, out: &mut Vec<u8>) -> Result<(), Memory>
         ensures appends { out.new.items ≡ (if is_ok result then out.old.items ++ name_list self.now else out.old.items) }
@@ -84,6 +108,17 @@ impl NameList {
         ensures short { length (names_body self.now) < 2 ^ 32 }
     {
         &self.names
+    }
+
+    /// The name at a position, the first at 0, or None where the list is shorter. Takes no memory.
+    pub fn name_at(&self, position: usize) -> Option<&str>
+        ensures exact { option_map (λ name. name.now) result ≡ slice_get self.now position }
+        ensures sound { IfSome result (λ name. IsName name.now) }
+    {
+        match self.names.get(position) {
+            Some(name) => Some(name.as_str()),
+            None => None,
+        }
     }
 
     /// Whether a name stands in the list. Takes no memory.
@@ -150,6 +185,20 @@ fn name_of(alloc: Global, bytes: &[u8]) -> Result<String, WireFault>
             Err(_) => Err(WireFault::Memory),
         },
         Err(_) => Err(WireFault::Name),
+    }
+}
+
+/// The name that the bytes are (RFC 4251 section 6), or None where they are none. Takes no memory.
+pub fn as_name(bytes: &[u8]) -> Option<&str>
+    ensures sound { IfSome result (λ name. (name.now ≡ bytes.now) × IsName bytes.now) }
+    ensures complete { result ≡ None → IsName bytes.now → ⊥ }
+{
+    if !is_name(bytes) {
+        return None;
+    }
+    match str::from_utf8(bytes) {
+        Ok(name) => Some(name),
+        Err(_) => None,
     }
 }
 

@@ -1,7 +1,7 @@
 //! Writes the data types of RFC 4251 section 5 at the end of a vector.
 
 ghost use Rattle.std.specs.Prelude.{◌≡◌, ◌<◌, ◌^◌, ◌++◌, length, is_ok, if◌then◌else◌};
-ghost use Rattle.sshwire.specs.Types.{MpintText, boolean, string, uint32};
+ghost use Rattle.sshwire.specs.Types.{BooleanText, MpintText, StringText, Uint32Text, boolean, string, uint32};
 
 use crate::fault::Memory;
 use crate::mpint::Mpint;
@@ -9,7 +9,9 @@ use byteorder::{BigEndian, ByteOrder};
 
 /// Appends 1 for true and 0 for false. For want of memory the vector is unchanged.
 pub fn put_boolean(out: &mut Vec<u8>, value: bool) -> Result<(), Memory>
-    ensures { out.new.items ≡ (if is_ok result then out.old.items ++ boolean value else out.old.items) }
+    ensures appends { out.new.items ≡ (if is_ok result then out.old.items ++ boolean value else out.old.items) }
+    // What is appended stands for the value, and so is read again, whatever follows.
+    ensures spells { BooleanText value (boolean value) }
 {
     out.push(u8::from(value))?;
     Ok(())
@@ -17,7 +19,9 @@ pub fn put_boolean(out: &mut Vec<u8>, value: bool) -> Result<(), Memory>
 
 /// Appends four bytes, the most significant first. For want of memory the vector is unchanged.
 pub fn put_u32(out: &mut Vec<u8>, value: u32) -> Result<(), Memory>
-    ensures { out.new.items ≡ (if is_ok result then out.old.items ++ uint32 value else out.old.items) }
+    ensures appends { out.new.items ≡ (if is_ok result then out.old.items ++ uint32 value else out.old.items) }
+    // What is appended stands for the number, and so is read again, whatever follows.
+    ensures spells { Uint32Text value (uint32 value) }
 {
     let mut bytes = [0u8; 4];
     BigEndian::write_u32(&mut bytes, value);
@@ -28,7 +32,9 @@ pub fn put_u32(out: &mut Vec<u8>, value: u32) -> Result<(), Memory>
 /// Appends the length and the bytes. For want of memory the vector is unchanged.
 pub fn put_string(out: &mut Vec<u8>, bytes: &[u8]) -> Result<(), Memory>
     requires { length bytes.now < 2 ^ 32 }
-    ensures { out.new.items ≡ (if is_ok result then out.old.items ++ string bytes.now else out.old.items) }
+    ensures appends { out.new.items ≡ (if is_ok result then out.old.items ++ string bytes.now else out.old.items) }
+    // What is appended stands for the bytes, and so is read again, whatever follows.
+    ensures spells { StringText bytes.now (string bytes.now) }
 {
     let start = out.len();
     put_u32(out, bytes.len() as u32)?;

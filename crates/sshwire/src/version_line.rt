@@ -1,18 +1,15 @@
 //! The version line of RFC 4253 section 4.2.
 
-ghost use Rattle.std.specs.Prelude.{◌≡◌, ◌++◌, ℕ, List, [], length, IfOk, IfErr, Some, None, is_ok, if◌then◌else◌};
+ghost use Rattle.std.specs.Prelude.{◌≡◌, ◌++◌, ℕ, List, [], length, IfOk, IfErr, Some, None, is_ok, option_map, if◌then◌else◌};
 ghost use Rattle.std.specs.List.{after_first, before_first, list_all, position};
-ghost use Rattle.sshwire.specs.Lines.{IsNoVersionLine, IsVersionText, text_in, version_line};
+ghost use Rattle.sshwire.specs.Lines.{IsNoVersionLine, IsVersionText, text_in, version_line, version_text};
 ghost use Rattle.sshwire.specs.Reading.{Got, is_space, is_comment_byte, is_software_and_comments, is_software_byte, is_version_line, is_version_text, reading};
 
 use crate::fault::{Memory, WireFault};
+use crate::limits::LINE_LIMIT;
 use std::alloc::Global;
 use std::fmt;
 use std::marker::Model;
-
-/// The most bytes that a line has, its CR LF or LF included (RFC 4253 section 4.2; for other lines
-/// than the version line it is profile).
-pub(crate) const LINE_LIMIT: usize = 255;
 
 /// A version line: `SSH-2.0-softwareversion`, perhaps a space and comments, then CR LF
 /// (RFC 4253 section 4.2).
@@ -55,6 +52,30 @@ impl VersionLine {
         }
     }
 
+    /// The version line `SSH-2.0-softwareversion`, with a space and the comments where there are some.
+    ///
+    /// Answers `TooLong` above 255 bytes, CR LF included, otherwise `Line` where that is no version
+    /// line (RFC 4253 section 4.2), and `Memory` for want of memory.
+    pub fn new(
+        alloc: Global,
+        softwareversion: &str,
+        comments: Option<&str>,
+    ) -> Result<VersionLine, WireFault>
+        ensures sound { IfOk result (λ text. IsVersionText text
+            × (text ≡ version_text softwareversion.now (option_map (λ c. c.now) comments.entry))) }
+        ensures complete { IfErr result (IsNoVersionLine
+            (version_line (version_text softwareversion.now (option_map (λ c. c.now) comments.entry)))) }
+    {
+        let line = spelled(alloc, softwareversion, comments)?;
+        if line.len() > LINE_LIMIT {
+            return Err(WireFault::TooLong);
+        }
+        match VersionLine::of_line(line) {
+            Some(version) => Ok(version),
+            None => Err(WireFault::Line),
+        }
+    }
+
     /// Appends the line, CR LF included. For want of memory the vector is unchanged.
     pub fn write(&self, out: &mut Vec<u8>) -> Result<(), Memory>
         ensures appends { out.new.items ≡ (if is_ok result then out.old.items ++ version_line self.now else out.old.items) }
@@ -94,6 +115,21 @@ impl fmt::Display for VersionLine {
         }
         Ok(())
     }
+}
+
+/// The parts of a version line one after another, CR LF included.
+fn spelled(alloc: Global, softwareversion: &str, comments: Option<&str>) -> Result<Vec<u8>, Memory>
+    ensures { IfOk result (λ line. line.items
+        ≡ version_line (version_text softwareversion.now (option_map (λ c. c.now) comments.entry))) }
+{
+    let mut line = Vec::from_slice(alloc, b"SSH-2.0-")?;
+    line.extend_from_slice(softwareversion.as_bytes())?;
+    if let Some(comments) = comments {
+        line.push(b' ')?;
+        line.extend_from_slice(comments.as_bytes())?;
+    }
+    line.extend_from_slice(b"\r\n")?;
+    Ok(line)
 }
 
 /// Whether the bytes are a version line, CR LF included.

@@ -1,4 +1,4 @@
-use Rattle.sshmsg.specs.Written.{written}
+use Rattle.sshmsg.specs.Written.{written_message}
 use Rattle.sshmsg.proofs.WrittenLemmas.{written_spells}
 use Rattle.sshmsg.proofs.law.written_law.Goals as goal
 
@@ -6,4 +6,4 @@ pub returns-clause-spells : goal.returns-clause-spells
 returns-clause-spells c = written_spells
 
 pub returns-clause-again : goal.returns-clause-again
-returns-clause-again c = λ m h. c.messages_law.ensures.complete (written m) m (written_spells m h)
+returns-clause-again c = λ m h. c.messages_law.ensures.complete (written_message m) m (written_spells m h)

@@ -1,16 +1,16 @@
 use Rattle.std.proofs.Common.{[], ◌∷◌}
 use Rattle.sshwire.specs.Types.{boolean, name_list, uint32}
-use Rattle.sshmsg.specs.Written.{written}
+use Rattle.sshmsg.specs.Written.{written_message}
 use Rattle.sshmsg.proofs.PutLemmas.{thirteen_parts}
 use Rattle.sshmsg.proofs.writing.put_kexinit.Goals as goal
 
 pub returns-clause-ok : goal.returns-clause-ok
-unfolding written
+unfolding written_message
 returns-clause-ok c =
     let k = c.args.kexinit.now in
     rw (
-      c.in_ok-put_u32.ensures,
-      c.in_ok-put_boolean.ensures,
+      c.in_ok-put_u32.ensures.appends,
+      c.in_ok-put_boolean.ensures.appends,
       c.in_ok-write-10.ensures.appends,
       c.in_ok-write-9.ensures.appends,
       c.in_ok-write-8.ensures.appends,

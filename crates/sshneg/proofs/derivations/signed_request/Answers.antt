@@ -8,14 +8,14 @@ pub returns : goal.returns
 unfolding signed_text
 returns c =
     rw (
-      c.in_ok-put_string-6.ensures,
-      c.in_ok-put_string-5.ensures,
-      c.in_ok-put_boolean.ensures,
-      c.in_ok-put_string-4.ensures,
-      c.in_ok-put_string-3.ensures,
-      c.in_ok-put_string-2.ensures,
+      c.in_ok-put_string-6.ensures.appends,
+      c.in_ok-put_string-5.ensures.appends,
+      c.in_ok-put_boolean.ensures.appends,
+      c.in_ok-put_string-4.ensures.appends,
+      c.in_ok-put_string-3.ensures.appends,
+      c.in_ok-put_string-2.ensures.appends,
       c.in_ok-push.ensures.items,
-      c.in_ok-put_string.ensures,
+      c.in_ok-put_string.ensures.appends,
       c.new-out.ensures.items,
       c.as_bytes.ensures.value,
       c.as_bytes-2.ensures.value,

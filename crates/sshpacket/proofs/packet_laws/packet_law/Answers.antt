@@ -1,4 +1,4 @@
-use Rattle.sshpacket.proofs.UnitLaws.{faithful, means, packet_of_unit, reads, unit_of_packet}
+use Rattle.sshpacket.proofs.ProtectedLaws.{faithful, means, packet_of_unit, reads, unit_of_packet}
 use Rattle.sshpacket.proofs.packet_laws.packet_law.Goals as goal
 
 pub returns-clause-faithful : goal.returns-clause-faithful

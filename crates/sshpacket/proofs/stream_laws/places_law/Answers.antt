@@ -1,4 +1,4 @@
-use Rattle.sshpacket.proofs.Places.{after-append, after-push, count-append, count-push, first-append, first-front, first-push, flat-append, flat-push, stands-append, stands-front, stands-push}
+use Rattle.sshpacket.proofs.Places.{after-append, after-push, count-append, count-push, first-append, first-prefix, first-push, flat-append, flat-push, stands-append, stands-prefix, stands-push}
 use Rattle.sshpacket.proofs.stream_laws.places_law.Goals as goal
 
 pub returns-clause-stands_push : goal.returns-clause-stands_push
@@ -38,7 +38,7 @@ pub returns-clause-units_append : goal.returns-clause-units_append
 returns-clause-units_append c = λ f before us more. flat-append f before us more
 
 pub returns-clause-stands_front : goal.returns-clause-stands_front
-returns-clause-stands_front c = λ t us all. stands-front t us all
+returns-clause-stands_front c = λ t us all. stands-prefix t us all
 
 pub returns-clause-first_front : goal.returns-clause-first_front
-returns-clause-first_front c = λ other t us all. first-front other t us all
+returns-clause-first_front c = λ other t us all. first-prefix other t us all

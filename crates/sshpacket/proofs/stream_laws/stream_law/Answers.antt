@@ -28,17 +28,17 @@ returns-clause-heard_refusal c = heard_refusal
 pub returns-clause-heard_part : goal.returns-clause-heard_part
 returns-clause-heard_part c = heard_part
 
-pub returns-clause-front : goal.returns-clause-front
-returns-clause-front c = heard_front
+pub returns-clause-prefix : goal.returns-clause-prefix
+returns-clause-prefix c = heard_front
 
 pub returns-clause-link : goal.returns-clause-link
-returns-clause-link c = λ looks spells each. link looks each spells
+returns-clause-link c = λ parsers spells each. link parsers each spells
 
 pub returns-clause-again : goal.returns-clause-again
-returns-clause-again c = λ looks spells each. said_heard looks each spells
+returns-clause-again c = λ parsers spells each. said_heard parsers each spells
 
 pub returns-clause-all : goal.returns-clause-all
-returns-clause-all c = λ looks spells each. link_all looks each spells
+returns-clause-all c = λ parsers spells each. link_all parsers each spells
 
 pub returns-clause-said_push : goal.returns-clause-said_push
 returns-clause-said_push c = said_push

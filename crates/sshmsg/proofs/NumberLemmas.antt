@@ -1,0 +1,199 @@
+-- The first byte of a payload is the number of the message, and what a refusal says of a payload.
+
+use Rattle.std.proofs.Common.{◌≡◌, ℕ, zero, suc, Bool, true, false, List, [], ◌∷◌, ◌++◌, Option, None, Some, Result, Ok, Err, refl, sym, ap, ◌∙◌, cond, codes}
+use Rattle.std.specs.Str.{bytes_eq}
+use Rattle.sshwire.specs.declared.fault.WireFault.{WireFault}
+use Rattle.sshwire.specs.Types.{IsBytes}
+use Rattle.sshmsg.specs.declared.fault.MsgFault.{MsgFault}
+use Rattle.sshmsg.specs.declared.fault.MsgFault.TheVariants.{Malformed, Memory, Unrecognised}
+use Rattle.sshmsg.specs.Content.{Content}
+use Rattle.sshmsg.specs.Form.{Done, FillsForm, Form, Of, Rest, Then, field_at, form_at}
+use Rattle.sshmsg.specs.Messages.{Spells, debug, disconnect, ext_info, extensions, form_of, ignore, in_form, kexdh_init, kexdh_reply, kexinit, message_in, method_form, newkeys, password, publickey, service_accept, service_request, unimplemented, userauth_banner, userauth_failure, userauth_request, userauth_success, whole}
+use Rattle.sshmsg.specs.Numbers.{IsRefused, kind, number_of}
+use Rattle.sshmsg.proofs.FormLemmas.{bind_ok, whole_ok}
+use Rattle.sshmsg.proofs.TableLemmas.{each_form}
+
+-- each message of the form has the number
+abbrev Numbered : ℕ → Form → Type 0
+Numbered n (Done c) = number_of c ≡ n
+Numbered n (Then f next) = (value : Of f) → Numbered n (next value)
+Numbered n (Rest next) = (bytes : List ℕ) → number_of (next bytes) ≡ n
+
+fills_numbered : (n : ℕ) (form : Form) (m : Content) (fields : List ℕ) → Numbered n form → FillsForm form m fields → number_of m ≡ n
+fills_numbered n (Done c) m fields h (same, none) = ap number_of same ∙ h
+fills_numbered n (Then f next) m fields h (value, text, rest, t, fills, parts) = fills_numbered n (next value) m rest (h value) fills
+fills_numbered n (Rest next) m fields h same = ap number_of same ∙ h fields
+
+either : (n : ℕ) (b : Bool) (x y : Form) → Numbered n x → Numbered n y → Numbered n (cond b x y)
+either n true x y h k = h
+either n false x y h k = k
+
+disconnect_numbered : Numbered 1 disconnect
+unfolding disconnect
+disconnect_numbered = λ reason description language. refl
+
+ignore_numbered : Numbered 2 ignore
+unfolding ignore
+ignore_numbered = λ content. refl
+
+unimplemented_numbered : Numbered 3 unimplemented
+unfolding unimplemented
+unimplemented_numbered = λ n. refl
+
+debug_numbered : Numbered 4 debug
+unfolding debug
+debug_numbered = λ always text language. refl
+
+service_request_numbered : Numbered 5 service_request
+unfolding service_request
+service_request_numbered = λ service. refl
+
+service_accept_numbered : Numbered 6 service_accept
+unfolding service_accept
+service_accept_numbered = λ service. refl
+
+extensions_numbered : (count : ℕ) (found : List (List ℕ × List ℕ)) → Numbered 7 (extensions count found)
+unfolding extensions
+extensions_numbered zero found = refl
+extensions_numbered (suc n) found = λ name value. extensions_numbered n (found ++ (name, value) ∷ [])
+
+ext_info_numbered : Numbered 7 ext_info
+unfolding ext_info
+ext_info_numbered = λ count. extensions_numbered count []
+
+kexinit_numbered : Numbered 20 kexinit
+unfolding kexinit
+kexinit_numbered = λ a b c d e f g h i j k l m. refl
+
+newkeys_numbered : Numbered 21 newkeys
+unfolding newkeys
+newkeys_numbered = refl
+
+kexdh_init_numbered : Numbered 30 kexdh_init
+unfolding kexdh_init
+kexdh_init_numbered = λ e. refl
+
+kexdh_reply_numbered : Numbered 31 kexdh_reply
+unfolding kexdh_reply
+kexdh_reply_numbered = λ host_key f signature. refl
+
+password_numbered : (user service : List ℕ) → Numbered 50 (password user service)
+unfolding password
+password_numbered user service = λ change. either 50 change _ _ (λ old new. refl) (λ secret. refl)
+
+publickey_numbered : (user service : List ℕ) → Numbered 50 (publickey user service)
+unfolding publickey
+publickey_numbered user service = λ signed algorithm key. either 50 signed _ _ (λ signature. refl) refl
+
+method_numbered : (user service method : List ℕ) → Numbered 50 (method_form user service method)
+method_numbered user service method =
+    either 50 (bytes_eq method (codes "none")) _ _ refl
+    (either 50 (bytes_eq method (codes "password")) _ _ (password_numbered user service)
+    (either 50 (bytes_eq method (codes "publickey")) _ _ (publickey_numbered user service) (λ fields. refl)))
+
+request_numbered : Numbered 50 userauth_request
+unfolding userauth_request
+request_numbered = λ user service method. method_numbered user service method
+
+failure_numbered : Numbered 51 userauth_failure
+unfolding userauth_failure
+failure_numbered = λ methods partial. refl
+
+success_numbered : Numbered 52 userauth_success
+unfolding userauth_success
+success_numbered = refl
+
+banner_numbered : Numbered 53 userauth_banner
+unfolding userauth_banner
+banner_numbered = λ text language. refl
+
+numbered : (number : ℕ) (form : Form) → form_of number ≡ Some form → Numbered number form
+numbered = each_form Numbered (record {
+  disconnect = disconnect_numbered;
+  ignore = ignore_numbered;
+  unimplemented = unimplemented_numbered;
+  debug = debug_numbered;
+  service_request = service_request_numbered;
+  service_accept = service_accept_numbered;
+  ext_info = ext_info_numbered;
+  kexinit = kexinit_numbered;
+  newkeys = newkeys_numbered;
+  kexdh_init = kexdh_init_numbered;
+  kexdh_reply = kexdh_reply_numbered;
+  userauth_request = request_numbered;
+  userauth_failure = failure_numbered;
+  userauth_success = success_numbered;
+  userauth_banner = banner_numbered;
+})
+
+pub number_tells : (payload : List ℕ) (m : Content) → Spells m payload → (fields : List ℕ) × (payload ≡ number_of m ∷ fields)
+number_tells payload m s =
+    let n : number_of m ≡ s.number = fills_numbered s.number s.form m s.fields (numbered s.number s.form s.known) s.fills in
+    (s.fields, rw n s.payload_is)
+
+-- what a form reads has the form's number
+read_numbered : (n : ℕ) (form : Form) (bytes : List ℕ) (m : Content) (rest : List ℕ) → Numbered n form → form_at form bytes ≡ Ok (m, rest) → number_of m ≡ n
+read_numbered n (Done c) bytes m rest h e = let same : ◌≡◌ {A = Content × List ℕ} (c, bytes) (m, rest) = cc in ap (λ (p : Content × List ℕ). number_of p.0) (sym same) ∙ h
+read_numbered n (Then f next) bytes m rest h e =
+    let b = bind_ok (field_at f bytes) (λ (x : Of f × List ℕ). form_at (next x.0) x.1) (m, rest) e in
+    read_numbered n (next b.0.0) b.0.1 m rest (h b.0.0) b.2
+read_numbered n (Rest next) bytes m rest h e = let same : ◌≡◌ {A = Content × List ℕ} (next bytes, []) (m, rest) = cc in ap (λ (p : Content × List ℕ). number_of p.0) (sym same) ∙ h bytes
+
+kind_from : (n : ℕ) (fields : List ℕ) (form : Option Form) (m : Content) → form_of n ≡ form → in_form n fields form ≡ Ok m → n ≡ number_of m
+kind_from n fields None m known e = cc
+kind_from n fields (Some form) m known e = sym (read_numbered n form fields m [] (numbered n form known) (whole_ok n (form_at form fields) m e))
+
+pub kind_tells : (payload : List ℕ) (m : Content) → message_in payload ≡ Ok m → kind payload ≡ number_of m
+unfolding message_in
+kind_tells [] m e = cc
+kind_tells (n ∷ fields) m e = kind_from n fields (form_of n) m refl e
+
+-- the reading answers what is spelled, and nothing else
+abbrev pub Complete : Type 0
+Complete = (payload : List ℕ) (m : Content) → Spells m payload → message_in payload ≡ Ok m
+
+abbrev pub Sound : Type 0
+Sound = (payload : List ℕ) (m : Content) → IsBytes payload → message_in payload ≡ Ok m → Spells m payload
+
+-- a refusal in terms of the form
+whole_refused : (n : ℕ) (r : Result (Content × List ℕ) WireFault) (e : MsgFault) → whole n r ≡ Err e → e ≡ Malformed n
+whole_refused n (Ok (content, [])) e h = cc
+whole_refused n (Ok (content, b ∷ bs)) e h = cc
+whole_refused n (Err d) e h = cc
+
+refused_from : (n : ℕ) (fields : List ℕ) (form : Option Form) (e : MsgFault) → form_of n ≡ form → in_form n fields form ≡ Err e
+    → ((m : Content) → Spells m (n ∷ fields) → ⊥) → IsRefused (n ∷ fields) e
+refused_from n fields None e none h against = let is : e ≡ Unrecognised n = cc in rw is (refl, none)
+refused_from n fields (Some form) e some h against =
+    let is : e ≡ Malformed n = whole_refused n (form_at form fields) e h in
+    rw is (refl, (λ none. (let bad : ◌≡◌ {A = Option Form} (Some form) None = sym some ∙ none in let no : ⊥ = cc in no)), against)
+
+not_both : (payload : List ℕ) (m : Content) (e : MsgFault) → message_in payload ≡ Ok m → message_in payload ≡ Err e → ⊥
+not_both payload m e h k = let bad : ◌≡◌ {A = Result Content MsgFault} (Ok m) (Err e) = sym h ∙ k in cc
+
+pub refused_sound : Complete → (payload : List ℕ) (e : MsgFault) → message_in payload ≡ Err e → IsRefused payload e
+unfolding message_in
+refused_sound complete [] e h = cc
+refused_sound complete (n ∷ fields) e h =
+    refused_from n fields (form_of n) e refl h (λ m s. not_both (n ∷ fields) m e (complete (n ∷ fields) m s) h)
+
+-- and back
+none_whole : (n k : ℕ) (r : Result (Content × List ℕ) WireFault) → k ≡ n → ((m : Content) → whole n r ≡ Ok m → ⊥) → whole n r ≡ Err (Malformed k)
+none_whole n k (Ok (content, [])) is none = absurd (none content refl)
+none_whole n k (Ok (content, b ∷ bs)) is none = cc
+none_whole n k (Err d) is none = cc
+
+back_from : (n : ℕ) (fields : List ℕ) (form : Option Form) (e : MsgFault) → form_of n ≡ form
+    → ((m : Content) → in_form n fields form ≡ Ok m → Spells m (n ∷ fields)) → IsRefused (n ∷ fields) e → in_form n fields form ≡ Err e
+back_from n fields None (Unrecognised k) known sound h = let is : k ≡ n = h.0 in cc
+back_from n fields None (Malformed k) known sound h = absurd (h.1 known)
+back_from n fields (Some form) (Unrecognised k) known sound h =
+    let bad : ◌≡◌ {A = Option Form} (Some form) None = sym known ∙ h.1 in cc
+back_from n fields (Some form) (Malformed k) known sound h =
+    none_whole n k (form_at form fields) h.0 (λ m e. h.2 m (sound m e))
+back_from n fields form Memory known sound h = absurd h
+
+pub refused_complete : Sound → (payload : List ℕ) (e : MsgFault) → IsBytes payload → IsRefused payload e → message_in payload ≡ Err e
+unfolding message_in
+refused_complete sound [] e bytes h = rw h refl
+refused_complete sound (n ∷ fields) e bytes h = back_from n fields (form_of n) e refl (λ m k. sound (n ∷ fields) m bytes k) h

@@ -1,0 +1,167 @@
+-- What is spelled is well-formed.
+
+use Rattle.std.proofs.Common.{◌≡◌, ℕ, zero, suc, ◌+◌, ◌<◌, ◌^◌, Bool, true, false, List, [], ◌∷◌, ◌++◌, length, refl, cond, codes, ◌||◌, arith, lit<}
+use Rattle.std.specs.List.{AllByRecursion}
+use Rattle.std.specs.Str.{IsUtf8, bytes_eq}
+use Rattle.std.proofs.lemmas.List.{length-append}
+use Rattle.sshmsg.specs.Content.{Content}
+use Rattle.sshmsg.specs.Form.{Done, FieldText, FillsForm, Form, Of, Rest, Then}
+use Rattle.sshmsg.specs.Messages.{Spells, debug, disconnect, ext_info, extensions, ignore, kexdh_init, kexdh_reply, kexinit, method_form, newkeys, password, publickey, service_accept, service_request, unimplemented, userauth_banner, userauth_failure, userauth_request, userauth_success}
+use Rattle.sshmsg.specs.Owned.{IsNumber}
+use Rattle.sshmsg.specs.Written.{IsNameList, IsPair, IsString, IsWellFormed}
+use Rattle.sshwire.specs.Types.{MpintText, NameListText}
+use Rattle.sshmsg.proofs.TableLemmas.{Rows, each_form}
+
+-- each message of the form is well-formed
+abbrev Wells : Form → Type 0
+Wells (Done c) = IsWellFormed c
+Wells (Then f next) = (value : Of f) (text : List ℕ) → FieldText f value text → Wells (next value)
+Wells (Rest next) = (bytes : List ℕ) → IsWellFormed (next bytes)
+
+fills_well : (form : Form) (m : Content) (fields : List ℕ) → Wells form → FillsForm form m fields → IsWellFormed m
+fills_well (Done c) m fields h (same, none) = rw same h
+fills_well (Then f next) m fields h (value, text, rest, t, fills, parts) = fills_well (next value) m rest (h value text t) fills
+fills_well (Rest next) m fields h same = rw same (h fields)
+
+list_of : (names : List (List ℕ)) (text : List ℕ) → NameListText names text → IsNameList names
+list_of names text (each, (short, is)) = record { each = each; short = short }
+
+big_of : (body text : List ℕ) → MpintText body text → IsNumber body
+big_of body text (bytes, shortest, (short, is)) = record { bytes = bytes; shortest = shortest; short = short }
+
+disconnect_well : Wells disconnect
+unfolding disconnect
+disconnect_well = λ reason a r description b d language c l. (r.0, d.0, l.0)
+
+ignore_well : Wells ignore
+unfolding ignore
+ignore_well = λ content a c. c.0
+
+unimplemented_well : Wells unimplemented
+unfolding unimplemented
+unimplemented_well = λ n a h. h.0
+
+debug_well : Wells debug
+unfolding debug
+debug_well = λ always a h text b t language c l. (t.0, l.0)
+
+service_request_well : Wells service_request
+unfolding service_request
+service_request_well = λ service a s. s.0
+
+service_accept_well : Wells service_accept
+unfolding service_accept
+service_accept_well = λ service a s. s.0
+
+push_pair : (found : List (List ℕ × List ℕ)) (pair : List ℕ × List ℕ) → AllByRecursion IsPair found → IsPair pair → AllByRecursion IsPair (found ++ pair ∷ [])
+push_pair [] pair h p = (p, tt)
+push_pair (x ∷ xs) pair (h, hs) p = (h, push_pair xs pair hs p)
+
+extensions_well : (n : ℕ) (found : List (List ℕ × List ℕ)) → length found + n < 2 ^ 32 → AllByRecursion IsPair found → Wells (extensions n found)
+unfolding extensions
+extensions_well zero found few each = (let short : length found < 2 ^ 32 = omega (arith, few) in (short, each))
+extensions_well (suc n) found few each = λ name a s value b v.
+    let longer : length (found ++ (name, value) ∷ []) ≡ length found + 1 = length-append found ((name, value) ∷ []) in
+    let still : length (found ++ (name, value) ∷ []) + n < 2 ^ 32 = rw longer (omega (arith, few)) in
+    extensions_well n (found ++ (name, value) ∷ []) still (push_pair found (name, value) each (s.0, v.0))
+
+ext_info_well : Wells ext_info
+unfolding ext_info
+ext_info_well = λ count a c.
+    let none : List (List ℕ × List ℕ) = [] in
+    let start : length none + count < 2 ^ 32 = (let h : count < 2 ^ 32 = c.0 in omega (arith, h)) in
+    extensions_well count none start tt
+
+kexinit_well : Wells kexinit
+unfolding kexinit
+kexinit_well = λ cookie a k kex b l0 host c l1 ec d l2 es e l3 mc f l4 ms g l5 cc0 h l6 cs i l7 lc j l8 ls k0 l9 follows l o reserved m p.
+    record {
+      cookie = k.0;
+      kex_algorithms = list_of kex b l0;
+      server_host_key_algorithms = list_of host c l1;
+      encryption_client_to_server = list_of ec d l2;
+      encryption_server_to_client = list_of es e l3;
+      mac_client_to_server = list_of mc f l4;
+      mac_server_to_client = list_of ms g l5;
+      compression_client_to_server = list_of cc0 h l6;
+      compression_server_to_client = list_of cs i l7;
+      languages_client_to_server = list_of lc j l8;
+      languages_server_to_client = list_of ls k0 l9;
+    }
+
+newkeys_well : Wells newkeys
+unfolding newkeys
+newkeys_well = tt
+
+kexdh_init_well : Wells kexdh_init
+unfolding kexdh_init
+kexdh_init_well = λ e a h. big_of e a h
+
+kexdh_reply_well : Wells kexdh_reply
+unfolding kexdh_reply
+kexdh_reply_well = λ host_key a h f b n signature c s. (h.0, big_of f b n, s.0)
+
+either_well : (b : Bool) (x y : Form) → (b ≡ true → Wells x) → (b ≡ false → Wells y) → Wells (cond b x y)
+either_well true x y h k = h refl
+either_well false x y h k = k refl
+
+password_well : (user service : List ℕ) → IsUtf8 user → IsString user → IsString service → Wells (password user service)
+unfolding password
+password_well user service utf8 u s = λ change a t.
+    either_well change _ _
+    (λ yes old b o new c n. (utf8, u, s, lit< tt, (o.0, n.0)))
+    (λ no secret b h. (utf8, u, s, lit< tt, h.0))
+
+publickey_well : (user service : List ℕ) → IsUtf8 user → IsString user → IsString service → Wells (publickey user service)
+unfolding publickey
+publickey_well user service utf8 u s = λ signed a t algorithm b x key c y.
+    either_well signed _ _
+    (λ yes signature d z. (utf8, u, s, lit< tt, (x.0, y.0, z.0)))
+    (λ no. (utf8, u, s, lit< tt, (x.0, y.0)))
+
+not_named : (a b c : Bool) → a ≡ false → b ≡ false → c ≡ false → (a || (b || c)) ≡ false
+not_named a b c x y z = rw (x, y, z) refl
+
+method_well : (user service method : List ℕ) → IsUtf8 user → IsString user → IsString service → IsString method → Wells (method_form user service method)
+method_well user service method utf8 u s m =
+    either_well (bytes_eq method (codes "none")) _ _ (λ yes. (utf8, u, s, lit< tt, tt)) (λ a.
+    either_well (bytes_eq method (codes "password")) _ _ (λ yes. password_well user service utf8 u s) (λ b.
+    either_well (bytes_eq method (codes "publickey")) _ _ (λ yes. publickey_well user service utf8 u s) (λ c fields.
+    (utf8, u, s, m, not_named _ _ _ a b c))))
+
+request_well : Wells userauth_request
+unfolding userauth_request
+request_well = λ user a u service b s method c m. method_well user service method u.0 u.1.0 s.0 m.0
+
+failure_well : Wells userauth_failure
+unfolding userauth_failure
+failure_well = λ methods a l partial b p. list_of methods a l
+
+success_well : Wells userauth_success
+unfolding userauth_success
+success_well = tt
+
+banner_well : Wells userauth_banner
+unfolding userauth_banner
+banner_well = λ text a t language b l. (t.0, l.0)
+
+pub spelled_well : (payload : List ℕ) (m : Content) → Spells m payload → IsWellFormed m
+spelled_well payload m s =
+    let rows : Rows (λ n form. Wells form) = record {
+      disconnect = disconnect_well;
+      ignore = ignore_well;
+      unimplemented = unimplemented_well;
+      debug = debug_well;
+      service_request = service_request_well;
+      service_accept = service_accept_well;
+      ext_info = ext_info_well;
+      kexinit = kexinit_well;
+      newkeys = newkeys_well;
+      kexdh_init = kexdh_init_well;
+      kexdh_reply = kexdh_reply_well;
+      userauth_request = request_well;
+      userauth_failure = failure_well;
+      userauth_success = success_well;
+      userauth_banner = banner_well;
+    } in
+    fills_well s.form m s.fields (each_form (λ n form. Wells form) rows s.number s.form s.known) s.fills

@@ -1,0 +1,24 @@
+-- The lines at the front of a direction as a unit: the text of the version line, with its place behind the other lines.
+
+use Rattle.std.specs.Prelude.{◌≡◌, ℕ, ◌+◌, ◌-◌, ◌≤◌, List, [], length, take}
+use Rattle.sshwire.specs.Lines.{LineOpen, LineRefused, Preamble}
+use Rattle.sshwire.specs.Reading.{Reading, Got, More, Stop, reading}
+use Rattle.sshpacket.specs.Parse.{Parse, OfLine, OfPacket, refused, unfinished, whole}
+use Rattle.sshpacket.specs.Stream.{Parser}
+
+-- a reading of lines as a prefix of so many bytes: what isn't left was read
+abbrev pub parse_preamble : ℕ → Reading → Parse
+parse_preamble all (More left line) = unfinished
+parse_preamble all (Got text rest) = whole text (all - length rest)
+parse_preamble all (Stop code rest) = refused (OfLine code) (all - length rest)
+
+-- the reader of the version line and at most k other lines before it (RFC 4253 section 4.2)
+unfoldable pub preamble_parser : ℕ → Parser
+preamble_parser k bytes = parse_preamble (length bytes) (reading k [] bytes)
+
+-- what an answer says of the bytes, in the terms of the lines: a refused byte is the last of those that decide it
+abbrev pub PreambleMeans : ℕ → List ℕ → Parse → Type 0
+PreambleMeans k bytes unfinished = (left : ℕ) × (line : List ℕ) × LineOpen k bytes left line
+PreambleMeans k bytes (whole text len) = (len ≤ length bytes) × Preamble k text (take len bytes)
+PreambleMeans k bytes (refused (OfLine code) len) = (place : ℕ) × (len ≡ place + 1) × LineRefused k bytes place code
+PreambleMeans k bytes (refused (OfPacket code) len) = ⊥

@@ -1,0 +1,32 @@
+//! All tests of public calls stand here, for a crate with tests of its own is proved a second time with
+//! them. The crate has tests and what they call, and nothing else.
+#![tactic(auto)]
+
+#[cfg(test)]
+mod choices;
+#[cfg(test)]
+mod data_types;
+#[cfg(test)]
+mod derivations;
+#[cfg(test)]
+mod greetings;
+#[cfg(test)]
+mod guesses;
+#[cfg(test)]
+mod helpers;
+#[cfg(test)]
+mod kem_suite;
+#[cfg(test)]
+mod lab_suite;
+#[cfg(test)]
+mod messages;
+#[cfg(test)]
+mod packets;
+#[cfg(test)]
+mod padding;
+#[cfg(test)]
+mod program;
+#[cfg(test)]
+mod streams;
+#[cfg(test)]
+mod version_lines;

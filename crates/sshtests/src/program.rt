@@ -1,0 +1,350 @@
+//! Examples of `sshlab greet` on `tool`, words that are refused, and writes that fail.
+
+ghost use Rattle.std.specs.Prelude.{◌≡◌, false};
+
+use crate::helpers::{prefix_of, same, same_count};
+use sshlab::{Broken, Sink, StreamSource, refuse_words, tool};
+use std::alloc::{AllocError, Global};
+use std::io;
+use std::process::Abort;
+use std::test::Fail;
+
+/// What a full sink answers.
+#[derive(Clone, Copy, Debug, PartialEq)]
+enum WhenFull {
+    Fails,
+    TakesNone,
+}
+
+/// A sink that has room for so many bytes, and takes at most `step` of them a call.
+#[derive(Drop)]
+struct LimitedSink {
+    bytes: Vec<u8>,
+    room: usize,
+    step: usize,
+    full: WhenFull,
+    failed: bool,
+}
+
+impl LimitedSink {
+    /// As much room as is wanted.
+    fn ample(alloc: Global) -> LimitedSink
+        ensures { result.failed ≡ false }
+    {
+        LimitedSink::of(alloc, usize::MAX, usize::MAX, WhenFull::Fails)
+    }
+
+    fn of(alloc: Global, room: usize, step: usize, full: WhenFull) -> LimitedSink
+        ensures { result.failed ≡ false }
+    {
+        LimitedSink {
+            bytes: Vec::new(alloc),
+            room,
+            step,
+            full,
+            failed: false,
+        }
+    }
+}
+
+impl Sink for LimitedSink {
+    ghost has_failed = { λ s. s.failed };
+
+    fn write(&mut self, bytes: &[u8]) -> Result<usize, Broken> {
+        let count = bytes.len().min(self.step).min(self.room);
+        if count == 0 && !bytes.is_empty() {
+            self.failed = true;
+            return match self.full {
+                WhenFull::Fails => Err(Broken),
+                WhenFull::TakesNone => Ok(0),
+            };
+        }
+        if self.bytes.extend_from_slice(&bytes[..count]).is_err() {
+            self.failed = true;
+            return Err(Broken);
+        }
+        self.room -= count;
+        Ok(count)
+    }
+
+    fn failed(&self) -> bool {
+        self.failed
+    }
+}
+
+/// Words with bars between, as text.
+fn words_of(alloc: Global, text: &str) -> Result<Vec<String>, AllocError> {
+    let mut words = Vec::new(alloc);
+    for word in text.split('|') {
+        words.push(String::from_str(alloc, word)?)?;
+    }
+    Ok(words)
+}
+
+/// What `tool` answers to the words, with nothing to read.
+fn status_of(
+    alloc: Global,
+    words: &[String],
+    output: &mut LimitedSink,
+    faults: &mut LimitedSink,
+) -> u8
+    requires output { output.old.failed ≡ false }
+    requires faults { faults.old.failed ≡ false }
+{
+    let mut input = StreamSource::new(b"".as_slice());
+    tool(alloc, words, &mut input, output, faults)
+}
+
+/// What is written to the output and to the faults, and the status.
+#[derive(Clone, Copy)]
+struct Said<'a> {
+    output: &'a str,
+    faults: &'a str,
+    status: usize,
+}
+
+/// The words have to be answered so, where there is ample room.
+fn say(rt: &impl Abort, alloc: Global, words: &[String], wanted: Said<'_>) {
+    let mut output = LimitedSink::ample(alloc);
+    let mut faults = LimitedSink::ample(alloc);
+    let status = status_of(alloc, words, &mut output, &mut faults);
+    same(rt, &faults.bytes, wanted.faults.as_bytes());
+    same(rt, &output.bytes, wanted.output.as_bytes());
+    same_count(rt, usize::from(status), wanted.status);
+}
+
+/// The words have to be answered with this output and status, and no fault to be told.
+fn greets_with(
+    rt: &impl Abort,
+    alloc: Global,
+    words: &str,
+    output: &str,
+    status: usize,
+) -> Result<(), Fail> {
+    let wanted = Said {
+        output,
+        faults: "",
+        status,
+    };
+    say(rt, alloc, &words_of(alloc, words)?, wanted);
+    Ok(())
+}
+
+#[test]
+fn greets(rt: HostRuntime) -> Result<(), Fail> {
+    let alloc = rt.alloc();
+    for (words, output, status) in [
+        (
+            "greet|alpha|beta|s5,c99,s99",
+            "client got SSH-2.0-beta\nserver got SSH-2.0-alpha\ncomplete yes\n",
+            0,
+        ),
+        (
+            "greet|alpha|beta|s5",
+            "client waiting 0\nserver waiting 5\ncomplete no\n",
+            1,
+        ),
+        (
+            "greet|a|b|c11",
+            "client got SSH-2.0-b\nserver waiting 0\ncomplete no\n",
+            1,
+        ),
+        (
+            "greet|a|b|c10,s4294967295",
+            "client waiting 10\nserver got SSH-2.0-a\ncomplete no\n",
+            1,
+        ),
+        (
+            "greet|a|b|c0,s007,c11,s4",
+            "client got SSH-2.0-b\nserver got SSH-2.0-a\ncomplete yes\n",
+            0,
+        ),
+        (
+            "greet|a|b|c4294967295,c4294967295,s0000000011",
+            "client got SSH-2.0-b\nserver got SSH-2.0-a\ncomplete yes\n",
+            0,
+        ),
+    ] {
+        greets_with(&rt, alloc, words, output, status)?;
+    }
+    Ok(())
+}
+
+/// Words that are refused, and what is told of them.
+const REFUSED: &[(&str, &str)] = &[
+    ("greet|alpha|be-ta|s5", "bad version\n"),
+    ("greet|a|b-c|x", "bad version\n"),
+    ("greet||b|s5", "bad version\n"),
+    ("greet|a b|b|s5", "bad version\n"),
+    ("greet|a||s5", "bad version\n"),
+    ("greet|a|b c|s5", "bad version\n"),
+    ("greet| a|b|s5", "bad version\n"),
+    ("greet|a|b |s5", "bad version\n"),
+    ("greet|a|b|S5", "bad schedule\n"),
+    ("greet|a|b|s5, c9", "bad schedule\n"),
+    ("greet|a|b|s4294967296", "bad schedule\n"),
+    ("greet|a|b|s00000000001", "bad schedule\n"),
+    ("greet|a|b|", "bad schedule\n"),
+    ("greet|a|b|s5,", "bad schedule\n"),
+    ("greet|a|b|s5,,c1", "bad schedule\n"),
+    ("greet|a|b|s", "bad schedule\n"),
+    ("greet|a|b|s+5", "bad schedule\n"),
+    ("greet|a|b|x5", "bad schedule\n"),
+    ("", "bad words\n"),
+    ("help", "bad words\n"),
+    ("--help", "bad words\n"),
+    ("--version", "bad words\n"),
+    ("--", "bad words\n"),
+    ("-", "bad words\n"),
+    ("greet", "bad words\n"),
+    ("greet|help", "bad words\n"),
+    ("greet|--help", "bad words\n"),
+    ("greet|help|a|b", "bad schedule\n"),
+    ("greet|a|b", "bad words\n"),
+    ("greet|a|b|s5|s5", "bad words\n"),
+    ("greet|--|a|b|s5", "bad words\n"),
+    ("greet|-a|b-c|x", "bad words\n"),
+    ("greet|a|b|s5|--session", "bad words\n"),
+    ("--session|greet|a|b|s5", "bad words\n"),
+    ("run", "bad words\n"),
+    ("run|--session|--session", "bad words\n"),
+    ("--session|run", "bad words\n"),
+    ("predict|--session", "bad words\n"),
+    ("show", "bad words\n"),
+    ("check", "bad words\n"),
+];
+
+/// The words have to be refused with this fault, and nothing to be printed.
+fn is_refused(rt: &impl Abort, alloc: Global, words: &str, faults: &str) -> Result<(), Fail> {
+    let wanted = Said {
+        output: "",
+        faults,
+        status: 2,
+    };
+    say(rt, alloc, &words_of(alloc, words)?, wanted);
+    Ok(())
+}
+
+#[test]
+fn refuses_words(rt: HostRuntime) -> Result<(), Fail> {
+    let alloc = rt.alloc();
+    for (words, faults) in REFUSED {
+        is_refused(&rt, alloc, words, faults)?;
+    }
+    Ok(())
+}
+
+#[test]
+fn refuses_no_words(rt: HostRuntime) {
+    let wanted = Said {
+        output: "",
+        faults: "bad words\n",
+        status: 2,
+    };
+    say(&rt, rt.alloc(), &[], wanted);
+}
+
+/// What keeps the words from being text has to be told so.
+fn is_told(rt: &impl Abort, alloc: Global, kind: io::ErrorKind, status: usize, fault: &[u8]) {
+    let mut faults = LimitedSink::ample(alloc);
+    let found = refuse_words(io::Error::from(kind), &mut faults);
+    same_count(rt, usize::from(found), status);
+    same(rt, &faults.bytes, fault);
+}
+
+#[test]
+fn refuses_words_that_are_no_text(rt: HostRuntime) {
+    let alloc = rt.alloc();
+    is_told(&rt, alloc, io::ErrorKind::InvalidData, 2, b"bad words\n");
+    is_told(
+        &rt,
+        alloc,
+        io::ErrorKind::OutOfMemory,
+        3,
+        b"out of memory\n",
+    );
+}
+
+/// Words, and what is printed for them.
+const GREETED: (&str, &[u8]) = (
+    "greet|alpha|beta|s5,c99,s99",
+    b"client got SSH-2.0-beta\nserver got SSH-2.0-alpha\ncomplete yes\n",
+);
+
+/// The greeting has to be printed up to what there is room for, and the failed write to be told.
+fn breaks_at(rt: &impl Abort, alloc: Global, words: &[String], room: usize, full: WhenFull) {
+    let mut output = LimitedSink::of(alloc, room, 7, full);
+    let mut faults = LimitedSink::ample(alloc);
+    let status = status_of(alloc, words, &mut output, &mut faults);
+    same_count(rt, usize::from(status), 4);
+    same(rt, &output.bytes, prefix_of(GREETED.1, room));
+    same(rt, &faults.bytes, b"write failed\n");
+    assert!(rt; output.failed());
+}
+
+/// The greeting has to be printed whole where there is room for it.
+fn is_whole(rt: &impl Abort, alloc: Global, words: &[String]) {
+    let mut output = LimitedSink::of(alloc, GREETED.1.len(), 1, WhenFull::Fails);
+    let mut faults = LimitedSink::ample(alloc);
+    let status = status_of(alloc, words, &mut output, &mut faults);
+    same_count(rt, usize::from(status), 0);
+    same(rt, &output.bytes, GREETED.1);
+}
+
+#[test]
+fn tells_a_failed_write(rt: HostRuntime) -> Result<(), Fail> {
+    let alloc = rt.alloc();
+    let words = words_of(alloc, GREETED.0)?;
+    for room in 0..GREETED.1.len() {
+        breaks_at(&rt, alloc, &words, room, WhenFull::Fails);
+        breaks_at(&rt, alloc, &words, room, WhenFull::TakesNone);
+    }
+    is_whole(&rt, alloc, &words);
+    Ok(())
+}
+
+/// The words have to bring this status where the output is full and the faults take three bytes.
+fn keeps(
+    rt: &impl Abort,
+    alloc: Global,
+    words: &str,
+    full: WhenFull,
+    wanted: usize,
+) -> Result<(), Fail> {
+    let words = words_of(alloc, words)?;
+    let mut output = LimitedSink::of(alloc, 0, 1, full);
+    let mut faults = LimitedSink::of(alloc, 3, 2, full);
+    let status = status_of(alloc, &words, &mut output, &mut faults);
+    same_count(rt, usize::from(status), wanted);
+    same_count(rt, faults.bytes.len(), 3);
+    Ok(())
+}
+
+#[test]
+fn keeps_the_status_where_no_fault_can_be_told(rt: HostRuntime) -> Result<(), Fail> {
+    let alloc = rt.alloc();
+    keeps(&rt, alloc, "help", WhenFull::Fails, 2)?;
+    keeps(&rt, alloc, "help", WhenFull::TakesNone, 2)?;
+    keeps(&rt, alloc, "greet|a|b|s5", WhenFull::Fails, 4)?;
+    keeps(&rt, alloc, "greet|a|b|s5", WhenFull::TakesNone, 4)
+}
+
+/// A softwareversion of so many `x` has to bring this status.
+fn is_judged(rt: &impl Abort, alloc: Global, len: usize, wanted: usize) -> Result<(), Fail> {
+    let mut client = String::new(alloc);
+    for _ in 0..len {
+        client.push('x')?;
+    }
+    let words = words_of(alloc, &format!(in alloc; "greet|{client}|b|s255,c11")?)?;
+    let mut output = LimitedSink::ample(alloc);
+    let mut faults = LimitedSink::ample(alloc);
+    let status = status_of(alloc, &words, &mut output, &mut faults);
+    same_count(rt, usize::from(status), wanted);
+    Ok(())
+}
+
+#[test]
+fn takes_softwareversions_up_to_245_bytes(rt: HostRuntime) -> Result<(), Fail> {
+    is_judged(&rt, rt.alloc(), 245, 0)?;
+    is_judged(&rt, rt.alloc(), 246, 2)
+}
