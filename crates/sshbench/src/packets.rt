@@ -3,6 +3,7 @@
 use crate::fault::Fault;
 use sshlab::LabSuite;
 use sshpacket::{KeyParts, Keys, PacketReader, PacketStep, write_clear, write_sealed};
+use sshwire::PAYLOAD_LIMIT;
 use std::alloc::{AllocError, Global};
 use std::fmt;
 
@@ -135,7 +136,7 @@ pub(crate) fn put_packet(
     payload: &[u8],
     out: &mut Vec<u8>,
 ) -> Result<(), Fault> {
-    if payload.is_empty() || payload.len() > 32768 {
+    if payload.is_empty() || payload.len() > PAYLOAD_LIMIT {
         return Err(Fault::Otherwise);
     }
     if sealed {

@@ -16,6 +16,7 @@ use Rattle.sshlab.specs.Kem.{crossed, kem, kem_answer, kem_checked, kem_number, 
 use Rattle.sshlab.specs.Lab.{lab_blob, masked, signature_by, xored}
 use Rattle.sshlab.specs.LabLaws.{block_high, block_low, blob_length, bytes_masked, bytes_padding, guard_some, length_masked, length_padding, length_signature, masked_twice, number_front, number_of_packet, same_bytes}
 use Rattle.sshlab.specs.Masks.{bytes_append, bytes_cons, bytes_sha256, bytes_xored, length_xored, xored_twice}
+use Rattle.sshpacket.specs.declared.limits.TheConstants.{SHARE_LIMIT}
 
 -- The first four bytes in clear.
 module _ (keys : KeyData) (seq : ℕ) (bytes : List ℕ) where
@@ -134,7 +135,7 @@ bytes_number : (random client server : List ℕ) → IsBytes (kem_number random 
 unfolding kem_number
 bytes_number random client server = bytes_sha256 (random ++ client ++ server)
 
-number_short : (random client server : List ℕ) → length (kem_number random client server) ≤ 4096
+number_short : (random client server : List ℕ) → length (kem_number random client server) ≤ SHARE_LIMIT
 number_short random client server = let long = length_number random client server in omega (arith, long)
 
 number_given : (random peer body : List ℕ) → kem_shared random peer ≡ Some body → kem_number (xored (drop 1 peer) random) (kem_share random) peer ≡ body
@@ -150,7 +151,7 @@ answer_given random peer r e =
     (let given : ResponseData = record { share = kem_answer random peer; shared = kem_number random peer (kem_answer random peer) } in given) r e).1 in
     (ap (λ (x : ResponseData). x.share) is, ap (λ (x : ResponseData). x.shared) is)
 
-answer_short : (random peer : List ℕ) → length random ≡ 32 → length (kem_answer random peer) ≤ 4096
+answer_short : (random peer : List ℕ) → length random ≡ 32 → length (kem_answer random peer) ≤ SHARE_LIMIT
 answer_short random peer h = let long : length (xored random (drop 1 peer)) ≡ length random = length_xored random (drop 1 peer) in omega arith
 
 bytes_answer : (random peer : List ℕ) → IsBytes random → IsBytes peer → IsBytes (kem_answer random peer)
@@ -168,7 +169,7 @@ same_number a b h =
     let long : eqb (length (3 ∷ xored b a)) 33 ≡ true = eq-eqb (length (3 ∷ xored b a)) 33 (omega arith) in
     rw long (ap (λ (xs : List ℕ). Some (kem_number xs (kem_share a) (3 ∷ xored b a))) (xored_twice b a))
 
-short_by : (xs ys : List ℕ) → xs ≡ ys → length xs ≤ 4096 → length ys ≤ 4096
+short_by : (xs ys : List ℕ) → xs ≡ ys → length xs ≤ SHARE_LIMIT → length ys ≤ SHARE_LIMIT
 short_by xs ys e h = rw e at h
 
 bytes_by : (xs ys : List ℕ) → xs ≡ ys → IsBytes xs → IsBytes ys

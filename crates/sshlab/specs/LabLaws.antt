@@ -16,6 +16,7 @@ use Rattle.sshpacket.specs.Packet.{IsPacket, length_field, number, number_read}
 use Rattle.sshpacket.specs.Suite.{IsAgreeing, IsLawful, IsPositiveBody, Keeps, ResponseData}
 use Rattle.sshlab.specs.Masks.{bytes_append, bytes_cons, bytes_sha256, bytes_stream, bytes_xored, stream_length, length_xored, stream_begins, xored_comm, xored_more, xored_take, xored_twice}
 use Rattle.sshlab.specs.Lab.{blocks_for, checked, key_stream, lab, lab_blob, lab_head, lab_padding, lab_seal, lab_share, lab_shared, lab_unseal, masked, signature_by, stream, tag, xored}
+use Rattle.sshpacket.specs.declared.limits.TheConstants.{PACKET_LIMIT}
 
 pub same_bytes : (xs : List ℕ) → bytes_eq xs xs ≡ true
 same_bytes xs = nat_list_eq_equiv.refl xs
@@ -40,7 +41,7 @@ unfolding number length_field
 number_of_packet counts block tag payload clear p =
     let n : ℕ = 1 + length payload + length p.padding in
     let rest : List ℕ = length p.padding ∷ (payload ++ p.padding) in
-    let limit : 4 + n + tag ≤ 35000 = p.fits.limit in
+    let limit : 4 + n + tag ≤ PACKET_LIMIT = p.fits.limit in
     let read : number clear ≡ n = ap number p.bytes_are ∙ ap number_read (uint32_complete n rest (omega arith)) in
     let long : length clear ≡ length (uint32 n ++ rest) = ap (λ (xs : List ℕ). length xs) p.bytes_are in
     let body = length-append payload p.padding in

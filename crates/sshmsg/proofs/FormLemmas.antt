@@ -12,7 +12,7 @@ use Rattle.sshwire.specs.TypeReadings.{IsReading, ◌>>=◌, boolean_at, mpint_a
 use Rattle.sshmsg.specs.declared.fault.MsgFault.{MsgFault}
 use Rattle.sshmsg.specs.Content.{Content}
 use Rattle.sshmsg.specs.Form.{BigNumber, Bytes, Cookie, Done, Field, FieldText, FillsForm, Flag, Form, Names, Number, Of, Reserved, Rest, Then, Utf8, bytes_at, field_at, form_at, utf8_at}
-use Rattle.sshmsg.specs.Messages.{Spells, form_of, in_form, message_in, whole}
+use Rattle.sshmsg.specs.Messages.{Spells, form_of, in_form, message_in, whole_form}
 
 -- the clauses of the law of data types
 pub record IsTypesLaw : Type 0 where
@@ -136,7 +136,7 @@ form_complete law (Then f next) content text (value, a, b, t, more, is) =
 form_complete law (Rest next) content text is = rw is refl
 
 -- A payload reads as the message that it spells.
-pub whole_ok : (n : ℕ) (r : Result (Content × List ℕ) WireFault) (m : Content) → whole n r ≡ Ok m → r ≡ Ok (m, [])
+pub whole_ok : (n : ℕ) (r : Result (Content × List ℕ) WireFault) (m : Content) → whole_form n r ≡ Ok m → r ≡ Ok (m, [])
 whole_ok n (Ok (content, [])) m e = let same : content ≡ m = cc in ap (λ (c : Content). Ok (c, [])) same
 whole_ok n (Ok (content, b ∷ bs)) m e = cc
 whole_ok n (Err d) m e = cc
@@ -158,7 +158,7 @@ spelled : IsTypesLaw → (n : ℕ) (bytes : List ℕ) (form : Form) (m : Content
 unfolding message_in
 spelled law n bytes form m known fills =
     ap (λ (o : Option Form). in_form n bytes o) known
-    ∙ ap (λ (r : Result (Content × List ℕ) WireFault). whole n r) (form_complete law form m bytes fills)
+    ∙ ap (λ (r : Result (Content × List ℕ) WireFault). whole_form n r) (form_complete law form m bytes fills)
 
 pub message_complete : IsTypesLaw → (payload : List ℕ) (m : Content) → Spells m payload → message_in payload ≡ Ok m
 message_complete law payload m s =

@@ -8,7 +8,7 @@ use Rattle.sshmsg.specs.declared.fault.MsgFault.{MsgFault}
 use Rattle.sshmsg.specs.declared.fault.MsgFault.TheVariants.{Malformed, Memory, Unrecognised}
 use Rattle.sshmsg.specs.Content.{Content}
 use Rattle.sshmsg.specs.Form.{Done, FillsForm, Form, Of, Rest, Then, field_at, form_at}
-use Rattle.sshmsg.specs.Messages.{Spells, debug, disconnect, ext_info, extensions, form_of, ignore, in_form, kexdh_init, kexdh_reply, kexinit, message_in, method_form, newkeys, password, publickey, service_accept, service_request, unimplemented, userauth_banner, userauth_failure, userauth_request, userauth_success, whole}
+use Rattle.sshmsg.specs.Messages.{Spells, debug, disconnect, ext_info, extensions, form_of, ignore, in_form, kexdh_init, kexdh_reply, kexinit, message_in, method_form, newkeys, password, publickey, service_accept, service_request, unimplemented, userauth_banner, userauth_failure, userauth_request, userauth_success, whole_form}
 use Rattle.sshmsg.specs.Numbers.{IsRefused, kind, number_of}
 use Rattle.sshmsg.proofs.FormLemmas.{bind_ok, whole_ok}
 use Rattle.sshmsg.proofs.TableLemmas.{each_form}
@@ -156,7 +156,7 @@ abbrev pub Sound : Type 0
 Sound = (payload : List ℕ) (m : Content) → IsBytes payload → message_in payload ≡ Ok m → Spells m payload
 
 -- a refusal in terms of the form
-whole_refused : (n : ℕ) (r : Result (Content × List ℕ) WireFault) (e : MsgFault) → whole n r ≡ Err e → e ≡ Malformed n
+whole_refused : (n : ℕ) (r : Result (Content × List ℕ) WireFault) (e : MsgFault) → whole_form n r ≡ Err e → e ≡ Malformed n
 whole_refused n (Ok (content, [])) e h = cc
 whole_refused n (Ok (content, b ∷ bs)) e h = cc
 whole_refused n (Err d) e h = cc
@@ -178,7 +178,7 @@ refused_sound complete (n ∷ fields) e h =
     refused_from n fields (form_of n) e refl h (λ m s. not_both (n ∷ fields) m e (complete (n ∷ fields) m s) h)
 
 -- and back
-none_whole : (n k : ℕ) (r : Result (Content × List ℕ) WireFault) → k ≡ n → ((m : Content) → whole n r ≡ Ok m → ⊥) → whole n r ≡ Err (Malformed k)
+none_whole : (n k : ℕ) (r : Result (Content × List ℕ) WireFault) → k ≡ n → ((m : Content) → whole_form n r ≡ Ok m → ⊥) → whole_form n r ≡ Err (Malformed k)
 none_whole n k (Ok (content, [])) is none = absurd (none content refl)
 none_whole n k (Ok (content, b ∷ bs)) is none = cc
 none_whole n k (Err d) is none = cc

@@ -145,14 +145,14 @@ pub record Spells (content : Content) (payload : List ℕ) : Type 0 where
   pub payload_is : payload ≡ number ∷ fields
 
 -- a form that was read to the end, or the number is malformed
-abbrev pub whole : ℕ → Result (Content × List ℕ) WireFault → Result Content MsgFault
-whole n (Ok (content, [])) = Ok content
-whole n (Ok (content, b ∷ bs)) = Err (Malformed n)
-whole n (Err e) = Err (Malformed n)
+abbrev pub whole_form : ℕ → Result (Content × List ℕ) WireFault → Result Content MsgFault
+whole_form n (Ok (content, [])) = Ok content
+whole_form n (Ok (content, b ∷ bs)) = Err (Malformed n)
+whole_form n (Err e) = Err (Malformed n)
 
 abbrev pub in_form : ℕ → List ℕ → Option Form → Result Content MsgFault
 in_form n fields None = Err (Unrecognised n)
-in_form n fields (Some form) = whole n (form_at form fields)
+in_form n fields (Some form) = whole_form n (form_at form fields)
 
 -- the message that a payload spells, or why there is none: no row of its number, or a row and no message
 unfoldable pub message_in : List ℕ → Result Content MsgFault

@@ -7,6 +7,7 @@ use Rattle.sshneg.specs.declared.role.Role.TheVariants.{Client, Server}
 use Rattle.sshneg.specs.Markers.{other}
 use Rattle.sshpacket.specs.KeyData.{KeyData}
 use Rattle.sshpacket.specs.Suite.{Meaning}
+use Rattle.sshmsg.specs.declared.numbers.TheConstants.{SSH_MSG_USERAUTH_REQUEST}
 
 -- what both sides know of an exchange: the version lines without CR LF, the payloads of both KEXINITs, the server's host
 -- key, the shares e and f and the shared number K, as bodies of mpints or as bytes
@@ -42,7 +43,7 @@ exchange_text x =
 unfoldable pub signed_text : List ℕ → List ℕ → List ℕ → List ℕ → List ℕ → List ℕ
 signed_text session user service algorithm key =
     string session
-    ++ (50 ∷ (string user ++ (string service ++ (string (codes "publickey") ++ (boolean true ++ (string algorithm ++ string key))))))
+    ++ (SSH_MSG_USERAUTH_REQUEST ∷ (string user ++ (string service ++ (string (codes "publickey") ++ (boolean true ++ (string algorithm ++ string key))))))
 
 -- what keys are made of: the method, K as the body of an mpint or as bytes, H, and the session identifier
 pub record KeySource : Type 0 where

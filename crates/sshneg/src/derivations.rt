@@ -6,6 +6,7 @@ ghost use Rattle.sshneg.specs.Derivations.{derived, enc_letter, exchange_size, e
 ghost use Rattle.sshneg.specs.ExchangeView.{exchange_of, source_of};
 
 use crate::role::Role;
+use sshmsg::SSH_MSG_USERAUTH_REQUEST;
 use sshpacket::{KeyParts, Keys, Suite};
 use sshwire::{Memory, put_boolean, put_string};
 use std::alloc::Global;
@@ -82,7 +83,7 @@ pub fn signed_request(
 {
     let mut out = Vec::new(alloc);
     put_string(&mut out, session)?;
-    out.push(50)?;
+    out.push(SSH_MSG_USERAUTH_REQUEST)?;
     put_string(&mut out, user.as_bytes())?;
     put_string(&mut out, service)?;
     put_string(&mut out, b"publickey")?;

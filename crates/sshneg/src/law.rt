@@ -5,7 +5,7 @@ ghost use Rattle.std.specs.Prelude.{◌≡◌, ◌+◌, ◌≤◌, ◌∷◌, �
 ghost use Rattle.sshwire.specs.Types.{AreNames, IsName};
 ghost use Rattle.sshmsg.specs.Content.{KexInit, Offer};
 ghost use Rattle.sshmsg.specs.Written.{IsWellFormed, written_message};
-ghost use Rattle.sshpacket.specs.Suite.{Agrees, IsLawful, Meaning, ResponseData};
+ghost use Rattle.sshpacket.specs.Suite.{Agrees, IsLawful, Meaning, ResponseData, Signs};
 ghost use Rattle.sshneg.specs.declared.role.Role.TheVariants.{Client, Server};
 ghost use Rattle.sshneg.specs.declared.choice.Chosen.{Chosen};
 ghost use Rattle.sshneg.specs.declared.choice.NoCommon.{NoCommon};
@@ -146,6 +146,7 @@ pub fn agreement_law<S: AgreeingSuite>(suite: &S, kex: &str, client: &[u8], serv
     // Under every method any random bytes of a client and of a server agree, so both ends of one exchange have one key source.
     ensures agrees { Agrees (S.meaning suite.now) kex.now client.now server.now }
     // A client that reads the share of the server's answer has the same answer: that share, and the same shared number.
+    ensures signs { (alg secret : List ℕ) → Signs (S.meaning suite.now) alg secret }
     ensures one { (r : ResponseData) → (S.meaning suite.now).respond kex.now server.now ((S.meaning suite.now).share kex.now client.now) ≡ Some r
         → answer_by Client (S.meaning suite.now) kex.now client.now r.share ≡ Some r }
 {}

@@ -5,7 +5,7 @@ use Rattle.sshpacket.specs.declared.fault.PacketFault.{PacketFault}
 use Rattle.sshpacket.specs.declared.reader.PacketReader.{PacketReader}
 use Rattle.sshpacket.specs.Parse.{Protection, parse_packet, unfinished}
 use Rattle.sshpacket.specs.KeyData.{KeyData}
-use Rattle.sshpacket.specs.ReaderState.{ReaderState, ReaderWaits, state, protection_at}
+use Rattle.sshpacket.specs.ReaderState.{ReaderState, ReaderWaits, state, protection_at, wanted}
 use Rattle.sshpacket.specs.ReaderSteps.{needed}
 use Rattle.sshpacket.specs.Suite.{Meaning}
 use Rattle.sshpacket.proofs.ParseLemmas.{parse_short}
@@ -19,11 +19,11 @@ none_needed w held none = ap (λ (xs : List ℕ). needed w xs) none ∙ needed_s
 
 -- where nothing is held, whatever the suite
 pub waits_empty : (m : Meaning) (r : PacketReader) → r.fault ≡ None → r.unfinished.items ≡ [] → r.target ≡ 4 → ReaderWaits m r
-unfolding state
+unfolding state wanted
 waits_empty m r no_fault none four = record {
   no_fault = no_fault;
   unfinished_is = none_unfinished (protection_at m (state r)) r.unfinished.items none;
-  wanted = four ∙ sym (none_needed (protection_at m (state r)) r.unfinished.items none);
+  knows = four ∙ sym (none_needed (protection_at m (state r)) r.unfinished.items none);
 }
 
 pub none_held : (held : List ℕ) → held ≡ [] → length held < 4

@@ -27,6 +27,10 @@ state r = record { keys = r.keys; seq = r.seq; held = r.unfinished.items; fault 
 unfoldable pub last_used : PacketReader → ℕ
 last_used r = r.taken
 
+-- how many bytes the packet at hand must have before more of it is judged, as the reader knows
+unfoldable pub wanted : PacketReader → ℕ
+wanted r = r.target
+
 -- how the packet at hand is read
 abbrev pub protection_at : Meaning → ReaderState → Protection
 protection_at m s = protection m s.keys s.seq
@@ -39,7 +43,7 @@ ahead m s piece = parse_packet (protection_at m s) (s.held ++ piece)
 pub record ReaderWaits (m : Meaning) (r : PacketReader) : Type 0 where
   pub no_fault : (state r).fault ≡ None
   pub unfinished_is : parse_packet (protection_at m (state r)) (state r).held ≡ unfinished
-  pub wanted : r.target ≡ needed (protection_at m (state r)) (state r).held
+  pub knows : wanted r ≡ needed (protection_at m (state r)) (state r).held
 
 -- it answers this payload with this number, and so many bytes were used
 abbrev pub IsStep : List ℕ → ℕ → ℕ → PacketStep → Type 0

@@ -19,7 +19,7 @@ pub fn packet_law()
     ensures faithful { (m : Meaning) → IsLawful m → (keys : Option KeyData) (seq : ℕ) → seq < 2 ^ 32 → IsFaithful (protection m keys seq) }
     ensures found { (w : Protection) (bytes : List ℕ) → IsFaithful w → IsBytes bytes → PacketMeans w bytes (parse_packet w bytes) }
     ensures only { (w : Protection) (bytes : List ℕ) → IsFaithful w → IsBytes bytes → (answer : Parse) → PacketMeans w bytes answer → parse_packet w bytes ≡ answer }
-    // In clear a unit is a packet.
+    // In clear a protected packet is a packet.
     ensures unit { (m : Meaning) (seq : ℕ) (payload bytes : List ℕ) → IsPacket true 8 0 payload bytes → IsProtectedPacket (protection m None seq) payload bytes }
     ensures packet { (m : Meaning) (seq : ℕ) (payload bytes : List ℕ) → IsProtectedPacket (protection m None seq) payload bytes → IsPacket true 8 0 payload bytes }
 {

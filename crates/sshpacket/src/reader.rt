@@ -85,7 +85,7 @@ impl PacketReader {
     }
 
     /// A reader with nothing held.
-    #[tactic(auto, unfolding(crate::specs::ReaderState::state, crate::specs::ReaderState::last_used), using(crate::proofs::WaitLemmas::waits_empty))]
+    #[tactic(auto, unfolding(crate::specs::ReaderState::state, crate::specs::ReaderState::last_used, crate::specs::ReaderState::wanted), using(crate::proofs::WaitLemmas::waits_empty))]
     fn from_here(alloc: Global, keys: Option<Keys>, seq: u32) -> PacketReader
         ensures state { state result ≡ record { keys = keys; seq = seq; held = []; fault = None } }
         ensures taken { last_used result ≡ 0 }
@@ -145,7 +145,7 @@ impl PacketReader {
     }
 
     /// Reads on, and answers the length of the payload of a packet that was read.
-    #[tactic(auto, unfolding(crate::specs::ReaderState::state, crate::specs::ReaderState::last_used))]
+    #[tactic(auto, unfolding(crate::specs::ReaderState::state, crate::specs::ReaderState::last_used, crate::specs::ReaderState::wanted))]
     fn advance<S: Suite>(&mut self, suite: &S, piece: &[u8]) -> Result<Option<usize>, PacketFault>
         ensures advances { ReaderWaits (S.meaning suite.now) self.old → Advances (S.meaning suite.now) (state self.old) piece.now result self.new }
         ensures taken { last_used self.new ≤ length piece.now }
@@ -230,7 +230,7 @@ impl PacketReader {
     /// under strict key exchange; else numbers go on. It takes no memory.
     ///
     /// The caller's condition is that no byte of an unfinished packet is held, as behind each payload.
-    #[tactic(auto, unfolding(crate::specs::ReaderState::state, crate::specs::ReaderState::last_used), using(crate::proofs::WaitLemmas::waits_empty, crate::proofs::WaitLemmas::none_held))]
+    #[tactic(auto, unfolding(crate::specs::ReaderState::state, crate::specs::ReaderState::last_used, crate::specs::ReaderState::wanted), using(crate::proofs::WaitLemmas::waits_empty, crate::proofs::WaitLemmas::none_held))]
     pub fn use_keys(&mut self, keys: Keys, reset: bool)
         requires { (state self.old).held ≡ [] }
         ensures state { state self.new ≡ record (state self.old) { keys = Some keys; seq = if reset then 0 else (state self.old).seq } }

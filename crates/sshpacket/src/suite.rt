@@ -178,7 +178,8 @@ pub trait Suite {
 
     /// The server's share and its shared number, from 32 random bytes and the client's share; none
     /// where that is refused. In a Diffie-Hellman they are `public` of the random bytes and `shared`
-    /// with the client's share; in mlkem768x25519-sha256 the server's share depends on the client's.
+    /// with the client's share (RFC 4253 section 8); in mlkem768x25519-sha256
+    /// (draft-ietf-sshm-mlkem-hybrid-kex) the server's share depends on the client's.
     fn respond(
         &self,
         alloc: Global,

@@ -8,3 +8,6 @@ returns-clause-agrees g c = (g.met.S.AgreeingSuite.agrees c.args.suite.now).agre
 
 pub returns-clause-one : goal.returns-clause-one
 returns-clause-one g c = one_answer (g.S.Suite.meaning c.args.suite.now) c.args.kex.now c.args.client.now c.args.server.now (returns-clause-agrees g c)
+
+pub returns-clause-signs : goal.returns-clause-signs
+returns-clause-signs g c = (g.met.S.AgreeingSuite.agrees c.args.suite.now).signed

@@ -1,11 +1,11 @@
 use Rattle.std.proofs.Common.{refl}
-use Rattle.sshpacket.specs.ReaderState.{last_used, state}
+use Rattle.sshpacket.specs.ReaderState.{last_used, state, wanted}
 use Rattle.sshpacket.proofs.WaitLemmas.{finished, waits_empty}
 use Rattle.sshpacket.proofs.reader.PacketReader.advance.Goals as goal
 
 pub returns-in-Ok-Whole-clause-advances : goal.returns-in-Ok-Whole-clause-advances
-unfolding state last_used
+unfolding state last_used wanted
 returns-in-Ok-Whole-clause-advances g c = λ waits.
     let old = c.args.self.now in
-    let read = rw (c.in-Ok-Whole.is, c.in-Ok-Whole.field-0-is) at (c.read_on-taken.ensures.reads waits.unfinished_is waits.wanted) in
+    let read = rw (c.in-Ok-Whole.is, c.in-Ok-Whole.field-0-is) at (c.read_on-taken.ensures.reads waits.unfinished_is waits.knows) in
     (finished old.keys _ old.fault c.read_on-taken.new.held.items read.0, read.1, waits_empty (g.S.Suite.meaning c.args.suite.now) _ waits.no_fault read.0 refl)

@@ -1,18 +1,18 @@
 use Rattle.std.proofs.Common.{rules, refl, Err, Ok, None, Some, drop, take}
 use Rattle.sshpacket.specs.declared.reader.PacketStep.TheVariants.{More}
-use Rattle.sshpacket.specs.ReaderState.{Advances, ParseAnswer, ReaderWaits, last_used, state}
+use Rattle.sshpacket.specs.ReaderState.{Advances, ParseAnswer, ReaderWaits, last_used, state, wanted}
 use Rattle.sshpacket.proofs.AnswerLemmas.{only_of, step_answer, step_holds, step_leaves, step_uses, tells_of}
 use Rattle.sshpacket.proofs.reader.PacketReader.next.Goals as goal
 
 pub returns-in-Err : goal.returns-in-Err
-unfolding state
+unfolding state wanted
 returns-in-Err g c =
     let m = g.S.Suite.meaning c.args.suite.now in
     let s = state c.args.self.now in
     let piece = c.args.piece.now in
     let answer : ReaderWaits m c.args.self.now → ParseAnswer m s piece (Err c.in-Err.fault)
-    = λ waits other. (last_used c.advance.new.self, c.advance.ensures.taken, (c.in-Err.ensures.advances (record { no_fault = waits.no_fault; unfinished_is = waits.unfinished_is; wanted = waits.wanted })).1 other) in (
-      (refl, λ _. tt, ((λ waits. let a = c.in-Err.ensures.advances (record { no_fault = waits.no_fault; unfinished_is = waits.unfinished_is; wanted = waits.wanted }) in (a.0, c.advance.ensures.taken, a.1)), search rules, c.advance.ensures.taken, tt)),
+    = λ waits other. (last_used c.advance.new.self, c.advance.ensures.taken, (c.in-Err.ensures.advances (record { no_fault = waits.no_fault; unfinished_is = waits.unfinished_is; knows = waits.knows })).1 other) in (
+      (refl, λ _. tt, ((λ waits. let a = c.in-Err.ensures.advances (record { no_fault = waits.no_fault; unfinished_is = waits.unfinished_is; knows = waits.knows }) in (a.0, c.advance.ensures.taken, a.1)), search rules, c.advance.ensures.taken, tt)),
       record {
         tells = λ waits. tells_of m s piece (Err c.in-Err.fault) (search rules) (answer waits);
         only = λ waits. only_of m s piece (Err c.in-Err.fault) (search rules) (search rules) (answer waits);
@@ -25,13 +25,13 @@ returns-in-Err g c =
     )
 
 pub returns-in-Ok-None : goal.returns-in-Ok-None
-unfolding state
+unfolding state wanted
 returns-in-Ok-None g c =
     let m = g.S.Suite.meaning c.args.suite.now in
     let s = state c.args.self.now in
     let piece = c.args.piece.now in
     let told : ReaderWaits m c.args.self.now → Advances m s piece (Ok None) c.advance.new.self
-    = λ waits. rw c.in-Ok-None.field-0-is at (c.in-Ok-None.ensures.advances (record { no_fault = waits.no_fault; unfinished_is = waits.unfinished_is; wanted = waits.wanted })) in
+    = λ waits. rw c.in-Ok-None.field-0-is at (c.in-Ok-None.ensures.advances (record { no_fault = waits.no_fault; unfinished_is = waits.unfinished_is; knows = waits.knows })) in
     let answer : ReaderWaits m c.args.self.now → ParseAnswer m s piece (Ok More) = λ waits. (told waits).2 in (
       (refl, λ _. tt, ((λ waits. let a = told waits in (a.0, a.1, a.3)), search rules, c.advance.ensures.taken, tt)),
       record {
@@ -46,7 +46,7 @@ returns-in-Ok-None g c =
     )
 
 pub returns-in-Ok-Some : goal.returns-in-Ok-Some
-unfolding state last_used
+unfolding state last_used wanted
 returns-in-Ok-Some g c =
     let m = g.S.Suite.meaning c.args.suite.now in
     let s = state c.args.self.now in
@@ -55,7 +55,7 @@ returns-in-Ok-Some g c =
     let payload = take c.in-Ok-Some.payload_len (drop 5 new.packet) in
     let used = rw (c.in-Ok-Some.field-0-is) at c.in-Ok-Some.ensures.some in
     let told : ReaderWaits m c.args.self.now → Advances m s piece (Ok (Some c.in-Ok-Some.payload_len)) new
-    = λ waits. rw c.in-Ok-Some.field-0-is at (c.in-Ok-Some.ensures.advances (record { no_fault = waits.no_fault; unfinished_is = waits.unfinished_is; wanted = waits.wanted })) in
+    = λ waits. rw c.in-Ok-Some.field-0-is at (c.in-Ok-Some.ensures.advances (record { no_fault = waits.no_fault; unfinished_is = waits.unfinished_is; knows = waits.knows })) in
     let answer : ReaderWaits m c.args.self.now → ParseAnswer m s piece (Ok c.step.result)
     = λ waits. step_answer m s piece payload new.taken c.step.result c.step.ensures c.advance.ensures.taken (told waits).1 in (
       (
