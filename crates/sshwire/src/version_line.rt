@@ -55,7 +55,8 @@ impl VersionLine {
     /// The version line `SSH-2.0-softwareversion`, with a space and the comments where there are some.
     ///
     /// Answers `TooLong` above 255 bytes, CR LF included, otherwise `Line` where that is no version
-    /// line (RFC 4253 section 4.2), and `Memory` for want of memory.
+    /// line (RFC 4253 section 4.2), and `Memory` for want of memory. What is judged is the text that
+    /// the parts spell, so a softwareversion with a space is taken as one with comments.
     pub fn new(
         alloc: Global,
         softwareversion: &str,
