@@ -11,18 +11,34 @@ use std::fmt::Write;
 /// The position of the name that both sides have.
 const LAST: usize = 49;
 
-/// The KEXINITs of both sides.
+/// The payloads of the KEXINITs of both sides.
 #[derive(Drop)]
-pub(crate) struct Offers {
-    client: Message,
-    server: Message,
+pub(crate) struct Payloads {
+    client: Vec<u8>,
+    server: Vec<u8>,
 }
 
-impl Offers {
-    pub(crate) fn new(alloc: Global) -> Result<Offers, Fault> {
-        Ok(Offers {
+impl Payloads {
+    pub(crate) fn new(alloc: Global) -> Result<Payloads, Fault> {
+        Ok(Payloads {
             client: kexinit(alloc, 0)?,
             server: kexinit(alloc, 50)?,
+        })
+    }
+}
+
+/// The KEXINITs of both sides.
+#[derive(Drop)]
+pub(crate) struct Offers<'a> {
+    client: Message<'a>,
+    server: Message<'a>,
+}
+
+impl<'a> Offers<'a> {
+    pub(crate) fn new(alloc: Global, payloads: &'a Payloads) -> Result<Offers<'a>, Fault> {
+        Ok(Offers {
+            client: read(alloc, &payloads.client)?,
+            server: read(alloc, &payloads.server)?,
         })
     }
 
@@ -67,23 +83,23 @@ impl Offers {
 
 /// Chooses once, and judges the choice.
 pub(crate) fn check(alloc: Global) -> Result<(), Fault> {
-    Offers::new(alloc)?.choose()
+    let payloads = Payloads::new(alloc)?;
+    Offers::new(alloc, &payloads)?.choose()
 }
 
 /// How many pairs of methods are equal.
-fn count_equal(client: &KexInit, server: &KexInit) -> u32 {
+fn count_equal(client: &KexInit<'_>, server: &KexInit<'_>) -> u32 {
     let mut equal = 0u32;
     for own in client.kex_algorithms.names() {
-        let others = server.kex_algorithms.names();
-        if others.iter().any(|other| own == other) {
+        if server.kex_algorithms.names().any(|other| own == other) {
             equal = equal.saturating_add(1);
         }
     }
     equal
 }
 
-/// A KEXINIT whose eight lists are 49 names from this number on, and the one that both sides have.
-fn kexinit(alloc: Global, first: u32) -> Result<Message, Fault> {
+/// The payload of a KEXINIT whose eight lists are 49 names from this number on, and the one that both sides have.
+fn kexinit(alloc: Global, first: u32) -> Result<Vec<u8>, Fault> {
     let body = body_of(alloc, first)?;
     let names = body.as_bytes();
     if names.len() > 1000 {
@@ -98,7 +114,7 @@ fn kexinit(alloc: Global, first: u32) -> Result<Message, Fault> {
     }
     put_boolean(&mut payload, false)?;
     put_u32(&mut payload, 0)?;
-    Ok(read(alloc, &payload)?)
+    Ok(payload)
 }
 
 /// The body of a list of 49 names from this number on, and the one that both sides have.

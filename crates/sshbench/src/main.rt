@@ -9,6 +9,7 @@ mod choices;
 mod digests;
 mod fault;
 mod kexinit;
+mod lent;
 mod long;
 mod packets;
 mod table;
@@ -51,6 +52,8 @@ fn check(rt: &HostRuntime) -> Result<(), Fault> {
     let payload = kexinit::payload(alloc)?;
     kexinit::check(alloc, &payload)?;
     writeln!(rt.stdout(), "kexinit ok")?;
+    lent::check(alloc)?;
+    writeln!(rt.stdout(), "messages ok")?;
     packets::check(alloc)?;
     writeln!(rt.stdout(), "packets ok")?;
     choices::check(alloc)?;

@@ -1,9 +1,10 @@
 //! Times, and their ratios.
 
-use crate::choices::Offers;
+use crate::choices::{Offers, Payloads};
 use crate::digests::digest;
 use crate::fault::Fault;
 use crate::kexinit::{copy, read_and_write};
+use crate::lent::{Kind, own, payload, read_only};
 use crate::packets::{Load, PIECE_LENS, Stream};
 use std::fmt;
 use std::io::Write;
@@ -11,6 +12,9 @@ use std::time::{Duration, Instant};
 
 /// How often the payload of a KEXINIT is read and written.
 const ROUNDS: u32 = 100_000;
+
+/// How often a message without lists is read.
+const QUICK_ROUNDS: u32 = 2_000_000;
 
 /// How often is chosen.
 const CHOICES: u32 = 1_000;
@@ -31,6 +35,8 @@ pub(crate) enum Beside {
     Copying,
     /// Copying the same bytes in the same pieces, each over the one before.
     CopyingOver,
+    /// Making an owned copy of the same bytes.
+    Owning,
     /// The digests that the suite needs for the same bytes.
     Digests,
     /// Comparing as many names with as many others.
@@ -44,6 +50,7 @@ impl fmt::Display for Beside {
         f.write_str(match self {
             Beside::Copying => "copying",
             Beside::CopyingOver => "copying over",
+            Beside::Owning => "owned copy",
             Beside::Digests => "digests",
             Beside::Comparing => "comparing names",
             Beside::Tenth => "a tenth of it",
@@ -89,6 +96,16 @@ pub(crate) fn print(rt: &HostRuntime, payload: &[u8]) -> Result<(), Fault> {
         "work                             rounds  work us  other us    ratio  other"
     )?;
     print_row(rt, "kexinit read and written", &time_kexinit(rt, payload)?)?;
+    for (kind, len) in [
+        (Kind::Ignore, 1019),
+        (Kind::Ignore, 32763),
+        (Kind::KexdhReply, 499),
+        (Kind::Password, 980),
+        (Kind::Banner, 1013),
+    ] {
+        let work = format!(in rt.alloc(); "{kind} with {len} bytes read")?;
+        print_row(rt, &work, &time_lent(rt, kind, len)?)?;
+    }
     print_row(rt, "choice, 50 names a list", &time_choices(rt)?)?;
     for payload_len in [1, 1024, 32768] {
         let sealed = false;
@@ -189,9 +206,35 @@ fn time_kexinit(rt: &HostRuntime, payload: &[u8]) -> Result<Row, Fault> {
     })
 }
 
+/// Times reads of a message without lists, and as many owned copies of its payload.
+fn time_lent(rt: &HostRuntime, kind: Kind, len: usize) -> Result<Row, Fault> {
+    let alloc = rt.alloc();
+    let payload = payload(alloc, kind, len)?;
+    let start = Instant::now(rt)?;
+    for _ in 0..QUICK_ROUNDS {
+        read_only(alloc, &payload, len)?;
+    }
+    let work = start.elapsed(rt)?;
+    let start = Instant::now(rt)?;
+    for _ in 0..QUICK_ROUNDS {
+        own(alloc, &payload)?;
+    }
+    Ok(Row {
+        rounds: QUICK_ROUNDS,
+        work,
+        other: start.elapsed(rt)?,
+        beside: Beside::Owning,
+    })
+}
+
 /// Times choices, and as many comparisons of the names of eight lists.
 fn time_choices(rt: &HostRuntime) -> Result<Row, Fault> {
-    let offers = Offers::new(rt.alloc())?;
+    let payloads = Payloads::new(rt.alloc())?;
+    time_offers(rt, &Offers::new(rt.alloc(), &payloads)?)
+}
+
+/// The same of these offers.
+fn time_offers(rt: &HostRuntime, offers: &Offers<'_>) -> Result<Row, Fault> {
     let start = Instant::now(rt)?;
     for _ in 0..CHOICES {
         offers.choose()?;

@@ -10,7 +10,7 @@ use Rattle.sshwire.specs.declared.share_form.ShareForm.TheVariants.{Hybrid}
 use Rattle.sshpacket.specs.KeyData.{KeyData}
 use Rattle.sshpacket.specs.Packet.{number}
 use Rattle.sshpacket.specs.Suite.{Meaning, ResponseData}
-use Rattle.sshlab.specs.Lab.{lab_blob, lab_block, lab_padding, masked, signature_by, xored}
+use Rattle.sshlab.specs.Lab.{lab, masked, xored}
 
 -- the first four bytes in clear, and the others masked or unmasked
 unfoldable pub crossed : KeyData → ℕ → List ℕ → List ℕ
@@ -57,25 +57,25 @@ unfoldable pub kem_shared : List ℕ → List ℕ → Option (List ℕ)
 kem_shared random peer =
     if (length peer == 33) && (slice_index peer 0 == 3) then Some (kem_number (xored (drop 1 peer) random) (kem_share random) peer) else None
 
--- the answers of the suite
+-- the answers of the suite; blocks, padding, hashes and host keys are those of the lab suite
 abbrev pub kem : Meaning
 kem = record {
   need = λ kex. Signature;
   can = λ alg. record { signature = true; encryption = false };
-  block = lab_block;
+  block = lab.block;
   tag_len = λ cipher mac. 16;
   counts_length = λ cipher mac. false;
   key_lens = λ cipher mac. record { iv = 12; enc = 64; mac = 0 };
   seal = kem_seal;
   head = λ keys seq first. number first;
   unseal = kem_unseal;
-  padding = lab_padding;
+  padding = lab.padding;
   share_form = λ kex. Hybrid;
   share = λ kex random. kem_share random;
   shared = λ kex random peer. kem_shared random peer;
   respond = λ kex random peer. kem_respond random peer;
-  digest = λ kex input. sha256 input;
-  blob = lab_blob;
-  sign = λ alg secret input. signature_by (lab_blob alg secret) input;
-  verify = λ alg blob input signature. bytes_eq signature (signature_by blob input);
+  digest = lab.digest;
+  blob = lab.blob;
+  sign = lab.sign;
+  verify = lab.verify;
 }

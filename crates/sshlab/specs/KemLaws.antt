@@ -7,15 +7,15 @@ use Rattle.std.specs.Prelude.{◌&&◌, slice_index, Some}
 use Rattle.std.specs.Str.{bytes_eq}
 use Rattle.sha2.proofs.Facts256.{length-sha256}
 use Rattle.sha2.specs.Sha256.{sha256}
-use Rattle.sshwire.proofs.TypeLemmas.{bytes_dropped, bytes_taken}
+use Rattle.sshwire.specs.ByteLaws.{bytes_append, bytes_cons, bytes_dropped, bytes_taken}
 use Rattle.sshwire.specs.Types.{IsBytes, uint32}
 use Rattle.sshpacket.specs.KeyData.{KeyData}
 use Rattle.sshpacket.specs.Packet.{number}
 use Rattle.sshpacket.specs.Suite.{IsAgreeing, IsLawful, Keeps, ResponseData}
 use Rattle.sshlab.specs.Kem.{crossed, kem, kem_answer, kem_checked, kem_number, kem_respond, kem_seal, kem_share, kem_shared, kem_tag, kem_unseal}
-use Rattle.sshlab.specs.Lab.{lab_blob, masked, signature_by, xored}
-use Rattle.sshlab.specs.LabLaws.{block_high, block_low, blob_length, bytes_masked, bytes_padding, guard_some, length_masked, length_padding, length_signature, masked_twice, number_front, number_of_packet, same_bytes}
-use Rattle.sshlab.specs.Masks.{bytes_append, bytes_cons, bytes_sha256, bytes_xored, length_xored, xored_twice}
+use Rattle.sshlab.specs.Lab.{masked, xored}
+use Rattle.sshlab.specs.LabLaws.{bytes_masked, guard_some, lab_agreeing, lab_lawful, length_masked, masked_twice, number_front, number_of_packet, same_bytes}
+use Rattle.sshlab.specs.Masks.{bytes_sha256, bytes_xored, length_xored, xored_twice}
 use Rattle.sshpacket.specs.declared.limits.TheConstants.{SHARE_LIMIT}
 
 -- The first four bytes in clear.
@@ -185,20 +185,20 @@ kem_lawful = record {
   shared_fits = λ kex a peer body h e. rw (number_given a peer body e) at (number_short (xored (drop 1 peer) a) (kem_share a) peer);
   response_fits = λ kex a peer r h e. let parts = answer_given a peer r e in
       (short_by (kem_answer a peer) r.share parts.0 (answer_short a peer h), rw parts.1 at (number_short a peer (kem_answer a peer)));
-  block_low = λ cipher. block_low _;
-  block_high = λ cipher. block_high _;
+  block_low = lab_lawful.block_low;
+  block_high = lab_lawful.block_high;
   tag_high = λ cipher mac. omega arith;
   iv_high = λ cipher mac. omega arith;
   enc_high = λ cipher mac. omega arith;
   mac_high = λ cipher mac. omega arith;
-  padding_length = length_padding;
-  digest_low = λ kex input. omega (arith, length-sha256 input);
-  digest_high = λ kex input. omega (arith, length-sha256 input);
-  digest_even = λ kex input other. length-sha256 input ∙ sym (length-sha256 other);
-  blob_high = λ alg secret name. let long = blob_length alg secret in let short : length alg ≤ 64 = name.short in omega (arith, long);
-  sign_high = λ alg secret input name. omega (arith, length_signature (lab_blob alg secret) input);
+  padding_length = lab_lawful.padding_length;
+  digest_low = lab_lawful.digest_low;
+  digest_high = lab_lawful.digest_high;
+  digest_even = lab_lawful.digest_even;
+  blob_high = lab_lawful.blob_high;
+  sign_high = lab_lawful.sign_high;
   seal_bytes = bytes_seal;
-  padding_bytes = bytes_padding;
+  padding_bytes = lab_lawful.padding_bytes;
   share_bytes = λ kex a h. bytes_cons 2 a (omega arith) h;
   shared_bytes = λ kex a peer body h k e. rw (number_given a peer body e) at (bytes_number (xored (drop 1 peer) a) (kem_share a) peer);
   response_bytes = λ kex a peer r h k e. let parts = answer_given a peer r e in
@@ -212,5 +212,5 @@ kem_agreeing = record {
     responds = responds client server h;
     same = same_number client server k;
   };
-  signed = λ alg secret input. same_bytes (signature_by (lab_blob alg secret) input);
+  signed = lab_agreeing.signed;
 }

@@ -8,15 +8,16 @@ use Rattle.std.specs.Prelude.{◌&&◌, slice_index, Option, None, Some, option_
 use Rattle.std.specs.Str.{bytes_eq}
 use Rattle.sha2.proofs.Facts256.{length-sha256}
 use Rattle.sha2.specs.Sha256.{sha256}
-use Rattle.sshwire.proofs.TypeLemmas.{bytes_dropped, bytes_taken, uint32_complete}
+use Rattle.sshwire.specs.ByteLaws.{bytes_append, bytes_cons, bytes_dropped, bytes_taken, uint32_read}
 use Rattle.sshwire.specs.TypeReadings.{uint32_at}
 use Rattle.sshwire.specs.Types.{IsBytes, string, uint32}
 use Rattle.sshpacket.specs.KeyData.{KeyData}
 use Rattle.sshpacket.specs.Packet.{IsPacket, length_field, number, number_read}
 use Rattle.sshpacket.specs.Suite.{IsAgreeing, IsLawful, IsPositiveBody, Keeps, ResponseData}
-use Rattle.sshlab.specs.Masks.{bytes_append, bytes_cons, bytes_sha256, bytes_stream, bytes_xored, stream_length, length_xored, stream_begins, xored_comm, xored_more, xored_take, xored_twice}
+use Rattle.sshlab.specs.Masks.{bytes_sha256, bytes_stream, bytes_xored, stream_length, length_xored, stream_begins, xored_comm, xored_more, xored_take, xored_twice}
 use Rattle.sshlab.specs.Lab.{blocks_for, checked, key_stream, lab, lab_blob, lab_head, lab_padding, lab_seal, lab_share, lab_shared, lab_unseal, masked, signature_by, stream, tag, xored}
-use Rattle.sshpacket.specs.declared.limits.TheConstants.{PACKET_LIMIT}
+use Rattle.sshpacket.specs.declared.limits.TheConstants.{BLOCK_LIMIT, PACKET_LIMIT}
+use Rattle.sshwire.specs.declared.limits.TheConstants.{NAME_LIMIT}
 
 pub same_bytes : (xs : List ℕ) → bytes_eq xs xs ≡ true
 same_bytes xs = nat_list_eq_equiv.refl xs
@@ -42,7 +43,7 @@ number_of_packet counts block tag payload clear p =
     let n : ℕ = 1 + length payload + length p.padding in
     let rest : List ℕ = length p.padding ∷ (payload ++ p.padding) in
     let limit : 4 + n + tag ≤ PACKET_LIMIT = p.fits.limit in
-    let read : number clear ≡ n = ap number p.bytes_are ∙ ap number_read (uint32_complete n rest (omega arith)) in
+    let read : number clear ≡ n = ap number p.bytes_are ∙ ap number_read (uint32_read n rest (omega arith)) in
     let long : length clear ≡ length (uint32 n ++ rest) = ap (λ (xs : List ℕ). length xs) p.bytes_are in
     let body = length-append payload p.padding in
     (omega arith, omega arith)
@@ -223,7 +224,7 @@ pub block_low : (b : Bool) → 8 ≤ cond b 16 8
 block_low true = omega arith
 block_low false = omega arith
 
-pub block_high : (b : Bool) → cond b 16 8 ≤ 64
+pub block_high : (b : Bool) → cond b 16 8 ≤ BLOCK_LIMIT
 block_high true = omega arith
 block_high false = omega arith
 
@@ -247,7 +248,7 @@ lab_lawful = record {
   digest_low = λ kex input. omega (arith, length-sha256 input);
   digest_high = λ kex input. omega (arith, length-sha256 input);
   digest_even = λ kex input other. length-sha256 input ∙ sym (length-sha256 other);
-  blob_high = λ alg secret name. let long = blob_length alg secret in let short : length alg ≤ 64 = name.short in omega (arith, long);
+  blob_high = λ alg secret name. let long = blob_length alg secret in let short : length alg ≤ NAME_LIMIT = name.short in omega (arith, long);
   sign_high = λ alg secret input name. omega (arith, length_signature (lab_blob alg secret) input);
   seal_bytes = bytes_seal;
   padding_bytes = bytes_padding;

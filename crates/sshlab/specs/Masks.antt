@@ -1,6 +1,6 @@
 -- Bytes XOR a mask, and the blocks that a mask is cut from.
 
-use Rattle.std.proofs.Common.{◌≡◌, ℕ, zero, suc, ◌+◌, ◌*◌, ◌/◌, ◌%◌, ◌<◌, ◌≤◌, List, [], ◌∷◌, ◌++◌, length, take, drop, get_or, add-one, refl, sym, ap, ◌∙◌, arith, lit<}
+use Rattle.std.proofs.Common.{◌≡◌, ℕ, zero, suc, ◌+◌, ◌*◌, ◌/◌, ◌%◌, ◌<◌, ◌≤◌, List, [], ◌∷◌, ◌++◌, length, take, drop, add-one, refl, sym, ap, ◌∙◌, arith}
 use Rattle.std.proofs.lemmas.List.{append-nil, append_assoc, length-append, ext_get_or, get_or-drop}
 use Rattle.std.proofs.lemmas.Nat.{xor_comm, xor_of_8}
 use Rattle.std.specs.Int.{to_be_bytes, w32}
@@ -8,34 +8,20 @@ use Rattle.std.specs.Int.Bits.{xor_assoc, xor_self, xor_zero_r}
 use Rattle.std.specs.Prelude.{bit_xor, slice_index}
 use Rattle.sha2.proofs.Facts256.{length-sha256}
 use Rattle.sha2.specs.Sha256.{digest_bytes, final_hash, initial_hash_256, sha256}
-use Rattle.sshwire.proofs.TypeLemmas.{bytes_dropped}
+use Rattle.sshwire.specs.ByteLaws.{bytes_append, bytes_cons, bytes_dropped, bytes_none}
 use Rattle.sshwire.specs.Types.{IsBytes}
 use Rattle.sshlab.specs.Lab.{block_input, stream, xored}
 
 -- Bytes.
-no_bytes : IsBytes []
-no_bytes = λ i. lit< tt
-
-bytes_cell : (b : ℕ) (bs : List ℕ) → b < 256 → IsBytes bs → (i : ℕ) → get_or (b ∷ bs) i 0 < 256
-bytes_cell b bs h more zero = h
-bytes_cell b bs h more (suc i) = more i
-
-pub bytes_cons : (b : ℕ) (bs : List ℕ) → b < 256 → IsBytes bs → IsBytes (b ∷ bs)
-bytes_cons b bs h more = bytes_cell b bs h more
-
-pub bytes_append : (xs ys : List ℕ) → IsBytes xs → IsBytes ys → IsBytes (xs ++ ys)
-bytes_append [] ys h more = more
-bytes_append (x ∷ xs) ys h more = bytes_cons x (xs ++ ys) (h 0) (bytes_append xs ys (λ i. h (suc i)) more)
-
 word_bytes : (n : ℕ) → IsBytes (to_be_bytes w32 n)
 word_bytes n = bytes_cons (n / 16777216 % 256) (n / 65536 % 256 ∷ n / 256 % 256 ∷ n % 256 ∷ []) (omega arith)
     (bytes_cons (n / 65536 % 256) (n / 256 % 256 ∷ n % 256 ∷ []) (omega arith)
     (bytes_cons (n / 256 % 256) (n % 256 ∷ []) (omega arith)
-    (bytes_cons (n % 256) [] (omega arith) no_bytes)))
+    (bytes_cons (n % 256) [] (omega arith) bytes_none)))
 
 bytes_digest : (h : List ℕ) (n : ℕ) → IsBytes (digest_bytes h n)
 unfolding digest_bytes
-bytes_digest h zero = no_bytes
+bytes_digest h zero = bytes_none
 bytes_digest h (suc n) = bytes_append (digest_bytes h n) (to_be_bytes w32 (slice_index h n)) (bytes_digest h n) (word_bytes (slice_index h n))
 
 pub bytes_sha256 : (m : List ℕ) → IsBytes (sha256 m)
@@ -75,7 +61,7 @@ xored_comm (x ∷ xs) (y ∷ ys) h =
     let more = xored_comm xs ys (omega arith) in cc
 
 pub bytes_xored : (bytes mask : List ℕ) → IsBytes bytes → IsBytes mask → IsBytes (xored bytes mask)
-bytes_xored [] mask h k = no_bytes
+bytes_xored [] mask h k = bytes_none
 bytes_xored (b ∷ bytes) mask h k =
     bytes_cons (bit_xor b (slice_index mask 0)) (xored bytes (drop 1 mask)) (xor_of_8 b (slice_index mask 0) (h 0) (k 0))
     (bytes_xored bytes (drop 1 mask) (λ i. h (suc i)) (bytes_dropped 1 mask k))
@@ -111,7 +97,7 @@ stream_length seed seq (suc n) =
 
 pub bytes_stream : (seed : List ℕ) (seq n : ℕ) → IsBytes (stream seed seq n)
 unfolding stream
-bytes_stream seed seq zero = no_bytes
+bytes_stream seed seq zero = bytes_none
 bytes_stream seed seq (suc n) =
     bytes_append (stream seed seq n) (sha256 (block_input seed seq n)) (bytes_stream seed seq n) (bytes_sha256 (block_input seed seq n))
 

@@ -4,7 +4,7 @@ ghost use Rattle.std.specs.Prelude.{◌≡◌, ◌^◌, ◌<◌, IfOk, drop, len
 ghost use Rattle.sshlab.specs.Kem.{crossed, kem, kem_number, kem_tag};
 ghost use Rattle.sshlab.specs.KemLaws.{kem_agreeing, kem_lawful};
 
-use crate::lab_suite::{LabSuite, blob, masked, signature, stream, xor_with};
+use crate::lab_suite::{LabSuite, masked, xor_with};
 use sha2::{Digest, Sha256};
 use sshpacket::{
     AgreeingSuite, Capability, KeyLens, Keys, Need, Response, ShareForm, Suite, leading_uint32,
@@ -17,7 +17,8 @@ const TAG_LEN: usize = 16;
 
 /// A suite for tests alone. **It is insecure.** It is all that [`LabSuite`](crate::LabSuite) isn't:
 /// packet_length stands in clear, is covered by the tag and doesn't count towards the multiple;
-/// shares are bytes, and the server's depends on the client's, as in a key encapsulation.
+/// shares are bytes, and the server's depends on the client's, as in a key encapsulation. Blocks,
+/// padding, hashes and host keys are `LabSuite`'s.
 #[derive(Clone, Copy, Debug)]
 pub struct KemSuite;
 
@@ -86,11 +87,8 @@ impl Suite for KemSuite {
         }
     }
 
-    #[tactic(auto, unfolding(crate::specs::Lab::lab_padding))]
     fn padding(&self, alloc: Global, seed: &[u8], seq: u32, len: u8) -> Result<Vec<u8>, Memory> {
-        let mut padding = stream(alloc, seed, &[], seq, usize::from(len))?;
-        padding.truncate(usize::from(len));
-        Ok(padding)
+        LabSuite.padding(alloc, seed, seq, len)
     }
 
     fn share_form(&self, _kex: &str) -> ShareForm {
@@ -144,15 +142,14 @@ impl Suite for KemSuite {
         Ok(Some(Response { share, shared }))
     }
 
-    fn digest(&self, alloc: Global, _kex: &str, input: &[u8]) -> Result<Vec<u8>, Memory> {
-        Ok(Vec::from_slice(alloc, &Sha256::digest(input))?)
+    fn digest(&self, alloc: Global, kex: &str, input: &[u8]) -> Result<Vec<u8>, Memory> {
+        LabSuite.digest(alloc, kex, input)
     }
 
     fn blob(&self, alloc: Global, alg: &str, secret: &[u8]) -> Result<Vec<u8>, Memory> {
-        blob(alloc, alg, secret)
+        LabSuite.blob(alloc, alg, secret)
     }
 
-    #[tactic(auto, using(crate::specs::LabLaws::blob_length))]
     fn sign(
         &self,
         alloc: Global,
@@ -160,19 +157,18 @@ impl Suite for KemSuite {
         secret: &[u8],
         input: &[u8],
     ) -> Result<Vec<u8>, Memory> {
-        let blob = blob(alloc, alg, secret)?;
-        Ok(Vec::from_slice(alloc, &signature(&blob, input))?)
+        LabSuite.sign(alloc, alg, secret, input)
     }
 
     fn verify(
         &self,
-        _alloc: Global,
-        _alg: &str,
+        alloc: Global,
+        alg: &str,
         blob: &[u8],
         input: &[u8],
         found: &[u8],
     ) -> Result<bool, Memory> {
-        Ok(found == signature(blob, input).as_slice())
+        LabSuite.verify(alloc, alg, blob, input, found)
     }
 
     ghost lawful = { λ _. kem_lawful };

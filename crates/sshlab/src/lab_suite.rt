@@ -200,7 +200,7 @@ pub fn lab_law()
 
 /// The public key of a private key: the name of the algorithm and the hash of the private key.
 #[tactic(auto, using(crate::specs::LabLaws::blob_length), unfolding(crate::specs::Lab::lab_blob))]
-pub(crate) fn blob(alloc: Global, alg: &str, secret: &[u8]) -> Result<Vec<u8>, Memory>
+fn blob(alloc: Global, alg: &str, secret: &[u8]) -> Result<Vec<u8>, Memory>
     requires { IsName alg.now }
     ensures value { IfOk result (λ v. v.items ≡ lab_blob alg.now secret.now) }
     ensures short { IfOk result (λ v. length v.items < 2 ^ 32) }
@@ -213,7 +213,7 @@ pub(crate) fn blob(alloc: Global, alg: &str, secret: &[u8]) -> Result<Vec<u8>, M
 
 /// The signature of the input by the key of this blob.
 #[tactic(auto, unfolding(crate::specs::Lab::signature_by))]
-pub(crate) fn signature(blob: &[u8], input: &[u8]) -> [u8; 32]
+fn signature(blob: &[u8], input: &[u8]) -> [u8; 32]
     requires blob { length blob.now < 2 ^ 32 }
     requires input { length input.now < 2 ^ 32 }
     ensures { result ≡ signature_by blob.now input.now }
@@ -252,13 +252,7 @@ pub(crate) fn masked(alloc: Global, keys: &Keys, seq: u32, bytes: &[u8]) -> Resu
 
 /// As many blocks as cover so many bytes, of the stream of a seed in two parts and a packet's number.
 #[tactic(auto, using(crate::specs::Masks::stream_none, crate::specs::Masks::stream_more, crate::specs::Masks::stream_length))]
-pub(crate) fn stream(
-    alloc: Global,
-    front: &[u8],
-    back: &[u8],
-    seq: u32,
-    len: usize,
-) -> Result<Vec<u8>, Memory>
+fn stream(alloc: Global, front: &[u8], back: &[u8], seq: u32, len: usize) -> Result<Vec<u8>, Memory>
     requires { len < 2 ^ 32 }
     ensures value { IfOk result (λ v. v.items ≡ stream (front.now ++ back.now) seq (blocks_for len)) }
     ensures covers { IfOk result (λ v. len ≤ length v.items) }

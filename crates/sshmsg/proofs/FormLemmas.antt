@@ -9,6 +9,7 @@ use Rattle.sshwire.specs.declared.fault.WireFault.{WireFault}
 use Rattle.sshwire.specs.declared.fault.WireFault.TheVariants.{Name, Short}
 use Rattle.sshwire.specs.Types.{BooleanText, IsBytes, MpintText, NameListText, StringText, Uint32Text}
 use Rattle.sshwire.specs.TypeReadings.{IsReading, ◌>>=◌, boolean_at, mpint_at, names_at, string_at, uint32_at}
+use Rattle.sshwire.specs.declared.share_form.ShareForm.{ShareForm}
 use Rattle.sshmsg.specs.declared.fault.MsgFault.{MsgFault}
 use Rattle.sshmsg.specs.Content.{Content}
 use Rattle.sshmsg.specs.Form.{BigNumber, Bytes, Cookie, Done, Field, FieldText, FillsForm, Flag, Form, Names, Number, Of, Reserved, Rest, Then, Utf8, bytes_at, field_at, form_at, utf8_at}
@@ -141,29 +142,29 @@ whole_ok n (Ok (content, [])) m e = let same : content ≡ m = cc in ap (λ (c :
 whole_ok n (Ok (content, b ∷ bs)) m e = cc
 whole_ok n (Err d) m e = cc
 
-in_form_ok : IsTypesLaw → (n : ℕ) (bytes : List ℕ) (form : Option Form) (m : Content) → IsBytes bytes → form_of n ≡ form → in_form n bytes form ≡ Ok m
-    → Spells m (n ∷ bytes)
-in_form_ok law n bytes None m h known e = cc
-in_form_ok law n bytes (Some form) m h known e =
+in_form_ok : IsTypesLaw → (shares : ShareForm) (n : ℕ) (bytes : List ℕ) (form : Option Form) (m : Content) → IsBytes bytes → form_of shares n ≡ form → in_form n bytes form ≡ Ok m
+    → Spells shares m (n ∷ bytes)
+in_form_ok law shares n bytes None m h known e = cc
+in_form_ok law shares n bytes (Some form) m h known e =
     let s = form_sound law form bytes m [] h (whole_ok n (form_at form bytes) m e) in
     let same : bytes ≡ s.0 = s.2 ∙ append-nil s.0 in
     record { number = n; form = form; fields = s.0; known = known; fills = s.1; payload_is = ap (λ (xs : List ℕ). n ∷ xs) same }
 
-pub message_sound : IsTypesLaw → (payload : List ℕ) (m : Content) → IsBytes payload → message_in payload ≡ Ok m → Spells m payload
+pub message_sound : IsTypesLaw → (shares : ShareForm) (payload : List ℕ) (m : Content) → IsBytes payload → message_in shares payload ≡ Ok m → Spells shares m payload
 unfolding message_in
-message_sound law [] m h e = cc
-message_sound law (n ∷ bytes) m h e = in_form_ok law n bytes (form_of n) m (λ i. h (suc i)) refl e
+message_sound law shares [] m h e = cc
+message_sound law shares (n ∷ bytes) m h e = in_form_ok law shares n bytes (form_of shares n) m (λ i. h (suc i)) refl e
 
-spelled : IsTypesLaw → (n : ℕ) (bytes : List ℕ) (form : Form) (m : Content) → form_of n ≡ Some form → FillsForm form m bytes → message_in (n ∷ bytes) ≡ Ok m
+spelled : IsTypesLaw → (shares : ShareForm) (n : ℕ) (bytes : List ℕ) (form : Form) (m : Content) → form_of shares n ≡ Some form → FillsForm form m bytes → message_in shares (n ∷ bytes) ≡ Ok m
 unfolding message_in
-spelled law n bytes form m known fills =
+spelled law shares n bytes form m known fills =
     ap (λ (o : Option Form). in_form n bytes o) known
     ∙ ap (λ (r : Result (Content × List ℕ) WireFault). whole_form n r) (form_complete law form m bytes fills)
 
-pub message_complete : IsTypesLaw → (payload : List ℕ) (m : Content) → Spells m payload → message_in payload ≡ Ok m
-message_complete law payload m s =
-    ap (λ (xs : List ℕ). message_in xs) s.payload_is ∙ spelled law s.number s.fields s.form m s.known s.fills
+pub message_complete : IsTypesLaw → (shares : ShareForm) (payload : List ℕ) (m : Content) → Spells shares m payload → message_in shares payload ≡ Ok m
+message_complete law shares payload m s =
+    ap (λ (xs : List ℕ). message_in shares xs) s.payload_is ∙ spelled law shares s.number s.fields s.form m s.known s.fills
 
-pub one_message : IsTypesLaw → (payload : List ℕ) (m n : Content) → Spells m payload → Spells n payload → m ≡ n
-one_message law payload m n s t =
-    let same : ◌≡◌ {A = Result Content MsgFault} (Ok m) (Ok n) = sym (message_complete law payload m s) ∙ message_complete law payload n t in cc
+pub one_message : IsTypesLaw → (shares : ShareForm) (payload : List ℕ) (m n : Content) → Spells shares m payload → Spells shares n payload → m ≡ n
+one_message law shares payload m n s t =
+    let same : ◌≡◌ {A = Result Content MsgFault} (Ok m) (Ok n) = sym (message_complete law shares payload m s) ∙ message_complete law shares payload n t in cc

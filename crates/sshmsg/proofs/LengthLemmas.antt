@@ -35,13 +35,13 @@ too_long xs i len is over =
 -- one more pair
 pub length_more : (xs : List Extension) (i len : ℕ) (x : Extension) → i < length xs → x ≡ get_or xs i x
     → len ≡ 5 + length (pairs_written (pairs_of (take i xs)))
-    → len + (length (string x.name.items) + length (string x.value.items)) ≡ 5 + length (pairs_written (pairs_of (take (i + 1) xs)))
+    → len + (length (string x.name.now) + length (string x.value.now)) ≡ 5 + length (pairs_written (pairs_of (take (i + 1) xs)))
 length_more xs i len x h e is =
     let more : length (pairs_written (pairs_of (take (i + 1) xs))) ≡ length (pairs_written (pairs_of (take i xs)) ++ pair_written (pair_of x))
     = ap (λ (bs : List ℕ). length bs) (pairs_more xs i x h e) in
     let both : length (pairs_written (pairs_of (take i xs)) ++ pair_written (pair_of x)) ≡ length (pairs_written (pairs_of (take i xs))) + length (pair_written (pair_of x))
     = length-append (pairs_written (pairs_of (take i xs))) (pair_written (pair_of x)) in
-    let pair : length (pair_written (pair_of x)) ≡ length (string x.name.items) + length (string x.value.items) = length-append (string x.name.items) (string x.value.items) in
+    let pair : length (pair_written (pair_of x)) ≡ length (string x.name.now) + length (string x.value.now) = length-append (string x.name.now) (string x.value.now) in
     omega arith
 
 -- all pairs

@@ -1,8 +1,10 @@
 pub mod FormLemmas
 pub mod ExtensionLemmas
 pub mod LengthLemmas
+pub mod ListLemmas
 pub mod NumberLemmas
 pub mod PutLemmas
+pub mod ShareLemmas
 pub mod SizeLemmas
 pub mod TableLemmas
 pub mod UserLemmas

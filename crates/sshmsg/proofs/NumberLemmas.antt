@@ -1,14 +1,17 @@
 -- The first byte of a payload is the number of the message, and what a refusal says of a payload.
 
-use Rattle.std.proofs.Common.{◌≡◌, ℕ, zero, suc, Bool, true, false, List, [], ◌∷◌, ◌++◌, Option, None, Some, Result, Ok, Err, refl, sym, ap, ◌∙◌, cond, codes}
+use Rattle.std.proofs.Common.{◌≡◌, ◌≢◌, ℕ, zero, suc, Bool, true, false, List, [], ◌∷◌, ◌++◌, Option, None, Some, Result, Ok, Err, refl, sym, ap, ◌∙◌, cond, codes}
 use Rattle.std.specs.Str.{bytes_eq}
+use Rattle.std.proofs.lemmas.Bool.{ne_eqb}
 use Rattle.sshwire.specs.declared.fault.WireFault.{WireFault}
 use Rattle.sshwire.specs.Types.{IsBytes}
+use Rattle.sshwire.specs.declared.share_form.ShareForm.{ShareForm}
+use Rattle.sshwire.specs.declared.share_form.ShareForm.TheVariants.{Hybrid, Mpint, OctetString}
 use Rattle.sshmsg.specs.declared.fault.MsgFault.{MsgFault}
 use Rattle.sshmsg.specs.declared.fault.MsgFault.TheVariants.{Malformed, Memory, Unrecognised}
 use Rattle.sshmsg.specs.Content.{Content}
 use Rattle.sshmsg.specs.Form.{Done, FillsForm, Form, Of, Rest, Then, field_at, form_at}
-use Rattle.sshmsg.specs.Messages.{Spells, debug, disconnect, ext_info, extensions, form_of, ignore, in_form, kexdh_init, kexdh_reply, kexinit, message_in, method_form, newkeys, password, publickey, service_accept, service_request, unimplemented, userauth_banner, userauth_failure, userauth_request, userauth_success, whole_form}
+use Rattle.sshmsg.specs.Messages.{Spells, debug, disconnect, ext_info, extensions, form_of, ignore, in_form, init_of, kex_ecdh_init, kex_ecdh_reply, kexdh_init, kexdh_reply, kexinit, message_in, method_form, newkeys, password, publickey, reply_of, service_accept, service_request, unimplemented, userauth_banner, userauth_failure, userauth_request, userauth_success, whole_form}
 use Rattle.sshmsg.specs.Numbers.{IsRefused, kind, number_of}
 use Rattle.sshmsg.proofs.FormLemmas.{bind_ok, whole_ok}
 use Rattle.sshmsg.proofs.TableLemmas.{each_form}
@@ -77,6 +80,24 @@ kexdh_reply_numbered : Numbered 31 kexdh_reply
 unfolding kexdh_reply
 kexdh_reply_numbered = λ host_key f signature. refl
 
+kex_ecdh_init_numbered : Numbered 30 kex_ecdh_init
+unfolding kex_ecdh_init
+kex_ecdh_init_numbered = λ share. refl
+
+kex_ecdh_reply_numbered : Numbered 31 kex_ecdh_reply
+unfolding kex_ecdh_reply
+kex_ecdh_reply_numbered = λ host_key share signature. refl
+
+init_numbered : (shares : ShareForm) → Numbered 30 (init_of shares)
+init_numbered Mpint = kexdh_init_numbered
+init_numbered OctetString = kex_ecdh_init_numbered
+init_numbered Hybrid = kex_ecdh_init_numbered
+
+reply_numbered : (shares : ShareForm) → Numbered 31 (reply_of shares)
+reply_numbered Mpint = kexdh_reply_numbered
+reply_numbered OctetString = kex_ecdh_reply_numbered
+reply_numbered Hybrid = kex_ecdh_reply_numbered
+
 password_numbered : (user service : List ℕ) → Numbered 50 (password user service)
 unfolding password
 password_numbered user service = λ change. either 50 change _ _ (λ old new. refl) (λ secret. refl)
@@ -107,8 +128,8 @@ banner_numbered : Numbered 53 userauth_banner
 unfolding userauth_banner
 banner_numbered = λ text language. refl
 
-numbered : (number : ℕ) (form : Form) → form_of number ≡ Some form → Numbered number form
-numbered = each_form Numbered (record {
+numbered : (shares : ShareForm) (number : ℕ) (form : Form) → form_of shares number ≡ Some form → Numbered number form
+numbered shares = each_form shares Numbered (record {
   disconnect = disconnect_numbered;
   ignore = ignore_numbered;
   unimplemented = unimplemented_numbered;
@@ -118,17 +139,17 @@ numbered = each_form Numbered (record {
   ext_info = ext_info_numbered;
   kexinit = kexinit_numbered;
   newkeys = newkeys_numbered;
-  kexdh_init = kexdh_init_numbered;
-  kexdh_reply = kexdh_reply_numbered;
+  init = init_numbered shares;
+  reply = reply_numbered shares;
   userauth_request = request_numbered;
   userauth_failure = failure_numbered;
   userauth_success = success_numbered;
   userauth_banner = banner_numbered;
 })
 
-pub number_tells : (payload : List ℕ) (m : Content) → Spells m payload → (fields : List ℕ) × (payload ≡ number_of m ∷ fields)
-number_tells payload m s =
-    let n : number_of m ≡ s.number = fills_numbered s.number s.form m s.fields (numbered s.number s.form s.known) s.fills in
+pub number_tells : (shares : ShareForm) (payload : List ℕ) (m : Content) → Spells shares m payload → (fields : List ℕ) × (payload ≡ number_of m ∷ fields)
+number_tells shares payload m s =
+    let n : number_of m ≡ s.number = fills_numbered s.number s.form m s.fields (numbered shares s.number s.form s.known) s.fills in
     (s.fields, rw n s.payload_is)
 
 -- what a form reads has the form's number
@@ -139,21 +160,21 @@ read_numbered n (Then f next) bytes m rest h e =
     read_numbered n (next b.0.0) b.0.1 m rest (h b.0.0) b.2
 read_numbered n (Rest next) bytes m rest h e = let same : ◌≡◌ {A = Content × List ℕ} (next bytes, []) (m, rest) = cc in ap (λ (p : Content × List ℕ). number_of p.0) (sym same) ∙ h bytes
 
-kind_from : (n : ℕ) (fields : List ℕ) (form : Option Form) (m : Content) → form_of n ≡ form → in_form n fields form ≡ Ok m → n ≡ number_of m
-kind_from n fields None m known e = cc
-kind_from n fields (Some form) m known e = sym (read_numbered n form fields m [] (numbered n form known) (whole_ok n (form_at form fields) m e))
+kind_from : (shares : ShareForm) (n : ℕ) (fields : List ℕ) (form : Option Form) (m : Content) → form_of shares n ≡ form → in_form n fields form ≡ Ok m → n ≡ number_of m
+kind_from shares n fields None m known e = cc
+kind_from shares n fields (Some form) m known e = sym (read_numbered n form fields m [] (numbered shares n form known) (whole_ok n (form_at form fields) m e))
 
-pub kind_tells : (payload : List ℕ) (m : Content) → message_in payload ≡ Ok m → kind payload ≡ number_of m
+pub kind_tells : (shares : ShareForm) (payload : List ℕ) (m : Content) → message_in shares payload ≡ Ok m → kind payload ≡ number_of m
 unfolding message_in
-kind_tells [] m e = cc
-kind_tells (n ∷ fields) m e = kind_from n fields (form_of n) m refl e
+kind_tells shares [] m e = cc
+kind_tells shares (n ∷ fields) m e = kind_from shares n fields (form_of shares n) m refl e
 
 -- the reading answers what is spelled, and nothing else
 abbrev pub Complete : Type 0
-Complete = (payload : List ℕ) (m : Content) → Spells m payload → message_in payload ≡ Ok m
+Complete = (shares : ShareForm) (payload : List ℕ) (m : Content) → Spells shares m payload → message_in shares payload ≡ Ok m
 
 abbrev pub Sound : Type 0
-Sound = (payload : List ℕ) (m : Content) → IsBytes payload → message_in payload ≡ Ok m → Spells m payload
+Sound = (shares : ShareForm) (payload : List ℕ) (m : Content) → IsBytes payload → message_in shares payload ≡ Ok m → Spells shares m payload
 
 -- a refusal in terms of the form
 whole_refused : (n : ℕ) (r : Result (Content × List ℕ) WireFault) (e : MsgFault) → whole_form n r ≡ Err e → e ≡ Malformed n
@@ -161,21 +182,21 @@ whole_refused n (Ok (content, [])) e h = cc
 whole_refused n (Ok (content, b ∷ bs)) e h = cc
 whole_refused n (Err d) e h = cc
 
-refused_from : (n : ℕ) (fields : List ℕ) (form : Option Form) (e : MsgFault) → form_of n ≡ form → in_form n fields form ≡ Err e
-    → ((m : Content) → Spells m (n ∷ fields) → ⊥) → IsRefused (n ∷ fields) e
-refused_from n fields None e none h against = let is : e ≡ Unrecognised n = cc in rw is (refl, none)
-refused_from n fields (Some form) e some h against =
+refused_from : (shares : ShareForm) (n : ℕ) (fields : List ℕ) (form : Option Form) (e : MsgFault) → form_of shares n ≡ form → in_form n fields form ≡ Err e
+    → ((m : Content) → Spells shares m (n ∷ fields) → ⊥) → IsRefused shares (n ∷ fields) e
+refused_from shares n fields None e none h against = let is : e ≡ Unrecognised n = cc in rw is (refl, none)
+refused_from shares n fields (Some form) e some h against =
     let is : e ≡ Malformed n = whole_refused n (form_at form fields) e h in
     rw is (refl, (λ none. (let bad : ◌≡◌ {A = Option Form} (Some form) None = sym some ∙ none in let no : ⊥ = cc in no)), against)
 
-not_both : (payload : List ℕ) (m : Content) (e : MsgFault) → message_in payload ≡ Ok m → message_in payload ≡ Err e → ⊥
-not_both payload m e h k = let bad : ◌≡◌ {A = Result Content MsgFault} (Ok m) (Err e) = sym h ∙ k in cc
+not_both : (shares : ShareForm) (payload : List ℕ) (m : Content) (e : MsgFault) → message_in shares payload ≡ Ok m → message_in shares payload ≡ Err e → ⊥
+not_both shares payload m e h k = let bad : ◌≡◌ {A = Result Content MsgFault} (Ok m) (Err e) = sym h ∙ k in cc
 
-pub refused_sound : Complete → (payload : List ℕ) (e : MsgFault) → message_in payload ≡ Err e → IsRefused payload e
+pub refused_sound : Complete → (shares : ShareForm) (payload : List ℕ) (e : MsgFault) → message_in shares payload ≡ Err e → IsRefused shares payload e
 unfolding message_in
-refused_sound complete [] e h = cc
-refused_sound complete (n ∷ fields) e h =
-    refused_from n fields (form_of n) e refl h (λ m s. not_both (n ∷ fields) m e (complete (n ∷ fields) m s) h)
+refused_sound complete shares [] e h = cc
+refused_sound complete shares (n ∷ fields) e h =
+    refused_from shares n fields (form_of shares n) e refl h (λ m s. not_both shares (n ∷ fields) m e (complete shares (n ∷ fields) m s) h)
 
 -- and back
 none_whole : (n k : ℕ) (r : Result (Content × List ℕ) WireFault) → k ≡ n → ((m : Content) → whole_form n r ≡ Ok m → ⊥) → whole_form n r ≡ Err (Malformed k)
@@ -183,17 +204,32 @@ none_whole n k (Ok (content, [])) is none = absurd (none content refl)
 none_whole n k (Ok (content, b ∷ bs)) is none = cc
 none_whole n k (Err d) is none = cc
 
-back_from : (n : ℕ) (fields : List ℕ) (form : Option Form) (e : MsgFault) → form_of n ≡ form
-    → ((m : Content) → in_form n fields form ≡ Ok m → Spells m (n ∷ fields)) → IsRefused (n ∷ fields) e → in_form n fields form ≡ Err e
-back_from n fields None (Unrecognised k) known sound h = let is : k ≡ n = h.0 in cc
-back_from n fields None (Malformed k) known sound h = absurd (h.1 known)
-back_from n fields (Some form) (Unrecognised k) known sound h =
+back_from : (shares : ShareForm) (n : ℕ) (fields : List ℕ) (form : Option Form) (e : MsgFault) → form_of shares n ≡ form
+    → ((m : Content) → in_form n fields form ≡ Ok m → Spells shares m (n ∷ fields)) → IsRefused shares (n ∷ fields) e → in_form n fields form ≡ Err e
+back_from shares n fields None (Unrecognised k) known sound h = let is : k ≡ n = h.0 in cc
+back_from shares n fields None (Malformed k) known sound h = absurd (h.1 known)
+back_from shares n fields (Some form) (Unrecognised k) known sound h =
     let bad : ◌≡◌ {A = Option Form} (Some form) None = sym known ∙ h.1 in cc
-back_from n fields (Some form) (Malformed k) known sound h =
+back_from shares n fields (Some form) (Malformed k) known sound h =
     none_whole n k (form_at form fields) h.0 (λ m e. h.2 m (sound m e))
-back_from n fields form Memory known sound h = absurd h
+back_from shares n fields form Memory known sound h = absurd h
 
-pub refused_complete : Sound → (payload : List ℕ) (e : MsgFault) → IsBytes payload → IsRefused payload e → message_in payload ≡ Err e
+pub refused_complete : Sound → (shares : ShareForm) (payload : List ℕ) (e : MsgFault) → IsBytes payload → IsRefused shares payload e → message_in shares payload ≡ Err e
 unfolding message_in
-refused_complete sound [] e bytes h = rw h refl
-refused_complete sound (n ∷ fields) e bytes h = back_from n fields (form_of n) e refl (λ m k. sound (n ∷ fields) m bytes k) h
+refused_complete sound shares [] e bytes h = rw h refl
+refused_complete sound shares (n ∷ fields) e bytes h = back_from shares n fields (form_of shares n) e refl (λ m k. sound shares (n ∷ fields) m bytes k) h
+
+-- The form of the shares decides 30 and 31 alone.
+alike_rows : (shares other : ShareForm) (n : ℕ) → n ≢ 30 → n ≢ 31 → form_of shares n ≡ form_of other n
+unfolding form_of
+alike_rows shares other n not_init not_reply = rw (ne_eqb n 30 not_init, ne_eqb n 31 not_reply) refl
+
+pub reads_alike : (shares other : ShareForm) (payload : List ℕ) → kind payload ≢ 30 → kind payload ≢ 31 → message_in shares payload ≡ message_in other payload
+unfolding message_in
+reads_alike shares other [] not_init not_reply = refl
+reads_alike shares other (n ∷ fields) not_init not_reply = ap (λ (form : Option Form). in_form n fields form) (alike_rows shares other n not_init not_reply)
+
+pub octets_alike : (payload : List ℕ) → message_in OctetString payload ≡ message_in Hybrid payload
+unfolding message_in form_of
+octets_alike [] = refl
+octets_alike (n ∷ fields) = refl

@@ -57,16 +57,22 @@ pairs_more xs i x h e =
     ∙ sym (flat_map_more pair_written [] (pairs_of (take i xs)) (pair_of x)))
 
 -- a pair is no longer than all of them
-pub pair_within : (xs : List Extension) (i : ℕ) (x : Extension) → i < length xs → x ≡ get_or xs i x
-    → length (pair_written (pair_of x)) ≤ length (pairs_written (pairs_of xs))
-pair_within [] i x h e = absurd (omega (arith, h))
-pair_within (y ∷ ys) zero x h e =
+pair_within : (xs : List Extension) (i : ℕ) (d : Extension) → i < length xs
+    → length (pair_written (pair_of (get_or xs i d))) ≤ length (pairs_written (pairs_of xs))
+pair_within [] i d h = absurd (omega (arith, h))
+pair_within (y ∷ ys) zero d h =
     let all : length (pairs_written (pairs_of (y ∷ ys))) ≡ length (pair_written (pair_of y)) + length (pairs_written (pairs_of ys)) = length-append (pair_written (pair_of y)) (pairs_written (pairs_of ys)) in
-    rw e (omega arith)
-pair_within (y ∷ ys) (suc i) x h e =
-    let all : length (pairs_written (pairs_of (y ∷ ys))) ≡ length (pair_written (pair_of y)) + length (pairs_written (pairs_of ys)) = length-append (pair_written (pair_of y)) (pairs_written (pairs_of ys)) in
-    let on : length (pair_written (pair_of x)) ≤ length (pairs_written (pairs_of ys)) = pair_within ys i x (omega (arith, h)) e in
     omega arith
+pair_within (y ∷ ys) (suc i) d h =
+    let all : length (pairs_written (pairs_of (y ∷ ys))) ≡ length (pair_written (pair_of y)) + length (pairs_written (pairs_of ys)) = length-append (pair_written (pair_of y)) (pairs_written (pairs_of ys)) in
+    let on : length (pair_written (pair_of (get_or ys i d))) ≤ length (pairs_written (pairs_of ys)) = pair_within ys i d (omega (arith, h)) in
+    omega arith
+
+pub pair_short : (xs : List Extension) (i : ℕ) (d : Extension) → i < length xs → length (pairs_written (pairs_of xs)) ≤ PAYLOAD_LIMIT
+    → length (pair_written (pair_of (get_or xs i d))) ≤ PAYLOAD_LIMIT
+pair_short xs i d h short =
+    let within : length (pair_written (pair_of (get_or xs i d))) ≤ length (pairs_written (pairs_of xs)) = pair_within xs i d h in
+    omega (arith, within, short)
 
 pub few_extensions : (xs : List Extension) → length xs ≤ length (pairs_written (pairs_of xs))
 few_extensions xs =

@@ -4,11 +4,13 @@ use Rattle.std.proofs.Common.{◌≡◌, ℕ, zero, suc, ◌+◌, Bool, true, fa
 use Rattle.std.specs.Str.{bytes_eq}
 use Rattle.std.proofs.lemmas.List.{length-append}
 use Rattle.std.proofs.lemmas.Slice.Eq.{bytes_eq-Decides}
+use Rattle.sshwire.specs.declared.share_form.ShareForm.{ShareForm}
+use Rattle.sshwire.specs.declared.share_form.ShareForm.TheVariants.{Hybrid, Mpint, OctetString}
 use Rattle.sshwire.specs.Types.{BooleanText, boolean, name_list, names_body, string, uint32}
-use Rattle.sshmsg.specs.Content.{Content, Debug, Disconnect, ExtInfo, Ignore, KexInit, KexdhInit, KexdhReply, Method, NewKeys, NoMethod, Offer, OtherMethod, Password, PasswordChange, PublicKey, PublicKeyQuery, ServiceAccept, ServiceRequest, Unimplemented, UserauthBanner, UserauthFailure, UserauthRequest, UserauthSuccess}
+use Rattle.sshmsg.specs.Content.{Content, Debug, Disconnect, ExtInfo, Ignore, KexEcdhInit, KexEcdhReply, KexInit, KexdhInit, KexdhReply, Method, NewKeys, NoMethod, Offer, OtherMethod, Password, PasswordChange, PublicKey, PublicKeyQuery, ServiceAccept, ServiceRequest, Unimplemented, UserauthBanner, UserauthFailure, UserauthRequest, UserauthSuccess}
 use Rattle.sshmsg.specs.Form.{BigNumber, Bytes, Cookie, Done, Field, FieldText, FillsForm, Flag, Form, Names, Number, Of, Reserved, Rest, Then, Utf8}
 use Rattle.sshmsg.specs.Lengths.{method_length, offer_length, pairs_length, payload_length}
-use Rattle.sshmsg.specs.Messages.{Spells, debug, disconnect, ext_info, extensions, ignore, kexdh_init, kexdh_reply, kexinit, method_form, newkeys, password, publickey, service_accept, service_request, unimplemented, userauth_banner, userauth_failure, userauth_request, userauth_success}
+use Rattle.sshmsg.specs.Messages.{Spells, debug, disconnect, ext_info, extensions, ignore, init_of, kex_ecdh_init, kex_ecdh_reply, kexdh_init, kexdh_reply, kexinit, method_form, newkeys, password, publickey, reply_of, service_accept, service_request, unimplemented, userauth_banner, userauth_failure, userauth_request, userauth_success}
 use Rattle.sshmsg.specs.Written.{method_fields, method_name, offer_written, pairs_written, written_message}
 use Rattle.sshmsg.proofs.TableLemmas.{Rows, each_form}
 
@@ -121,6 +123,24 @@ kexdh_reply_sized : Sized 1 kexdh_reply
 unfolding kexdh_reply
 kexdh_reply_sized = λ host_key f signature. omega arith
 
+kex_ecdh_init_sized : Sized 1 kex_ecdh_init
+unfolding kex_ecdh_init
+kex_ecdh_init_sized = λ share. omega arith
+
+kex_ecdh_reply_sized : Sized 1 kex_ecdh_reply
+unfolding kex_ecdh_reply
+kex_ecdh_reply_sized = λ host_key share signature. omega arith
+
+init_sized : (shares : ShareForm) → Sized 1 (init_of shares)
+init_sized Mpint = kexdh_init_sized
+init_sized OctetString = kex_ecdh_init_sized
+init_sized Hybrid = kex_ecdh_init_sized
+
+reply_sized : (shares : ShareForm) → Sized 1 (reply_of shares)
+reply_sized Mpint = kexdh_reply_sized
+reply_sized OctetString = kex_ecdh_reply_sized
+reply_sized Hybrid = kex_ecdh_reply_sized
+
 either_sized : (before : ℕ) (b : Bool) (x y : Form) → (b ≡ true → Sized before x) → (b ≡ false → Sized before y) → Sized before (cond b x y)
 either_sized before true x y h k = h refl
 either_sized before false x y h k = k refl
@@ -163,9 +183,9 @@ banner_sized : Sized 1 userauth_banner
 unfolding userauth_banner
 banner_sized = λ text language. omega arith
 
-pub spelled_length : (payload : List ℕ) (m : Content) → Spells m payload → length payload ≡ payload_length m
-spelled_length payload m s =
-    let rows : Rows (λ n form. Sized 1 form) = record {
+pub spelled_length : (shares : ShareForm) (payload : List ℕ) (m : Content) → Spells shares m payload → length payload ≡ payload_length m
+spelled_length shares payload m s =
+    let rows : Rows shares (λ n form. Sized 1 form) = record {
       disconnect = disconnect_sized;
       ignore = ignore_sized;
       unimplemented = unimplemented_sized;
@@ -175,14 +195,14 @@ spelled_length payload m s =
       ext_info = ext_info_sized;
       kexinit = kexinit_sized;
       newkeys = newkeys_sized;
-      kexdh_init = kexdh_init_sized;
-      kexdh_reply = kexdh_reply_sized;
+      init = init_sized shares;
+      reply = reply_sized shares;
       userauth_request = request_sized;
       userauth_failure = failure_sized;
       userauth_success = success_sized;
       userauth_banner = banner_sized;
     } in
-    let sized : Sized 1 s.form = each_form (λ n form. Sized 1 form) rows s.number s.form s.known in
+    let sized : Sized 1 s.form = each_form shares (λ n form. Sized 1 form) rows s.number s.form s.known in
     let all : length payload ≡ length (s.number ∷ s.fields) = ap (λ (xs : List ℕ). length xs) s.payload_is in
     let behind : 1 + length s.fields ≡ payload_length m = fills_sized 1 s.form m s.fields sized s.fills in
     omega (arith, all, behind)
@@ -272,6 +292,8 @@ written_length (KexInit offer) = let a : _ = offer_long offer in omega (arith, a
 written_length NewKeys = refl
 written_length (KexdhInit e) = let a : _ = string_long e in omega (arith, a)
 written_length (KexdhReply host_key f signature) = let a : _ = three_long host_key f signature in omega (arith, a)
+written_length (KexEcdhInit client_share) = let a : _ = string_long client_share in omega (arith, a)
+written_length (KexEcdhReply host_key server_share signature) = let a : _ = three_long host_key server_share signature in omega (arith, a)
 written_length (UserauthRequest user service m) = request_long user service m
 written_length (UserauthFailure methods partial_success) =
     let a : _ = names_then methods (boolean partial_success) in

@@ -2,11 +2,12 @@
 
 use Rattle.std.proofs.Common.{◌≡◌, ℕ, inl, inr, Option, None, Some, cond, eqb}
 use Rattle.std.proofs.lemmas.Bool.{cases_Bool, eqb-true}
+use Rattle.sshwire.specs.declared.share_form.ShareForm.{ShareForm}
 use Rattle.sshmsg.specs.Form.{Form}
-use Rattle.sshmsg.specs.Messages.{debug, disconnect, ext_info, form_of, ignore, kexdh_init, kexdh_reply, kexinit, newkeys, service_accept, service_request, unimplemented, userauth_banner, userauth_failure, userauth_request, userauth_success}
+use Rattle.sshmsg.specs.Messages.{debug, disconnect, ext_info, form_of, ignore, init_of, kexinit, newkeys, reply_of, service_accept, service_request, unimplemented, userauth_banner, userauth_failure, userauth_request, userauth_success}
 
 -- a fact of each row
-pub record Rows (P : ℕ → Form → Type 0) : Type 0 where
+pub record Rows (shares : ShareForm) (P : ℕ → Form → Type 0) : Type 0 where
   pub disconnect : P 1 disconnect
   pub ignore : P 2 ignore
   pub unimplemented : P 3 unimplemented
@@ -16,8 +17,8 @@ pub record Rows (P : ℕ → Form → Type 0) : Type 0 where
   pub ext_info : P 7 ext_info
   pub kexinit : P 20 kexinit
   pub newkeys : P 21 newkeys
-  pub kexdh_init : P 30 kexdh_init
-  pub kexdh_reply : P 31 kexdh_reply
+  pub init : P 30 (init_of shares)
+  pub reply : P 31 (reply_of shares)
   pub userauth_request : P 50 userauth_request
   pub userauth_failure : P 51 userauth_failure
   pub userauth_success : P 52 userauth_success
@@ -39,9 +40,9 @@ row P number k f form others h more e = elim (cases_Bool (eqb number k)) [
 none_left : (P : ℕ → Form → Type 0) (number : ℕ) (form : Form) → ◌≡◌ {A = Option Form} None (Some form) → P number form
 none_left P number form e = absurd (let bad : ⊥ = cc in bad)
 
-pub each_form : (P : ℕ → Form → Type 0) → Rows P → (number : ℕ) (form : Form) → form_of number ≡ Some form → P number form
+pub each_form : (shares : ShareForm) (P : ℕ → Form → Type 0) → Rows shares P → (number : ℕ) (form : Form) → form_of shares number ≡ Some form → P number form
 unfolding form_of
-each_form P rows number form =
+each_form shares P rows number form =
     row P number 1 disconnect form _ rows.disconnect
     (row P number 2 ignore form _ rows.ignore
     (row P number 3 unimplemented form _ rows.unimplemented
@@ -51,8 +52,8 @@ each_form P rows number form =
     (row P number 7 ext_info form _ rows.ext_info
     (row P number 20 kexinit form _ rows.kexinit
     (row P number 21 newkeys form _ rows.newkeys
-    (row P number 30 kexdh_init form _ rows.kexdh_init
-    (row P number 31 kexdh_reply form _ rows.kexdh_reply
+    (row P number 30 (init_of shares) form _ rows.init
+    (row P number 31 (reply_of shares) form _ rows.reply
     (row P number 50 userauth_request form _ rows.userauth_request
     (row P number 51 userauth_failure form _ rows.userauth_failure
     (row P number 52 userauth_success form _ rows.userauth_success

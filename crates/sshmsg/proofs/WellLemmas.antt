@@ -4,11 +4,12 @@ use Rattle.std.proofs.Common.{◌≡◌, ℕ, zero, suc, ◌+◌, ◌<◌, ◌^�
 use Rattle.std.specs.List.{AllByRecursion}
 use Rattle.std.specs.Str.{IsUtf8, bytes_eq}
 use Rattle.std.proofs.lemmas.List.{length-append}
+use Rattle.sshwire.specs.declared.share_form.ShareForm.{ShareForm}
+use Rattle.sshwire.specs.declared.share_form.ShareForm.TheVariants.{Hybrid, Mpint, OctetString}
 use Rattle.sshmsg.specs.Content.{Content}
 use Rattle.sshmsg.specs.Form.{Done, FieldText, FillsForm, Form, Of, Rest, Then}
-use Rattle.sshmsg.specs.Messages.{Spells, debug, disconnect, ext_info, extensions, ignore, kexdh_init, kexdh_reply, kexinit, method_form, newkeys, password, publickey, service_accept, service_request, unimplemented, userauth_banner, userauth_failure, userauth_request, userauth_success}
-use Rattle.sshmsg.specs.Owned.{IsNumber}
-use Rattle.sshmsg.specs.Written.{IsNameList, IsPair, IsString, IsWellFormed}
+use Rattle.sshmsg.specs.Messages.{Spells, debug, disconnect, ext_info, extensions, ignore, init_of, kex_ecdh_init, kex_ecdh_reply, kexdh_init, kexdh_reply, kexinit, method_form, newkeys, password, publickey, reply_of, service_accept, service_request, unimplemented, userauth_banner, userauth_failure, userauth_request, userauth_success}
+use Rattle.sshmsg.specs.Written.{IsNumber, IsNameList, IsPair, IsString, IsWellFormed}
 use Rattle.sshwire.specs.Types.{MpintText, NameListText}
 use Rattle.sshmsg.proofs.TableLemmas.{Rows, each_form}
 
@@ -101,6 +102,24 @@ kexdh_reply_well : Wells kexdh_reply
 unfolding kexdh_reply
 kexdh_reply_well = λ host_key a h f b n signature c s. (h.0, big_of f b n, s.0)
 
+kex_ecdh_init_well : Wells kex_ecdh_init
+unfolding kex_ecdh_init
+kex_ecdh_init_well = λ share a s. s.0
+
+kex_ecdh_reply_well : Wells kex_ecdh_reply
+unfolding kex_ecdh_reply
+kex_ecdh_reply_well = λ host_key a h share b s signature c z. (h.0, s.0, z.0)
+
+init_well : (shares : ShareForm) → Wells (init_of shares)
+init_well Mpint = kexdh_init_well
+init_well OctetString = kex_ecdh_init_well
+init_well Hybrid = kex_ecdh_init_well
+
+reply_well : (shares : ShareForm) → Wells (reply_of shares)
+reply_well Mpint = kexdh_reply_well
+reply_well OctetString = kex_ecdh_reply_well
+reply_well Hybrid = kex_ecdh_reply_well
+
 either_well : (b : Bool) (x y : Form) → (b ≡ true → Wells x) → (b ≡ false → Wells y) → Wells (cond b x y)
 either_well true x y h k = h refl
 either_well false x y h k = k refl
@@ -145,9 +164,9 @@ banner_well : Wells userauth_banner
 unfolding userauth_banner
 banner_well = λ text a t language b l. (t.0, l.0)
 
-pub spelled_well : (payload : List ℕ) (m : Content) → Spells m payload → IsWellFormed m
-spelled_well payload m s =
-    let rows : Rows (λ n form. Wells form) = record {
+pub spelled_well : (shares : ShareForm) (payload : List ℕ) (m : Content) → Spells shares m payload → IsWellFormed m
+spelled_well shares payload m s =
+    let rows : Rows shares (λ n form. Wells form) = record {
       disconnect = disconnect_well;
       ignore = ignore_well;
       unimplemented = unimplemented_well;
@@ -157,11 +176,11 @@ spelled_well payload m s =
       ext_info = ext_info_well;
       kexinit = kexinit_well;
       newkeys = newkeys_well;
-      kexdh_init = kexdh_init_well;
-      kexdh_reply = kexdh_reply_well;
+      init = init_well shares;
+      reply = reply_well shares;
       userauth_request = request_well;
       userauth_failure = failure_well;
       userauth_success = success_well;
       userauth_banner = banner_well;
     } in
-    fills_well s.form m s.fields (each_form (λ n form. Wells form) rows s.number s.form s.known) s.fills
+    fills_well s.form m s.fields (each_form shares (λ n form. Wells form) rows s.number s.form s.known) s.fills

@@ -1,15 +1,16 @@
 -- What is written for a message spells it.
 
-use Rattle.std.proofs.Common.{◌≡◌, ℕ, Bool, true, false, ◌||◌, List, [], ◌∷◌, ◌++◌, codes, length, refl, sym, ap, lit<}
+use Rattle.std.proofs.Common.{◌≡◌, ◌≢◌, ℕ, Bool, true, false, ◌||◌, List, [], ◌∷◌, ◌++◌, codes, length, refl, sym, ap, lit<}
 use Rattle.std.specs.List.{AllByRecursion}
 use Rattle.std.proofs.lemmas.List.{append_assoc, append-nil}
 use Rattle.std.specs.Str.{bytes_eq}
+use Rattle.sshwire.specs.declared.share_form.ShareForm.{ShareForm}
+use Rattle.sshwire.specs.declared.share_form.ShareForm.TheVariants.{Hybrid, Mpint, OctetString}
 use Rattle.sshwire.specs.Types.{BooleanText, MpintText, NameListText, boolean, name_list, string, uint32}
-use Rattle.sshmsg.specs.Content.{Content, Debug, Disconnect, ExtInfo, Ignore, KexInit, KexdhInit, KexdhReply, Method, NewKeys, NoMethod, Offer, OtherMethod, Password, PasswordChange, PublicKey, PublicKeyQuery, ServiceAccept, ServiceRequest, Unimplemented, UserauthBanner, UserauthFailure, UserauthRequest, UserauthSuccess}
+use Rattle.sshmsg.specs.Content.{Content, Debug, Disconnect, ExtInfo, Ignore, KexEcdhInit, KexEcdhReply, KexInit, KexdhInit, KexdhReply, Method, NewKeys, NoMethod, Offer, OtherMethod, Password, PasswordChange, PublicKey, PublicKeyQuery, ServiceAccept, ServiceRequest, Unimplemented, UserauthBanner, UserauthFailure, UserauthRequest, UserauthSuccess}
 use Rattle.sshmsg.specs.Form.{Bytes, Done, FillsForm, Form, Rest, Then}
-use Rattle.sshmsg.specs.Messages.{Spells, debug, disconnect, ext_info, extensions, form_of, ignore, is_named, kexdh_init, kexdh_reply, kexinit, method_form, newkeys, password, publickey, service_accept, service_request, unimplemented, userauth_banner, userauth_failure, userauth_request, userauth_success}
-use Rattle.sshmsg.specs.Owned.{IsNumber}
-use Rattle.sshmsg.specs.Written.{IsMethod, IsNameList, IsOffer, IsPair, IsString, IsWellFormed, method_fields, method_name, offer_written, pairs_written, written_message}
+use Rattle.sshmsg.specs.Messages.{Spells, debug, disconnect, ext_info, extensions, form_of, ignore, is_named, kex_ecdh_init, kex_ecdh_reply, kexdh_init, kexdh_reply, kexinit, method_form, newkeys, password, publickey, service_accept, service_request, unimplemented, userauth_banner, userauth_failure, userauth_request, userauth_success}
+use Rattle.sshmsg.specs.Written.{IsMessageOf, IsMethod, IsNumber, IsNameList, IsOffer, IsPair, IsString, IsWellFormed, method_fields, method_name, offer_written, pairs_written, written_message}
 
 boolean_text : (value : Bool) → BooleanText value (boolean value)
 boolean_text true = refl
@@ -195,6 +196,25 @@ kexdh_reply_fills host_key f signature (k, n, s) = (
   refl,
 )
 
+kex_ecdh_reply_fills : (host_key share signature : List ℕ) → IsWellFormed (KexEcdhReply host_key share signature)
+    → FillsForm kex_ecdh_reply (KexEcdhReply host_key share signature) (string host_key ++ (string share ++ string signature))
+unfolding kex_ecdh_reply
+kex_ecdh_reply_fills host_key share signature (k, c, s) = (
+  host_key,
+  string host_key,
+  string share ++ string signature,
+  (k, refl),
+  (
+    share,
+    string share,
+    string signature,
+    (c, refl),
+    (signature, string signature, [], (s, refl), (refl, refl), sym (append-nil (string signature))),
+    refl,
+  ),
+  refl,
+)
+
 failure_fills : (methods : List (List ℕ)) (partial_success : Bool) → IsNameList methods
     → FillsForm userauth_failure (UserauthFailure methods partial_success) (name_list methods ++ boolean partial_success)
 unfolding userauth_failure
@@ -342,33 +362,53 @@ request_fills user service m (utf8, u, s, n, h) = (
   refl,
 )
 
-pub written_spells : (m : Content) → IsWellFormed m → Spells m (written_message m)
+-- where shares are octet strings
+ecdh_init_spells : (shares : ShareForm) (share : List ℕ) → shares ≢ Mpint → IsString share → Spells shares (KexEcdhInit share) (30 ∷ string share)
+unfolding form_of kex_ecdh_init
+ecdh_init_spells Mpint share not_mpint h = absurd (not_mpint refl)
+ecdh_init_spells OctetString share not_mpint h =
+    record { number = 30; form = kex_ecdh_init; fields = _; known = refl; fills = last_string (λ bytes. Done (KexEcdhInit bytes)) (KexEcdhInit share) share h (refl, refl); payload_is = refl }
+ecdh_init_spells Hybrid share not_mpint h =
+    record { number = 30; form = kex_ecdh_init; fields = _; known = refl; fills = last_string (λ bytes. Done (KexEcdhInit bytes)) (KexEcdhInit share) share h (refl, refl); payload_is = refl }
+
+ecdh_reply_spells : (shares : ShareForm) (host_key share signature : List ℕ) → shares ≢ Mpint → IsWellFormed (KexEcdhReply host_key share signature)
+    → Spells shares (KexEcdhReply host_key share signature) (31 ∷ (string host_key ++ (string share ++ string signature)))
+unfolding form_of
+ecdh_reply_spells Mpint host_key share signature not_mpint h = absurd (not_mpint refl)
+ecdh_reply_spells OctetString host_key share signature not_mpint h =
+    record { number = 31; form = kex_ecdh_reply; fields = _; known = refl; fills = kex_ecdh_reply_fills host_key share signature h; payload_is = refl }
+ecdh_reply_spells Hybrid host_key share signature not_mpint h =
+    record { number = 31; form = kex_ecdh_reply; fields = _; known = refl; fills = kex_ecdh_reply_fills host_key share signature h; payload_is = refl }
+
+pub written_spells : (shares : ShareForm) (m : Content) → IsMessageOf shares m → IsWellFormed m → Spells shares m (written_message m)
 unfolding written_message form_of ignore unimplemented service_request service_accept newkeys userauth_success
-written_spells (Disconnect reason description language) h =
+written_spells shares (Disconnect reason description language) o h =
     record { number = 1; form = disconnect; fields = _; known = refl; fills = disconnect_fills reason description language h; payload_is = refl }
-written_spells (Ignore content) h =
+written_spells shares (Ignore content) o h =
     record { number = 2; form = ignore; fields = _; known = refl; fills = last_string (λ bytes. Done (Ignore bytes)) (Ignore content) content h (refl, refl); payload_is = refl }
-written_spells (Unimplemented n) h =
+written_spells shares (Unimplemented n) o h =
     record { number = 3; form = unimplemented; fields = _; known = refl; fills = (n, uint32 n, [], (h, refl), (refl, refl), refl); payload_is = refl }
-written_spells (Debug always_display text language) h =
+written_spells shares (Debug always_display text language) o h =
     record { number = 4; form = debug; fields = _; known = refl; fills = debug_fills always_display text language h; payload_is = refl }
-written_spells (ServiceRequest service) h =
+written_spells shares (ServiceRequest service) o h =
     record { number = 5; form = service_request; fields = _; known = refl; fills = last_string (λ bytes. Done (ServiceRequest bytes)) (ServiceRequest service) service h (refl, refl); payload_is = refl }
-written_spells (ServiceAccept service) h =
+written_spells shares (ServiceAccept service) o h =
     record { number = 6; form = service_accept; fields = _; known = refl; fills = last_string (λ bytes. Done (ServiceAccept bytes)) (ServiceAccept service) service h (refl, refl); payload_is = refl }
-written_spells (ExtInfo pairs) h =
+written_spells shares (ExtInfo pairs) o h =
     record { number = 7; form = ext_info; fields = _; known = refl; fills = ext_info_fills pairs h; payload_is = refl }
-written_spells (KexInit offer) h =
+written_spells shares (KexInit offer) o h =
     record { number = 20; form = kexinit; fields = _; known = refl; fills = offer_fills offer h; payload_is = refl }
-written_spells NewKeys h = record { number = 21; form = newkeys; fields = []; known = refl; fills = (refl, refl); payload_is = refl }
-written_spells (KexdhInit e) h =
-    record { number = 30; form = kexdh_init; fields = _; known = refl; fills = kexdh_init_fills e h; payload_is = refl }
-written_spells (KexdhReply host_key f signature) h =
-    record { number = 31; form = kexdh_reply; fields = _; known = refl; fills = kexdh_reply_fills host_key f signature h; payload_is = refl }
-written_spells (UserauthRequest user service m) h =
+written_spells shares NewKeys o h = record { number = 21; form = newkeys; fields = []; known = refl; fills = (refl, refl); payload_is = refl }
+written_spells shares (KexdhInit e) o h =
+    record { number = 30; form = kexdh_init; fields = _; known = rw o refl; fills = kexdh_init_fills e h; payload_is = refl }
+written_spells shares (KexdhReply host_key f signature) o h =
+    record { number = 31; form = kexdh_reply; fields = _; known = rw o refl; fills = kexdh_reply_fills host_key f signature h; payload_is = refl }
+written_spells shares (KexEcdhInit client_share) o h = ecdh_init_spells shares client_share o h
+written_spells shares (KexEcdhReply host_key server_share signature) o h = ecdh_reply_spells shares host_key server_share signature o h
+written_spells shares (UserauthRequest user service m) o h =
     record { number = 50; form = userauth_request; fields = _; known = refl; fills = request_fills user service m h; payload_is = refl }
-written_spells (UserauthFailure methods partial_success) h =
+written_spells shares (UserauthFailure methods partial_success) o h =
     record { number = 51; form = userauth_failure; fields = _; known = refl; fills = failure_fills methods partial_success h; payload_is = refl }
-written_spells UserauthSuccess h = record { number = 52; form = userauth_success; fields = []; known = refl; fills = (refl, refl); payload_is = refl }
-written_spells (UserauthBanner text language) h =
+written_spells shares UserauthSuccess o h = record { number = 52; form = userauth_success; fields = []; known = refl; fills = (refl, refl); payload_is = refl }
+written_spells shares (UserauthBanner text language) o h =
     record { number = 53; form = userauth_banner; fields = _; known = refl; fills = banner_fills text language h; payload_is = refl }

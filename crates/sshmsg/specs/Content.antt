@@ -1,4 +1,4 @@
--- What messages say, as plain data: RFC 4252, RFC 4253 and, for EXT_INFO, RFC 8308.
+-- What messages say, as plain data: RFC 4252, RFC 4253, RFC 5656 section 4 and, for EXT_INFO, RFC 8308.
 
 use Rattle.std.specs.Prelude.{ℕ, Bool, List}
 
@@ -39,6 +39,8 @@ pub data Content : Type 0 where
   NewKeys : Content
   KexdhInit : List ℕ → Content
   KexdhReply : List ℕ → List ℕ → List ℕ → Content
+  KexEcdhInit : List ℕ → Content
+  KexEcdhReply : List ℕ → List ℕ → List ℕ → Content
   UserauthRequest : List ℕ → List ℕ → Method → Content
   UserauthFailure : List (List ℕ) → Bool → Content
   UserauthSuccess : Content

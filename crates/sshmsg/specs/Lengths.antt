@@ -2,7 +2,7 @@
 
 use Rattle.std.specs.Prelude.{ℕ, ◌+◌, List, [], ◌∷◌, length}
 use Rattle.sshwire.specs.Types.{names_body}
-use Rattle.sshmsg.specs.Content.{Content, Debug, Disconnect, ExtInfo, Ignore, KexInit, KexdhInit, KexdhReply, Method, NewKeys, NoMethod, Offer, OtherMethod, Password, PasswordChange, PublicKey, PublicKeyQuery, ServiceAccept, ServiceRequest, Unimplemented, UserauthBanner, UserauthFailure, UserauthRequest, UserauthSuccess}
+use Rattle.sshmsg.specs.Content.{Content, Debug, Disconnect, ExtInfo, Ignore, KexEcdhInit, KexEcdhReply, KexInit, KexdhInit, KexdhReply, Method, NewKeys, NoMethod, Offer, OtherMethod, Password, PasswordChange, PublicKey, PublicKeyQuery, ServiceAccept, ServiceRequest, Unimplemented, UserauthBanner, UserauthFailure, UserauthRequest, UserauthSuccess}
 use Rattle.sshmsg.specs.Written.{method_name}
 
 -- the pairs of an EXT_INFO: two strings each
@@ -40,6 +40,8 @@ payload_length (KexInit offer) = length offer.cookie + offer_length offer + 46
 payload_length NewKeys = 1
 payload_length (KexdhInit e) = length e + 5
 payload_length (KexdhReply host_key f signature) = length host_key + length f + length signature + 13
+payload_length (KexEcdhInit client_share) = length client_share + 5
+payload_length (KexEcdhReply host_key server_share signature) = length host_key + length server_share + length signature + 13
 payload_length (UserauthRequest user service request) =
     length user + length service + length (method_name request) + method_length request + 13
 payload_length (UserauthFailure methods partial_success) = length (names_body methods) + 6

@@ -3,6 +3,5 @@ pub mod Form
 pub mod Lengths
 pub mod Messages
 pub mod Numbers
-pub mod Owned
 pub mod View
 pub mod Written

@@ -1,12 +1,14 @@
--- The messages: RFC 4253 sections 7 to 11, RFC 4252 sections 5 to 8, and message 7 of RFC 8308 section 2.3.
+-- The messages: RFC 4253 sections 7 to 11, RFC 5656 section 4, RFC 4252 sections 5 to 8, and message 7 of RFC 8308 section 2.3.
 
 use Rattle.std.specs.Prelude.{◌≡◌, ◌==◌, ◌||◌, Bool, ℕ, zero, suc, if◌then◌else◌, List, [], ◌∷◌, ◌++◌, codes, Option, None, Some, Result, Ok, Err}
 use Rattle.std.specs.Str.{bytes_eq}
 use Rattle.sshwire.specs.declared.fault.WireFault.{WireFault}
+use Rattle.sshwire.specs.declared.share_form.ShareForm.{ShareForm}
+use Rattle.sshwire.specs.declared.share_form.ShareForm.TheVariants.{Hybrid, Mpint, OctetString}
 use Rattle.sshmsg.specs.declared.fault.MsgFault.{MsgFault}
 use Rattle.sshmsg.specs.declared.fault.MsgFault.TheVariants.{Malformed, Unrecognised}
 use Rattle.sshmsg.specs.declared.numbers.TheConstants.{SSH_MSG_DEBUG, SSH_MSG_DISCONNECT, SSH_MSG_EXT_INFO, SSH_MSG_IGNORE, SSH_MSG_KEXDH_INIT, SSH_MSG_KEXDH_REPLY, SSH_MSG_KEXINIT, SSH_MSG_NEWKEYS, SSH_MSG_SERVICE_ACCEPT, SSH_MSG_SERVICE_REQUEST, SSH_MSG_UNIMPLEMENTED, SSH_MSG_USERAUTH_BANNER, SSH_MSG_USERAUTH_FAILURE, SSH_MSG_USERAUTH_REQUEST, SSH_MSG_USERAUTH_SUCCESS}
-use Rattle.sshmsg.specs.Content.{Content, Debug, Disconnect, ExtInfo, Ignore, KexInit, KexdhInit, KexdhReply, NewKeys, NoMethod, OtherMethod, Password, PasswordChange, PublicKey, PublicKeyQuery, ServiceAccept, ServiceRequest, Unimplemented, UserauthBanner, UserauthFailure, UserauthRequest, UserauthSuccess}
+use Rattle.sshmsg.specs.Content.{Content, Debug, Disconnect, ExtInfo, Ignore, KexEcdhInit, KexEcdhReply, KexInit, KexdhInit, KexdhReply, NewKeys, NoMethod, OtherMethod, Password, PasswordChange, PublicKey, PublicKeyQuery, ServiceAccept, ServiceRequest, Unimplemented, UserauthBanner, UserauthFailure, UserauthRequest, UserauthSuccess}
 use Rattle.sshmsg.specs.Form.{BigNumber, Bytes, Cookie, Done, FillsForm, Flag, Form, Names, Number, Reserved, Rest, Then, Utf8, form_at}
 
 -- 1, RFC 4253 section 11.1
@@ -66,12 +68,30 @@ kexinit =
 unfoldable pub newkeys : Form
 newkeys = Done NewKeys
 
--- 30 and 31, RFC 4253 section 8
+-- 30 and 31 where shares are mpints, RFC 4253 section 8
 unfoldable pub kexdh_init : Form
 kexdh_init = Then BigNumber λ e. Done (KexdhInit e)
 
 unfoldable pub kexdh_reply : Form
 kexdh_reply = Then Bytes λ host_key. Then BigNumber λ f. Then Bytes λ signature. Done (KexdhReply host_key f signature)
+
+-- 30 and 31 where shares are octet strings, RFC 5656 section 4 (RFC 8731 and the hybrids use them)
+unfoldable pub kex_ecdh_init : Form
+kex_ecdh_init = Then Bytes λ client_share. Done (KexEcdhInit client_share)
+
+unfoldable pub kex_ecdh_reply : Form
+kex_ecdh_reply = Then Bytes λ host_key. Then Bytes λ server_share. Then Bytes λ signature. Done (KexEcdhReply host_key server_share signature)
+
+-- the two messages of an exchange whose shares have this form
+abbrev pub init_of : ShareForm → Form
+init_of Mpint = kexdh_init
+init_of OctetString = kex_ecdh_init
+init_of Hybrid = kex_ecdh_init
+
+abbrev pub reply_of : ShareForm → Form
+reply_of Mpint = kexdh_reply
+reply_of OctetString = kex_ecdh_reply
+reply_of Hybrid = kex_ecdh_reply
 
 -- the fields of the method 'password', RFC 4252 section 8
 unfoldable pub password : List ℕ → List ℕ → Form
@@ -115,9 +135,9 @@ userauth_success = Done UserauthSuccess
 unfoldable pub userauth_banner : Form
 userauth_banner = Then Bytes λ text. Then Bytes λ language. Done (UserauthBanner text language)
 
--- the form of each number that has one
-unfoldable pub form_of : ℕ → Option Form
-form_of n =
+-- the form of each number that has one, in an exchange whose shares have this form
+unfoldable pub form_of : ShareForm → ℕ → Option Form
+form_of shares n =
     if n == SSH_MSG_DISCONNECT then Some disconnect
     else if n == SSH_MSG_IGNORE then Some ignore
     else if n == SSH_MSG_UNIMPLEMENTED then Some unimplemented
@@ -127,8 +147,8 @@ form_of n =
     else if n == SSH_MSG_EXT_INFO then Some ext_info
     else if n == SSH_MSG_KEXINIT then Some kexinit
     else if n == SSH_MSG_NEWKEYS then Some newkeys
-    else if n == SSH_MSG_KEXDH_INIT then Some kexdh_init
-    else if n == SSH_MSG_KEXDH_REPLY then Some kexdh_reply
+    else if n == SSH_MSG_KEXDH_INIT then Some (init_of shares)
+    else if n == SSH_MSG_KEXDH_REPLY then Some (reply_of shares)
     else if n == SSH_MSG_USERAUTH_REQUEST then Some userauth_request
     else if n == SSH_MSG_USERAUTH_FAILURE then Some userauth_failure
     else if n == SSH_MSG_USERAUTH_SUCCESS then Some userauth_success
@@ -136,11 +156,11 @@ form_of n =
     else None
 
 -- the payload spells the message: its number, and fields that fill the number's form
-pub record Spells (content : Content) (payload : List ℕ) : Type 0 where
+pub record Spells (shares : ShareForm) (content : Content) (payload : List ℕ) : Type 0 where
   pub number : ℕ
   pub form : Form
   pub fields : List ℕ
-  pub known : form_of number ≡ Some form
+  pub known : form_of shares number ≡ Some form
   pub fills : FillsForm form content fields
   pub payload_is : payload ≡ number ∷ fields
 
@@ -155,6 +175,6 @@ in_form n fields None = Err (Unrecognised n)
 in_form n fields (Some form) = whole_form n (form_at form fields)
 
 -- the message that a payload spells, or why there is none: no row of its number, or a row and no message
-unfoldable pub message_in : List ℕ → Result Content MsgFault
-message_in [] = Err (Malformed 0)
-message_in (n ∷ fields) = in_form n fields (form_of n)
+unfoldable pub message_in : ShareForm → List ℕ → Result Content MsgFault
+message_in shares [] = Err (Malformed 0)
+message_in shares (n ∷ fields) = in_form n fields (form_of shares n)

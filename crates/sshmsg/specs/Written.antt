@@ -1,12 +1,13 @@
 -- The written form of a message: its number and its fields in order, each in the one form that is written for it.
 
-use Rattle.std.specs.Prelude.{ℕ, ◌^◌, ◌<◌, ◌≡◌, false, true, List, [], ◌∷◌, ◌++◌, codes, flat_map, length}
+use Rattle.std.specs.Prelude.{ℕ, ◌^◌, ◌<◌, ◌≡◌, ◌≢◌, false, true, List, [], ◌∷◌, ◌++◌, codes, flat_map, length}
 use Rattle.std.specs.List.{AllByRecursion}
 use Rattle.std.specs.Str.{IsUtf8}
-use Rattle.sshwire.specs.Types.{AreNames, boolean, name_list, names_body, string, uint32}
-use Rattle.sshmsg.specs.Content.{Content, Debug, Disconnect, ExtInfo, Ignore, KexInit, KexdhInit, KexdhReply, Method, NewKeys, NoMethod, Offer, OtherMethod, Password, PasswordChange, PublicKey, PublicKeyQuery, ServiceAccept, ServiceRequest, Unimplemented, UserauthBanner, UserauthFailure, UserauthRequest, UserauthSuccess}
+use Rattle.sshwire.specs.Types.{AreNames, IsBytes, IsShortestBody, boolean, name_list, names_body, string, uint32}
+use Rattle.sshwire.specs.declared.share_form.ShareForm.{ShareForm}
+use Rattle.sshwire.specs.declared.share_form.ShareForm.TheVariants.{Mpint}
+use Rattle.sshmsg.specs.Content.{Content, Debug, Disconnect, ExtInfo, Ignore, KexEcdhInit, KexEcdhReply, KexInit, KexdhInit, KexdhReply, Method, NewKeys, NoMethod, Offer, OtherMethod, Password, PasswordChange, PublicKey, PublicKeyQuery, ServiceAccept, ServiceRequest, Unimplemented, UserauthBanner, UserauthFailure, UserauthRequest, UserauthSuccess}
 use Rattle.sshmsg.specs.Messages.{is_named}
-use Rattle.sshmsg.specs.Owned.{IsNumber}
 
 -- the pairs of an EXT_INFO
 abbrev pub pair_written : List ℕ × List ℕ → List ℕ
@@ -62,6 +63,8 @@ written_message (KexInit offer) = 20 ∷ offer_written offer
 written_message NewKeys = 21 ∷ []
 written_message (KexdhInit e) = 30 ∷ string e
 written_message (KexdhReply host_key f signature) = 31 ∷ (string host_key ++ (string f ++ string signature))
+written_message (KexEcdhInit client_share) = 30 ∷ string client_share
+written_message (KexEcdhReply host_key server_share signature) = 31 ∷ (string host_key ++ (string server_share ++ string signature))
 written_message (UserauthRequest user service method) =
     50 ∷ (string user ++ (string service ++ (string (method_name method) ++ method_fields method)))
 written_message (UserauthFailure methods partial_success) = 51 ∷ (name_list methods ++ boolean partial_success)
@@ -72,6 +75,12 @@ written_message (UserauthBanner text language) = 53 ∷ (string text ++ string l
 -- names are names, mpints are the shortest, the user is UTF-8, a cookie has 16 bytes.
 abbrev pub IsString : List ℕ → Type 0
 IsString bytes = length bytes < 2 ^ 32
+
+-- the body of an mpint
+pub record IsNumber (body : List ℕ) : Type 0 where
+  pub bytes : IsBytes body
+  pub shortest : IsShortestBody body
+  pub short : length body < 2 ^ 32
 
 pub record IsNameList (names : List (List ℕ)) : Type 0 where
   pub each : AreNames names
@@ -113,8 +122,19 @@ IsWellFormed (KexInit offer) = IsOffer offer
 IsWellFormed NewKeys = Unit {0}
 IsWellFormed (KexdhInit e) = IsNumber e
 IsWellFormed (KexdhReply host_key f signature) = IsString host_key × IsNumber f × IsString signature
+IsWellFormed (KexEcdhInit client_share) = IsString client_share
+IsWellFormed (KexEcdhReply host_key server_share signature) = IsString host_key × IsString server_share × IsString signature
 IsWellFormed (UserauthRequest user service method) =
     IsUtf8 user × IsString user × IsString service × IsString (method_name method) × IsMethod method
 IsWellFormed (UserauthFailure methods partial_success) = IsNameList methods
 IsWellFormed UserauthSuccess = Unit {0}
 IsWellFormed (UserauthBanner text language) = IsString text × IsString language
+
+-- a message that an exchange with shares of this form has: where shares are mpints 30 and 31 are those of RFC 4253 section 8,
+-- else those of RFC 5656 section 4; every other message is in each
+abbrev pub IsMessageOf : ShareForm → Content → Type 0
+IsMessageOf shares (KexdhInit e) = shares ≡ Mpint
+IsMessageOf shares (KexdhReply host_key f signature) = shares ≡ Mpint
+IsMessageOf shares (KexEcdhInit client_share) = shares ≢ Mpint
+IsMessageOf shares (KexEcdhReply host_key server_share signature) = shares ≢ Mpint
+IsMessageOf shares _ = Unit {0}

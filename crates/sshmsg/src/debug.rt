@@ -12,7 +12,7 @@ impl fmt::Debug for Hidden {
     }
 }
 
-impl fmt::Debug for OtherMethod {
+impl<'a> fmt::Debug for OtherMethod<'a> {
     /// The fields, which may hold a secret, are not printed.
     fn fmt<W: fmt::Write>(&self, f: &mut fmt::Formatter<W>) -> fmt::Result {
         f.debug_struct("OtherMethod")
@@ -22,7 +22,7 @@ impl fmt::Debug for OtherMethod {
     }
 }
 
-impl fmt::Debug for Method {
+impl<'a> fmt::Debug for Method<'a> {
     /// Passwords and signatures are not printed.
     fn fmt<W: fmt::Write>(&self, f: &mut fmt::Formatter<W>) -> fmt::Result {
         match self {
@@ -52,7 +52,7 @@ impl fmt::Debug for Method {
     }
 }
 
-impl fmt::Debug for Message {
+impl<'a> fmt::Debug for Message<'a> {
     /// Passwords, signatures and the bytes of an IGNORE are not printed.
     fn fmt<W: fmt::Write>(&self, f: &mut fmt::Formatter<W>) -> fmt::Result {
         match self {
@@ -104,6 +104,20 @@ impl fmt::Debug for Message {
                 .debug_struct("KexdhReply")
                 .field("host_key", host_key)
                 .field("f", share)
+                .field("signature", &Hidden)
+                .finish(),
+            Message::KexEcdhInit { client_share } => f
+                .debug_struct("KexEcdhInit")
+                .field("client_share", client_share)
+                .finish(),
+            Message::KexEcdhReply {
+                host_key,
+                server_share,
+                ..
+            } => f
+                .debug_struct("KexEcdhReply")
+                .field("host_key", host_key)
+                .field("server_share", server_share)
                 .field("signature", &Hidden)
                 .finish(),
             Message::UserauthRequest {

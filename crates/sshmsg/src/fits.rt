@@ -1,7 +1,7 @@
 //! How long the payload of a message is.
 
 ghost use Rattle.sshwire.specs.declared.limits.TheConstants.{PAYLOAD_LIMIT};
-ghost use Rattle.std.specs.Prelude.{◌≡◌, ◌<◌, ◌^◌, ◌++◌, length, nat_le};
+ghost use Rattle.std.specs.Prelude.{◌≡◌, ◌≤◌, ◌<◌, ◌^◌, ◌++◌, length, nat_le};
 ghost use Rattle.sshwire.specs.Types.{string};
 ghost use Rattle.sshmsg.specs.Content as content;
 ghost use Rattle.sshmsg.specs.View.{content_of, method_of, offer_of, pair_of, pairs_of};
@@ -10,14 +10,28 @@ ghost use Rattle.sshmsg.specs.Written.{method_fields, method_name, pair_written,
 use crate::message::{Extension, KexInit, Message, Method};
 use sshwire::PAYLOAD_LIMIT;
 
-impl Message {
+impl<'a> Message<'a> {
     /// Whether the payload that [`write`](crate::write) appends has at most 32768 bytes. Takes no
     /// memory.
-    #[tactic(auto, unfolding(crate::specs::Written::written_message))]
     pub fn fits(&self) -> bool
         ensures { result ≡ nat_le (length (written_message (content_of self.now))) PAYLOAD_LIMIT }
     {
-        let len = match self {
+        self.len() <= PAYLOAD_LIMIT as u128
+    }
+
+    /// How much room to ask for before the message is written.
+    pub(crate) fn room(&self) -> usize
+        requires { length (written_message (content_of self.now)) ≤ PAYLOAD_LIMIT }
+    {
+        self.len() as usize
+    }
+
+    /// The length of the payload, or some length above the limit where its own is.
+    #[tactic(auto, unfolding(crate::specs::Written::written_message))]
+    fn len(&self) -> u128
+        ensures { nat_le result PAYLOAD_LIMIT ≡ nat_le (length (written_message (content_of self.now))) PAYLOAD_LIMIT }
+    {
+        match self {
             Message::Disconnect {
                 description,
                 language,
@@ -37,6 +51,12 @@ impl Message {
                 f,
                 signature,
             } => 1 + string_len(host_key) + string_len(f.body()) + string_len(signature),
+            Message::KexEcdhInit { client_share } => 1 + string_len(client_share),
+            Message::KexEcdhReply {
+                host_key,
+                server_share,
+                signature,
+            } => 1 + string_len(host_key) + string_len(server_share) + string_len(signature),
             Message::UserauthRequest {
                 user,
                 service,
@@ -47,8 +67,7 @@ impl Message {
             Message::UserauthBanner { text, language } => {
                 1 + string_len(text) + string_len(language)
             }
-        };
-        len <= PAYLOAD_LIMIT as u128
+        }
     }
 }
 
@@ -59,9 +78,11 @@ fn string_len(bytes: &[u8]) -> u128
 }
 
 #[tactic(auto, unfolding(crate::specs::Written::written_message))]
-fn kexinit_len(kexinit: &KexInit) -> u128
+fn kexinit_len(kexinit: &KexInit<'_>) -> u128
     ensures { result ≡ length (written_message (content.KexInit (offer_of kexinit.now))) }
 {
+    let cookie = kexinit.cookie;
+    let cookie_len = cookie.as_slice().len() as u128;
     let algorithms = kexinit.kex_algorithms.written_len() as u128
         + kexinit.server_host_key_algorithms.written_len() as u128
         + kexinit.encryption_client_to_server.written_len() as u128
@@ -72,11 +93,11 @@ fn kexinit_len(kexinit: &KexInit) -> u128
         + kexinit.compression_server_to_client.written_len() as u128
         + kexinit.languages_client_to_server.written_len() as u128
         + kexinit.languages_server_to_client.written_len() as u128;
-    22 + algorithms
+    6 + cookie_len + algorithms
 }
 
 /// The name of a method and its fields.
-fn method_len(method: &Method) -> u128
+fn method_len(method: &Method<'_>) -> u128
     ensures len { result ≡ length (string (method_name (method_of method.now)) ++ method_fields (method_of method.now)) }
     ensures bounded { result < 2 ^ 68 }
 {
@@ -96,7 +117,7 @@ fn method_len(method: &Method) -> u128
 
 /// The length of an EXT_INFO, or some length above the limit where its own is.
 #[tactic(auto, using(crate::proofs::LengthLemmas::too_long, crate::proofs::LengthLemmas::length_more, crate::proofs::LengthLemmas::length_all))]
-fn ext_info_len(extensions: &[Extension]) -> u128
+fn ext_info_len(extensions: &[Extension<'_>]) -> u128
     ensures { nat_le result PAYLOAD_LIMIT ≡ nat_le (length (written_message (content.ExtInfo (pairs_of extensions.now)))) PAYLOAD_LIMIT }
 {
     let mut len = 5;
@@ -104,7 +125,7 @@ fn ext_info_len(extensions: &[Extension]) -> u128
         if len > PAYLOAD_LIMIT as u128 {
             return len;
         }
-        len += string_len(&extension.name) + string_len(&extension.value);
+        len += string_len(extension.name) + string_len(extension.value);
     }
     len
 }

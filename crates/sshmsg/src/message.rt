@@ -3,52 +3,13 @@
 ghost use Rattle.std.specs.Prelude.{◌≡◌, false, true};
 
 use sshwire::{Mpint, NameList};
-use std::alloc::Global;
 use std::marker::Model;
-
-/// The number of an mpint, owned. Contracts see its bytes.
-#[derive(Debug, Drop)]
-pub struct MpintBuf {
-    body: Vec<u8>,
-}
-
-impl Model for MpintBuf {
-    ghost use Rattle.std.specs.Prelude.{List, ℕ};
-    ghost use Rattle.sshmsg.specs.Owned.{IsNumber};
-
-    ghost Value = { List ℕ };
-
-    ghost view = { λ m. m.body.items };
-
-    ghost invariant = { λ m. IsNumber m.body.items };
-}
-
-impl MpintBuf {
-    ghost use Rattle.std.specs.Prelude.{IfOk};
-    ghost use Rattle.sshmsg.specs.Owned.{IsNumber};
-
-    /// A copy of the number. `AllocError` where a growth was refused.
-    pub fn of(alloc: Global, number: &Mpint<'_>) -> Result<MpintBuf, std::alloc::AllocError>
-        ensures { IfOk result (λ m. m ≡ number.now) }
-    {
-        let body = Vec::from_slice(alloc, number.body())?;
-        Ok(MpintBuf { body })
-    }
-
-    /// The bytes of the number. Takes no memory.
-    pub fn body(&self) -> &[u8]
-        ensures body { result.now ≡ self.now }
-        ensures number { IsNumber self.now }
-    {
-        &self.body
-    }
-}
 
 /// The lists of a KEXINIT (RFC 4253 section 7.1). Its reserved word isn't part of it.
 #[derive(Debug, Drop)]
-pub struct KexInit {
+pub struct KexInit<'a> {
     /// 16 random bytes.
-    pub cookie: [u8; 16],
+    pub cookie: &'a [u8; 16],
     /// Key exchange methods, markers included.
     pub kex_algorithms: NameList,
     /// Algorithms of the server's host key.
@@ -75,34 +36,34 @@ pub struct KexInit {
 
 /// One extension of an EXT_INFO (RFC 8308 section 2.3).
 #[derive(Debug, Drop)]
-pub struct Extension {
+pub struct Extension<'a> {
     /// Its name, any bytes.
-    pub name: Vec<u8>,
+    pub name: &'a [u8],
     /// Its value, any bytes.
-    pub value: Vec<u8>,
+    pub value: &'a [u8],
 }
 
 /// A method that is none of `none`, `password` and `publickey`, with its fields unread.
 ///
 /// Contracts see the name and the fields. `Debug` prints the name alone.
 #[derive(Drop)]
-pub struct OtherMethod {
-    name: Vec<u8>,
-    fields: Vec<u8>,
+pub struct OtherMethod<'a> {
+    name: &'a [u8],
+    fields: &'a [u8],
 }
 
-impl Model for OtherMethod {
+impl<'a> Model for OtherMethod<'a> {
     ghost use Rattle.std.specs.Prelude.{◌≡◌, List, false, ℕ};
     ghost use Rattle.sshmsg.specs.Messages.{is_named};
 
     ghost Value = { List ℕ × List ℕ };
 
-    ghost view = { λ m. (m.name.items, m.fields.items) };
+    ghost view = { λ m. (m.name.now, m.fields.now) };
 
-    ghost invariant = { λ m. is_named m.name.items ≡ false };
+    ghost invariant = { λ m. is_named m.name.now ≡ false };
 }
 
-impl OtherMethod {
+impl<'a> OtherMethod<'a> {
     ghost use Rattle.sshmsg.specs.Messages.{is_named};
 
     /// Whether a name is one of `none`, `password` and `publickey`. Takes no memory.
@@ -116,75 +77,75 @@ impl OtherMethod {
 
     /// The method of this name. The caller's condition is that the name isn't one of the three, which
     /// [`is_known`](OtherMethod::is_known) tells. Takes no memory.
-    pub fn new(name: Vec<u8>, fields: Vec<u8>) -> OtherMethod
-        requires { is_named name.items ≡ false }
-        ensures { result ≡ (name.items, fields.items) }
+    pub fn new(name: &'a [u8], fields: &'a [u8]) -> OtherMethod<'a>
+        requires { is_named name.now ≡ false }
+        ensures { result ≡ (name.now, fields.now) }
     {
         OtherMethod { name, fields }
     }
 
     /// The method's name. Takes no memory.
-    pub fn name(&self) -> &[u8]
+    pub fn name(&self) -> &'a [u8]
         ensures name { result.now ≡ self.now.0 }
         ensures other { is_named self.now.0 ≡ false }
     {
-        &self.name
+        self.name
     }
 
     /// All bytes behind the name. Takes no memory.
-    pub fn fields(&self) -> &[u8]
+    pub fn fields(&self) -> &'a [u8]
         ensures fields { result.now ≡ self.now.1 }
         ensures other { is_named self.now.0 ≡ false }
     {
-        &self.fields
+        self.fields
     }
 }
 
 /// The method of a USERAUTH_REQUEST with its fields (RFC 4252 sections 5 to 8). `Debug` prints no
 /// password and no signature.
 #[derive(Drop)]
-pub enum Method {
+pub enum Method<'a> {
     /// `none`.
     None,
     /// `password` with FALSE.
     Password {
         /// Any bytes.
-        password: Vec<u8>,
+        password: &'a [u8],
     },
     /// `password` with TRUE: a change.
     PasswordChange {
         /// The password until now, any bytes.
-        old: Vec<u8>,
+        old: &'a [u8],
         /// The password from now on, any bytes.
-        new: Vec<u8>,
+        new: &'a [u8],
     },
     /// `publickey` with TRUE.
     PublicKey {
         /// The name of the key's algorithm, any bytes.
-        algorithm: Vec<u8>,
+        algorithm: &'a [u8],
         /// The public key, any bytes.
-        key: Vec<u8>,
+        key: &'a [u8],
         /// The signature by the key, any bytes.
-        signature: Vec<u8>,
+        signature: &'a [u8],
     },
     /// `publickey` with FALSE: a query.
     PublicKeyQuery {
         /// The name of the key's algorithm, any bytes.
-        algorithm: Vec<u8>,
+        algorithm: &'a [u8],
         /// The public key, any bytes.
-        key: Vec<u8>,
+        key: &'a [u8],
     },
     /// Any other.
-    Other(OtherMethod),
+    Other(OtherMethod<'a>),
 }
 
-impl Method {
+impl<'a> Method<'a> {
     ghost use Rattle.std.specs.Prelude.{length};
     ghost use Rattle.sshmsg.specs.View.{method_of};
     ghost use Rattle.sshmsg.specs.Written.{method_name};
 
     /// The name of the method. Takes no memory.
-    pub fn name(&self) -> &[u8]
+    pub fn name(&self) -> &'a [u8]
         ensures { result.now ≡ method_name (method_of self.now) }
     {
         match self {
@@ -196,23 +157,26 @@ impl Method {
     }
 }
 
-/// A message up to authentication (RFC 4253, RFC 4252, message 7 of RFC 8308). It owns its strings.
-/// `Debug` prints no password and no signature, and of an IGNORE no content.
+/// A message up to authentication (RFC 4253, RFC 4252, message 7 of RFC 8308).
+///
+/// Its strings, mpints, cookie and user lie in the payload, which is lent as long as the message is
+/// kept; its name-lists, and the list of an EXT_INFO's pairs, are its own. `Debug` prints no password
+/// and no signature, and of an IGNORE no content.
 #[derive(Drop)]
-pub enum Message {
+pub enum Message<'a> {
     /// DISCONNECT (1, RFC 4253 section 11.1).
     Disconnect {
         /// The reason's code.
         reason: u32,
         /// A text for people, any bytes.
-        description: Vec<u8>,
+        description: &'a [u8],
         /// The text's language tag, any bytes.
-        language: Vec<u8>,
+        language: &'a [u8],
     },
     /// IGNORE (2, RFC 4253 section 11.2).
     Ignore {
         /// Any bytes.
-        content: Vec<u8>,
+        content: &'a [u8],
     },
     /// UNIMPLEMENTED (3, RFC 4253 section 11.4).
     Unimplemented {
@@ -224,51 +188,65 @@ pub enum Message {
         /// Whether the text should be shown in any case.
         always_display: bool,
         /// A text for people, any bytes.
-        text: Vec<u8>,
+        text: &'a [u8],
         /// The text's language tag, any bytes.
-        language: Vec<u8>,
+        language: &'a [u8],
     },
     /// SERVICE_REQUEST (5, RFC 4253 section 10).
     ServiceRequest {
         /// The service's name, any bytes.
-        service: Vec<u8>,
+        service: &'a [u8],
     },
     /// SERVICE_ACCEPT (6, RFC 4253 section 10).
     ServiceAccept {
         /// The service's name, any bytes.
-        service: Vec<u8>,
+        service: &'a [u8],
     },
     /// EXT_INFO (7, RFC 8308 section 2.3).
     ExtInfo {
         /// The extensions in their order.
-        extensions: Vec<Extension>,
+        extensions: Vec<Extension<'a>>,
     },
-    /// KEXINIT (20, RFC 4253 section 7.1).
-    KexInit(KexInit),
+    /// KEXINIT (20, RFC 4253 section 7.1), in a box, so that other messages are small.
+    KexInit(Box<KexInit<'a>>),
     /// NEWKEYS (21, RFC 4253 section 7.3).
     NewKeys,
-    /// KEXDH_INIT (30, RFC 4253 section 8).
+    /// KEXDH_INIT (30, RFC 4253 section 8), where shares are mpints.
     KexdhInit {
         /// The client's share.
-        e: MpintBuf,
+        e: Mpint<'a>,
     },
-    /// KEXDH_REPLY (31, RFC 4253 section 8).
+    /// KEXDH_REPLY (31, RFC 4253 section 8), where shares are mpints.
     KexdhReply {
         /// The server's host key, any bytes.
-        host_key: Vec<u8>,
+        host_key: &'a [u8],
         /// The server's share.
-        f: MpintBuf,
+        f: Mpint<'a>,
         /// The signature of the exchange hash, any bytes.
-        signature: Vec<u8>,
+        signature: &'a [u8],
+    },
+    /// KEX_ECDH_INIT (30, RFC 5656 section 4), where shares are octet strings.
+    KexEcdhInit {
+        /// The client's share, any bytes.
+        client_share: &'a [u8],
+    },
+    /// KEX_ECDH_REPLY (31, RFC 5656 section 4), where shares are octet strings.
+    KexEcdhReply {
+        /// The server's host key, any bytes.
+        host_key: &'a [u8],
+        /// The server's share, any bytes.
+        server_share: &'a [u8],
+        /// The signature of the exchange hash, any bytes.
+        signature: &'a [u8],
     },
     /// USERAUTH_REQUEST (50, RFC 4252 section 5).
     UserauthRequest {
         /// The user's name.
-        user: String,
+        user: &'a str,
         /// The name of the service that is to start, any bytes.
-        service: Vec<u8>,
+        service: &'a [u8],
         /// The method with its fields.
-        method: Method,
+        method: Method<'a>,
     },
     /// USERAUTH_FAILURE (51, RFC 4252 section 5.1).
     UserauthFailure {
@@ -282,8 +260,8 @@ pub enum Message {
     /// USERAUTH_BANNER (53, RFC 4252 section 5.4).
     UserauthBanner {
         /// A text for people, any bytes.
-        text: Vec<u8>,
+        text: &'a [u8],
         /// The text's language tag, any bytes.
-        language: Vec<u8>,
+        language: &'a [u8],
     },
 }

@@ -22,6 +22,10 @@ pub const SSH_MSG_NEWKEYS: u8 = 21;
 pub const SSH_MSG_KEXDH_INIT: u8 = 30;
 /// KEXDH_REPLY (RFC 4253 section 8).
 pub const SSH_MSG_KEXDH_REPLY: u8 = 31;
+/// KEX_ECDH_INIT (RFC 5656 section 4): the number of KEXDH_INIT, where shares are octet strings.
+pub const SSH_MSG_KEX_ECDH_INIT: u8 = 30;
+/// KEX_ECDH_REPLY (RFC 5656 section 4): the number of KEXDH_REPLY, where shares are octet strings.
+pub const SSH_MSG_KEX_ECDH_REPLY: u8 = 31;
 /// USERAUTH_REQUEST (RFC 4252 section 5).
 pub const SSH_MSG_USERAUTH_REQUEST: u8 = 50;
 /// USERAUTH_FAILURE (RFC 4252 section 5.1).

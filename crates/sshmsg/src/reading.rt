@@ -1,99 +1,134 @@
 //! Reads a payload as a message.
 
-ghost use Rattle.std.specs.Prelude.{ℕ, IfOk, List, Ok, [], string_bytes};
-ghost use Rattle.sshwire.specs.TypeReadings.{mpint_at, string_at};
-ghost use Rattle.sshmsg.specs.Content.{Content, ExtInfo, UserauthRequest};
+ghost use Rattle.std.specs.Prelude.{◌≡◌, ◌≢◌, ℕ, IfErr, IfOk, List, Ok, []};
+ghost use Rattle.sshwire.specs.declared.share_form.ShareForm.TheVariants.{Mpint};
+ghost use Rattle.sshmsg.specs.Content.{Content, UserauthRequest};
 ghost use Rattle.sshmsg.specs.Form.{Reserved, bytes_at, field_at, form_at, utf8_at};
-ghost use Rattle.sshmsg.specs.Messages.{Spells, debug, disconnect, ext_info, extensions, ignore, kexdh_init, kexdh_reply, kexinit, message_in, method_form, password, publickey, service_accept, service_request, unimplemented, userauth_banner, userauth_failure, userauth_request, userauth_success};
-ghost use Rattle.sshmsg.specs.View.{Answers, Goes, ReadsNumbered, content_of, method_of, pairs_of};
+ghost use Rattle.sshmsg.specs.Messages.{Spells, debug, disconnect, form_of, ignore, in_form, init_of, kex_ecdh_init, kex_ecdh_reply, kexdh_init, kexdh_reply, message_in, method_form, password, publickey, reply_of, service_accept, service_request, unimplemented, userauth_banner, userauth_request, userauth_success};
+ghost use Rattle.sshmsg.specs.Numbers.{HasNoList};
+ghost use Rattle.sshmsg.specs.View.{Answers, Goes, ReadsNumbered, WantsMemory, content_of, method_of};
 
 use crate::fault::MsgFault;
-use crate::message::{Extension, KexInit, Message, Method, MpintBuf, OtherMethod};
+use crate::lists::{read_ext_info, read_kexinit, read_userauth_failure};
+use crate::message::{Message, Method, OtherMethod};
 use crate::numbers::{
     SSH_MSG_DEBUG, SSH_MSG_DISCONNECT, SSH_MSG_EXT_INFO, SSH_MSG_IGNORE, SSH_MSG_KEXDH_INIT,
     SSH_MSG_KEXDH_REPLY, SSH_MSG_KEXINIT, SSH_MSG_NEWKEYS, SSH_MSG_SERVICE_ACCEPT,
     SSH_MSG_SERVICE_REQUEST, SSH_MSG_UNIMPLEMENTED, SSH_MSG_USERAUTH_BANNER,
     SSH_MSG_USERAUTH_FAILURE, SSH_MSG_USERAUTH_REQUEST, SSH_MSG_USERAUTH_SUCCESS,
 };
-use sshwire::{Reader, WireFault};
+use sshwire::{Reader, ShareForm, WireFault};
 use std::alloc::Global;
 use std::str;
 
 /// Reads a payload, which is the number of a message and its fields (RFC 4253, RFC 4252, RFC 8308).
+/// The message lends what it says out of the payload.
 ///
 /// Answers `Unrecognised` with the number where no message here has it, `Malformed` with the number
 /// where one has it and the payload doesn't spell it or goes on behind it, `Malformed(0)` for no
-/// bytes, and `Memory` where a growth was refused.
-pub fn read(alloc: Global, payload: &[u8]) -> Result<Message, MsgFault>
-    ensures found { IfOk result (λ m. Spells (content_of m) payload.now) }
-    ensures only { (m : Content) → Spells m payload.now → Answers result (Ok m) }
-    ensures exact { Answers result (message_in payload.now) }
+/// bytes. It takes memory for EXT_INFO, KEXINIT and USERAUTH_FAILURE alone, whose lists are owned:
+/// `Memory` comes where the payload spells one of them and a growth was refused.
+pub fn read<'a>(alloc: Global, payload: &'a [u8]) -> Result<Message<'a>, MsgFault>
+    ensures found { IfOk result (λ m. Spells Mpint (content_of m) payload.now) }
+    ensures only { (m : Content) → Spells Mpint m payload.now → Answers result (Ok m) }
+    ensures exact { Answers result (message_in Mpint payload.now) }
+    ensures memory { WantsMemory result (message_in Mpint payload.now) }
+{
+    read_exchange(alloc, payload, ShareForm::Mpint)
+}
+
+/// Reads a payload as [`read`] does, in an exchange whose shares have this form: where it is
+/// `OctetString` or `Hybrid`, 30 and 31 are KEX_ECDH_INIT and KEX_ECDH_REPLY (RFC 5656 section 4,
+/// RFC 8731), whose shares may be any bytes.
+pub fn read_exchange<'a>(
+    alloc: Global,
+    payload: &'a [u8],
+    form: ShareForm,
+) -> Result<Message<'a>, MsgFault>
+    ensures found { IfOk result (λ m. Spells form (content_of m) payload.now) }
+    ensures only { (m : Content) → Spells form m payload.now → Answers result (Ok m) }
+    ensures exact { Answers result (message_in form payload.now) }
+    ensures memory { WantsMemory result (message_in form payload.now) }
 {
     crate::law::messages_law();
-    read_payload(alloc, payload)
+    read_payload(alloc, payload, form)
 }
 
 #[tactic(auto, unfolding(crate::specs::Messages::message_in))]
-fn read_payload(alloc: Global, payload: &[u8]) -> Result<Message, MsgFault>
-    ensures { Answers result (message_in payload.now) }
+fn read_payload<'a>(
+    alloc: Global,
+    payload: &'a [u8],
+    form: ShareForm,
+) -> Result<Message<'a>, MsgFault>
+    ensures exact { Answers result (message_in form payload.now) }
+    ensures memory { WantsMemory result (message_in form payload.now) }
 {
     let Some((number, fields)) = payload.split_first() else {
         return Err(MsgFault::Malformed(0));
     };
+    match *number {
+        SSH_MSG_EXT_INFO => read_ext_info(alloc, fields),
+        SSH_MSG_KEXINIT => read_kexinit(alloc, fields),
+        SSH_MSG_USERAUTH_FAILURE => read_userauth_failure(alloc, fields),
+        number => read_lent(number, fields, form),
+    }
+}
+
+/// Reads the fields of a message that holds no list.
+fn read_lent<'a>(number: u8, fields: &'a [u8], form: ShareForm) -> Result<Message<'a>, MsgFault>
+    requires { HasNoList number }
+    ensures exact { Answers result (in_form number fields.now (form_of form number)) }
+    ensures no_memory { IfErr result (λ e. e ≢ MsgFault.Memory) }
+{
     let mut reader = Reader::new(fields);
-    match read_numbered(alloc, *number, &mut reader) {
-        None => Err(MsgFault::Unrecognised(*number)),
+    match read_numbered(number, form, &mut reader) {
+        None => Err(MsgFault::Unrecognised(number)),
         Some(Ok(message)) => {
             if reader.rest().is_empty() {
                 Ok(message)
             } else {
-                Err(MsgFault::Malformed(*number))
+                Err(MsgFault::Malformed(number))
             }
         }
-        Some(Err(fault)) => match fault {
-            WireFault::Memory => Err(MsgFault::Memory),
-            _ => Err(MsgFault::Malformed(*number)),
-        },
+        Some(Err(_)) => Err(MsgFault::Malformed(number)),
     }
 }
 
-/// Reads the fields of the message with this number, if there is one.
+/// Reads the fields of the message with this number that holds no list, if there is one.
 #[tactic(auto, unfolding(crate::specs::Messages::form_of))]
-fn read_numbered(
-    alloc: Global,
+fn read_numbered<'a>(
     number: u8,
-    reader: &mut Reader<'_>,
-) -> Option<Result<Message, WireFault>>
-    ensures { ReadsNumbered number reader.old reader.new result }
+    form: ShareForm,
+    reader: &mut Reader<'a>,
+) -> Option<Result<Message<'a>, WireFault>>
+    requires { HasNoList number }
+    ensures { ReadsNumbered form number reader.old reader.new result }
 {
     let message = match number {
-        SSH_MSG_DISCONNECT => read_disconnect(alloc, reader),
-        SSH_MSG_IGNORE => read_ignore(alloc, reader),
+        SSH_MSG_DISCONNECT => read_disconnect(reader),
+        SSH_MSG_IGNORE => read_ignore(reader),
         SSH_MSG_UNIMPLEMENTED => read_unimplemented(reader),
-        SSH_MSG_DEBUG => read_debug(alloc, reader),
-        SSH_MSG_SERVICE_REQUEST => read_service_request(alloc, reader),
-        SSH_MSG_SERVICE_ACCEPT => read_service_accept(alloc, reader),
-        SSH_MSG_EXT_INFO => read_ext_info(alloc, reader),
-        SSH_MSG_KEXINIT => read_kexinit(alloc, reader),
+        SSH_MSG_DEBUG => read_debug(reader),
+        SSH_MSG_SERVICE_REQUEST => read_service_request(reader),
+        SSH_MSG_SERVICE_ACCEPT => read_service_accept(reader),
         SSH_MSG_NEWKEYS => Ok(Message::NewKeys),
-        SSH_MSG_KEXDH_INIT => read_kexdh_init(alloc, reader),
-        SSH_MSG_KEXDH_REPLY => read_kexdh_reply(alloc, reader),
-        SSH_MSG_USERAUTH_REQUEST => read_userauth_request(alloc, reader),
-        SSH_MSG_USERAUTH_FAILURE => read_userauth_failure(alloc, reader),
+        SSH_MSG_KEXDH_INIT => read_init(form, reader),
+        SSH_MSG_KEXDH_REPLY => read_reply(form, reader),
+        SSH_MSG_USERAUTH_REQUEST => read_userauth_request(reader),
         SSH_MSG_USERAUTH_SUCCESS => Ok(Message::UserauthSuccess),
-        SSH_MSG_USERAUTH_BANNER => read_userauth_banner(alloc, reader),
+        SSH_MSG_USERAUTH_BANNER => read_userauth_banner(reader),
         _ => return None,
     };
     Some(message)
 }
 
 #[tactic(auto, unfolding(crate::specs::Messages::disconnect))]
-fn read_disconnect(alloc: Global, reader: &mut Reader<'_>) -> Result<Message, WireFault>
+fn read_disconnect<'a>(reader: &mut Reader<'a>) -> Result<Message<'a>, WireFault>
     ensures { Goes content_of result reader.new (form_at disconnect reader.old) }
 {
     let reason = reader.u32()?;
-    let description = read_bytes(alloc, reader)?;
-    let language = read_bytes(alloc, reader)?;
+    let description = reader.string()?;
+    let language = reader.string()?;
     Ok(Message::Disconnect {
         reason,
         description,
@@ -102,15 +137,15 @@ fn read_disconnect(alloc: Global, reader: &mut Reader<'_>) -> Result<Message, Wi
 }
 
 #[tactic(auto, unfolding(crate::specs::Messages::ignore))]
-fn read_ignore(alloc: Global, reader: &mut Reader<'_>) -> Result<Message, WireFault>
+fn read_ignore<'a>(reader: &mut Reader<'a>) -> Result<Message<'a>, WireFault>
     ensures { Goes content_of result reader.new (form_at ignore reader.old) }
 {
-    let content = read_bytes(alloc, reader)?;
+    let content = reader.string()?;
     Ok(Message::Ignore { content })
 }
 
 #[tactic(auto, unfolding(crate::specs::Messages::unimplemented))]
-fn read_unimplemented(reader: &mut Reader<'_>) -> Result<Message, WireFault>
+fn read_unimplemented<'a>(reader: &mut Reader<'a>) -> Result<Message<'a>, WireFault>
     ensures { Goes content_of result reader.new (form_at unimplemented reader.old) }
 {
     let sequence_number = reader.u32()?;
@@ -118,12 +153,12 @@ fn read_unimplemented(reader: &mut Reader<'_>) -> Result<Message, WireFault>
 }
 
 #[tactic(auto, unfolding(crate::specs::Messages::debug))]
-fn read_debug(alloc: Global, reader: &mut Reader<'_>) -> Result<Message, WireFault>
+fn read_debug<'a>(reader: &mut Reader<'a>) -> Result<Message<'a>, WireFault>
     ensures { Goes content_of result reader.new (form_at debug reader.old) }
 {
     let always_display = reader.boolean()?;
-    let text = read_bytes(alloc, reader)?;
-    let language = read_bytes(alloc, reader)?;
+    let text = reader.string()?;
+    let language = reader.string()?;
     Ok(Message::Debug {
         always_display,
         text,
@@ -132,99 +167,58 @@ fn read_debug(alloc: Global, reader: &mut Reader<'_>) -> Result<Message, WireFau
 }
 
 #[tactic(auto, unfolding(crate::specs::Messages::service_request))]
-fn read_service_request(alloc: Global, reader: &mut Reader<'_>) -> Result<Message, WireFault>
+fn read_service_request<'a>(reader: &mut Reader<'a>) -> Result<Message<'a>, WireFault>
     ensures { Goes content_of result reader.new (form_at service_request reader.old) }
 {
-    let service = read_bytes(alloc, reader)?;
+    let service = reader.string()?;
     Ok(Message::ServiceRequest { service })
 }
 
 #[tactic(auto, unfolding(crate::specs::Messages::service_accept))]
-fn read_service_accept(alloc: Global, reader: &mut Reader<'_>) -> Result<Message, WireFault>
+fn read_service_accept<'a>(reader: &mut Reader<'a>) -> Result<Message<'a>, WireFault>
     ensures { Goes content_of result reader.new (form_at service_accept reader.old) }
 {
-    let service = read_bytes(alloc, reader)?;
+    let service = reader.string()?;
     Ok(Message::ServiceAccept { service })
 }
 
-#[tactic(auto, unfolding(crate::specs::Messages::ext_info))]
-fn read_ext_info(alloc: Global, reader: &mut Reader<'_>) -> Result<Message, WireFault>
-    ensures { Goes content_of result reader.new (form_at ext_info reader.old) }
+/// The client's share.
+fn read_init<'a>(form: ShareForm, reader: &mut Reader<'a>) -> Result<Message<'a>, WireFault>
+    ensures { Goes content_of result reader.new (form_at (init_of form) reader.old) }
 {
-    let count = reader.u32()?;
-    let extensions = read_extensions(alloc, count, reader)?;
-    Ok(Message::ExtInfo { extensions })
-}
-
-/// Reads so many pairs. Memory is asked for the pairs that stand there alone.
-#[tactic(auto, using(crate::proofs::ExtensionLemmas::one_pair, crate::proofs::ExtensionLemmas::no_name, crate::proofs::ExtensionLemmas::no_value, crate::proofs::ExtensionLemmas::no_more))]
-fn read_extensions(
-    alloc: Global,
-    count: u32,
-    reader: &mut Reader<'_>,
-) -> Result<Vec<Extension>, WireFault>
-    ensures { Goes (λ xs. ExtInfo (pairs_of xs.items)) result reader.new (form_at (extensions count []) reader.old) }
-{
-    let mut extensions = Vec::new(alloc);
-    for _ in 0..count {
-        let name = read_bytes(alloc, reader)?;
-        let value = read_bytes(alloc, reader)?;
-        match extensions.push(Extension { name, value }) {
-            Ok(()) => {}
-            Err(_) => return Err(WireFault::Memory),
-        }
+    match form {
+        ShareForm::Mpint => read_kexdh_init(reader),
+        ShareForm::OctetString => read_kex_ecdh_init(reader),
+        ShareForm::Hybrid => read_kex_ecdh_init(reader),
     }
-    Ok(extensions)
 }
 
-#[tactic(auto, unfolding(crate::specs::Messages::kexinit))]
-fn read_kexinit(alloc: Global, reader: &mut Reader<'_>) -> Result<Message, WireFault>
-    ensures { Goes content_of result reader.new (form_at kexinit reader.old) }
+/// The server's host key, share and signature.
+fn read_reply<'a>(form: ShareForm, reader: &mut Reader<'a>) -> Result<Message<'a>, WireFault>
+    ensures { Goes content_of result reader.new (form_at (reply_of form) reader.old) }
 {
-    let cookie = read_cookie(reader)?;
-    let kex_algorithms = reader.name_list(alloc)?;
-    let server_host_key_algorithms = reader.name_list(alloc)?;
-    let encryption_client_to_server = reader.name_list(alloc)?;
-    let encryption_server_to_client = reader.name_list(alloc)?;
-    let mac_client_to_server = reader.name_list(alloc)?;
-    let mac_server_to_client = reader.name_list(alloc)?;
-    let compression_client_to_server = reader.name_list(alloc)?;
-    let compression_server_to_client = reader.name_list(alloc)?;
-    let languages_client_to_server = reader.name_list(alloc)?;
-    let languages_server_to_client = reader.name_list(alloc)?;
-    let first_kex_packet_follows = reader.boolean()?;
-    read_reserved(reader)?;
-    Ok(Message::KexInit(KexInit {
-        cookie,
-        kex_algorithms,
-        server_host_key_algorithms,
-        encryption_client_to_server,
-        encryption_server_to_client,
-        mac_client_to_server,
-        mac_server_to_client,
-        compression_client_to_server,
-        compression_server_to_client,
-        languages_client_to_server,
-        languages_server_to_client,
-        first_kex_packet_follows,
-    }))
+    match form {
+        ShareForm::Mpint => read_kexdh_reply(reader),
+        ShareForm::OctetString => read_kex_ecdh_reply(reader),
+        ShareForm::Hybrid => read_kex_ecdh_reply(reader),
+    }
 }
 
 #[tactic(auto, unfolding(crate::specs::Messages::kexdh_init))]
-fn read_kexdh_init(alloc: Global, reader: &mut Reader<'_>) -> Result<Message, WireFault>
+fn read_kexdh_init<'a>(reader: &mut Reader<'a>) -> Result<Message<'a>, WireFault>
     ensures { Goes content_of result reader.new (form_at kexdh_init reader.old) }
 {
-    let e = read_number(alloc, reader)?;
+    let e = reader.mpint()?;
     Ok(Message::KexdhInit { e })
 }
 
 #[tactic(auto, unfolding(crate::specs::Messages::kexdh_reply))]
-fn read_kexdh_reply(alloc: Global, reader: &mut Reader<'_>) -> Result<Message, WireFault>
+fn read_kexdh_reply<'a>(reader: &mut Reader<'a>) -> Result<Message<'a>, WireFault>
     ensures { Goes content_of result reader.new (form_at kexdh_reply reader.old) }
 {
-    let host_key = read_bytes(alloc, reader)?;
-    let f = read_number(alloc, reader)?;
-    let signature = read_bytes(alloc, reader)?;
+    let host_key = reader.string()?;
+    let f = reader.mpint()?;
+    let signature = reader.string()?;
     Ok(Message::KexdhReply {
         host_key,
         f,
@@ -232,35 +226,45 @@ fn read_kexdh_reply(alloc: Global, reader: &mut Reader<'_>) -> Result<Message, W
     })
 }
 
-#[tactic(auto, unfolding(crate::specs::Messages::userauth_failure))]
-fn read_userauth_failure(alloc: Global, reader: &mut Reader<'_>) -> Result<Message, WireFault>
-    ensures { Goes content_of result reader.new (form_at userauth_failure reader.old) }
+#[tactic(auto, unfolding(crate::specs::Messages::kex_ecdh_init))]
+fn read_kex_ecdh_init<'a>(reader: &mut Reader<'a>) -> Result<Message<'a>, WireFault>
+    ensures { Goes content_of result reader.new (form_at kex_ecdh_init reader.old) }
 {
-    let methods = reader.name_list(alloc)?;
-    let partial_success = reader.boolean()?;
-    Ok(Message::UserauthFailure {
-        methods,
-        partial_success,
+    let client_share = reader.string()?;
+    Ok(Message::KexEcdhInit { client_share })
+}
+
+#[tactic(auto, unfolding(crate::specs::Messages::kex_ecdh_reply))]
+fn read_kex_ecdh_reply<'a>(reader: &mut Reader<'a>) -> Result<Message<'a>, WireFault>
+    ensures { Goes content_of result reader.new (form_at kex_ecdh_reply reader.old) }
+{
+    let host_key = reader.string()?;
+    let server_share = reader.string()?;
+    let signature = reader.string()?;
+    Ok(Message::KexEcdhReply {
+        host_key,
+        server_share,
+        signature,
     })
 }
 
 #[tactic(auto, unfolding(crate::specs::Messages::userauth_banner))]
-fn read_userauth_banner(alloc: Global, reader: &mut Reader<'_>) -> Result<Message, WireFault>
+fn read_userauth_banner<'a>(reader: &mut Reader<'a>) -> Result<Message<'a>, WireFault>
     ensures { Goes content_of result reader.new (form_at userauth_banner reader.old) }
 {
-    let text = read_bytes(alloc, reader)?;
-    let language = read_bytes(alloc, reader)?;
+    let text = reader.string()?;
+    let language = reader.string()?;
     Ok(Message::UserauthBanner { text, language })
 }
 
 #[tactic(auto, unfolding(crate::specs::Messages::userauth_request))]
-fn read_userauth_request(alloc: Global, reader: &mut Reader<'_>) -> Result<Message, WireFault>
+fn read_userauth_request<'a>(reader: &mut Reader<'a>) -> Result<Message<'a>, WireFault>
     ensures { Goes content_of result reader.new (form_at userauth_request reader.old) }
 {
-    let user = read_user(alloc, reader)?;
-    let service = read_bytes(alloc, reader)?;
-    let name = read_bytes(alloc, reader)?;
-    let method = read_method(alloc, name, reader)?;
+    let user = read_user(reader)?;
+    let service = reader.string()?;
+    let name = reader.string()?;
+    let method = read_method(name, reader)?;
     Ok(Message::UserauthRequest {
         user,
         service,
@@ -269,53 +273,50 @@ fn read_userauth_request(alloc: Global, reader: &mut Reader<'_>) -> Result<Messa
 }
 
 /// Reads the fields of the method with this name.
-fn read_method(alloc: Global, name: Vec<u8>, reader: &mut Reader<'_>) -> Result<Method, WireFault>
+fn read_method<'a>(name: &'a [u8], reader: &mut Reader<'a>) -> Result<Method<'a>, WireFault>
     ensures { (user service : List ℕ) → Goes (λ m. UserauthRequest user service (method_of m)) result reader.new
-        (form_at (method_form user service name.items) reader.old) }
+        (form_at (method_form user service name.now) reader.old) }
 {
-    if name.as_slice() == b"none".as_slice() {
+    if name == b"none".as_slice() {
         return Ok(Method::None);
     }
-    if name.as_slice() == b"password".as_slice() {
-        return read_password(alloc, reader);
+    if name == b"password".as_slice() {
+        return read_password(reader);
     }
-    if name.as_slice() == b"publickey".as_slice() {
-        return read_publickey(alloc, reader);
+    if name == b"publickey".as_slice() {
+        return read_publickey(reader);
     }
-    let fields = reader.rest().to_vec(alloc);
+    let fields = reader.rest();
     *reader = Reader::new(&[]);
-    match fields {
-        Ok(fields) => Ok(Method::Other(OtherMethod::new(name, fields))),
-        Err(_) => Err(WireFault::Memory),
-    }
+    Ok(Method::Other(OtherMethod::new(name, fields)))
 }
 
 #[tactic(auto, unfolding(crate::specs::Messages::password))]
-fn read_password(alloc: Global, reader: &mut Reader<'_>) -> Result<Method, WireFault>
+fn read_password<'a>(reader: &mut Reader<'a>) -> Result<Method<'a>, WireFault>
     ensures { (user service : List ℕ) → Goes (λ m. UserauthRequest user service (method_of m)) result reader.new
         (form_at (password user service) reader.old) }
 {
     if reader.boolean()? {
-        let old = read_bytes(alloc, reader)?;
-        let new = read_bytes(alloc, reader)?;
+        let old = reader.string()?;
+        let new = reader.string()?;
         return Ok(Method::PasswordChange { old, new });
     }
-    let password = read_bytes(alloc, reader)?;
+    let password = reader.string()?;
     Ok(Method::Password { password })
 }
 
 #[tactic(auto, unfolding(crate::specs::Messages::publickey))]
-fn read_publickey(alloc: Global, reader: &mut Reader<'_>) -> Result<Method, WireFault>
+fn read_publickey<'a>(reader: &mut Reader<'a>) -> Result<Method<'a>, WireFault>
     ensures { (user service : List ℕ) → Goes (λ m. UserauthRequest user service (method_of m)) result reader.new
         (form_at (publickey user service) reader.old) }
 {
     let signed = reader.boolean()?;
-    let algorithm = read_bytes(alloc, reader)?;
-    let key = read_bytes(alloc, reader)?;
+    let algorithm = reader.string()?;
+    let key = reader.string()?;
     if !signed {
         return Ok(Method::PublicKeyQuery { algorithm, key });
     }
-    let signature = read_bytes(alloc, reader)?;
+    let signature = reader.string()?;
     Ok(Method::PublicKey {
         algorithm,
         key,
@@ -323,65 +324,14 @@ fn read_publickey(alloc: Global, reader: &mut Reader<'_>) -> Result<Method, Wire
     })
 }
 
-/// A string, owned.
-fn read_bytes(alloc: Global, reader: &mut Reader<'_>) -> Result<Vec<u8>, WireFault>
-    ensures { Goes (λ v. v.items) result reader.new (string_at reader.old) }
-{
-    let bytes = reader.string()?;
-    match Vec::from_slice(alloc, bytes) {
-        Ok(bytes) => Ok(bytes),
-        Err(_) => Err(WireFault::Memory),
-    }
-}
-
-/// A string of UTF-8 text, owned.
+/// A string of UTF-8 text.
 #[tactic(auto, using(crate::proofs::UserLemmas::no_string, crate::proofs::UserLemmas::is_text, crate::proofs::UserLemmas::no_text))]
-fn read_user(alloc: Global, reader: &mut Reader<'_>) -> Result<String, WireFault>
-    ensures { Goes string_bytes result reader.new (utf8_at reader.old) }
+fn read_user<'a>(reader: &mut Reader<'a>) -> Result<&'a str, WireFault>
+    ensures { Goes (λ user. user.now) result reader.new (utf8_at reader.old) }
 {
     let bytes = reader.string()?;
     match str::from_utf8(bytes) {
-        Ok(text) => match String::from_str(alloc, text) {
-            Ok(user) => Ok(user),
-            Err(_) => Err(WireFault::Memory),
-        },
+        Ok(user) => Ok(user),
         Err(_) => Err(WireFault::Name),
     }
-}
-
-/// An mpint, owned.
-fn read_number(alloc: Global, reader: &mut Reader<'_>) -> Result<MpintBuf, WireFault>
-    ensures { Goes (λ m. m) result reader.new (mpint_at reader.old) }
-{
-    let number = reader.mpint()?;
-    match MpintBuf::of(alloc, &number) {
-        Ok(number) => Ok(number),
-        Err(_) => Err(WireFault::Memory),
-    }
-}
-
-/// The 16 bytes of the cookie.
-fn read_cookie<'a>(reader: &mut Reader<'a>) -> Result<[u8; 16], WireFault>
-    ensures { Goes (λ cookie. cookie) result reader.new (bytes_at 16 reader.old) }
-{
-    let bytes: &'a [u8] = reader.rest();
-    match bytes.split_first_chunk::<16>() {
-        Some((cookie, rest)) => {
-            *reader = Reader::new(rest);
-            Ok(*cookie)
-        }
-        None => Err(WireFault::Short),
-    }
-}
-
-/// The reserved word, which may hold anything.
-fn read_reserved(reader: &mut Reader<'_>) -> Result<(), WireFault>
-    ensures { Goes (λ _. tt) result reader.new (field_at Reserved reader.old) }
-{
-    let bytes = reader.rest();
-    if bytes.len() < 4 {
-        return Err(WireFault::Short);
-    }
-    *reader = Reader::new(&bytes[4..]);
-    Ok(())
 }

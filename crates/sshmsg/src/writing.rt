@@ -3,33 +3,37 @@
 ghost use Rattle.sshwire.specs.declared.limits.TheConstants.{PAYLOAD_LIMIT};
 ghost use Rattle.std.specs.Prelude.{◌≡◌, ◌≤◌, ◌++◌, ◌∷◌, [], OnErr, OnOk, if◌then◌else◌, is_ok, length, string_bytes, take};
 ghost use Rattle.sshwire.specs.Types.{string};
+ghost use Rattle.sshwire.specs.declared.share_form.ShareForm.{ShareForm};
 ghost use Rattle.sshmsg.specs.Content as content;
 ghost use Rattle.sshmsg.specs.Messages.{Spells};
 ghost use Rattle.sshmsg.specs.View.{content_of, method_of, offer_of, pair_of, pairs_of};
-ghost use Rattle.sshmsg.specs.Written.{IsMethod, IsWellFormed, method_fields, pair_written, pairs_written, written_message};
+ghost use Rattle.sshmsg.specs.Written.{IsMessageOf, IsMethod, IsWellFormed, method_fields, pair_written, pairs_written, written_message};
 
-use crate::message::{Extension, KexInit, Message, Method, MpintBuf};
+use crate::message::{Extension, KexInit, Message, Method};
 use crate::numbers::{
-    SSH_MSG_DEBUG, SSH_MSG_DISCONNECT, SSH_MSG_EXT_INFO, SSH_MSG_IGNORE, SSH_MSG_KEXDH_INIT,
-    SSH_MSG_KEXDH_REPLY, SSH_MSG_KEXINIT, SSH_MSG_NEWKEYS, SSH_MSG_SERVICE_ACCEPT,
-    SSH_MSG_SERVICE_REQUEST, SSH_MSG_UNIMPLEMENTED, SSH_MSG_USERAUTH_BANNER,
-    SSH_MSG_USERAUTH_FAILURE, SSH_MSG_USERAUTH_REQUEST, SSH_MSG_USERAUTH_SUCCESS,
+    SSH_MSG_DEBUG, SSH_MSG_DISCONNECT, SSH_MSG_EXT_INFO, SSH_MSG_IGNORE, SSH_MSG_KEX_ECDH_INIT,
+    SSH_MSG_KEX_ECDH_REPLY, SSH_MSG_KEXDH_INIT, SSH_MSG_KEXDH_REPLY, SSH_MSG_KEXINIT,
+    SSH_MSG_NEWKEYS, SSH_MSG_SERVICE_ACCEPT, SSH_MSG_SERVICE_REQUEST, SSH_MSG_UNIMPLEMENTED,
+    SSH_MSG_USERAUTH_BANNER, SSH_MSG_USERAUTH_FAILURE, SSH_MSG_USERAUTH_REQUEST,
+    SSH_MSG_USERAUTH_SUCCESS,
 };
-use sshwire::{Memory, NameList, put_boolean, put_string, put_u32};
+use sshwire::{Memory, Mpint, NameList, put_boolean, put_string, put_u32};
 
 /// Appends the payload of a message (RFC 4253, RFC 4252, RFC 8308): booleans as 0 or 1, the reserved
 /// word of a KEXINIT as 0.
 ///
 /// The caller's condition is that the message [`fits`](Message::fits). For want of memory the vector
-/// is unchanged.
-pub fn write(message: &Message, out: &mut Vec<u8>) -> Result<(), Memory>
+/// is unchanged; room is asked for once.
+pub fn write(message: &Message<'_>, out: &mut Vec<u8>) -> Result<(), Memory>
     requires { length (written_message (content_of message.now)) ≤ PAYLOAD_LIMIT }
     ensures appends { out.new.items ≡ (if is_ok result then out.old.items ++ written_message (content_of message.now) else out.old.items) }
-    // What is appended spells the message, and so is read again as it.
-    ensures spells { OnOk result (Spells (content_of message.now) (written_message (content_of message.now))) }
+    // What is appended spells the message under each form that has it, and so is read again as it.
+    ensures spells { OnOk result ((form : ShareForm) → IsMessageOf form (content_of message.now)
+        → Spells form (content_of message.now) (written_message (content_of message.now))) }
 {
     crate::law::written_law();
     let start = out.len();
+    out.reserve(message.room())?;
     if put_message(out, message).is_err() {
         out.truncate(start);
         return Err(Memory);
@@ -39,7 +43,7 @@ pub fn write(message: &Message, out: &mut Vec<u8>) -> Result<(), Memory>
 
 /// Appends a message; for want of memory a prefix of it may stand there, as with every function below.
 #[tactic(auto, unfolding(crate::specs::Written::written_message))]
-fn put_message(out: &mut Vec<u8>, message: &Message) -> Result<(), Memory>
+fn put_message(out: &mut Vec<u8>, message: &Message<'_>) -> Result<(), Memory>
     requires { length (written_message (content_of message.now)) ≤ PAYLOAD_LIMIT }
     ensures ok { OnOk result (out.new.items ≡ out.old.items ++ written_message (content_of message.now)) }
     ensures well { OnOk result (IsWellFormed (content_of message.now)) }
@@ -73,6 +77,16 @@ fn put_message(out: &mut Vec<u8>, message: &Message) -> Result<(), Memory>
             f,
             signature,
         } => put_kexdh_reply(out, host_key, f, signature),
+        Message::KexEcdhInit { client_share } => put_one_string(
+            out,
+            SSH_MSG_KEX_ECDH_INIT,
+            client_share,
+        ),
+        Message::KexEcdhReply {
+            host_key,
+            server_share,
+            signature,
+        } => put_kex_ecdh_reply(out, host_key, server_share, signature),
         Message::UserauthRequest {
             user,
             service,
@@ -152,13 +166,14 @@ fn put_debug(
 }
 
 #[tactic(auto, unfolding(crate::specs::Written::written_message))]
-fn put_kexinit(out: &mut Vec<u8>, kexinit: &KexInit) -> Result<(), Memory>
+fn put_kexinit(out: &mut Vec<u8>, kexinit: &KexInit<'_>) -> Result<(), Memory>
     ensures ok { OnOk result (out.new.items ≡ out.old.items ++ written_message (content.KexInit (offer_of kexinit.now))) }
     ensures well { OnOk result (IsWellFormed (content.KexInit (offer_of kexinit.now))) }
     ensures err { OnErr result (take (length out.old.items) out.new.items ≡ out.old.items) }
 {
+    let cookie = kexinit.cookie;
     out.push(SSH_MSG_KEXINIT)?;
-    out.extend_from_slice(&kexinit.cookie)?;
+    out.extend_from_slice(cookie)?;
     kexinit.kex_algorithms.write(out)?;
     kexinit.server_host_key_algorithms.write(out)?;
     kexinit.encryption_client_to_server.write(out)?;
@@ -175,7 +190,7 @@ fn put_kexinit(out: &mut Vec<u8>, kexinit: &KexInit) -> Result<(), Memory>
 }
 
 #[tactic(auto, unfolding(crate::specs::Written::written_message))]
-fn put_kexdh_init(out: &mut Vec<u8>, e: &MpintBuf) -> Result<(), Memory>
+fn put_kexdh_init(out: &mut Vec<u8>, e: &Mpint<'_>) -> Result<(), Memory>
     ensures ok { OnOk result (out.new.items ≡ out.old.items ++ written_message (content.KexdhInit e.now)) }
     ensures well { OnOk result (IsWellFormed (content.KexdhInit e.now)) }
     ensures err { OnErr result (take (length out.old.items) out.new.items ≡ out.old.items) }
@@ -188,7 +203,7 @@ fn put_kexdh_init(out: &mut Vec<u8>, e: &MpintBuf) -> Result<(), Memory>
 fn put_kexdh_reply(
     out: &mut Vec<u8>,
     host_key: &[u8],
-    f: &MpintBuf,
+    f: &Mpint<'_>,
     signature: &[u8],
 ) -> Result<(), Memory>
     requires { length (written_message (content.KexdhReply host_key.now f.now signature.now)) ≤ PAYLOAD_LIMIT }
@@ -199,6 +214,24 @@ fn put_kexdh_reply(
     out.push(SSH_MSG_KEXDH_REPLY)?;
     put_string(out, host_key)?;
     put_string(out, f.body())?;
+    put_string(out, signature)
+}
+
+#[tactic(auto, unfolding(crate::specs::Written::written_message))]
+fn put_kex_ecdh_reply(
+    out: &mut Vec<u8>,
+    host_key: &[u8],
+    server_share: &[u8],
+    signature: &[u8],
+) -> Result<(), Memory>
+    requires { length (written_message (content.KexEcdhReply host_key.now server_share.now signature.now)) ≤ PAYLOAD_LIMIT }
+    ensures ok { OnOk result (out.new.items ≡ out.old.items ++ written_message (content.KexEcdhReply host_key.now server_share.now signature.now)) }
+    ensures well { OnOk result (IsWellFormed (content.KexEcdhReply host_key.now server_share.now signature.now)) }
+    ensures err { OnErr result (take (length out.old.items) out.new.items ≡ out.old.items) }
+{
+    out.push(SSH_MSG_KEX_ECDH_REPLY)?;
+    put_string(out, host_key)?;
+    put_string(out, server_share)?;
     put_string(out, signature)
 }
 
@@ -234,7 +267,7 @@ fn put_userauth_request(
     out: &mut Vec<u8>,
     user: &str,
     service: &[u8],
-    method: &Method,
+    method: &Method<'_>,
 ) -> Result<(), Memory>
     requires { length (written_message (content.UserauthRequest user.now service.now (method_of method.now))) ≤ PAYLOAD_LIMIT }
     ensures ok { OnOk result (out.new.items ≡ out.old.items ++ written_message (content.UserauthRequest user.now service.now (method_of method.now))) }
@@ -249,7 +282,7 @@ fn put_userauth_request(
 }
 
 /// Appends the fields of a method, which stand behind its name.
-fn put_method_fields(out: &mut Vec<u8>, method: &Method) -> Result<(), Memory>
+fn put_method_fields(out: &mut Vec<u8>, method: &Method<'_>) -> Result<(), Memory>
     requires { length (method_fields (method_of method.now)) ≤ PAYLOAD_LIMIT }
     ensures ok { OnOk result (out.new.items ≡ out.old.items ++ method_fields (method_of method.now)) }
     ensures well { IsMethod (method_of method.now) }
@@ -323,7 +356,7 @@ fn put_bytes(out: &mut Vec<u8>, bytes: &[u8]) -> Result<(), Memory>
 }
 
 #[tactic(auto, unfolding(crate::specs::Written::written_message))]
-fn put_ext_info(out: &mut Vec<u8>, extensions: &[Extension]) -> Result<(), Memory>
+fn put_ext_info(out: &mut Vec<u8>, extensions: &[Extension<'_>]) -> Result<(), Memory>
     requires { length (written_message (content.ExtInfo (pairs_of extensions.now))) ≤ PAYLOAD_LIMIT }
     ensures ok { OnOk result (out.new.items ≡ out.old.items ++ written_message (content.ExtInfo (pairs_of extensions.now))) }
     ensures well { OnOk result (IsWellFormed (content.ExtInfo (pairs_of extensions.now))) }
@@ -337,7 +370,7 @@ fn put_ext_info(out: &mut Vec<u8>, extensions: &[Extension]) -> Result<(), Memor
 
 /// Appends pairs of a name and a value.
 #[tactic(auto, using(crate::proofs::PutLemmas::pairs_more))]
-fn put_extensions(out: &mut Vec<u8>, extensions: &[Extension]) -> Result<(), Memory>
+fn put_extensions(out: &mut Vec<u8>, extensions: &[Extension<'_>]) -> Result<(), Memory>
     requires { length (pairs_written (pairs_of extensions.now)) ≤ PAYLOAD_LIMIT }
     ensures ok { OnOk result (out.new.items ≡ out.old.items ++ pairs_written (pairs_of extensions.now)) }
     ensures err { OnErr result (take (length out.old.items) out.new.items ≡ out.old.items) }
@@ -348,11 +381,11 @@ fn put_extensions(out: &mut Vec<u8>, extensions: &[Extension]) -> Result<(), Mem
     Ok(())
 }
 
-fn put_extension(out: &mut Vec<u8>, extension: &Extension) -> Result<(), Memory>
+fn put_extension(out: &mut Vec<u8>, extension: &Extension<'_>) -> Result<(), Memory>
     requires { length (pair_written (pair_of extension.now)) ≤ PAYLOAD_LIMIT }
     ensures ok { OnOk result (out.new.items ≡ out.old.items ++ pair_written (pair_of extension.now)) }
     ensures err { OnErr result (take (length out.old.items) out.new.items ≡ out.old.items) }
 {
-    put_string(out, &extension.name)?;
-    put_string(out, &extension.value)
+    put_string(out, extension.name)?;
+    put_string(out, extension.value)
 }

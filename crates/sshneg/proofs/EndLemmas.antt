@@ -2,10 +2,12 @@
 
 use Rattle.std.proofs.Common.{◌≡◌, ℕ, List, Option, Some, Result, Ok, refl, sym, ap, ◌∙◌}
 use Rattle.std.specs.Prelude.{option_map}
+use Rattle.sshwire.specs.declared.share_form.ShareForm.{ShareForm}
+use Rattle.sshwire.specs.declared.share_form.ShareForm.TheVariants.{Mpint}
 use Rattle.sshmsg.specs.declared.fault.MsgFault.{MsgFault}
 use Rattle.sshmsg.specs.Content.{Content, KexInit, Offer}
 use Rattle.sshmsg.specs.Messages.{message_in}
-use Rattle.sshmsg.specs.Written.{IsWellFormed, written_message}
+use Rattle.sshmsg.specs.Written.{IsMessageOf, IsWellFormed, written_message}
 use Rattle.sshneg.specs.declared.role.Role.{Role}
 use Rattle.sshneg.specs.declared.role.Role.TheVariants.{Client, Server}
 use Rattle.sshneg.specs.ChoiceReadings.{choice}
@@ -97,11 +99,11 @@ one_end m kex client server a chosen is agrees one =
     (source_by_choice m Server server a kex (choices.1 ∙ chosen) is ∙ x.of_server)
 
 -- what is written for a KEXINIT offers what it was written for
-pub written_offer : ((c : Content) → IsWellFormed c → message_in (written_message c) ≡ Ok c)
+pub written_offer : ((form : ShareForm) (c : Content) → IsMessageOf form c → IsWellFormed c → message_in form (written_message c) ≡ Ok c)
     → (offer : Offer) → IsWellFormed (KexInit offer) → offer_in (written_message (KexInit offer)) ≡ Some offer
-written_offer again offer well = ap (λ (r : Result Content MsgFault). offer_by r) (again (KexInit offer) well)
+written_offer again offer well = ap (λ (r : Result Content MsgFault). offer_by r) (again Mpint (KexInit offer) tt well)
 
-pub written_choice : ((c : Content) → IsWellFormed c → message_in (written_message c) ≡ Ok c)
+pub written_choice : ((form : ShareForm) (c : Content) → IsMessageOf form c → IsWellFormed c → message_in form (written_message c) ≡ Ok c)
     → (m : Meaning) (client server : Offer) → IsWellFormed (KexInit client) → IsWellFormed (KexInit server)
     → choice_in m (written_message (KexInit client)) (written_message (KexInit server)) ≡ choice m client server
 written_choice again m client server c s =

@@ -5,14 +5,15 @@ use Rattle.std.proofs.lemmas.List.{length-append, length-take-le, length-take, t
 use Rattle.sshneg.specs.Derivations.{KeySource, grown, hash_with, key}
 use Rattle.sshneg.specs.Growing.{Grows}
 use Rattle.sshpacket.specs.Suite.{IsLawful, Meaning}
+use Rattle.sshpacket.specs.declared.limits.TheConstants.{DIGEST_LIMIT}
 
 one_more : (m : Meaning) (x : KeySource) (first : List ℕ) (n : ℕ) → grown m x first (n + 1) ≡ grown m x first n ++ hash_with m x (grown m x first n)
 one_more m x first n = let on : n + 1 ≡ suc n = omega arith in ap (λ (k : ℕ). grown m x first k) on
 
-pub grows_start : (m : Meaning) (x : KeySource) (first : List ℕ) (len : ℕ) → length first ≤ 64 → Grows m x first len 0 first
+pub grows_start : (m : Meaning) (x : KeySource) (first : List ℕ) (len : ℕ) → length first ≤ DIGEST_LIMIT → Grows m x first len 0 first
 grows_start m x first len h = record { same_prefix = refl; same = λ less. refl; short = omega arith }
 
-pub grows_on : (m : Meaning) (x : KeySource) (first : List ℕ) (len count : ℕ) (bytes more : List ℕ) → len ≤ 255 → length bytes < len → length more ≤ 64
+pub grows_on : (m : Meaning) (x : KeySource) (first : List ℕ) (len count : ℕ) (bytes more : List ℕ) → len ≤ 255 → length bytes < len → length more ≤ DIGEST_LIMIT
     → more ≡ hash_with m x bytes → Grows m x first len count bytes → Grows m x first len (count + 1) (bytes ++ more)
 grows_on m x first len count bytes more low less few is g =
     let e : bytes ≡ grown m x first count = g.same less in

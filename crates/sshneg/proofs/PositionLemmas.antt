@@ -1,11 +1,13 @@
 -- The position at which a search ends is the first place of the name that it finds.
 
-use Rattle.std.proofs.Common.{◌≡◌, ℕ, zero, suc, ◌+◌, ◌<◌, ◌≤◌, inl, inr, Bool, true, false, List, [], ◌∷◌, length, map, take, find, Option, None, Some, Result, Ok, Err, option_map, refl, sym, ap, ◌∙◌, arith, ltb}
-use Rattle.std.specs.List.{list_any, position, position_or_len, slice_index_or}
-use Rattle.sshwire.specs.Types.{AreNames, IsName}
+use Rattle.std.proofs.Common.{◌≡◌, ℕ, zero, suc, ◌+◌, ◌<◌, ◌≤◌, inl, inr, Bool, true, false, ◌||◌, List, [], ◌∷◌, ◌++◌, length, take, find, Option, None, Some, Result, Ok, Err, option_map, refl, sym, ap, ◌∙◌, arith, ltb}
+use Rattle.std.specs.Borrow.{Bor}
+use Rattle.std.specs.List.{list_any, position, position_or_len, slice_get, slice_index_or}
 use Rattle.std.specs.Str.{bytes_eq}
 use Rattle.std.proofs.lemmas.Bool.{cases_Bool, le-ltb, lt-ltb, ltb-false, ltb-true}
-use Rattle.std.proofs.lemmas.List.{take_all}
+use Rattle.std.proofs.lemmas.List.{take_all, take_more}
+use Rattle.std.proofs.lemmas.List.Folds.{list_any-append}
+use Rattle.std.proofs.lemmas.Option.{get_or_from_slice_get, slice_get_within}
 use Rattle.std.proofs.lemmas.Slice.Eq.{bytes_eq-Decides}
 use Rattle.std.specs.Option.{ok_or}
 use Rattle.sshmsg.specs.Content.{Offer}
@@ -30,36 +32,37 @@ position_next p x xs f = elim (cases_Bool (ltb (position_or_len p xs) (length xs
       rw (f, more, g) refl
 ]
 
-module _ {X : Type 0} (g : X → List ℕ) (test : List ℕ → Bool) where
-  found_by : (x : X) (xs : List X) → test (g x) ≡ false → (found : Option (List ℕ)) → find test (map g xs) ≡ found
-      → position (λ y. test (g y)) xs ≡ option_map (λ n. position_in (map g xs) n) found
-      → position (λ y. test (g y)) (x ∷ xs) ≡ option_map (λ n. position_in (g x ∷ map g xs) n) found
-  found_by x xs f None e rec = position_next (λ y. test (g y)) x xs f ∙ ap (λ (o : Option ℕ). option_map (λ k. 1 + k) o) rec
+module _ (test : List ℕ → Bool) where
+  found_by : (x : List ℕ) (xs : List (List ℕ)) → test x ≡ false → (found : Option (List ℕ)) → find test xs ≡ found
+      → position test xs ≡ option_map (λ n. position_in xs n) found → position test (x ∷ xs) ≡ option_map (λ n. position_in (x ∷ xs) n) found
+  found_by x xs f None e rec = position_next test x xs f ∙ ap (λ (o : Option ℕ). option_map (λ k. 1 + k) o) rec
   found_by x xs f (Some n) e rec =
-      let t : test n ≡ true = found_passes test (map g xs) n e in
-      let differs : bytes_eq n (g x) ≡ false = other_name test n (g x) t f in
-      let next : position_in (g x ∷ map g xs) n ≡ suc (position_in (map g xs) n) = rw differs refl in
-      let one : 1 + position_in (map g xs) n ≡ position_in (g x ∷ map g xs) n = omega (arith, next) in
-      position_next (λ y. test (g y)) x xs f ∙ (ap (λ (o : Option ℕ). option_map (λ k. 1 + k) o) rec ∙ ap (λ (k : ℕ). Some k) one)
+      let t : test n ≡ true = found_passes test xs n e in
+      let differs : bytes_eq n x ≡ false = other_name test n x t f in
+      let next : position_in (x ∷ xs) n ≡ suc (position_in xs n) = rw differs refl in
+      let one : 1 + position_in xs n ≡ position_in (x ∷ xs) n = omega (arith, next) in
+      position_next test x xs f ∙ (ap (λ (o : Option ℕ). option_map (λ k. 1 + k) o) rec ∙ ap (λ (k : ℕ). Some k) one)
 
-  pub position_found : (xs : List X) → position (λ y. test (g y)) xs ≡ option_map (λ n. position_in (map g xs) n) (find test (map g xs))
+  pub position_found : (xs : List (List ℕ)) → position test xs ≡ option_map (λ n. position_in xs n) (find test xs)
   position_found [] = refl
-  position_found (x ∷ xs) = elim (cases_Bool (test (g x))) [
+  position_found (x ∷ xs) = elim (cases_Bool (test x)) [
     | inl t ↦
-        let here : position (λ y. test (g y)) (x ∷ xs) ≡ Some 0 = position_here (λ y. test (g y)) x xs t in
-        let same : bytes_eq (g x) (g x) ≡ true = (bytes_eq-Decides (g x) (g x)).1 refl in
-        let found : option_map (λ n. position_in (g x ∷ map g xs) n) (find test (g x ∷ map g xs)) ≡ Some 0 = rw (t, same) refl in
+        let here : position test (x ∷ xs) ≡ Some 0 = position_here test x xs t in
+        let same : bytes_eq x x ≡ true = (bytes_eq-Decides x x).1 refl in
+        let found : option_map (λ n. position_in (x ∷ xs) n) (find test (x ∷ xs)) ≡ Some 0 = rw (t, same) refl in
         here ∙ sym found
     | inr f ↦
-        let next : find test (g x ∷ map g xs) ≡ find test (map g xs) = rw f refl in
-        rw next (found_by x xs f (find test (map g xs)) refl (position_found xs))
+        let next : find test (x ∷ xs) ≡ find test xs = rw f refl in
+        rw next (found_by x xs f (find test xs) refl (position_found xs))
   ]
 
--- each of the names is one
-pub name_at : {X : Type 0} (g : X → List ℕ) (xs : List X) → AreNames (map g xs) → (i : ℕ) (d : X) → i < length xs → IsName (g (slice_index_or xs i d))
-name_at g [] are i d less = absurd (omega (arith, less))
-name_at g (x ∷ xs) are zero d less = are.0
-name_at g (x ∷ xs) are (suc i) d less = name_at g xs are.1 i d (omega (arith, less))
+-- the names up to one that is got
+take_got : (xs : List (List ℕ)) (i : ℕ) (x : List ℕ) → slice_get xs i ≡ Some x → take (i + 1) xs ≡ take i xs ++ x ∷ []
+take_got xs i x e = take_more xs i x (slice_get_within xs i x e) ∙ ap (λ (y : List ℕ). take i xs ++ y ∷ []) (get_or_from_slice_get xs i x x e)
+
+pub or_false : (b : Bool) → (b || false) ≡ b
+or_false true = refl
+or_false false = refl
 
 -- a search that goes through the places ends at the first that passes
 none_passes : {X : Type 0} (p : X → Bool) (x : X) (xs : List X) → list_any p (x ∷ xs) ≡ false → (p x ≡ false) × (list_any p xs ≡ false)
@@ -88,9 +91,28 @@ position_none p (x ∷ xs) none =
 pub position_nowhere : {X : Type 0} (p : X → Bool) (xs : List X) (i : ℕ) → length xs ≤ i → list_any p (take i xs) ≡ false → None ≡ position p xs
 position_nowhere {X} p xs i all none = position_none p xs (sym (ap (λ (ys : List X). list_any p ys) (take_all i xs all)) ∙ none)
 
-pub position_item : {X : Type 0} (p : X → Bool) (xs : List X) (i : ℕ) (d x : X) → x ≡ slice_index_or xs i d → list_any p (take i xs) ≡ false → i < length xs
+-- the name that is got at a position
+pub got_name : (names : List (List ℕ)) (i : ℕ) (o : Option (Bor (List ℕ))) (x : Bor (List ℕ)) → option_map (λ name. name.now) o ≡ slice_get names i
+    → o ≡ Some x → slice_get names i ≡ Some x.now
+got_name names i o x e is = sym e ∙ ap (λ (r : Option (Bor (List ℕ))). option_map (λ name. name.now) r) is
+
+pub is_at : (names : List (List ℕ)) (i : ℕ) (name : List ℕ) → slice_get names i ≡ Some name → name ≡ slice_index_or names i name
+is_at names i name e = sym (get_or_from_slice_get names i name name e)
+
+pub position_item : (p : List ℕ → Bool) (xs : List (List ℕ)) (i : ℕ) (x : List ℕ) → slice_get xs i ≡ Some x → list_any p (take i xs) ≡ false
     → p x ≡ true → Some i ≡ position p xs
-position_item p xs i d x is none less t = position_at p xs i d none less (rw (← is) t)
+position_item p xs i x e none t = position_at p xs i x none (slice_get_within xs i x e) (rw (← is_at xs i x e) t)
+
+-- one more name that doesn't pass, or does
+pub none_more : (p : List ℕ → Bool) (xs : List (List ℕ)) (i : ℕ) (x : List ℕ) → slice_get xs i ≡ Some x → list_any p (take i xs) ≡ false
+    → p x ≡ false → list_any p (take (i + 1) xs) ≡ false
+none_more p xs i x e none f = ap (λ (ys : List (List ℕ)). list_any p ys) (take_got xs i x e) ∙ (list_any-append p (take i xs) (x ∷ []) ∙ rw (none, f) refl)
+
+pub any_more : (p : List ℕ → Bool) (xs : List (List ℕ)) (i : ℕ) (x : List ℕ) → slice_get xs i ≡ Some x → (b : Bool) → b ≡ list_any p (take i xs)
+    → (b || p x) ≡ list_any p (take (i + 1) xs)
+any_more p xs i x e b is =
+    let one : list_any p (x ∷ []) ≡ p x = or_false (p x) in
+    rw is (sym (ap (λ (ys : List (List ℕ)). list_any p ys) (take_got xs i x e) ∙ (list_any-append p (take i xs) (x ∷ []) ∙ rw one refl)))
 
 -- the position of what was found, or the field
 pub found_or : (f : NoCommon) (names : List (List ℕ)) (o : Option (List ℕ)) → ok_or (option_map (λ n. position_in names n) o) f ≡ positioned f names o

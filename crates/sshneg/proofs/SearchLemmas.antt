@@ -1,8 +1,8 @@
 -- The method, searched for among all names of the client's list, with what the common host key algorithms are capable of
 -- seen once.
 
-use Rattle.std.proofs.Common.{◌≡◌, ℕ, zero, suc, Bool, true, false, not, ◌&&◌, List, [], ◌∷◌, map, find, inl, inr, Some, refl, sym, ap, ◌∙◌}
-use Rattle.std.specs.List.{list_any, slice_get, slice_index_or}
+use Rattle.std.proofs.Common.{◌≡◌, ℕ, Bool, true, false, not, ◌&&◌, List, find, inl, inr, refl, sym, ◌∙◌}
+use Rattle.std.specs.List.{list_any}
 use Rattle.std.proofs.lemmas.Bool.{cases_Bool}
 use Rattle.sshmsg.specs.Content.{Offer}
 use Rattle.sshpacket.specs.declared.suite.Capability.{Capability}
@@ -15,22 +15,16 @@ use Rattle.sshneg.specs.Markers.{first_name, is_marker, methods}
 use Rattle.sshneg.proofs.ChoiceLemmas.{find_alike, find_methods, first_method, listed_method, method_listed}
 use Rattle.sshneg.proofs.FirstLemmas.{contains_in, in_contains}
 
-any_map : {X : Type 0} (g : X → List ℕ) (test : List ℕ → Bool) (xs : List X) → list_any (λ x. test (g x)) xs ≡ list_any test (map g xs)
-any_map g test [] = refl
-any_map g test (x ∷ xs) = rw (any_map g test xs) refl
-
 -- these are the capabilities of the host key algorithms of both sides together
 abbrev pub AreTogether : Meaning → List (List ℕ) → List (List ℕ) → Capability → Type 0
 AreTogether m client server common = (need : Need) → serves need common ≡ list_any (λ n. is_in server n && serves need (m.can n)) client
 
-pub together : {X : Type 0} (g : X → List ℕ) (m : Meaning) (xs : List X) (client server : List (List ℕ)) (common : Capability) → map g xs ≡ client
-    → common.signature ≡ list_any (λ x. is_in server (g x) && (m.can (g x)).signature) xs
-    → common.encryption ≡ list_any (λ x. is_in server (g x) && (m.can (g x)).encryption) xs
+pub together : (m : Meaning) (client server : List (List ℕ)) (common : Capability)
+    → common.signature ≡ list_any (λ n. is_in server n && (m.can n).signature) client
+    → common.encryption ≡ list_any (λ n. is_in server n && (m.can n).encryption) client
     → AreTogether m client server common
-together g m xs client server common all sign encrypt Signature =
-    sign ∙ (any_map g (λ n. is_in server n && (m.can n).signature) xs ∙ ap (λ (names : List (List ℕ)). list_any (λ n. is_in server n && (m.can n).signature) names) all)
-together g m xs client server common all sign encrypt Encryption =
-    encrypt ∙ (any_map g (λ n. is_in server n && (m.can n).encryption) xs ∙ ap (λ (names : List (List ℕ)). list_any (λ n. is_in server n && (m.can n).encryption) names) all)
+together m client server common sign encrypt Signature = sign
+together m client server common sign encrypt Encryption = encrypt
 
 -- a method stands on a list exactly where it is one of its methods
 in_methods : (names : List (List ℕ)) (n : List ℕ) → is_marker n ≡ false → is_in (methods names) n ≡ is_in names n
@@ -65,9 +59,3 @@ pub kex_first : (m : Meaning) (client server : Offer) → same_first client serv
 kex_first m client server t =
     let same : kex_choice m client server ≡ first_name (methods client.kex_algorithms) = rw t refl in
     same ∙ first_method client.kex_algorithms
-
--- the name at a place
-pub got_at : {X : Type 0} (g : X → List ℕ) (xs : List X) (i : ℕ) (d : X) (n : List ℕ) → slice_get (map g xs) i ≡ Some n → g (slice_index_or xs i d) ≡ n
-got_at g [] i d n e = cc
-got_at g (x ∷ xs) zero d n e = cc
-got_at g (x ∷ xs) (suc i) d n e = got_at g xs i d n e

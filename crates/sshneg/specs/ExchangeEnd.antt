@@ -1,6 +1,7 @@
 -- What one end of a key exchange has, and what it comes to by it: RFC 4253 sections 7 and 8.
 
 use Rattle.std.specs.Prelude.{◌≡◌, ℕ, List, Option, None, Some, Result, Ok, Err, option_map}
+use Rattle.sshwire.specs.declared.share_form.ShareForm.TheVariants.{Mpint}
 use Rattle.sshmsg.specs.declared.fault.MsgFault.{MsgFault}
 use Rattle.sshmsg.specs.Content.{Content, KexInit, Offer}
 use Rattle.sshmsg.specs.Messages.{message_in}
@@ -18,9 +19,9 @@ abbrev pub offer_by : Result Content MsgFault → Option Offer
 offer_by (Ok (KexInit offer)) = Some offer
 offer_by _ = None
 
--- what a payload offers, if it is a KEXINIT (RFC 4253 section 7.1)
+-- what a payload offers, if it is a KEXINIT (RFC 4253 section 7.1), which is read alike whatever form the shares have
 abbrev pub offer_in : List ℕ → Option Offer
-offer_in payload = offer_by (message_in payload)
+offer_in payload = offer_by (message_in Mpint payload)
 
 -- the choice of two offers; where one is missing there is no method
 abbrev pub choice_by : Meaning → Option Offer → Option Offer → Result Algorithms NoCommon

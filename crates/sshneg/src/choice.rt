@@ -1,8 +1,8 @@
 //! The choice of algorithms (RFC 4253 section 7.1).
 
-ghost use Rattle.std.specs.Prelude.{◌≡◌, ◌&&◌, ◌<◌, ℕ, List, Some, find, length, map, not, option_map, string_bytes};
+ghost use Rattle.std.specs.Prelude.{◌≡◌, ◌&&◌, ◌<◌, ℕ, List, Some, find, length, not, option_map};
 ghost use Rattle.std.specs.List.{list_any, position, slice_get};
-ghost use Rattle.sshwire.specs.Types.{AreNames, IsName};
+ghost use Rattle.sshwire.specs.Types.{IsName};
 ghost use Rattle.sshmsg.specs.View.{offer_of};
 ghost use Rattle.sshneg.specs.declared.choice.NoCommon.TheVariants as field;
 ghost use Rattle.sshneg.specs.Choice.{ChoiceAnswer, serves};
@@ -82,7 +82,11 @@ impl Error for NoCommon {}
 
 /// The algorithms that two KEXINITs come to (RFC 4253 section 7.1), or the first field, in the order
 /// of a KEXINIT, that has none. Takes no memory.
-pub fn choose<S: Suite>(client: &KexInit, server: &KexInit, suite: &S) -> Result<Chosen, NoCommon>
+pub fn choose<S: Suite>(
+    client: &KexInit<'_>,
+    server: &KexInit<'_>,
+    suite: &S,
+) -> Result<Chosen, NoCommon>
     ensures tells { ChoiceAnswer (S.meaning suite.now) (offer_of client.now) (offer_of server.now) result }
     ensures exact { result ≡ answer (S.meaning suite.now) (offer_of client.now) (offer_of server.now) }
 {
@@ -93,7 +97,11 @@ pub fn choose<S: Suite>(client: &KexInit, server: &KexInit, suite: &S) -> Result
 
 /// The position of the key exchange method.
 #[tactic(auto, using(crate::proofs::PositionLemmas::found_or))]
-fn choose_kex<S: Suite>(client: &KexInit, server: &KexInit, suite: &S) -> Result<usize, NoCommon>
+fn choose_kex<S: Suite>(
+    client: &KexInit<'_>,
+    server: &KexInit<'_>,
+    suite: &S,
+) -> Result<usize, NoCommon>
     ensures { result ≡ positioned field.Kex client.now.kex_algorithms (kex_choice (S.meaning suite.now) (offer_of client.now) (offer_of server.now)) }
 {
     find_kex(client, server, suite).ok_or(NoCommon::Kex)
@@ -103,8 +111,8 @@ fn choose_kex<S: Suite>(client: &KexInit, server: &KexInit, suite: &S) -> Result
 /// used.
 #[tactic(auto, using(crate::proofs::PositionLemmas::found_or))]
 fn choose_host_key<S: Suite>(
-    client: &KexInit,
-    server: &KexInit,
+    client: &KexInit<'_>,
+    server: &KexInit<'_>,
     kex: usize,
     suite: &S,
 ) -> Result<usize, NoCommon>
@@ -119,8 +127,8 @@ fn choose_host_key<S: Suite>(
 /// The choice with this method and this host key algorithm, or the first of the other six fields that
 /// has none.
 fn choose_directions(
-    client: &KexInit,
-    server: &KexInit,
+    client: &KexInit<'_>,
+    server: &KexInit<'_>,
     kex: usize,
     host_key: usize,
 ) -> Result<Chosen, NoCommon>
@@ -174,11 +182,11 @@ fn choose_common(field: NoCommon, client: &NameList, server: &NameList) -> Resul
 
 /// The position of the key exchange method: the first of both sides where that is the same one, else
 /// the first of the client's that is usable.
-fn find_kex<S: Suite>(client: &KexInit, server: &KexInit, suite: &S) -> Option<usize>
+fn find_kex<S: Suite>(client: &KexInit<'_>, server: &KexInit<'_>, suite: &S) -> Option<usize>
     ensures { result ≡ option_map (λ name. position_in client.now.kex_algorithms name)
         (kex_choice (S.meaning suite.now) (offer_of client.now) (offer_of server.now)) }
 {
-    let names = client.kex_algorithms.names();
+    let names = &client.kex_algorithms;
     if same_name(
         first_method(&client.kex_algorithms),
         first_method(&server.kex_algorithms),
@@ -186,7 +194,7 @@ fn find_kex<S: Suite>(client: &KexInit, server: &KexInit, suite: &S) -> Option<u
         return first_unmarked(names);
     }
     let common = common_capability(
-        client.server_host_key_algorithms.names(),
+        &client.server_host_key_algorithms,
         &server.server_host_key_algorithms,
         suite,
     );
@@ -194,25 +202,25 @@ fn find_kex<S: Suite>(client: &KexInit, server: &KexInit, suite: &S) -> Option<u
 }
 
 /// The position of the first name that is a method.
-fn first_unmarked(names: &[String]) -> Option<usize>
-    ensures { result ≡ position (λ name. not (is_marker (string_bytes name))) names.now }
+fn first_unmarked(names: &NameList) -> Option<usize>
+    ensures { result ≡ position (λ name. not (is_marker name)) names.now }
 {
-    names.iter().position(|name| !is_marker(name))
+    names.names().position(|name| !is_marker(name))
 }
 
 /// The position of the first method of the client's that the server lists and that a host key
 /// algorithm of both sides serves.
 fn first_usable<S: Suite>(
-    names: &[String],
+    names: &NameList,
     server: &NameList,
     common: Capability,
     suite: &S,
 ) -> Option<usize>
-    requires { AreNames (map string_bytes names.now) }
-    ensures { result ≡ position (λ name. not (is_marker (string_bytes name))
-        && (is_in server.now (string_bytes name) && serves ((S.meaning suite.now).need (string_bytes name)) common)) names.now }
+    ensures { result ≡ position (λ name. not (is_marker name)
+        && (is_in server.now name && serves ((S.meaning suite.now).need name) common)) names.now }
 {
-    for (position, name) in names.iter().enumerate() {
+    for position in 0..names.len() {
+        let name = names.name_at(position).unwrap();
         if is_usable(name, server, common, suite) {
             return Some(position);
         }
@@ -229,19 +237,16 @@ fn is_usable<S: Suite>(name: &str, server: &NameList, common: Capability, suite:
 }
 
 /// What the host key algorithms that both sides list are capable of together.
-#[tactic(auto, using(crate::proofs::PositionLemmas::name_at))]
-fn common_capability<S: Suite>(names: &[String], server: &NameList, suite: &S) -> Capability
-    requires { AreNames (map string_bytes names.now) }
-    ensures signature { result.signature ≡ list_any (λ name. is_in server.now (string_bytes name)
-        && ((S.meaning suite.now).can (string_bytes name)).signature) names.now }
-    ensures encryption { result.encryption ≡ list_any (λ name. is_in server.now (string_bytes name)
-        && ((S.meaning suite.now).can (string_bytes name)).encryption) names.now }
+fn common_capability<S: Suite>(names: &NameList, server: &NameList, suite: &S) -> Capability
+    ensures signature { result.signature ≡ list_any (λ name. is_in server.now name && ((S.meaning suite.now).can name).signature) names.now }
+    ensures encryption { result.encryption ≡ list_any (λ name. is_in server.now name && ((S.meaning suite.now).can name).encryption) names.now }
 {
     let mut common = Capability {
         signature: false,
         encryption: false,
     };
-    for name in names {
+    for position in 0..names.len() {
+        let name = names.name_at(position).unwrap();
         if lists(server, name) {
             let can = suite.can(name);
             common.signature |= can.signature;
@@ -256,14 +261,14 @@ fn need_at<S: Suite>(names: &NameList, position: usize, suite: &S) -> Need
     requires { position < length names.now }
     ensures { (name : List ℕ) → slice_get names.now position ≡ Some name → result ≡ (S.meaning suite.now).need name }
 {
-    suite.need(&names.names()[position])
+    suite.need(names.name_at(position).unwrap())
 }
 
 /// The position of the first host key algorithm of the client's that the server lists and that has
 /// what is needed.
 fn find_host_key<S: Suite>(
-    client: &KexInit,
-    server: &KexInit,
+    client: &KexInit<'_>,
+    server: &KexInit<'_>,
     need: Need,
     suite: &S,
 ) -> Option<usize>
@@ -271,7 +276,7 @@ fn find_host_key<S: Suite>(
         (find (λ name. is_in server.now.server_host_key_algorithms name && serves need ((S.meaning suite.now).can name)) client.now.server_host_key_algorithms) }
 {
     first_able(
-        client.server_host_key_algorithms.names(),
+        &client.server_host_key_algorithms,
         &server.server_host_key_algorithms,
         need,
         suite,
@@ -279,12 +284,11 @@ fn find_host_key<S: Suite>(
 }
 
 /// The position of the first of these names that the server lists and that has what is needed.
-fn first_able<S: Suite>(names: &[String], server: &NameList, need: Need, suite: &S) -> Option<usize>
-    requires { AreNames (map string_bytes names.now) }
-    ensures { result ≡ position (λ name. is_in server.now (string_bytes name)
-        && serves need ((S.meaning suite.now).can (string_bytes name))) names.now }
+fn first_able<S: Suite>(names: &NameList, server: &NameList, need: Need, suite: &S) -> Option<usize>
+    ensures { result ≡ position (λ name. is_in server.now name && serves need ((S.meaning suite.now).can name)) names.now }
 {
-    for (position, name) in names.iter().enumerate() {
+    for position in 0..names.len() {
+        let name = names.name_at(position).unwrap();
         if is_able(name, server, need, suite) {
             return Some(position);
         }
@@ -304,14 +308,14 @@ fn is_able<S: Suite>(name: &str, server: &NameList, need: Need, suite: &S) -> bo
 fn find_common(client: &NameList, server: &NameList) -> Option<usize>
     ensures { result ≡ option_map (λ name. position_in client.now name) (first_common client.now server.now) }
 {
-    first_listed(client.names(), server)
+    first_listed(client, server)
 }
 
 /// The position of the first of these names that the server lists.
-fn first_listed(names: &[String], server: &NameList) -> Option<usize>
-    ensures { result ≡ position (λ name. is_in server.now (string_bytes name)) names.now }
+fn first_listed(names: &NameList, server: &NameList) -> Option<usize>
+    ensures { result ≡ position (λ name. is_in server.now name) names.now }
 {
-    names.iter().position(|name| lists(server, name))
+    names.names().position(|name| lists(server, name))
 }
 
 /// Whether a name stands in the list.

@@ -2,6 +2,7 @@
 
 ghost use Rattle.std.specs.Prelude.{◌≡◌, ◌+◌, ◌<◌, ◌≤◌, ◌-◌, ◌^◌, IfOk, length, take};
 ghost use Rattle.sshwire.specs.Types.{IsName};
+ghost use Rattle.sshpacket.specs.declared.limits.TheConstants.{DIGEST_LIMIT};
 ghost use Rattle.sshneg.specs.Derivations.{derived, enc_letter, exchange_size, exchange_text, grown, hash_with, iv_letter, key, mac_letter, signed_text, source_size};
 ghost use Rattle.sshneg.specs.ExchangeView.{exchange_of, source_of};
 
@@ -191,7 +192,7 @@ fn grow<S: Suite>(
 ) -> Result<Vec<u8>, Memory>
     requires kex { IsName material.now.kex.now }
     requires short { source_size (source_of material.now) < 2 ^ 31 }
-    requires first { length first.items ≤ 64 }
+    requires first { length first.items ≤ DIGEST_LIMIT }
     ensures { IfOk result (λ v. take len v.items ≡ take len (grown (S.meaning suite.now) (source_of material.now) first.items len)) }
 {
     let mut bytes = first;
@@ -214,7 +215,7 @@ fn hash_of<S: Suite>(
     requires kex { IsName material.now.kex.now }
     requires short { length material.now.shared.now + length material.now.hash.now + length behind.now < 2 ^ 32 - 4 }
     ensures hash { IfOk result (λ v. v.items ≡ hash_with (S.meaning suite.now) (source_of material.now) behind.now) }
-    ensures short { IfOk result (λ v. length v.items ≤ 64) }
+    ensures short { IfOk result (λ v. length v.items ≤ DIGEST_LIMIT) }
 {
     let mut input = Vec::new(alloc);
     put_string(&mut input, material.shared)?;

@@ -1,6 +1,6 @@
 //! Guessed key exchange packets (RFC 4253 section 7).
 
-ghost use Rattle.std.specs.Prelude.{◌≡◌, ◌↔◌, IsTrue, find, map, not, option_map, string_bytes};
+ghost use Rattle.std.specs.Prelude.{◌≡◌, ◌↔◌, IsTrue, find, not, option_map};
 ghost use Rattle.sshmsg.specs.View.{offer_of};
 ghost use Rattle.sshneg.specs.Markers.{IsRightGuess, first_name, is_marker, methods, same_name};
 
@@ -12,7 +12,7 @@ use sshwire::NameList;
 /// the same, markers left out, and so are their first host key algorithms. Unlike RFC 4253 section 7
 /// it looks at no other list (profile): where another algorithm can't be agreed on, `choose` has
 /// said so. Takes no memory.
-pub fn guess_right(client: &KexInit, server: &KexInit) -> bool
+pub fn guess_right(client: &KexInit<'_>, server: &KexInit<'_>) -> bool
     ensures { IsTrue result ↔ IsRightGuess (offer_of client.now) (offer_of server.now) }
 {
     let kex = same_name(
@@ -40,33 +40,19 @@ pub(crate) fn same_name(left: Option<&str>, right: Option<&str>) -> bool
 pub(crate) fn first_method(list: &NameList) -> Option<&str>
     ensures { option_map (λ name. name.now) result ≡ first_name (methods list.now) }
 {
-    first_method_of(list.names())
+    find_unmarked(list)
 }
 
-/// The first method of these names.
-#[tactic(auto, using(crate::proofs::GuessLemmas::some_first, crate::proofs::GuessLemmas::none_first))]
-fn first_method_of(names: &[String]) -> Option<&str>
-    ensures { option_map (λ name. name.now) result ≡ first_name (methods (map string_bytes names.now)) }
+/// The first name of a list that is no marker.
+fn find_unmarked(list: &NameList) -> Option<&str>
+    ensures { option_map (λ name. name.now) result ≡ find (λ name. not (is_marker name)) list.now }
 {
-    match find_unmarked(names) {
-        Some(name) => Some(name.as_str()),
-        None => None,
-    }
-}
-
-/// The first of these names that is no marker.
-fn find_unmarked(names: &[String]) -> Option<&String>
-    ensures { option_map (λ name. name.now) result ≡ find (λ name. not (is_marker (string_bytes name))) names.now }
-{
-    names.iter().find(|name| !is_marker(name))
+    list.names().find(|name| !is_marker(name))
 }
 
 /// The first name of a list.
 fn first_name(list: &NameList) -> Option<&str>
     ensures { option_map (λ name. name.now) result ≡ first_name list.now }
 {
-    match list.names().first() {
-        Some(name) => Some(name.as_str()),
-        None => None,
-    }
+    list.name_at(0)
 }

@@ -145,8 +145,9 @@ pub fn agreement_law<S: AgreeingSuite>(suite: &S, kex: &str, client: &[u8], serv
     requires server { length server.now ≡ 32 }
     // Under every method any random bytes of a client and of a server agree, so both ends of one exchange have one key source.
     ensures agrees { Agrees (S.meaning suite.now) kex.now client.now server.now }
-    // A client that reads the share of the server's answer has the same answer: that share, and the same shared number.
+    // Every key signs.
     ensures signs { (alg secret : List ℕ) → Signs (S.meaning suite.now) alg secret }
+    // A client that reads the share of the server's answer has the same answer: that share, and the same shared number.
     ensures one { (r : ResponseData) → (S.meaning suite.now).respond kex.now server.now ((S.meaning suite.now).share kex.now client.now) ≡ Some r
         → answer_by Client (S.meaning suite.now) kex.now client.now r.share ≡ Some r }
 {}

@@ -10,7 +10,7 @@ use sshmsg::KexInit;
 
 /// Whether an endpoint of this role is strict: it is willing to be, and the peer's KEXINIT has the
 /// peer's marker, wherever it stands in the kex list. Takes no memory.
-pub fn strict_of(own_flag: bool, own_role: Role, peer: &KexInit) -> bool
+pub fn strict_of(own_flag: bool, own_role: Role, peer: &KexInit<'_>) -> bool
     ensures { IsTrue result ↔ IsStrict own_flag own_role (offer_of peer.now) }
 {
     own_flag

@@ -3,7 +3,6 @@
 use Rattle.std.proofs.Common.{◌≡◌, ◌≢◌, ◌⊎◌, inl, inr, ℕ, ◌+◌, ◌%◌, ◌^◌, ◌<◌, ◌≤◌, List, [], ◌++◌, length, take, refl, sym, ap, ◌∙◌, Result, Ok, Err, arith}
 use Rattle.std.proofs.Math.Seq.{take-append-add}
 use Rattle.std.proofs.lemmas.List.{length-append}
-use Rattle.sshwire.specs.Types.{IsBytes}
 use Rattle.sshpacket.specs.declared.fault.PacketFault.{PacketFault}
 use Rattle.sshpacket.specs.declared.fault.PacketFault.TheVariants.{Empty, Length, Mac, Memory, Padding}
 use Rattle.sshpacket.specs.declared.reader.PacketStep.{PacketStep}
@@ -12,8 +11,7 @@ use Rattle.sshpacket.specs.Parse.{Parse, OfPacket, refused, unfinished, whole}
 use Rattle.sshpacket.specs.declared.reader.PacketReader.{PacketReader}
 use Rattle.sshpacket.specs.ReaderState.{HoldsNothingBehind, IsPayload, IsStep, ReaderLeaves, ReaderWaits, Uses, last_used, state, OnlyPacketAnswer, ParseAnswer, PacketAnswer, ReaderState, ahead, protection_at}
 use Rattle.sshpacket.specs.Suite.{Meaning}
-use Rattle.sshpacket.specs.ProtectedPacket.{IsFaithful, IsProtectedPacket, PacketMeans}
-use Rattle.sshpacket.proofs.ProtectedLaws.{reads}
+use Rattle.sshpacket.specs.ProtectedPacket.{IsProtectedPacket, PacketMeans}
 
 is_memory : (f : PacketFault) → (f ≡ Memory) ⊎ (f ≢ Memory)
 is_memory Length = inr (λ e. cc)
@@ -42,9 +40,9 @@ module _ (m : Meaning) (s : ReaderState) (piece : List ℕ) where
       let told : PacketMeans (protection_at m s) (s.held ++ piece) (refused (OfPacket f) (length s.held + a.0)) = rw a.2 at means in
       (a.0, a.1, told)
 
-  -- which answer is told of bytes that mean this
-  same_answer : IsFaithful (protection_at m s) → IsBytes (s.held ++ piece) → (found : Parse) → PacketMeans (protection_at m s) (s.held ++ piece) found → ahead m s piece ≡ found
-  same_answer faithful bytes found means = reads (protection_at m s) (s.held ++ piece) faithful bytes found means
+  -- the bytes mean one answer
+  abbrev pub OneMeaning : Type 0
+  OneMeaning = (found : Parse) → PacketMeans (protection_at m s) (s.held ++ piece) found → ahead m s piece ≡ found
 
   -- an error that isn't want of memory tells its own refusal
   told_error : (f : PacketFault) → ParseAnswer m s piece (Err f) → (f ≢ Memory) → (used : ℕ) × (ahead m s piece ≡ refused (OfPacket f) (length s.held + used))
@@ -88,12 +86,12 @@ module _ (m : Meaning) (s : ReaderState) (piece : List ℕ) where
       let all : length (s.held ++ piece) ≡ length s.held + length piece = length-append s.held piece in
       (omega arith, rw (bytes_used used) unit)
 
-  pub only_of : (result : Result PacketStep PacketFault) → IsFaithful (protection_at m s) → IsBytes (s.held ++ piece) → ParseAnswer m s piece result → OnlyPacketAnswer m s piece result
-  only_of result faithful bytes answer = record {
-    more = λ found. more_by result answer (same_answer faithful bytes unfinished found);
+  pub only_of : (result : Result PacketStep PacketFault) → OneMeaning → ParseAnswer m s piece result → OnlyPacketAnswer m s piece result
+  only_of result one answer = record {
+    more = λ found. more_by result answer (one unfinished found);
     payload = λ payload used low unit. payload_by payload used result answer
-        (same_answer faithful bytes (whole payload (length s.held + used)) (unit_means payload used low unit));
-    refused = λ f place found. refused_by f place result answer (same_answer faithful bytes (refused (OfPacket f) place) found);
+        (one (whole payload (length s.held + used)) (unit_means payload used low unit));
+    refused = λ f place found. refused_by f place result answer (one (refused (OfPacket f) place) found);
   }
 
   -- what is said by the payload that is lent

@@ -1,5 +1,4 @@
 pub mod AnswerLemmas
-pub mod ByteLemmas
 pub mod HearingLemmas
 pub mod JoinedLemmas
 pub mod LeastPadding

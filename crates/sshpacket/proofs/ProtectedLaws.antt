@@ -6,7 +6,6 @@ use Rattle.std.proofs.lemmas.Bool.{eqb-false, eqb-true, ltb-false, ltb-true, leb
 use Rattle.std.proofs.lemmas.List.{length-take-le, take-take}
 use Rattle.sshwire.specs.TypeReadings.{IsReading, uint32_at}
 use Rattle.sshwire.specs.Types.{IsBytes, Uint32Text}
-use Rattle.sshwire.proofs.TypeLemmas.{bytes_taken}
 use Rattle.sshpacket.specs.declared.fault.PacketFault.{PacketFault}
 use Rattle.sshpacket.specs.declared.fault.PacketFault.TheVariants.{Empty, Length, Mac, Memory, Padding}
 use Rattle.sshpacket.specs.Parse.{Parse, OfLine, OfPacket, Protection, parse_packet, is_length, opened, refused, total, unfinished, unsealed, protection, whole}
@@ -26,16 +25,20 @@ module _ (w : Protection) (bytes : List ℕ) where
   same_total : (len : ℕ) → 4 ≤ len → total w (take len bytes) ≡ total w bytes
   same_total len h = ap (λ (xs : List ℕ). 4 + w.head xs + w.tag) (first_four len h)
 
+-- what the law of bytes says of their first ones
+abbrev pub TakesBytes : Type 0
+TakesBytes = (n : ℕ) (bytes : List ℕ) → IsBytes bytes → IsBytes (take n bytes)
+
 -- what is unsealed at the front has the length read
-kept : (w : Protection) (bytes : List ℕ) → IsFaithful w → IsBytes bytes → (clear : List ℕ) → total w bytes ≤ length bytes
+kept : TakesBytes → (w : Protection) (bytes : List ℕ) → IsFaithful w → IsBytes bytes → (clear : List ℕ) → total w bytes ≤ length bytes
     → w.unseal (take (total w bytes) bytes) ≡ Some clear → Keeps (w.head (take 4 bytes)) clear
-kept w bytes f h clear all e =
+kept taken w bytes f h clear all e =
     let wide : 4 ≤ total w bytes = omega arith in
     let size : length (take (total w bytes) bytes) ≡ total w (take (total w bytes) bytes)
     = length-take-le (total w bytes) bytes all ∙ sym (same_total w bytes (total w bytes) wide) in
-    rw (first_four w bytes (total w bytes) wide) at (f.keeps (take (total w bytes) bytes) clear (bytes_taken (total w bytes) bytes h) size e)
+    rw (first_four w bytes (total w bytes) wide) at (f.keeps (take (total w bytes) bytes) clear (taken (total w bytes) bytes h) size e)
 
-module _ (r : IsReading Uint32Text uint32_at) (w : Protection) (bytes : List ℕ) (f : IsFaithful w) (h : IsBytes bytes) where
+module _ (taken : TakesBytes) (r : IsReading Uint32Text uint32_at) (w : Protection) (bytes : List ℕ) (f : IsFaithful w) (h : IsBytes bytes) where
   abbrev n : ℕ
   n = w.head (take 4 bytes)
 
@@ -75,7 +78,7 @@ module _ (r : IsReading Uint32Text uint32_at) (w : Protection) (bytes : List ℕ
 
   unseals : IsWhole w bytes (total w bytes) → (o : Option (List ℕ)) → w.unseal (take (total w bytes) bytes) ≡ o → PacketMeans w bytes (unsealed o (total w bytes))
   unseals whole_is None e = (whole_is, e)
-  unseals whole_is (Some clear) e = opens whole_is clear e (kept w bytes f h clear whole_is.there e) (ltb (slice_index clear 4) 4) refl
+  unseals whole_is (Some clear) e = opens whole_is clear e (kept taken w bytes f h clear whole_is.there e) (ltb (slice_index clear 4) 4) refl
 
   means_by : (s t u : Bool) → ltb (length bytes) 4 ≡ s → is_length w.counts w.block w.tag n ≡ t → ltb (length bytes) (total w bytes) ≡ u → PacketMeans w bytes (parse_packet w bytes)
   means_by true t u a b c = let short : length bytes < 4 = ltb-true (length bytes) 4 a in rw (parse_short w bytes short) (inl short)
@@ -118,45 +121,45 @@ opened_at : (w : Protection) (bytes : List ℕ) (place : ℕ) (clear : List ℕ)
     → parse_packet w bytes ≡ opened clear place
 opened_at w bytes place clear k e = parse_whole w bytes place k ∙ ap (λ (o : Option (List ℕ)). unsealed o place) e
 
-rest_of : (w : Protection) (bytes : List ℕ) → IsFaithful w → IsBytes bytes → (place : ℕ) (clear : List ℕ) → IsWhole w bytes place
+rest_of : TakesBytes → (w : Protection) (bytes : List ℕ) → IsFaithful w → IsBytes bytes → (place : ℕ) (clear : List ℕ) → IsWhole w bytes place
     → w.unseal (take place bytes) ≡ Some clear → length clear - 4 ≡ w.head (take 4 bytes)
-rest_of w bytes f h place clear k e =
+rest_of taken w bytes f h place clear k e =
     let size : place ≡ total w bytes = k.size in
     let all : total w bytes ≤ length bytes = (let there : place ≤ length bytes = k.there in omega arith) in
-    let keeps = kept w bytes f h clear all (rw size at e) in
+    let keeps = kept taken w bytes f h clear all (rw size at e) in
     let long : length clear ≡ 4 + w.head (take 4 bytes) = keeps.length_is in
     omega arith
 
-read_unit : (w : Protection) (bytes payload : List ℕ) (len : ℕ) → IsFaithful w → IsBytes bytes → len ≤ length bytes → IsProtectedPacket w payload (take len bytes)
+read_unit : TakesBytes → (w : Protection) (bytes payload : List ℕ) (len : ℕ) → IsFaithful w → IsBytes bytes → len ≤ length bytes → IsProtectedPacket w payload (take len bytes)
     → parse_packet w bytes ≡ whole payload len
-read_unit w bytes payload len f h there u =
+read_unit taken w bytes payload len f h there u =
     let size : length (take len bytes) ≡ len = length-take-le len bytes there in
     let counts : length (take len bytes) ≡ 4 + w.head (take 4 (take len bytes)) + w.tag = u.size in
     let wide : 4 ≤ len = omega arith in
     let is : len ≡ total w bytes = sym size ∙ (u.size ∙ same_total w bytes len wide) in
-    let keeps : Keeps (w.head (take 4 bytes)) u.clear = rw (first_four w bytes len wide) at (f.keeps (take len bytes) u.clear (bytes_taken len bytes h) u.size u.opens) in
+    let keeps : Keeps (w.head (take 4 bytes)) u.clear = rw (first_four w bytes len wide) at (f.keeps (take len bytes) u.clear (taken len bytes h) u.size u.opens) in
     parse_unit w payload u.clear bytes len there is u.opens u.spells keeps.length_is wide
 
-reads_packet : (w : Protection) (bytes : List ℕ) → IsFaithful w → IsBytes bytes → (fault : PacketFault) (place : ℕ) → Refuses w bytes fault place
+reads_packet : TakesBytes → (w : Protection) (bytes : List ℕ) → IsFaithful w → IsBytes bytes → (fault : PacketFault) (place : ℕ) → Refuses w bytes fault place
     → parse_packet w bytes ≡ refused (OfPacket fault) place
-reads_packet w bytes f h Length place (headed, at_four, never) =
+reads_packet taken w bytes f h Length place (headed, at_four, never) =
     parse_bad w bytes headed (length_not w.counts w.block w.tag (w.head (take 4 bytes)) never) ∙ ap (λ (k : ℕ). refused (OfPacket Length) k) (sym at_four)
-reads_packet w bytes f h Mac place (k, none) = parse_whole w bytes place k ∙ ap (λ (o : Option (List ℕ)). unsealed o place) none
-reads_packet w bytes f h Padding place (k, clear, e, cause) =
+reads_packet taken w bytes f h Mac place (k, none) = parse_whole w bytes place k ∙ ap (λ (o : Option (List ℕ)). unsealed o place) none
+reads_packet taken w bytes f h Padding place (k, clear, e, cause) =
     opened_at w bytes place clear k e
-    ∙ opened_padding clear (slice_index clear 4) (w.head (take 4 bytes)) place refl (rest_of w bytes f h place clear k e) cause
-reads_packet w bytes f h Empty place (k, clear, e, low, empty) =
+    ∙ opened_padding clear (slice_index clear 4) (w.head (take 4 bytes)) place refl (rest_of taken w bytes f h place clear k e) cause
+reads_packet taken w bytes f h Empty place (k, clear, e, low, empty) =
     opened_at w bytes place clear k e
-    ∙ opened_empty clear (slice_index clear 4) (w.head (take 4 bytes)) place refl (rest_of w bytes f h place clear k e) low empty
-reads_packet w bytes f h Memory place bad = absurd bad
+    ∙ opened_empty clear (slice_index clear 4) (w.head (take 4 bytes)) place refl (rest_of taken w bytes f h place clear k e) low empty
+reads_packet taken w bytes f h Memory place bad = absurd bad
 
-pub reads : (w : Protection) (bytes : List ℕ) → IsFaithful w → IsBytes bytes → (answer : Parse) → PacketMeans w bytes answer → parse_packet w bytes ≡ answer
-reads w bytes f h unfinished (inl short) = parse_short w bytes short
-reads w bytes f h unfinished (inr part) =
+pub reads : TakesBytes → (w : Protection) (bytes : List ℕ) → IsFaithful w → IsBytes bytes → (answer : Parse) → PacketMeans w bytes answer → parse_packet w bytes ≡ answer
+reads taken w bytes f h unfinished (inl short) = parse_short w bytes short
+reads taken w bytes f h unfinished (inr part) =
     parse_part w bytes part.headed (length_from w.counts w.block w.tag (w.head (take 4 bytes)) part.fits) part.lacks
-reads w bytes f h (whole payload len) (there, u) = read_unit w bytes payload len f h there u
-reads w bytes f h (refused (OfPacket fault) place) m = reads_packet w bytes f h fault place m
-reads w bytes f h (refused (OfLine fault) place) m = absurd m
+reads taken w bytes f h (whole payload len) (there, u) = read_unit taken w bytes payload len f h there u
+reads taken w bytes f h (refused (OfPacket fault) place) m = reads_packet taken w bytes f h fault place m
+reads taken w bytes f h (refused (OfLine fault) place) m = absurd m
 
 some_one : (a b : List ℕ) → ◌≡◌ {A = Option (List ℕ)} (Some a) (Some b) → a ≡ b
 some_one a b e = cc

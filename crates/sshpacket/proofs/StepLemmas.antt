@@ -8,10 +8,10 @@ use Rattle.sshpacket.specs.declared.fault.PacketFault.{PacketFault}
 use Rattle.sshpacket.specs.declared.fault.PacketFault.TheVariants.{Length}
 use Rattle.sshpacket.specs.declared.reader.Filled.{Filled}
 use Rattle.sshpacket.specs.declared.reader.Filled.TheVariants as filled
-use Rattle.sshpacket.specs.declared.reader.Read.{Read}
-use Rattle.sshpacket.specs.declared.reader.Read.TheVariants as read
+use Rattle.sshpacket.specs.declared.reader.Gathered.{Gathered}
+use Rattle.sshpacket.specs.declared.reader.Gathered.TheVariants as gathered
 use Rattle.sshpacket.specs.Parse.{Parse, OfPacket, Protection, parse_packet, is_length, refused, total, unfinished, unsealed}
-use Rattle.sshpacket.specs.ReaderSteps.{Counts, Fills, FillsBody, FillsPacket, FilledSome, HasRoom, OpensFilled, ReadRoom, ReadsOn, needed}
+use Rattle.sshpacket.specs.ReaderSteps.{Counts, Fills, FillsBody, FillsPacket, FilledSome, HasRoom, OpensFilled, GatheredRoom, ReadsOn, needed}
 use Rattle.sshpacket.proofs.ParseLemmas.{parse_bad, parse_full, parse_part, parse_short}
 
 module _ (target : ℕ) (piece held new : List ℕ) (used : ℕ) (f : Fills target piece held new used) where
@@ -140,7 +140,7 @@ head_part w piece held new used f few =
     (is, parse_short w (held ++ piece) (omega arith), sym (needed_short w new few))
 
 -- What was filled, and then opened.
-pub reads_on : (w : Protection) (held piece mid new : List ℕ) (used : ℕ) (f : Result Filled PacketFault) (result : Result Read PacketFault)
+pub reads_on : (w : Protection) (held piece mid new : List ℕ) (used : ℕ) (f : Result Filled PacketFault) (result : Result Gathered PacketFault)
     → FillsPacket w held piece mid f → OpensFilled w mid new f result → length held ≤ length mid → used ≡ length mid - length held
     → ReadsOn w held piece new used result
 reads_on w held piece mid new used (Err e) result fills opens grows is =
@@ -149,23 +149,23 @@ reads_on w held piece mid new used (Err e) result fills opens grows is =
 reads_on w held piece mid new used (Ok (filled.Part target)) result fills opens grows is =
     let all : mid ≡ held ++ piece = fills.0 in
     let size : length mid ≡ length held + length piece = ap (λ (xs : List ℕ). length xs) all ∙ length-append held piece in
-    let told : ReadsOn w held piece new used (Ok (read.Part target))
+    let told : ReadsOn w held piece new used (Ok (gathered.Part target))
     = (opens.1 ∙ all, omega arith, fills.1, fills.2 ∙ ap (λ (xs : List ℕ). needed w xs) (sym opens.1)) in
     rw opens.0 told
-reads_on w held piece mid new used (Ok filled.Whole) (Ok (read.Part target)) fills opens grows is = absurd opens
-reads_on w held piece mid new used (Ok filled.Whole) (Ok (read.Whole opened)) fills opens grows is =
+reads_on w held piece mid new used (Ok filled.Whole) (Ok (gathered.Part target)) fills opens grows is = absurd opens
+reads_on w held piece mid new used (Ok filled.Whole) (Ok (gathered.Whole opened)) fills opens grows is =
     let size : length mid ≡ length held + used = omega arith in
     (opens.0, (fills ∙ opens.1) ∙ ap (λ (n : ℕ). Parse.whole (take opened.payload_len (drop 5 opened.packet)) n) size)
 reads_on w held piece mid new used (Ok filled.Whole) (Err e) fills opens grows is =
     let size : length mid ≡ length held + used = omega arith in
     λ other. (fills ∙ opens other) ∙ ap (λ (n : ℕ). refused (OfPacket e) n) size
 
-pub read_room : (w : Protection) (held mid new : List ℕ) (used : ℕ) (f : Result Filled PacketFault) (result : Result Read PacketFault)
+pub read_room : (w : Protection) (held mid new : List ℕ) (used : ℕ) (f : Result Filled PacketFault) (result : Result Gathered PacketFault)
     → IfOk f (λ x. HasRoom (length mid) x) → IfOk f (λ x. FilledSome (length held) (length mid) x) → OpensFilled w mid new f result → used ≡ length mid - length held
-    → IfOk result (λ x. ReadRoom new used x)
+    → IfOk result (λ x. GatheredRoom new used x)
 read_room w held mid new used (Err e) result room grows opens is = rw opens.0 tt
 read_room w held mid new used (Ok (filled.Part target)) result room grows opens is =
-    let told : ReadRoom new used (read.Part target) = rw opens.1 room in rw opens.0 told
-read_room w held mid new used (Ok filled.Whole) (Ok (read.Part target)) room grows opens is = absurd opens
-read_room w held mid new used (Ok filled.Whole) (Ok (read.Whole opened)) room grows opens is = let more : length held < length mid = grows in (opens.0, omega arith)
+    let told : GatheredRoom new used (gathered.Part target) = rw opens.1 room in rw opens.0 told
+read_room w held mid new used (Ok filled.Whole) (Ok (gathered.Part target)) room grows opens is = absurd opens
+read_room w held mid new used (Ok filled.Whole) (Ok (gathered.Whole opened)) room grows opens is = let more : length held < length mid = grows in (opens.0, omega arith)
 read_room w held mid new used (Ok filled.Whole) (Err e) room grows opens is = tt

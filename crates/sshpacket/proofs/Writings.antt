@@ -5,39 +5,38 @@ use Rattle.std.proofs.Math.Nat.{le-max_left}
 use Rattle.std.proofs.lemmas.List.{length-append, take-append-le, take_at}
 use Rattle.std.proofs.lemmas.Nat.{mod_below}
 use Rattle.sshwire.specs.TypeReadings.{IsReading, uint32_at}
-use Rattle.sshwire.specs.Types.{IsBytes, Uint32Text}
+use Rattle.sshwire.specs.Types.{IsBytes, Uint32Text, uint32}
 use Rattle.sshpacket.specs.Parse.{parse_packet, protection, whole}
 use Rattle.sshpacket.specs.KeyData.{KeyData}
 use Rattle.sshpacket.specs.Packet.{IsLeastPadding, IsLength, IsPacket, counted, least_padding, length_field, number, packet, to_multiple, alignment, with_four}
 use Rattle.sshpacket.specs.Suite.{IsLawful, Meaning}
 use Rattle.sshpacket.specs.Written.{IsWritten, written}
-use Rattle.sshpacket.proofs.ByteLemmas.{bytes_append, bytes_cons, bytes_field}
 use Rattle.sshpacket.proofs.LeastPadding.{least_is}
 use Rattle.sshpacket.proofs.Opening.{packet_length_is, packet_number, number_first}
 use Rattle.sshpacket.proofs.ProtectedLaws.{parse_unit}
-use Rattle.sshpacket.specs.declared.limits.TheConstants.{PACKET_LIMIT}
+use Rattle.sshpacket.specs.declared.limits.TheConstants.{BLOCK_LIMIT, PACKET_LIMIT, TAG_LIMIT}
 use Rattle.sshwire.specs.declared.limits.TheConstants.{PAYLOAD_LIMIT}
 
 -- bounds of the padding
-max_high : (block : ℕ) → block ≤ 64 → (b : Bool) → ltb 8 block ≡ b → alignment block ≤ 64
+max_high : (block : ℕ) → block ≤ BLOCK_LIMIT → (b : Bool) → ltb 8 block ≡ b → alignment block ≤ BLOCK_LIMIT
 max_high block h b e = omega arith
 
-high_by : (u n : ℕ) (b : Bool) → 0 < u → u ≤ 64 → cond b (4 + to_multiple u n + u) (4 + to_multiple u n) ≤ 131
+high_by : (u n : ℕ) (b : Bool) → 0 < u → u ≤ BLOCK_LIMIT → cond b (4 + to_multiple u n + u) (4 + to_multiple u n) ≤ 131
 high_by u n true some h = let low : to_multiple u n < u = mod_below (u - n % u) u some in omega arith
 high_by u n false some h = let low : to_multiple u n < u = mod_below (u - n % u) u some in omega arith
 
-pub padding_high : (counts : Bool) (block len : ℕ) → block ≤ 64 → least_padding counts block len ≤ 131
+pub padding_high : (counts : Bool) (block len : ℕ) → block ≤ BLOCK_LIMIT → least_padding counts block len ≤ 131
 padding_high counts block len h =
     let wide : 8 ≤ alignment block = le-max_left 8 block in
     high_by (alignment block) (with_four counts len) (ltb (5 + len + to_multiple (alignment block) (with_four counts len)) (8 + counted counts)) (omega (arith, wide)) (max_high block h (ltb 8 block) refl)
 
 -- the written packet is a packet with the least padding
-fits_packet : (counts : Bool) (block tag len padding : ℕ) → IsLeastPadding counts block len padding → padding ≤ 131 → tag ≤ 64 → len ≤ PAYLOAD_LIMIT
+fits_packet : (counts : Bool) (block tag len padding : ℕ) → IsLeastPadding counts block len padding → padding ≤ 131 → tag ≤ TAG_LIMIT → len ≤ PAYLOAD_LIMIT
     → IsLength counts block tag (1 + len + padding)
 fits_packet counts block tag len padding k high low short =
     record { multiple = k.allowed.multiple; least = k.allowed.enough; limit = omega arith }
 
-pub written_is : (m : Meaning) → IsLawful m → (counts : Bool) (block tag : ℕ) (seed : List ℕ) (seq : ℕ) (payload : List ℕ) → block ≤ 64 → tag ≤ 64
+pub written_is : (m : Meaning) → IsLawful m → (counts : Bool) (block tag : ℕ) (seed : List ℕ) (seq : ℕ) (payload : List ℕ) → block ≤ BLOCK_LIMIT → tag ≤ TAG_LIMIT
     → 0 < length payload → length payload ≤ PAYLOAD_LIMIT → IsWritten counts block tag payload (written m counts block seed seq payload)
 unfolding written
 written_is m law counts block tag seed seq payload low few some short =
@@ -60,17 +59,27 @@ written_is m law counts block tag seed seq payload low few some short =
       least = sized;
     }
 
-packet_bytes : (payload padding : List ℕ) → length padding < 256 → IsBytes payload → IsBytes padding → IsBytes (packet payload padding)
-packet_bytes payload padding short each more =
-    bytes_append (length_field (1 + length payload + length padding)) (length padding ∷ (payload ++ padding))
-    (bytes_field (1 + length payload + length padding))
-    (bytes_cons (length padding) (payload ++ padding) short (bytes_append payload padding each more))
+-- what the law of bytes says
+pub record IsBytesLaw : Type 0 where
+  pub append : (bytes more : List ℕ) → IsBytes bytes → IsBytes more → IsBytes (bytes ++ more)
+  pub cons : (b : ℕ) (bytes : List ℕ) → b < 256 → IsBytes bytes → IsBytes (b ∷ bytes)
+  pub number : (n : ℕ) → IsBytes (uint32 n)
 
-pub written_bytes : (m : Meaning) → IsLawful m → (counts : Bool) (block : ℕ) (seed : List ℕ) (seq : ℕ) (payload : List ℕ) → block ≤ 64 → IsBytes payload
+field_bytes : IsBytesLaw → (n : ℕ) → IsBytes (length_field n)
+unfolding length_field
+field_bytes bytes n = bytes.number n
+
+packet_bytes : IsBytesLaw → (payload padding : List ℕ) → length padding < 256 → IsBytes payload → IsBytes padding → IsBytes (packet payload padding)
+packet_bytes bytes payload padding short each more =
+    bytes.append (length_field (1 + length payload + length padding)) (length padding ∷ (payload ++ padding))
+    (field_bytes bytes (1 + length payload + length padding))
+    (bytes.cons (length padding) (payload ++ padding) short (bytes.append payload padding each more))
+
+pub written_bytes : IsBytesLaw → (m : Meaning) → IsLawful m → (counts : Bool) (block : ℕ) (seed : List ℕ) (seq : ℕ) (payload : List ℕ) → block ≤ BLOCK_LIMIT → IsBytes payload
     → IsBytes (written m counts block seed seq payload)
 unfolding written
-written_bytes m law counts block seed seq payload low each =
-    packet_bytes payload (m.padding seed seq (least_padding counts block (length payload)))
+written_bytes bytes m law counts block seed seq payload low each =
+    packet_bytes bytes payload (m.padding seed seq (least_padding counts block (length payload)))
     (let size : length (m.padding seed seq (least_padding counts block (length payload))) ≡ least_padding counts block (length payload)
     = law.padding_length seed seq (least_padding counts block (length payload)) in
     let high : least_padding counts block (length payload) ≤ 131 = padding_high counts block (length payload) low in omega arith)

@@ -1,12 +1,18 @@
--- What a reader that stands at the rest of a stream has heard of the stream and a piece, by its answer.
+-- What a reader that stands at the rest of a stream has heard of the stream and a piece, by its answer: of packets, and of the
+-- lines before them.
 
 use Rattle.std.specs.Prelude.{◌≢◌, ℕ, ◌≤◌, List, [], ◌∷◌, ◌++◌, length, take, None, Some, Result, Ok, Err}
+use Rattle.sshwire.specs.declared.fault.WireFault.{WireFault}
+use Rattle.sshwire.specs.declared.fault.WireFault.TheVariants as line_fault
+use Rattle.sshwire.specs.declared.line_reader.LineStep.{LineStep}
+use Rattle.sshwire.specs.declared.line_reader.LineStep.TheVariants as line_step
+use Rattle.sshwire.specs.LineState.{LineState}
 use Rattle.sshpacket.specs.declared.fault.PacketFault.{PacketFault}
 use Rattle.sshpacket.specs.declared.fault.PacketFault.TheVariants.{Memory}
 use Rattle.sshpacket.specs.declared.reader.PacketReader.{PacketReader}
 use Rattle.sshpacket.specs.declared.reader.PacketStep.{PacketStep}
 use Rattle.sshpacket.specs.declared.reader.PacketStep.TheVariants.{More, Payload}
-use Rattle.sshpacket.specs.Parse.{OfPacket}
+use Rattle.sshpacket.specs.Parse.{OfLine, OfPacket}
 use Rattle.sshpacket.specs.ReaderState.{ReaderState, last_used, state}
 use Rattle.sshpacket.specs.Stream.{Heard, Parser, Units}
 
@@ -17,3 +23,12 @@ HearsOn parsers stream us old piece (Ok (Payload payload seq used)) new =
     (used ≤ length piece) × Heard parsers (stream ++ take used piece) (us ++ payload.now ∷ []) (state new).held None
 HearsOn parsers stream us old piece (Err f) new =
     f ≢ Memory → Heard parsers (stream ++ take (last_used new) piece) us (old.held ++ take (last_used new) piece) (Some (OfPacket f))
+
+-- the same of lines, of which the stream has no whole version line yet: all of the piece is rest; or the version is the first
+-- unit, and nothing stands behind it; or the refusal, at the last byte used
+abbrev pub HearsLinesOn : (Units → Parser) → List ℕ → List ℕ → Result LineStep WireFault → LineState → Type 0
+HearsLinesOn parsers stream piece (Ok line_step.More) new = Heard parsers (stream ++ piece) [] (stream ++ piece) None
+HearsLinesOn parsers stream piece (Ok (line_step.Done version used)) new =
+    (used ≤ length piece) × Heard parsers (stream ++ take used piece) (version ∷ []) [] None
+HearsLinesOn parsers stream piece (Err code) new =
+    code ≢ line_fault.Memory → Heard parsers (stream ++ take new.taken piece) [] (stream ++ take new.taken piece) (Some (OfLine code))

@@ -6,8 +6,8 @@ use Rattle.sshpacket.specs.declared.fault.PacketFault.TheVariants as fault
 use Rattle.sshpacket.specs.declared.protection.Opened.{Opened}
 use Rattle.sshpacket.specs.declared.reader.Filled.{Filled}
 use Rattle.sshpacket.specs.declared.reader.Filled.TheVariants as filled
-use Rattle.sshpacket.specs.declared.reader.Read.{Read}
-use Rattle.sshpacket.specs.declared.reader.Read.TheVariants as read
+use Rattle.sshpacket.specs.declared.reader.Gathered.{Gathered}
+use Rattle.sshpacket.specs.declared.reader.Gathered.TheVariants as gathered
 use Rattle.sshpacket.specs.Parse.{OfPacket, Protection, parse_packet, is_length, refused, total, unfinished, unsealed, whole}
 use Rattle.sshpacket.specs.declared.limits.TheConstants.{PACKET_LIMIT}
 
@@ -61,22 +61,22 @@ FillsBody len piece held new (Ok (filled.Part target)) = (new ≡ held ++ piece)
 FillsBody len piece held new (Ok filled.Whole) = (length new ≡ len) × (used : ℕ) × (used ≤ length piece) × (new ≡ held ++ take used piece)
 
 -- what was filled is opened, where it is whole, and is held no longer; else nothing changes
-abbrev pub OpensFilled : Protection → List ℕ → List ℕ → Result Filled PacketFault → Result Read PacketFault → Type 0
+abbrev pub OpensFilled : Protection → List ℕ → List ℕ → Result Filled PacketFault → Result Gathered PacketFault → Type 0
 OpensFilled w old new (Err f) result = (result ≡ Err f) × (new ≡ old)
-OpensFilled w old new (Ok (filled.Part target)) result = (result ≡ Ok (read.Part target)) × (new ≡ old)
-OpensFilled w old new (Ok filled.Whole) (Ok (read.Part target)) = ⊥
-OpensFilled w old new (Ok filled.Whole) (Ok (read.Whole opened)) = (new ≡ []) × Opens w old (Ok opened)
+OpensFilled w old new (Ok (filled.Part target)) result = (result ≡ Ok (gathered.Part target)) × (new ≡ old)
+OpensFilled w old new (Ok filled.Whole) (Ok (gathered.Part target)) = ⊥
+OpensFilled w old new (Ok filled.Whole) (Ok (gathered.Whole opened)) = (new ≡ []) × Opens w old (Ok opened)
 OpensFilled w old new (Ok filled.Whole) (Err f) = Opens w old (Err f)
 
 -- what is held and a piece, of which so many bytes were used
-abbrev pub ReadsOn : Protection → List ℕ → List ℕ → List ℕ → ℕ → Result Read PacketFault → Type 0
+abbrev pub ReadsOn : Protection → List ℕ → List ℕ → List ℕ → ℕ → Result Gathered PacketFault → Type 0
 ReadsOn w held piece new used (Err f) = f ≢ fault.Memory → parse_packet w (held ++ piece) ≡ refused (OfPacket f) (length held + used)
-ReadsOn w held piece new used (Ok (read.Part target)) =
+ReadsOn w held piece new used (Ok (gathered.Part target)) =
     (new ≡ held ++ piece) × (used ≡ length piece) × (parse_packet w (held ++ piece) ≡ unfinished) × (target ≡ needed w new)
-ReadsOn w held piece new used (Ok (read.Whole opened)) =
+ReadsOn w held piece new used (Ok (gathered.Whole opened)) =
     (new ≡ []) × (parse_packet w (held ++ piece) ≡ whole (take opened.payload_len (drop 5 opened.packet)) (length held + used))
 
 -- there is room up to the target; behind a whole packet nothing is held, and some bytes were used
-abbrev pub ReadRoom : List ℕ → ℕ → Read → Type 0
-ReadRoom new used (read.Part target) = (length new < target) × (4 ≤ target) × (target ≤ PACKET_LIMIT)
-ReadRoom new used (read.Whole opened) = (new ≡ []) × (0 < used)
+abbrev pub GatheredRoom : List ℕ → ℕ → Gathered → Type 0
+GatheredRoom new used (gathered.Part target) = (length new < target) × (4 ≤ target) × (target ≤ PACKET_LIMIT)
+GatheredRoom new used (gathered.Whole opened) = (new ≡ []) × (0 < used)

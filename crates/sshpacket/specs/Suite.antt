@@ -10,7 +10,7 @@ use Rattle.sshwire.specs.declared.share_form.ShareForm.{ShareForm}
 use Rattle.sshwire.specs.declared.share_form.ShareForm.TheVariants.{Hybrid, Mpint, OctetString}
 use Rattle.sshpacket.specs.KeyData.{KeyData}
 use Rattle.sshpacket.specs.Packet.{IsPacket, number}
-use Rattle.sshpacket.specs.declared.limits.TheConstants.{BLOB_LIMIT, SHARE_LIMIT}
+use Rattle.sshpacket.specs.declared.limits.TheConstants.{BLOB_LIMIT, BLOCK_LIMIT, DIGEST_LIMIT, KEY_LIMIT, SHARE_LIMIT, TAG_LIMIT}
 
 -- the server's answer to a client's share: its own share, and the shared number
 pub record ResponseData : Type 0 where
@@ -106,14 +106,14 @@ pub record IsLawful (m : Meaning) : Type 0 where
       → FitsShare (m.share_form kex) r.share × FitsShared (m.share_form kex) r.shared
   -- ranges
   pub block_low : (cipher : List ℕ) → 8 ≤ m.block cipher
-  pub block_high : (cipher : List ℕ) → m.block cipher ≤ 64
-  pub tag_high : (cipher mac : List ℕ) → m.tag_len cipher mac ≤ 64
-  pub iv_high : (cipher mac : List ℕ) → (m.key_lens cipher mac).iv ≤ 64
-  pub enc_high : (cipher mac : List ℕ) → (m.key_lens cipher mac).enc ≤ 64
-  pub mac_high : (cipher mac : List ℕ) → (m.key_lens cipher mac).mac ≤ 64
+  pub block_high : (cipher : List ℕ) → m.block cipher ≤ BLOCK_LIMIT
+  pub tag_high : (cipher mac : List ℕ) → m.tag_len cipher mac ≤ TAG_LIMIT
+  pub iv_high : (cipher mac : List ℕ) → (m.key_lens cipher mac).iv ≤ KEY_LIMIT
+  pub enc_high : (cipher mac : List ℕ) → (m.key_lens cipher mac).enc ≤ KEY_LIMIT
+  pub mac_high : (cipher mac : List ℕ) → (m.key_lens cipher mac).mac ≤ KEY_LIMIT
   pub padding_length : (seed : List ℕ) (seq len : ℕ) → length (m.padding seed seq len) ≡ len
   pub digest_low : (kex input : List ℕ) → 1 ≤ length (m.digest kex input)
-  pub digest_high : (kex input : List ℕ) → length (m.digest kex input) ≤ 64
+  pub digest_high : (kex input : List ℕ) → length (m.digest kex input) ≤ DIGEST_LIMIT
   pub digest_even : (kex input other : List ℕ) → length (m.digest kex input) ≡ length (m.digest kex other)
   pub blob_high : (alg secret : List ℕ) → IsName alg → length (m.blob alg secret) ≤ BLOB_LIMIT
   pub sign_high : (alg secret input : List ℕ) → IsName alg → length (m.sign alg secret input) ≤ SHARE_LIMIT

@@ -2,6 +2,7 @@
 //! written is read again.
 
 ghost use Rattle.sshwire.specs.declared.limits.TheConstants.{PAYLOAD_LIMIT};
+ghost use Rattle.sshpacket.specs.declared.limits.TheConstants.{BLOCK_LIMIT, TAG_LIMIT};
 ghost use Rattle.std.specs.Prelude.{◌≡◌, Bool, true, ◌<◌, ◌≤◌, ◌^◌, ◌++◌, ℕ, List, Option, None, Some, length};
 ghost use Rattle.sshwire.specs.Types.{IsBytes};
 ghost use Rattle.sshpacket.specs.Parse.{Parse, Protection, parse_packet, protection, whole};
@@ -24,14 +25,15 @@ pub fn packet_law()
     ensures packet { (m : Meaning) (seq : ℕ) (payload bytes : List ℕ) → IsProtectedPacket (protection m None seq) payload bytes → IsPacket true 8 0 payload bytes }
 {
     sshwire::types_law();
+    sshwire::bytes_law();
 }
 
 /// The law of writing: a written packet is one, with the least padding, of bytes, and is read again
 /// as its payload, whatever follows.
 pub fn writing_law()
-    ensures written { (m : Meaning) → IsLawful m → (counts : Bool) (block tag : ℕ) (seed : List ℕ) (seq : ℕ) (payload : List ℕ) → block ≤ 64 → tag ≤ 64
+    ensures written { (m : Meaning) → IsLawful m → (counts : Bool) (block tag : ℕ) (seed : List ℕ) (seq : ℕ) (payload : List ℕ) → block ≤ BLOCK_LIMIT → tag ≤ TAG_LIMIT
         → 0 < length payload → length payload ≤ PAYLOAD_LIMIT → IsWritten counts block tag payload (written m counts block seed seq payload) }
-    ensures bytes { (m : Meaning) → IsLawful m → (counts : Bool) (block : ℕ) (seed : List ℕ) (seq : ℕ) (payload : List ℕ) → block ≤ 64 → IsBytes payload
+    ensures bytes { (m : Meaning) → IsLawful m → (counts : Bool) (block : ℕ) (seed : List ℕ) (seq : ℕ) (payload : List ℕ) → block ≤ BLOCK_LIMIT → IsBytes payload
         → IsBytes (written m counts block seed seq payload) }
     ensures clear { (m : Meaning) → IsLawful m → (seed : List ℕ) (seq : ℕ) (payload rest : List ℕ) → 0 < length payload → length payload ≤ PAYLOAD_LIMIT
         → parse_packet (protection m None seq) (written_clear m seed seq payload ++ rest) ≡ whole payload (length (written_clear m seed seq payload)) }
@@ -40,10 +42,11 @@ pub fn writing_law()
         → parse_packet (protection m (Some keys) seq) (written_sealed m keys seed seq payload ++ rest) ≡ whole payload (length (written_sealed m keys seed seq payload)) }
 {
     sshwire::types_law();
+    sshwire::bytes_law();
 }
 
-/// The law of shares: what a suite makes of random bytes and of a peer's share are bytes, at most 4096
-/// of them, and the shortest body of an mpint where the method's form asks for one.
+/// The law of shares: what a suite makes of random bytes and of a peer's share are bytes, at most
+/// `SHARE_LIMIT` of them, and the shortest body of an mpint where the method's form asks for one.
 pub fn shares_law()
     ensures share { (m : Meaning) → IsLawful m → (kex a : List ℕ) → length a ≡ 32 → IsBytes a → IsShare (has_number_shares (m.share_form kex)) (m.share kex a) }
     ensures shared { (m : Meaning) → IsLawful m → (kex a peer body : List ℕ) → length a ≡ 32 → IsBytes a → IsBytes peer

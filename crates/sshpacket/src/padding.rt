@@ -1,6 +1,7 @@
 //! How much padding a packet has.
 
 ghost use Rattle.sshwire.specs.declared.limits.TheConstants.{PAYLOAD_LIMIT};
+ghost use Rattle.sshpacket.specs.declared.limits.TheConstants.{BLOCK_LIMIT};
 ghost use Rattle.std.specs.Prelude.{◌≡◌, ◌≤◌, false, true};
 ghost use Rattle.sshpacket.specs.Packet.{IsLeastPadding, counted, least_padding};
 
@@ -8,9 +9,10 @@ ghost use Rattle.sshpacket.specs.Packet.{IsLeastPadding, counted, least_padding}
 /// bytes, so that the packet is a multiple of the block, or of 8 where that is larger, and has at
 /// least 16 bytes. Takes no memory.
 ///
-/// The caller's conditions are a block of at most 64 bytes and a payload of at most 32768.
+/// The caller's conditions are a block of at most `BLOCK_LIMIT` bytes and a payload of at most
+/// `PAYLOAD_LIMIT`.
 pub fn padding_len(block: u8, payload_len: usize) -> u8
-    requires block { block ≤ 64 }
+    requires block { block ≤ BLOCK_LIMIT }
     requires payload { payload_len ≤ PAYLOAD_LIMIT }
     ensures least { IsLeastPadding true block payload_len result }
     ensures value { result ≡ least_padding true block payload_len }
@@ -22,7 +24,7 @@ pub fn padding_len(block: u8, payload_len: usize) -> u8
 /// chacha20-poly1305@openssh.com and the MACs -etm of OpenSSH): what stands behind them is the
 /// multiple, and has at least 8 bytes.
 pub fn padding_len_uncounted(block: u8, payload_len: usize) -> u8
-    requires block { block ≤ 64 }
+    requires block { block ≤ BLOCK_LIMIT }
     requires payload { payload_len ≤ PAYLOAD_LIMIT }
     ensures least { IsLeastPadding false block payload_len result }
     ensures value { result ≡ least_padding false block payload_len }
@@ -32,7 +34,7 @@ pub fn padding_len_uncounted(block: u8, payload_len: usize) -> u8
 
 /// The least padding, where packet_length counts or not.
 pub(crate) fn least_padding_len(counts: bool, block: u8, payload_len: usize) -> u8
-    requires block { block ≤ 64 }
+    requires block { block ≤ BLOCK_LIMIT }
     requires payload { payload_len ≤ PAYLOAD_LIMIT }
     ensures least { IsLeastPadding counts block payload_len result }
     ensures value { result ≡ least_padding counts block payload_len }

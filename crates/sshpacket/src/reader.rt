@@ -4,9 +4,9 @@ ghost use Rattle.sshpacket.specs.declared.limits.TheConstants.{PACKET_LIMIT};
 ghost use Rattle.std.specs.Prelude.{◌≡◌, ◌≢◌, ◌+◌, ◌++◌, ◌<◌, ◌≤◌, ◌^◌, ℕ, IfErr, IfOk, IfSome, None, OnErr, Some, drop, length, take};
 ghost use Rattle.std.specs.Option.{ForSome};
 ghost use Rattle.sshwire.specs.Types.{IsBytes};
-ghost use Rattle.sshpacket.specs.Parse.{parse_packet, unfinished, protection};
+ghost use Rattle.sshpacket.specs.Parse.{Parse, parse_packet, unfinished, protection};
 ghost use Rattle.sshpacket.specs.ProtectedPacket.{IsFaithful, PacketMeans};
-ghost use Rattle.sshpacket.specs.ReaderSteps.{FillsBody, FillsPacket, Fills, FilledSome, HasRoom, OpensFilled, ReadRoom, ReadsOn, needed};
+ghost use Rattle.sshpacket.specs.ReaderSteps.{FillsBody, FillsPacket, Fills, FilledSome, HasRoom, OpensFilled, GatheredRoom, ReadsOn, needed};
 
 use crate::fault::PacketFault;
 use crate::keys::Keys;
@@ -167,11 +167,11 @@ impl PacketReader {
         let (taken, read) = read_on(self.alloc, &guard, &mut self.unfinished, self.target, piece);
         self.taken = taken;
         match read {
-            Ok(Read::Part { target }) => {
+            Ok(Gathered::Part { target }) => {
                 self.target = target;
                 Ok(None)
             }
-            Ok(Read::Whole(opened)) => {
+            Ok(Gathered::Whole(opened)) => {
                 self.packet = opened.packet;
                 self.target = 4;
                 self.seq = self.seq.wrapping_add(1);
@@ -207,8 +207,8 @@ impl PacketReader {
         self.taken
     }
 
-    /// How many bytes of the unfinished packet are held: at most 35000, 0 once a fault was found. It
-    /// takes no memory.
+    /// How many bytes of the unfinished packet are held: at most `PACKET_LIMIT`, 0 once a fault was
+    /// found. It takes no memory.
     #[tactic(auto, unfolding(crate::specs::ReaderState::state))]
     pub fn buffered(&self) -> usize
         ensures held { result ≡ length (state self.now).held }
@@ -250,13 +250,16 @@ fn front_means<S: Suite>(suite: &S, keys: &Option<Keys>, seq: u32, held: &[u8], 
     ensures faithful { IsFaithful (protection (S.meaning suite.now) keys.now seq) }
     ensures bytes { IsBytes (held.now ++ piece.now) }
     ensures means { PacketMeans (protection (S.meaning suite.now) keys.now seq) (held.now ++ piece.now) (parse_packet (protection (S.meaning suite.now) keys.now seq) (held.now ++ piece.now)) }
+    ensures only { (answer : Parse) → PacketMeans (protection (S.meaning suite.now) keys.now seq) (held.now ++ piece.now) answer
+        → parse_packet (protection (S.meaning suite.now) keys.now seq) (held.now ++ piece.now) ≡ answer }
 {
     crate::packet_laws::packet_law();
+    sshwire::bytes_law();
 }
 
 /// What came of the packet at hand and a piece.
 #[derive(Drop)]
-enum Read {
+enum Gathered {
     /// The packet isn't all there; once so many bytes of it are, more can be judged.
     Part { target: usize },
     /// It is, and was opened.
@@ -271,13 +274,13 @@ fn read_on<S: Suite>(
     held: &mut BytesMut,
     target: usize,
     piece: &[u8],
-) -> (usize, Result<Read, PacketFault>)
+) -> (usize, Result<Gathered, PacketFault>)
     requires room { length held.old.items < target }
     requires bound { target ≤ PACKET_LIMIT }
     ensures reads { let w = protection (S.meaning guard.now.suite.now) guard.now.keys.now guard.now.seq in
         parse_packet w held.old.items ≡ unfinished → target ≡ needed w held.old.items → ReadsOn w held.old.items piece.now held.new.items result.0 result.1 }
     ensures taken { result.0 ≤ length piece.now }
-    ensures room { IfOk result.1 (λ read. ReadRoom held.new.items result.0 read) }
+    ensures room { IfOk result.1 (λ read. GatheredRoom held.new.items result.0 read) }
 {
     let before = held.len();
     let filled = fill_packet(guard, held, target, piece);
@@ -374,19 +377,19 @@ fn open_filled<S: Suite>(
     guard: &Protection<'_, S>,
     held: &mut BytesMut,
     filled: Result<Filled, PacketFault>,
-) -> Result<Read, PacketFault>
+) -> Result<Gathered, PacketFault>
     requires { IfOk filled (λ filled. HasRoom (length held.old.items) filled) }
     ensures opens { OpensFilled (protection (S.meaning guard.now.suite.now) guard.now.keys.now guard.now.seq) held.old.items held.new.items filled result }
 {
     match filled {
         Err(fault) => Err(fault),
-        Ok(Filled::Part { target }) => Ok(Read::Part { target }),
+        Ok(Filled::Part { target }) => Ok(Gathered::Part { target }),
         Ok(Filled::Whole) => {
             let Ok(sealed) = held.freeze_to(held.len()) else {
                 return Err(PacketFault::Memory);
             };
             match guard.open(alloc, sealed) {
-                Ok(opened) => Ok(Read::Whole(opened)),
+                Ok(opened) => Ok(Gathered::Whole(opened)),
                 Err(fault) => Err(fault),
             }
         }

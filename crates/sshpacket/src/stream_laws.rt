@@ -1,13 +1,17 @@
 //! What the layers above may rest on: places of lists, readers of one unit, and streams of units.
 
 ghost use Rattle.std.specs.Prelude.{◌≡◌, ◌≤◌, ◌+◌, ℕ, Bool, true, if◌then◌else◌, List, [], ◌∷◌, ◌++◌, length, drop, take, Option, None, Some, Result};
+ghost use Rattle.sshwire.specs.declared.fault.WireFault.{WireFault};
+ghost use Rattle.sshwire.specs.declared.line_reader.LineStep.{LineStep};
+ghost use Rattle.sshwire.specs.Feeding.{PreambleAnswer, StandsOpen};
+ghost use Rattle.sshwire.specs.LineState.{LineState, Progress};
 ghost use Rattle.sshwire.specs.Lines.{Preamble};
 ghost use Rattle.sshwire.specs.Types.{IsBytes};
 ghost use Rattle.sshpacket.specs.declared.fault.PacketFault.{PacketFault};
 ghost use Rattle.sshpacket.specs.declared.reader.PacketReader.{PacketReader};
 ghost use Rattle.sshpacket.specs.declared.reader.PacketStep.{PacketStep};
 ghost use Rattle.sshpacket.specs.Parse.{Parse, Refusal, Protection, parse_packet, refused, unfinished, whole};
-ghost use Rattle.sshpacket.specs.Hearing.{HearsOn};
+ghost use Rattle.sshpacket.specs.Hearing.{HearsLinesOn, HearsOn};
 ghost use Rattle.sshpacket.specs.Joined.{Joined};
 ghost use Rattle.sshpacket.specs.PreambleParser.{PreambleMeans, preamble_parser};
 ghost use Rattle.sshpacket.specs.Places.{EachPlace, IsPrefix, after_first, count_places, first_where, flat_places, stands};
@@ -123,16 +127,26 @@ pub fn stream_law()
 {}
 
 /// The law of hearing: a packet reader that stands at the rest of a stream goes on standing there, for
-/// each answer of `next`, in whatever pieces the stream comes.
+/// each answer of `next`, in whatever pieces the stream comes; and so does a line reader that stands
+/// open at the stream, for each answer of `feed`.
 ///
-/// Its premises are what `next` ensures of the reader before and after, and that the next unit of the
-/// stream is read as the reader reads.
+/// Its premises are what `next` and `feed` ensure of the reader before and after, and that the next unit
+/// of the stream is read as the reader reads.
 pub fn hearing_law()
     ensures hears { (m : Meaning) (parsers : Units → Parser) → ((us : Units) → IsIncremental (parsers us)) → (stream : List ℕ) (us : Units)
         (old : ReaderState) (new : PacketReader) (piece : List ℕ) (result : Result PacketStep PacketFault)
         → Heard parsers stream us old.held None → parsers us ≡ parse_packet (protection_at m old)
         → ParseAnswer m old piece result → ReaderLeaves m old piece result new → HearsOn parsers stream us old piece result new }
-{}
+
+    // A line reader that stands open at the stream has heard no unit of it, and all of it is rest.
+    ensures stands { (parsers : Units → Parser) (k : ℕ) (stream : List ℕ) (progress : Progress)
+        → parsers [] ≡ preamble_parser k → StandsOpen k stream progress → Heard parsers stream [] stream None }
+    ensures hears_lines { (parsers : Units → Parser) → ((us : Units) → IsIncremental (parsers us)) → (k : ℕ) (stream piece : List ℕ)
+        (old : Progress) (new : LineState) (result : Result LineStep WireFault)
+        → parsers [] ≡ preamble_parser k → StandsOpen k stream old → PreambleAnswer k stream piece result new → HearsLinesOn parsers stream piece result new }
+{
+    parser_law();
+}
 
 /// The law of joined packets: what is read of a stream behind its version line is packets one after
 /// another by the standard's own definition of a packet (RFC 4253 section 6), and nothing else is read.
@@ -143,4 +157,5 @@ pub fn joined_law()
         → (before : Units) (bytes : List ℕ) (ps : Units) (rest : List ℕ) → IsBytes bytes → Joined at before bytes ps rest → Read parsers (version ∷ before) bytes ps rest }
 {
     crate::packet_laws::packet_law();
+    sshwire::bytes_law();
 }

@@ -26,7 +26,7 @@ pub struct Capability {
     pub encryption: bool,
 }
 
-/// The lengths of keys in bytes, each at most 64.
+/// The lengths of keys in bytes, each at most `KEY_LIMIT`.
 #[derive(Clone, Copy, Debug, PartialEq, Eq)]
 pub struct KeyLens {
     /// Of the initialisation vector.
@@ -60,7 +60,7 @@ pub struct Response {
 ///   unsealing gives has the length that was read from the first four bytes, whoever sent it: a
 ///   reader stands on it.
 /// - Shares, and what both sides share, are mpints or bytes, by the method's form ([`ShareForm`]), of
-///   at most 4096 bytes, and the ranges that each call names hold: so every message and packet keeps
+///   at most `SHARE_LIMIT` bytes, and the ranges that each call names hold: so every message and packet keeps
 ///   its bounds. A number is positive; what both sides share may be zero where the shares are bytes.
 /// - Padding, sealed packets and shares are bytes, that is numbers below 256, and so is what is made
 ///   of whatever bytes came in: what is sent is known to be bytes before any call has made it.
@@ -97,12 +97,12 @@ pub trait Suite {
         requires { IsName host_key.now }
         ensures { result ≡ (meaning self.now).can host_key.now };
 
-    /// The block of a cipher in bytes, 8 to 64.
+    /// The block of a cipher in bytes, 8 to `BLOCK_LIMIT`.
     fn block(&self, cipher: &str) -> u8
         requires { IsName cipher.now }
         ensures { result ≡ (meaning self.now).block cipher.now };
 
-    /// The length of the tag in bytes, 0 to 64.
+    /// The length of the tag in bytes, at most `TAG_LIMIT`.
     fn tag_len(&self, cipher: &str, mac: &str) -> u8
         requires cipher { IsName cipher.now }
         requires mac { IsName mac.now }
@@ -192,19 +192,19 @@ pub trait Suite {
         requires peer { length peer.now < 2 ^ 32 }
         ensures { IfOk result (λ o. option_map (λ r. response_data r) o ≡ (meaning self.now).respond kex.now random.now peer.now) };
 
-    /// The hash of a key exchange method, 1 to 64 bytes, as many for every input.
+    /// The hash of a key exchange method, 1 to `DIGEST_LIMIT` bytes, as many for every input.
     fn digest(&self, alloc: Global, kex: &str, input: &[u8]) -> Result<Vec<u8>, Memory>
         requires kex { IsName kex.now }
         requires input { length input.now < 2 ^ 32 }
         ensures { IfOk result (λ v. v.items ≡ (meaning self.now).digest kex.now input.now) };
 
-    /// The public key of a private key, at most 8192 bytes.
+    /// The public key of a private key, at most `BLOB_LIMIT` bytes.
     fn blob(&self, alloc: Global, alg: &str, secret: &[u8]) -> Result<Vec<u8>, Memory>
         requires alg { IsName alg.now }
         requires secret { length secret.now < 2 ^ 32 }
         ensures { IfOk result (λ v. v.items ≡ (meaning self.now).blob alg.now secret.now) };
 
-    /// A signature of the input, at most 4096 bytes.
+    /// A signature of the input, at most `SHARE_LIMIT` bytes.
     fn sign(&self, alloc: Global, alg: &str, secret: &[u8], input: &[u8]) -> Result<Vec<u8>, Memory>
         requires alg { IsName alg.now }
         requires secret { length secret.now < 2 ^ 32 }

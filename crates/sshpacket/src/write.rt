@@ -1,6 +1,7 @@
 //! Writes packets.
 
 ghost use Rattle.sshwire.specs.declared.limits.TheConstants.{PAYLOAD_LIMIT};
+ghost use Rattle.sshpacket.specs.declared.limits.TheConstants.{BLOCK_LIMIT};
 ghost use Rattle.std.specs.Prelude.{◌≡◌, true, ◌+◌, ◌<◌, ◌≤◌, ◌^◌, ◌++◌, IfOk, OnOk, if◌then◌else◌, is_ok, length};
 ghost use Rattle.sshwire.specs.Types.{IsBytes};
 ghost use Rattle.sshpacket.specs.Packet.{packet};
@@ -17,7 +18,7 @@ use std::alloc::Global;
 /// padding is the least, and its bytes are the suite's for the seed and the number. For want of
 /// memory the vector is unchanged.
 ///
-/// The caller's conditions are a payload of 1 to 32768 bytes, and a seed of fewer than 2^32.
+/// The caller's conditions are a payload of 1 to `PAYLOAD_LIMIT` bytes, and a seed of fewer than 2^32.
 pub fn write_clear<S: Suite>(
     alloc: Global,
     suite: &S,
@@ -87,7 +88,7 @@ fn clear_packet<S: Suite>(
     payload: &[u8],
     seed: &[u8],
 ) -> Result<Vec<u8>, Memory>
-    requires block { block ≤ 64 }
+    requires block { block ≤ BLOCK_LIMIT }
     requires payload { length payload.now ≤ PAYLOAD_LIMIT }
     requires seed { length seed.now < 2 ^ 32 }
     ensures packet { IfOk result (λ v. v.items ≡ written (S.meaning suite.now) counts block seed.now seq payload.now) }

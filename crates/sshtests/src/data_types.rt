@@ -2,8 +2,8 @@
 
 use crate::helpers::{behind, has_text, same, same_count};
 use sshwire::{
-    Memory, Mpint, NameList, Reader, WireFault, as_name, put_boolean, put_mpint, put_string,
-    put_u32,
+    BorrowedNameList, Memory, Mpint, NameList, Reader, WireFault, as_name, put_boolean, put_mpint,
+    put_string, put_u32,
 };
 use std::alloc::{AllocError, Global};
 use std::process::Abort;
@@ -88,9 +88,10 @@ fn mpints_hold_their_bodies(rt: HostRuntime) -> Result<(), Fail> {
 
 /// The list has to have these names, in this order.
 fn has_names(rt: &impl Abort, list: &NameList, names: &[&str]) {
-    assert_eq!(rt; list.names().len(), names.len());
-    for (own, name) in list.names().iter().zip(names) {
-        assert_eq!(rt; own.as_str(), *name);
+    assert_eq!(rt; list.len(), names.len());
+    assert_eq!(rt; list.is_empty(), names.is_empty());
+    for (own, name) in list.names().zip(names) {
+        assert_eq!(rt; own, *name);
     }
 }
 
@@ -159,7 +160,8 @@ fn reads_a_thousand_names(rt: HostRuntime) -> Result<(), Fail> {
     let body = short_names(alloc, 1000)?;
     assert!(rt; body.len() < 3000);
     let list = NameList::parse(alloc, &body)?;
-    assert_eq!(rt; list.names().len(), 1000);
+    assert_eq!(rt; list.len(), 1000);
+    assert_eq!(rt; list.name_at(999), Some("a"));
     assert_eq!(rt; list.written_len(), 2003);
     Ok(())
 }
@@ -168,11 +170,25 @@ fn reads_a_thousand_names(rt: HostRuntime) -> Result<(), Fail> {
 fn name_lists_hold_their_names(rt: HostRuntime) -> Result<(), Fail> {
     let alloc = rt.alloc();
     let mut reader = Reader::new(b"\x00\x00\x00\x01amore");
-    same_count(&rt, reader.name_list(alloc)?.names().len(), 1);
+    same_count(&rt, reader.name_list(alloc)?.len(), 1);
     same(&rt, reader.rest(), b"more");
     let list = NameList::parse(alloc, b"zlib,none")?;
     assert!(rt; list.contains("none"));
     assert!(rt; !list.contains("zli"));
+    Ok(())
+}
+
+#[test]
+fn lends_name_lists(rt: HostRuntime) -> Result<(), Fail> {
+    let alloc = rt.alloc();
+    let mut reader = Reader::new(b"\x00\x00\x00\x09zlib,nonemore");
+    let lent = reader.borrowed_name_list()?;
+    same(&rt, lent.body(), b"zlib,none");
+    same(&rt, reader.rest(), b"more");
+    has_names(&rt, &lent.to_owned(alloc)?, &["zlib", "none"]);
+    let mut short = Reader::new(b"\x00\x00\x00\x02a");
+    assert_eq!(rt; short.borrowed_name_list().err(), Some(WireFault::Short));
+    assert_eq!(rt; BorrowedNameList::new(b"a,,b").err(), Some(WireFault::Name));
     Ok(())
 }
 

@@ -9,7 +9,7 @@ use std::test::Fail;
 
 /// A KEXINIT with these key exchange methods and the host key algorithm `h`; its other lists are
 /// empty.
-fn kexinit_with(alloc: Global, kex: &[u8]) -> Result<Box<KexInit>, Fail> {
+fn kexinit_with(alloc: Global, kex: &[u8]) -> Result<Box<KexInit<'static>>, Fail> {
     let side = Lists {
         kex,
         host_key: b"h",
@@ -37,7 +37,7 @@ fn judges_guesses(rt: HostRuntime) -> Result<(), Fail> {
 }
 
 /// A KEXINIT with the key exchange method `a` and these host key algorithms.
-fn kexinit_hosting(alloc: Global, host_key: &[u8]) -> Result<Box<KexInit>, Fail> {
+fn kexinit_hosting(alloc: Global, host_key: &[u8]) -> Result<Box<KexInit<'static>>, Fail> {
     let side = Lists {
         kex: b"a",
         host_key,
@@ -72,7 +72,7 @@ fn judges_guesses_by_host_keys(rt: HostRuntime) -> Result<(), Fail> {
 }
 
 /// A side with this flag and role has to be strict with this peer, or not.
-fn is_strict(rt: &impl Abort, own_flag: bool, own_role: Role, peer: &KexInit, wanted: bool) {
+fn is_strict(rt: &impl Abort, own_flag: bool, own_role: Role, peer: &KexInit<'_>, wanted: bool) {
     assert_eq!(rt; strict_of(own_flag, own_role, peer), wanted);
 }
 

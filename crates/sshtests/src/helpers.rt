@@ -194,8 +194,11 @@ fn directions_of(alloc: Global, side: &Lists<'_>) -> Result<Directions, Fail> {
     })
 }
 
+/// A cookie of zeros.
+const NO_COOKIE: [u8; 16] = [0; 16];
+
 /// The KEXINIT of a side with these lists.
-fn unboxed_kexinit(alloc: Global, side: &Lists<'_>) -> Result<KexInit, Fail> {
+fn unboxed_kexinit(alloc: Global, side: &Lists<'_>) -> Result<KexInit<'static>, Fail> {
     let methods = lists_of(alloc, side.kex, side.host_key)?;
     let languages = lists_of(alloc, b"", b"")?;
     let Directions {
@@ -204,7 +207,7 @@ fn unboxed_kexinit(alloc: Global, side: &Lists<'_>) -> Result<KexInit, Fail> {
         compressions,
     } = directions_of(alloc, side)?;
     Ok(KexInit {
-        cookie: [0; 16],
+        cookie: &NO_COOKIE,
         kex_algorithms: methods.0,
         server_host_key_algorithms: methods.1,
         encryption_client_to_server: encryptions.0,
@@ -220,7 +223,7 @@ fn unboxed_kexinit(alloc: Global, side: &Lists<'_>) -> Result<KexInit, Fail> {
 }
 
 /// The same in a box, where it costs little to let go.
-pub(crate) fn kexinit_of(alloc: Global, side: &Lists<'_>) -> Result<Box<KexInit>, Fail> {
+pub(crate) fn kexinit_of(alloc: Global, side: &Lists<'_>) -> Result<Box<KexInit<'static>>, Fail> {
     let kexinit = unboxed_kexinit(alloc, side)?;
     Ok(Box::new(alloc, kexinit)?)
 }

@@ -5,6 +5,8 @@
 #[cfg(test)]
 mod choices;
 #[cfg(test)]
+mod configs;
+#[cfg(test)]
 mod data_types;
 #[cfg(test)]
 mod derivations;

@@ -1,20 +1,20 @@
 //! Examples of payloads.
 
 use crate::helpers::{filled, has_text, prefix_of, same};
-use sshmsg::{KexInit, Message, Method, MpintBuf, MsgFault, OtherMethod, read, write};
-use sshwire::{Mpint, NameList};
+use sshmsg::{KexInit, Message, Method, MsgFault, OtherMethod, read, read_exchange, write};
+use sshwire::{NameList, ShareForm};
 use std::alloc::Global;
 use std::process::Abort;
 use std::test::Fail;
 
 /// The message that the payload spells. (In a box it costs little to let go.)
-fn message_of(alloc: Global, payload: &[u8]) -> Result<Box<Message>, Fail> {
+fn message_of<'a>(alloc: Global, payload: &'a [u8]) -> Result<Box<Message<'a>>, Fail> {
     let message = read(alloc, payload)?;
     Ok(Box::new(alloc, message)?)
 }
 
 /// What is written for a message, which has to fit.
-fn text_of(rt: &impl Abort, alloc: Global, message: &Message) -> Result<Vec<u8>, Fail> {
+fn text_of(rt: &impl Abort, alloc: Global, message: &Message<'_>) -> Result<Vec<u8>, Fail> {
     assert!(rt; message.fits());
     let mut out = Vec::new(alloc);
     write(message, &mut out)?;
@@ -43,13 +43,13 @@ fn has(list: &NameList, name: &str) -> bool {
 const FAILURE: &[u8] = b"\x33\x00\x00\x00\x12password,publickey\x00";
 
 /// Whether it is a failure with two methods.
-fn is_failure(message: &Message, partial: bool) -> bool {
+fn is_failure(message: &Message<'_>, partial: bool) -> bool {
     match message {
         Message::UserauthFailure {
             methods,
             partial_success,
         } => {
-            methods.names().len() == 2
+            methods.len() == 2
                 && has(methods, "password")
                 && has(methods, "publickey")
                 && *partial_success == partial
@@ -89,13 +89,13 @@ fn reads_and_writes_partial_success(rt: HostRuntime) -> Result<(), Fail> {
 const REQUEST: &[u8] = b"\x32\x00\x00\x00\x02al\x00\x00\x00\x0essh-connection\x00\x00\x00\x04none";
 
 /// Whether it is the request for `al` by `none`.
-fn is_request(message: &Message) -> bool {
+fn is_request(message: &Message<'_>) -> bool {
     match message {
         Message::UserauthRequest {
             user,
             service,
             method: Method::None,
-        } => user.as_str() == "al" && service.as_slice() == b"ssh-connection".as_slice(),
+        } => *user == "al" && *service == b"ssh-connection".as_slice(),
         _ => false,
     }
 }
@@ -296,21 +296,15 @@ fn takes_long_fields(rt: HostRuntime) -> Result<(), Fail> {
 }
 
 #[test]
-fn parts_hold_what_they_were_given(rt: HostRuntime) -> Result<(), Fail> {
-    let alloc = rt.alloc();
-    let name = Vec::from_slice(alloc, b"hostbased")?;
-    let fields = Vec::from_slice(alloc, b"fields")?;
-    let method = OtherMethod::new(name, fields);
+fn parts_hold_what_they_were_given(rt: HostRuntime) {
+    let method = OtherMethod::new(b"hostbased", b"fields");
     same(&rt, method.name(), b"hostbased");
     same(&rt, method.fields(), b"fields");
     same(&rt, Method::None.name(), b"none");
-    let number = MpintBuf::of(alloc, &Mpint::new(b"\x00\x80")?)?;
-    same(&rt, number.body(), b"\x00\x80");
-    Ok(())
 }
 
 /// Whether each list has its name.
-fn has_ten_lists(kexinit: &KexInit) -> bool {
+fn has_ten_lists(kexinit: &KexInit<'_>) -> bool {
     has(&kexinit.kex_algorithms, "k")
         && has(&kexinit.server_host_key_algorithms, "h")
         && has(&kexinit.encryption_client_to_server, "cs")
@@ -324,7 +318,7 @@ fn has_ten_lists(kexinit: &KexInit) -> bool {
 }
 
 /// Whether it is a KEXINIT with those lists.
-fn is_ten_lists(message: &Message) -> bool {
+fn is_ten_lists(message: &Message<'_>) -> bool {
     match message {
         Message::KexInit(kexinit) => has_ten_lists(kexinit),
         _ => false,
@@ -396,4 +390,116 @@ fn knows_the_three_methods(rt: HostRuntime) {
     assert!(rt; OtherMethod::is_known(b"password"));
     assert!(rt; OtherMethod::is_known(b"publickey"));
     assert!(rt; !OtherMethod::is_known(b"hostbased"));
+}
+
+/// The message that the payload spells where shares are octet strings.
+fn octet_message_of<'a>(
+    alloc: Global,
+    payload: &'a [u8],
+    form: ShareForm,
+) -> Result<Box<Message<'a>>, Fail> {
+    let message = read_exchange(alloc, payload, form)?;
+    Ok(Box::new(alloc, message)?)
+}
+
+/// The payload has to be read where shares are octet strings, and written again as it is.
+fn is_octet_written(
+    rt: &impl Abort,
+    alloc: Global,
+    payload: &[u8],
+    form: ShareForm,
+) -> Result<(), Fail> {
+    let message = octet_message_of(alloc, payload, form)?;
+    let written = text_of(rt, alloc, &message)?;
+    same(rt, &written, payload);
+    Ok(())
+}
+
+/// The payload has to be refused with this fault where shares are octet strings.
+fn is_octet_refused(
+    rt: &impl Abort,
+    alloc: Global,
+    payload: &[u8],
+    form: ShareForm,
+    wanted: MsgFault,
+) {
+    let found = read_exchange(alloc, payload, form).err();
+    assert_eq!(rt; found, Some(wanted));
+}
+
+/// Whether it is a client's share of these bytes.
+fn is_client_share(message: &Message<'_>, share: &[u8]) -> bool {
+    match message {
+        Message::KexEcdhInit { client_share } => *client_share == share,
+        _ => false,
+    }
+}
+
+/// Whether it is an answer with the host key `k`, this share and the signature `s`.
+fn is_server_share(message: &Message<'_>, share: &[u8]) -> bool {
+    match message {
+        Message::KexEcdhReply {
+            host_key,
+            server_share,
+            signature,
+        } => {
+            *host_key == b"k".as_slice() && *server_share == share && *signature == b"s".as_slice()
+        }
+        _ => false,
+    }
+}
+
+/// A client's share that is no shortest mpint, and a server's.
+const OCTET_INIT: &[u8] = b"\x1e\x00\x00\x00\x02\x00\x01";
+
+const OCTET_REPLY: &[u8] = b"\x1f\x00\x00\x00\x01k\x00\x00\x00\x02\xff\x80\x00\x00\x00\x01s";
+
+/// The two have to be read in this form, each as its message.
+fn reads_octets(rt: &impl Abort, alloc: Global, form: ShareForm) -> Result<(), Fail> {
+    let init = octet_message_of(alloc, OCTET_INIT, form)?;
+    assert!(rt; is_client_share(&init, b"\x00\x01"));
+    let reply = octet_message_of(alloc, OCTET_REPLY, form)?;
+    assert!(rt; is_server_share(&reply, b"\xff\x80"));
+    Ok(())
+}
+
+#[test]
+fn reads_octet_strings_as_shares(rt: HostRuntime) -> Result<(), Fail> {
+    let alloc = rt.alloc();
+    reads_octets(&rt, alloc, ShareForm::OctetString)?;
+    reads_octets(&rt, alloc, ShareForm::Hybrid)?;
+    is_refused(&rt, alloc, OCTET_INIT, MsgFault::Malformed(30));
+    is_refused(&rt, alloc, OCTET_REPLY, MsgFault::Malformed(31));
+    let mpints = ShareForm::Mpint;
+    is_octet_refused(&rt, alloc, OCTET_INIT, mpints, MsgFault::Malformed(30));
+    Ok(())
+}
+
+#[test]
+fn writes_octet_strings_as_shares(rt: HostRuntime) -> Result<(), Fail> {
+    let alloc = rt.alloc();
+    is_octet_written(&rt, alloc, OCTET_INIT, ShareForm::OctetString)?;
+    is_octet_written(&rt, alloc, OCTET_REPLY, ShareForm::Hybrid)?;
+    is_octet_written(&rt, alloc, b"\x1e\x00\x00\x00\x00", ShareForm::Hybrid)
+}
+
+#[test]
+fn refuses_octet_strings_cut(rt: HostRuntime) -> Result<(), Fail> {
+    let alloc = rt.alloc();
+    let octets = ShareForm::OctetString;
+    for len in 1..OCTET_REPLY.len() {
+        let cut = prefix_of(OCTET_REPLY, len);
+        is_octet_refused(&rt, alloc, cut, octets, MsgFault::Malformed(31));
+    }
+    let longer = filled(alloc, OCTET_INIT, 0, 1)?;
+    is_octet_refused(&rt, alloc, &longer, octets, MsgFault::Malformed(30));
+    Ok(())
+}
+
+#[test]
+fn reads_the_other_messages_alike(rt: HostRuntime) -> Result<(), Fail> {
+    for payload in WRITTEN {
+        is_octet_written(&rt, rt.alloc(), payload, ShareForm::OctetString)?;
+    }
+    Ok(())
 }

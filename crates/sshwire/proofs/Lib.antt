@@ -1,9 +1,12 @@
 pub mod VersionText
+pub mod VersionParts
+pub mod NameLengths
 pub mod Readings
 pub mod Refusals
 pub mod Tellings
 pub mod NameLemmas
+pub mod NamesLeft
+pub mod EndLemmas
 pub mod ShortestBody
 pub mod TypeLemmas
-pub mod ByteLemmas
 pub mod TypeRefusals

@@ -1,6 +1,6 @@
 -- The reading of lines against their meaning: what is read stands there, what stands there is read, and cuts.
 
-use Rattle.std.proofs.Common.{◌≡◌, ◌≢◌, ℕ, ◌+◌, ◌-◌, ◌<◌, ◌≤◌, inl, inr, true, false, List, [], ◌∷◌, ◌++◌, length, drop, refl, sym, ap, ◌∙◌, arith, eqb, leb, Option, None, Some, IfSome, lit≤}
+use Rattle.std.proofs.Common.{◌≡◌, ◌≢◌, ℕ, ◌+◌, ◌-◌, ◌<◌, ◌≤◌, inl, inr, true, false, List, [], ◌∷◌, ◌++◌, length, drop, refl, sym, ap, ◌∙◌, arith, eqb, leb, Option, None, Some, IfSome, lit≤, subst, get_or, add-one, drop-cons}
 use Rattle.std.specs.List.{AllByRecursion, starts_with}
 use Rattle.std.proofs.lemmas.Bool.{cases_Bool, leb-true, leb-false, le-leb, lt-leb, eqb-true, eqb-false, ne_eqb, eq-eqb, both_ways, false_from_ne_true}
 use Rattle.std.proofs.lemmas.Bool.Decides.{Decides-eqb}
@@ -9,7 +9,7 @@ use Rattle.std.proofs.lemmas.List.{append_assoc, flat_map_more, append-nil, leng
 use Rattle.sshwire.specs.declared.fault.WireFault.{WireFault}
 use Rattle.sshwire.specs.declared.fault.WireFault.TheVariants.{Line, TooLong, TooManyLines}
 use Rattle.sshwire.specs.Lines.{BeginsSsh, IsSoftwareByte, IsCommentByte, IsCause, IsLineByte, IsOtherLine, IsUnfinished, IsVersionText, LineOpen, Preamble, joined, ssh, ssh_2_0, comment_part, text_in, version_line, with_lf}
-use Rattle.sshwire.specs.Reading.{Reading, More, Got, Stop, is_version_line, reading, then_on}
+use Rattle.sshwire.specs.Reading.{Reading, More, Got, Stop, Stops, StopsWithin, is_version_line, reading, then_on}
 use Rattle.sshwire.specs.Meaning.{EndsPreamble}
 use Rattle.sshwire.proofs.VersionText.{no_line_from_test, text_in-version_line, version_line_tested, whole_line_from_test}
 
@@ -47,6 +47,53 @@ reading-append left line (b ∷ bs) more = elim (cases_Bool (eqb b 0)) [
     ]
   ]
 ]
+
+-- A reading that stops has read a byte.
+stop_shorter : (left : ℕ) (line bytes : List ℕ) (code : WireFault) (behind : List ℕ) → reading left line bytes ≡ Stop code behind → length behind < length bytes
+stop_shorter left line [] code behind e = cc
+stop_shorter left line (b ∷ bs) code behind e = elim (cases_Bool (eqb b 0)) [
+  | inl t ↦ let is : Stop Line bs ≡ Stop code behind = rw t at e in let same : bs ≡ behind = cc in omega (arith, ap (λ (xs : List ℕ). length xs) same)
+  | inr f ↦ elim (cases_Bool (eqb b 10)) [
+    | inl t₁ ↦ elim (cases_Bool (starts_with eqb line ssh)) [
+      | inl t₂ ↦ elim (cases_Bool (is_version_line (with_lf line))) [
+        | inl t₃ ↦ let is : Got (text_in (with_lf line)) bs ≡ Stop code behind = rw (f, t₁, t₂, t₃) at e in cc
+        | inr f₃ ↦ let is : Stop Line bs ≡ Stop code behind = rw (f, t₁, t₂, f₃) at e in let same : bs ≡ behind = cc in omega (arith, ap (λ (xs : List ℕ). length xs) same)
+      ]
+      | inr f₂ ↦ elim (cases_Bool (eqb left 0)) [
+        | inl t₃ ↦ let is : Stop TooManyLines bs ≡ Stop code behind = rw (f, t₁, f₂, t₃) at e in let same : bs ≡ behind = cc in omega (arith, ap (λ (xs : List ℕ). length xs) same)
+        | inr f₃ ↦ let is : reading (left - 1) [] bs ≡ Stop code behind = rw (f, t₁, f₂, f₃) at e in
+            let less = stop_shorter (left - 1) [] bs code behind is in omega (arith, less)
+      ]
+    ]
+    | inr f₁ ↦ elim (cases_Bool (leb 254 (length line))) [
+      | inl t₂ ↦ let is : Stop TooLong bs ≡ Stop code behind = rw (f, f₁, t₂) at e in let same : bs ≡ behind = cc in omega (arith, ap (λ (xs : List ℕ). length xs) same)
+      | inr f₂ ↦ let is : reading left (line ++ b ∷ []) bs ≡ Stop code behind = rw (f, f₁, f₂) at e in
+          let less = stop_shorter left (line ++ b ∷ []) bs code behind is in omega (arith, less)
+    ]
+  ]
+]
+
+-- Where the reading of one byte stops, or memory runs out at it, so does the reading with more behind it.
+stops_later : (r : Reading) (bs : List ℕ) → StopsWithin r [] → ((left : ℕ) (line : List ℕ) → r ≡ More left line → StopsWithin (reading left line bs) bs) → StopsWithin (then_on r bs) bs
+stops_later (More left line) bs within more code behind e = more left line refl code behind e
+stops_later (Got text rest) bs within more code behind e = cc
+stops_later (Stop other rest) bs within more code behind e = let less : length rest < 0 = within other rest refl in absurd (omega arith)
+
+pub stops_on : (code : WireFault) (left : ℕ) (line : List ℕ) (b : ℕ) (bs : List ℕ) → Stops code (reading left line (b ∷ [])) [] → Stops code (reading left line (b ∷ bs)) bs
+stops_on code left line b bs stops =
+    let on : reading left line (b ∷ bs) ≡ then_on (reading left line (b ∷ [])) bs = reading-append left line (b ∷ []) bs in
+    record {
+      refusal = λ other. on ∙ ap (λ (r : Reading). then_on r bs) (stops.refusal other);
+      memory = λ memory. subst (λ (r : Reading). StopsWithin r bs) (sym on)
+          (stops_later (reading left line (b ∷ [])) bs (stops.memory memory) (λ left' line' e code behind is. stop_shorter left' line' bs code behind is));
+    }
+
+pub stops_in : (code : WireFault) (left : ℕ) (line piece : List ℕ) (i : ℕ) (r : Reading) → i < length piece → reading left line (drop i piece) ≡ r
+    → Stops code (reading left line (get_or piece i 0 ∷ [])) [] → Stops code r (drop (i + 1) piece)
+stops_in code left line piece i r h e stops =
+    let cut : drop i piece ≡ get_or piece i 0 ∷ drop (i + 1) piece = rw (add-one, drop-cons piece i 0) refl in
+    subst (λ (x : Reading). Stops code x (drop (i + 1) piece)) (sym (ap (λ (xs : List ℕ). reading left line xs) cut) ∙ e)
+    (stops_on code left line (get_or piece i 0) (drop (i + 1) piece) stops)
 
 -- The reading of one byte, by cases.
 pub reads_nul : (left : ℕ) (line : List ℕ) (b : ℕ) (bs : List ℕ) → b ≡ 0 → reading left line (b ∷ bs) ≡ Stop Line bs

@@ -10,7 +10,7 @@ use Rattle.sshwire.specs.Lines.{LineOpen, LineRefused, Preamble}
 use Rattle.sshwire.specs.Reading.{Reading, More, Got, Stop, Stops, reading, then_on}
 use Rattle.sshwire.specs.Meaning.{EndsPreamble, EndsRefused, ReadingMeans}
 use Rattle.sshwire.specs.LineState.{LineState, Progress, Waits, Finished, Refused}
-use Rattle.sshwire.specs.Feeding.{OnlyPreambleAnswer, Reads, StandsOpen, PreambleAnswer, TellsRefusal}
+use Rattle.sshwire.specs.Feeding.{NoneRefused, OnlyPreambleAnswer, Reads, StandsOpen, PreambleAnswer, TellsRefusal}
 use Rattle.sshwire.proofs.Readings.{open_read, preamble_read, reading-append}
 use Rattle.sshwire.proofs.Refusals.{reading_sound, refused_read, refused_within}
 
@@ -55,7 +55,7 @@ memory_or_not NotCanonical = inr (λ e. cc)
 tells_refusal : (k left : ℕ) (line heard piece : List ℕ) (code : WireFault) (new : LineState) → LineOpen k heard left line
     → new.taken ≤ length piece → Stops code (reading left line piece) (drop new.taken piece) → TellsRefusal k heard piece code new
 tells_refusal k left line heard piece code new o within stops = λ other.
-    let means : EndsRefused k (heard ++ piece) code (drop new.taken piece) = means_of k left line heard piece (Stop code (drop new.taken piece)) o (stops other) in
+    let means : EndsRefused k (heard ++ piece) code (drop new.taken piece) = means_of k left line heard piece (Stop code (drop new.taken piece)) o (stops.refusal other) in
     refusal_place k heard piece code new.taken within means
 
 tells_waiting : (k left : ℕ) (line heard piece : List ℕ) (result : Result LineStep WireFault) (new : LineState) → LineOpen k heard left line
@@ -84,7 +84,7 @@ answer_of_more (Ok step.More) r piece new left line e reads = inl refl
 answer_of_more (Ok (step.Done text used)) r piece new left line e reads = let bad : More left line ≡ Got text (drop used piece) = sym e ∙ reads.0 in cc
 answer_of_more (Err code) r piece new left line e reads = elim (memory_or_not code) [
   | inl memory ↦ inr (ap Err memory)
-  | inr known ↦ let bad : More left line ≡ Stop code (drop new.taken piece) = sym e ∙ reads.0 known in cc
+  | inr known ↦ let bad : More left line ≡ Stop code (drop new.taken piece) = sym e ∙ reads.0.refusal known in cc
 ]
 
 answer_of_got : (result : Result LineStep WireFault) (r : Reading) (piece : List ℕ) (new : LineState) (text : List ℕ) (used : ℕ) → used ≤ length piece
@@ -100,7 +100,7 @@ answer_of_got (Ok (step.Done text' used')) r piece new text used fits within e (
     inl cc
 answer_of_got (Err code) r piece new text used fits within e reads = elim (memory_or_not code) [
   | inl memory ↦ inr (ap Err memory)
-  | inr known ↦ let bad : Got text (drop used piece) ≡ Stop code (drop new.taken piece) = sym e ∙ reads.0 known in cc
+  | inr known ↦ let bad : Got text (drop used piece) ≡ Stop code (drop new.taken piece) = sym e ∙ reads.0.refusal known in cc
 ]
 
 answer_of_stop : (result : Result LineStep WireFault) (r : Reading) (piece : List ℕ) (new : LineState) (code : WireFault) (rest : List ℕ)
@@ -110,7 +110,7 @@ answer_of_stop (Ok step.More) r piece new code rest e (left, line, read, waits, 
 answer_of_stop (Ok (step.Done text used)) r piece new code rest e reads = let bad : Stop code rest ≡ Got text (drop used piece) = sym e ∙ reads.0 in cc
 answer_of_stop (Err other) r piece new code rest e reads = elim (memory_or_not other) [
   | inl memory ↦ inr (ap Err memory)
-  | inr known ↦ let same : Stop code rest ≡ Stop other (drop new.taken piece) = sym e ∙ reads.0 known in let codes : other ≡ code = cc in inl (ap Err codes)
+  | inr known ↦ let same : Stop code rest ≡ Stop other (drop new.taken piece) = sym e ∙ reads.0.refusal known in let codes : other ≡ code = cc in inl (ap Err codes)
 ]
 
 only_waiting : (k left : ℕ) (line heard piece : List ℕ) (result : Result LineStep WireFault) (new : LineState) → LineOpen k heard left line
@@ -137,3 +137,26 @@ pub only : (k : ℕ) (heard piece : List ℕ) (result : Result LineStep WireFaul
 only k heard piece result (Waits left line) new o within reads = only_waiting k left line heard piece result new o within (reads left line refl)
 only k heard piece result Finished new o within reads = absurd o
 only k heard piece result (Refused code) new o within reads = absurd o
+
+-- Where memory ran out no refusal was due.
+none_waiting : (k left : ℕ) (line heard piece : List ℕ) (result : Result LineStep WireFault) (new : LineState) → LineOpen k heard left line
+    → Reads (reading left line piece) piece result new → result ≡ Err Memory → NoneRefused k (heard ++ take new.taken piece)
+none_waiting k left line heard piece (Ok x) new o reads e place code refused = cc
+none_waiting k left line heard piece (Err fault) new o reads e place code refused =
+    let used : List ℕ = take new.taken piece in
+    let rest : List ℕ = drop new.taken piece in
+    let memory : fault ≡ Memory = cc in
+    let s = refused_read k (heard ++ used) place code refused in
+    let stops : reading left line used ≡ Stop code s.rest = sym (joined_reading k left line heard used o) ∙ s.stops in
+    let cut : reading left line piece ≡ then_on (reading left line used) rest
+    = ap (λ (xs : List ℕ). reading left line xs) (sym (take-append-drop new.taken piece)) ∙ reading-append left line used rest in
+    let less : length (s.rest ++ rest) < length rest = reads.0.memory memory code (s.rest ++ rest) (cut ∙ ap (λ (r : Reading). then_on r rest) stops) in
+    let long : length (s.rest ++ rest) ≡ length s.rest + length rest = length-append s.rest rest in
+    omega arith
+
+pub none_refused : (k : ℕ) (heard piece : List ℕ) (result : Result LineStep WireFault) (old : Progress) (new : LineState) → StandsOpen k heard old
+    → ((left : ℕ) (line : List ℕ) → old ≡ Waits left line → Reads (reading left line piece) piece result new)
+    → result ≡ Err Memory → NoneRefused k (heard ++ take new.taken piece)
+none_refused k heard piece result (Waits left line) new o reads e = none_waiting k left line heard piece result new o (reads left line refl) e
+none_refused k heard piece result Finished new o reads e = absurd o
+none_refused k heard piece result (Refused code) new o reads e = absurd o

@@ -1,31 +1,20 @@
 -- The readings of data types against their texts.
 
-use Rattle.std.proofs.Common.{◌≡◌, ℕ, suc, ◌+◌, ◌/◌, ◌%◌, ◌^◌, ◌<◌, ◌≤◌, Bool, true, false, not, List, [], ◌∷◌, ◌++◌, length, take, drop, get_or, zero, Result, Ok, Err, refl, sym, ap, ◌∙◌, arith, cond, eqb, ltb, lit<}
+use Rattle.std.proofs.Common.{◌≡◌, ℕ, ◌+◌, ◌/◌, ◌%◌, ◌^◌, ◌<◌, ◌≤◌, Bool, true, false, not, List, [], ◌∷◌, ◌++◌, length, take, drop, Result, Ok, Err, refl, sym, ap, ◌∙◌, arith, cond, eqb, ltb}
 use Rattle.byteorder.specs.Endian.{big_number}
 use Rattle.std.proofs.lemmas.Bool.{ltb-false, le-ltb}
-use Rattle.std.proofs.lemmas.List.{append_assoc, length-append, length-take-le, take_at, drop_at, take-append-drop, get_or-append-add, get_or-drop}
+use Rattle.std.proofs.lemmas.List.{append_assoc, length-append, length-take-le, take_at, drop_at, take-append-drop, get_or-append-add}
 use Rattle.sshwire.specs.declared.fault.WireFault.{WireFault}
 use Rattle.sshwire.specs.declared.fault.WireFault.TheVariants.{Short, NotCanonical}
 use Rattle.sshwire.proofs.NameLemmas.{TakesNames, names_complete, names_taken}
 use Rattle.sshwire.proofs.ShortestBody.{canonical_shortest, shortest_canonical}
+use Rattle.sshwire.specs.ByteLaws.{bytes_taken, uint32_read}
 use Rattle.sshwire.specs.Types.{boolean, BooleanText, IsBytes, MpintText, NameListText, StringText, Uint32Text, names_body, string, uint32}
 use Rattle.sshwire.specs.TypeReadings.{IsReading, ◌>>=◌, boolean_at, is_canonical, mpint_at, mpint_in, names_at, names_in, string_at, uint32_at}
 
 -- more or fewer bytes are bytes
 pub bytes_behind : (text rest : List ℕ) → IsBytes (text ++ rest) → IsBytes rest
 bytes_behind text rest h = λ i. rw (← get_or-append-add text rest i 0) (h (length text + i))
-
-pub bytes_dropped : (n : ℕ) (bytes : List ℕ) → IsBytes bytes → IsBytes (drop n bytes)
-bytes_dropped n bytes h = λ i. rw (get_or-drop n bytes i 0) (h (n + i))
-
-taken_cell : (b : ℕ) (xs : List ℕ) → b < 256 → IsBytes xs → (i : ℕ) → get_or (b ∷ xs) i 0 < 256
-taken_cell b xs h more zero = h
-taken_cell b xs h more (suc i) = more i
-
-pub bytes_taken : (n : ℕ) (bytes : List ℕ) → IsBytes bytes → IsBytes (take n bytes)
-bytes_taken zero bytes h = λ i. lit< tt
-bytes_taken (suc n) [] h = λ i. lit< tt
-bytes_taken (suc n) (b ∷ bs) h = taken_cell b (take n bs) (h 0) (bytes_taken n bs (λ j. h (suc j)))
 
 -- two readings of one front are one
 one_from : {V : Type 0} (Text : V → List ℕ → Type 0) (read : List ℕ → Result (V × List ℕ) WireFault)
@@ -85,9 +74,6 @@ number_of_bytes a b c d rest ha hb hc hd =
 number_below : (a b c d : ℕ) (rest : List ℕ) → a < 256 → b < 256 → c < 256 → d < 256 → big_number 4 (a ∷ b ∷ c ∷ d ∷ rest) < 2 ^ 32
 number_below a b c d rest ha hb hc hd = omega arith
 
-bytes_of_number : (n : ℕ) (rest : List ℕ) → n < 2 ^ 32 → big_number 4 (uint32 n ++ rest) ≡ n
-bytes_of_number n rest h = omega arith
-
 pub record TakesNumber (bytes : List ℕ) (n : ℕ) (rest : List ℕ) : Type 0 where
   pub fits : n < 2 ^ 32
   pub bytes_are : bytes ≡ uint32 n ++ rest
@@ -110,17 +96,11 @@ number_taken (a ∷ b ∷ c ∷ d ∷ bs) n rest h e =
           ∙ (ap (λ (m : ℕ). uint32 m ++ bs) number ∙ ap (λ (xs : List ℕ). uint32 n ++ xs) behind);
     }
 
-pub uint32_complete : (n : ℕ) (rest : List ℕ) → n < 2 ^ 32 → uint32_at (uint32 n ++ rest) ≡ Ok (n, rest)
-unfolding uint32_at
-uint32_complete n rest h =
-    let long : ltb (length (uint32 n ++ rest)) 4 ≡ false = le-ltb _ _ (omega arith) in
-    rw long (ap (λ (m : ℕ). Ok (m, rest)) (bytes_of_number n rest h))
-
 pub uint32_reading : IsReading Uint32Text uint32_at
 uint32_reading = record {
   sound = λ bytes n rest h e. let t = number_taken bytes n rest h e in (uint32 n, (t.fits, refl), t.bytes_are);
-  complete = λ n text rest t. rw t.1 (uint32_complete n rest t.0);
-  one = one_from Uint32Text uint32_at (λ n text rest t. rw t.1 (uint32_complete n rest t.0));
+  complete = λ n text rest t. rw t.1 (uint32_read n rest t.0);
+  one = one_from Uint32Text uint32_at (λ n text rest t. rw t.1 (uint32_read n rest t.0));
 }
 
 -- string
@@ -154,7 +134,7 @@ pub string_complete : (s rest : List ℕ) → length s < 2 ^ 32 → string_at (s
 unfolding string_at
 string_complete s rest h =
     let grouped : string s ++ rest ≡ uint32 (length s) ++ (s ++ rest) = append_assoc (uint32 (length s)) s rest in
-    let number : uint32_at (string s ++ rest) ≡ Ok (length s, s ++ rest) = ap uint32_at grouped ∙ uint32_complete (length s) (s ++ rest) h in
+    let number : uint32_at (string s ++ rest) ≡ Ok (length s, s ++ rest) = ap uint32_at grouped ∙ uint32_read (length s) (s ++ rest) h in
     let all : length (s ++ rest) ≡ length s + length rest = length-append s rest in
     let long : ltb (length (s ++ rest)) (length s) ≡ false = le-ltb _ _ (omega arith) in
     let front : take (length s) (s ++ rest) ≡ s = take_at s rest (length s) refl in

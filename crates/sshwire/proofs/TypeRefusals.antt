@@ -6,7 +6,8 @@ use Rattle.sshwire.specs.declared.fault.WireFault.{WireFault}
 use Rattle.sshwire.specs.declared.fault.WireFault.TheVariants.{Short, Name, NotCanonical}
 use Rattle.sshwire.proofs.NameLemmas.{names_fault, names_taken}
 use Rattle.sshwire.proofs.ShortestBody.{canonical_shortest, shortest_canonical}
-use Rattle.sshwire.proofs.TypeLemmas.{number_taken, string_complete, string_reading, string_taken, stands_not, uint32_complete}
+use Rattle.sshwire.proofs.TypeLemmas.{number_taken, string_complete, string_reading, string_taken, stands_not}
+use Rattle.sshwire.specs.ByteLaws.{uint32_read}
 use Rattle.sshwire.specs.Types.{IsBytes, StringText, string}
 use Rattle.sshwire.specs.TypeReadings.{◌>>=◌, boolean_at, is_canonical, mpint_at, mpint_in, names_at, names_in, string_at, uint32_at}
 use Rattle.sshwire.specs.TypeRefusals.{AreNoNames, BeginsString, BooleanRefused, IsCutBehindLength, IsNotShortest, MpintRefused, NameListRefused, NoString, OnlyShort, RefusesExactly, StringRefused, Uint32Refused}
@@ -76,7 +77,7 @@ string_err bytes code h e = elim (bind_err (uint32_at bytes) _ code e) [
 string_short : (bytes : List ℕ) → IsCut bytes → string_at bytes ≡ Err Short
 unfolding string_at
 string_short bytes (inl few) = rw (uint32_short bytes few) refl
-string_short bytes (inr c) = rw (c.bytes_are, uint32_complete c.len c.rest c.fits, lt-ltb _ _ c.fewer) refl
+string_short bytes (inr c) = rw (c.bytes_are, uint32_read c.len c.rest c.fits, lt-ltb _ _ c.fewer) refl
 
 pub string_refuses : RefusesExactly StringRefused string_at
 string_refuses bytes code h = (

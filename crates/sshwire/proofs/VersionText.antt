@@ -5,10 +5,10 @@ use Rattle.std.specs.List.{AllByRecursion, list_all, position, before_first, aft
 use Rattle.std.proofs.lemmas.Bool.{cases_Bool, leb-true, le-leb, lt-ltb, ltb-true, ltb-false, eqb-true, eqb-false, ne_eqb, and_parts, and_from, not-true, not_from_false, both_ways}
 use Rattle.std.proofs.lemmas.Bool.Decides.{Decides-eqb}
 use Rattle.std.proofs.lemmas.Slice.Eq.{starts_is, ends_is}
-use Rattle.std.proofs.lemmas.List.{length-append, take_at}
+use Rattle.std.proofs.lemmas.List.{append_assoc, append_cancel_right, length-append, take-append-le, take_at}
 use native.Mathlib.Numerals.{unary_clauses}
 use Rattle.sshwire.specs.declared.fault.WireFault.TheVariants.{Line}
-use Rattle.sshwire.specs.Lines.{IsNoVersionLine, IsSoftwareByte, IsCommentByte, IsVersionText, IsWholeLine, ssh_2_0, comment_part, version_line, text_in}
+use Rattle.sshwire.specs.Lines.{IsNoVersionLine, IsSoftwareByte, IsCommentByte, IsVersionText, IsWholeLine, ssh_2_0, comment_part, version_line, text_in, with_lf}
 use Rattle.sshwire.specs.Reading.{is_software_byte, is_comment_byte, is_space, is_software_and_comments, is_version_text, is_version_line}
 
 software_byte : (b : ℕ) → is_software_byte b ≡ true → IsSoftwareByte b
@@ -75,7 +75,7 @@ record RoundSpace (bytes : List ℕ) : Type 0 where
   bytes_are : bytes ≡ before_first is_space bytes ++ comment_part comments
   behind : IfSome comments (λ c. c ≡ after_first is_space bytes)
 
-space_further : (b : ℕ) (bs : List ℕ) → is_space b ≡ false → position_or_len is_space (b ∷ bs) ≡ suc (position_or_len is_space bs)
+pub space_further : (b : ℕ) (bs : List ℕ) → is_space b ≡ false → position_or_len is_space (b ∷ bs) ≡ suc (position_or_len is_space bs)
 space_further b bs f = rw f (one-add (position_or_len is_space bs))
 
 further : (b : ℕ) (bs : List ℕ) (comments : Option (List ℕ)) → is_space b ≡ false → bs ≡ before_first is_space bs ++ comment_part comments
@@ -196,6 +196,35 @@ version_line_tested text v =
 -- what the test refuses is no version line
 pub no_line_from_test : (line : List ℕ) → is_version_line line ≡ false → (text : List ℕ) → IsVersionText text → line ≡ version_line text → ⊥
 no_line_from_test line f text v e = both_ways (is_version_line line) f (rw e (version_line_tested text v))
+
+-- the test of a line with its LF, from what stands before it
+ends_cr : (line : List ℕ) → ends_with eqb line (13 ∷ []) ≡ ends_with eqb (with_lf line) (13 ∷ 10 ∷ [])
+ends_cr line =
+    let short = ends_is Decides-eqb line (13 ∷ []) (ends_with eqb line (13 ∷ [])) refl in
+    let long = ends_is Decides-eqb (with_lf line) (13 ∷ 10 ∷ []) (ends_with eqb (with_lf line) (13 ∷ 10 ∷ [])) refl in
+    let text : List ℕ = take (length line - 1) line in
+    let front : List ℕ = take (length (with_lf line) - 2) (with_lf line) in
+    elim (cases_Bool (ends_with eqb line (13 ∷ []))) [
+      | inl t ↦
+          let is : with_lf line ≡ text ++ 13 ∷ 10 ∷ [] = ap (λ (xs : List ℕ). xs ++ 10 ∷ []) (short.0 t) ∙ append_assoc text (13 ∷ []) (10 ∷ []) in
+          t ∙ sym (long.1 text is)
+      | inr f ↦ elim (cases_Bool (ends_with eqb (with_lf line) (13 ∷ 10 ∷ []))) [
+        | inl t ↦
+            let is : line ++ 10 ∷ [] ≡ (front ++ 13 ∷ []) ++ 10 ∷ [] = long.0 t ∙ sym (append_assoc front (13 ∷ []) (10 ∷ [])) in
+            short.1 front (append_cancel_right line (front ++ 13 ∷ []) (10 ∷ []) is) ∙ sym t
+        | inr g ↦ f ∙ sym g
+      ]
+    ]
+
+text_before_lf : (line : List ℕ) → take (length line - 1) line ≡ text_in (with_lf line)
+text_before_lf line =
+    let long : length (with_lf line) ≡ length line + 1 = length-append line (10 ∷ []) in
+    let cut : length (with_lf line) - 2 ≡ length line - 1 = omega arith in
+    sym (ap (λ (n : ℕ). take n (with_lf line)) cut ∙ take-append-le (length line - 1) line (10 ∷ []) (omega arith))
+
+pub unfinished_test : (line : List ℕ) → (ends_with eqb line (13 ∷ []) && is_version_text (take (length line - 1) line)) ≡ is_version_line (with_lf line)
+unfolding is_version_line
+unfinished_test line = rw (ends_cr line, text_before_lf line) refl
 
 none_tested : (b : Bool) (text : List ℕ) → None ≡ cond b (Some text) None → b ≡ false
 none_tested true text e = cc

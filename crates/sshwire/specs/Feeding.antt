@@ -54,6 +54,10 @@ abbrev pub TellsRefusal : ℕ → List ℕ → List ℕ → WireFault → LineSt
 TellsRefusal k heard piece code new =
     code ≢ Memory → (place : ℕ) × (place + 1 ≡ length heard + new.taken) × LineRefused k (heard ++ piece) place code
 
+-- no place of the bytes is refused
+abbrev pub NoneRefused : ℕ → List ℕ → Type 0
+NoneRefused k bytes = (place : ℕ) (code : WireFault) → LineRefused k bytes place code → ⊥
+
 -- what the answer says of the bytes heard so far and the piece
 abbrev pub PreambleAnswer : ℕ → List ℕ → List ℕ → Result LineStep WireFault → LineState → Type 0
 PreambleAnswer k heard piece (Ok step.More) new = StandsOpen k (heard ++ piece) new.progress × (new.taken ≡ length piece)

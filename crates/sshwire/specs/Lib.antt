@@ -6,3 +6,5 @@ pub mod Feeding
 pub mod Types
 pub mod TypeReadings
 pub mod TypeRefusals
+pub mod ByteLaws
+pub mod Names

@@ -1,7 +1,7 @@
 -- The lines of a stream as a function: what the bytes read as, and what is left behind the place that decided it.
 -- The promise is in Lines; the law function `reading_law` ties the two.
 
-use Rattle.std.specs.Prelude.{◌≡◌, ◌≢◌, ℕ, ◌-◌, ◌==◌, ◌&&◌, Bool, nat_le, nat_lt, nat_eq, not, if◌then◌else◌, List, [], ◌∷◌, ◌++◌, length, drop, Option, None, Some, Result, Ok, Err}
+use Rattle.std.specs.Prelude.{◌≡◌, ◌≢◌, ℕ, ◌+◌, ◌-◌, ◌==◌, ◌&&◌, ◌<◌, Bool, nat_le, nat_lt, nat_eq, not, if◌then◌else◌, List, [], ◌∷◌, ◌++◌, length, drop, Option, None, Some, Result, Ok, Err}
 use Rattle.std.specs.List.{starts_with, ends_with, list_all, before_first, after_first}
 use Rattle.sshwire.specs.declared.fault.WireFault.{WireFault}
 use Rattle.sshwire.specs.declared.limits.TheConstants.{LINE_LIMIT}
@@ -26,6 +26,15 @@ is_software_and_comments bytes =
 -- IsVersionText, as a test
 unfoldable pub is_version_text : List ℕ → Bool
 is_version_text text = nat_le (length text) (LINE_LIMIT - 2) && (starts_with nat_eq text ssh_2_0 && is_software_and_comments (drop 8 text))
+
+-- the softwareversion, which may have comments behind a space, is that of a version line
+abbrev pub is_part : List ℕ → Bool
+is_part software = nat_le (length software) (LINE_LIMIT - 10) && is_software_and_comments software
+
+-- the softwareversion, which may have comments of its own behind a space, and the comments are those of a version line
+abbrev pub are_parts : List ℕ → List ℕ → Bool
+are_parts software comments =
+    nat_le (length software + length comments) (LINE_LIMIT - 11) && (is_software_and_comments software && list_all is_comment_byte comments)
 
 -- IsWholeLine, as a test
 unfoldable pub is_version_line : List ℕ → Bool
@@ -57,9 +66,14 @@ then_on (More left line) more = reading left line more
 then_on (Got text rest) more = Got text (rest ++ more)
 then_on (Stop code rest) more = Stop code (rest ++ more)
 
--- the reading stops with the code, unless memory ran out
-abbrev pub Stops : WireFault → Reading → List ℕ → Type 0
-Stops code r rest = code ≢ Memory → r ≡ Stop code rest
+-- where the reading stops, it stops within the rest: what stands before it is not refused
+abbrev pub StopsWithin : Reading → List ℕ → Type 0
+StopsWithin r rest = (code : WireFault) (behind : List ℕ) → r ≡ Stop code behind → length behind < length rest
+
+-- the reading stops with the code; or memory ran out, where nothing that was read is refused
+pub record Stops (code : WireFault) (r : Reading) (rest : List ℕ) : Type 0 where
+  pub refusal : code ≢ Memory → r ≡ Stop code rest
+  pub memory : code ≡ Memory → StopsWithin r rest
 
 -- bytes with this reading were heard, which left a line, and this stands behind them
 abbrev pub ReadsTo : Reading → ℕ → List ℕ → List ℕ → Result (Option (List ℕ)) WireFault → Type 0

@@ -1,13 +1,13 @@
 -- The data types as functions: the value that stands at the front, and what is left; or why there is none.
 -- The promise is in Types; the law function `types_law` ties the two.
 
-use Rattle.std.specs.Prelude.{◌≡◌, ◌≢◌, ℕ, ◌^◌, ◌==◌, ◌<◌, ◌&&◌, Bool, true, not, nat_le, nat_lt, if◌then◌else◌, List, [], ◌∷◌, ◌++◌, length, drop, take, Option, None, Some, Result, Ok, Err}
+use Rattle.std.specs.Prelude.{◌≡◌, ◌≢◌, ℕ, ◌+◌, ◌^◌, ◌==◌, ◌<◌, ◌&&◌, Bool, true, not, nat_le, nat_lt, if◌then◌else◌, List, [], ◌∷◌, ◌++◌, length, drop, take, Result, Ok, Err}
 use Rattle.std.specs.List.{list_all, slice_split}
 use Rattle.byteorder.specs.Endian.{big_number}
 use Rattle.sshwire.specs.declared.fault.WireFault.{WireFault}
 use Rattle.sshwire.specs.declared.limits.TheConstants.{NAME_LIMIT}
 use Rattle.sshwire.specs.declared.fault.WireFault.TheVariants.{Short, Name, NotCanonical, Memory}
-use Rattle.sshwire.specs.Types.{AreNames, IsBytes, names_body}
+use Rattle.sshwire.specs.Types.{IsBytes}
 
 infixl 10 ◌>>=◌
 -- goes on with what was read
@@ -63,27 +63,45 @@ is_comma b = b == 44
 abbrev pub parts : List ℕ → List (List ℕ)
 parts body = slice_split is_comma body
 
--- what stands behind a comma, if there was one
-abbrev pub parts_after : Option (List ℕ) → List (List ℕ)
-parts_after None = []
-parts_after (Some rest) = parts rest
-
 -- the names of a body
 unfoldable pub names_in : List ℕ → Result (List (List ℕ)) WireFault
 names_in body =
     if length body == 0 then Ok [] else if list_all is_name (parts body) then Ok (parts body) else Err Name
+
+-- what stands between the commas of a body, where no bytes are no names
+unfoldable pub names_of : List ℕ → List (List ℕ)
+names_of body = if length body == 0 then [] else parts body
+
+-- what a BorrowedNameList lends: a body of names, and how many they are
+pub record NamesBody (body : List ℕ) (count : ℕ) : Type 0 where
+  pub names : names_in body ≡ Ok (names_of body)
+  pub short : length body < 2 ^ 32
+  pub count_is : count ≡ length (names_of body)
+
+-- the same, closed: what callers hold is then one fact a list
+unfoldable pub IsNamesBody : List ℕ → ℕ → Type 0
+IsNamesBody body count = NamesBody body count
+
+-- where names end that stand from a place on with single commas between
+abbrev pub ends_from : ℕ → List (List ℕ) → List ℕ
+ends_from place [] = []
+ends_from place (name ∷ names) = (place + length name) ∷ ends_from (place + length name + 1) names
+
+-- what a NameList holds: a body of names, and where in it they end
+pub record NameTable (body ends : List ℕ) : Type 0 where
+  pub names : names_in body ≡ Ok (names_of body)
+  pub short : length body < 2 ^ 32
+  pub ends_are : ends ≡ ends_from 0 (names_of body)
+
+-- the same, closed
+unfoldable pub IsNameTable : List ℕ → List ℕ → Type 0
+IsNameTable body ends = NameTable body ends
 
 unfoldable pub names_at : List ℕ → Result (List (List ℕ) × List ℕ) WireFault
 names_at bytes = do
   s ← string_at bytes
   names ← names_in s.0
   Ok (names, s.1)
-
--- what a NameList holds: names that fit a name-list, whose body has so many bytes
-pub record HasBodyOf (names : List (List ℕ)) (len : ℕ) : Type 0 where
-  pub each : AreNames names
-  pub len_is : len ≡ length (names_body names)
-  pub short : len < 2 ^ 32
 
 -- what a function answered, seen by view, is what the reading gives, unless memory ran out
 abbrev pub Gives : {X Y : Type 0} → (X → Y) → Result X WireFault → Result Y WireFault → Type 0

@@ -1,13 +1,14 @@
 //! What the layers above may rest on: lines and data types as a claim and as a function are one.
 
-ghost use Rattle.std.specs.Prelude.{◌≡◌, ◌<◌, ◌++◌, ◌∷◌, ◌↔◌, ℕ, Bool, List, Ok, [], drop, length, take, true};
+ghost use Rattle.std.specs.Prelude.{◌≡◌, ◌<◌, ◌+◌, ◌++◌, ◌∷◌, ◌↔◌, ℕ, Bool, List, Ok, [], drop, length, take, true};
+ghost use Rattle.std.specs.List.{sum_by};
 ghost use Rattle.sshwire.specs.declared.fault.WireFault.{WireFault};
-ghost use Rattle.sshwire.specs.Lines.{LineOpen, LineRefused, Preamble};
+ghost use Rattle.sshwire.specs.Lines.{IsVersionText, LineOpen, LineRefused, Preamble};
 ghost use Rattle.sshwire.specs.Meaning.{IsLeftOf, ReadingMeans};
-ghost use Rattle.sshwire.specs.TypeReadings.{IsReading, boolean_at, is_canonical, mpint_at, names_at, names_in, string_at, uint32_at};
-ghost use Rattle.sshwire.specs.Types.{AreNames, BooleanText, IsBytes, IsShortestBody, MpintText, NameListText, StringText, Uint32Text, boolean, names_body, signed_value, uint32};
+ghost use Rattle.sshwire.specs.TypeReadings.{IsReading, boolean_at, is_canonical, is_name, mpint_at, names_at, names_in, string_at, uint32_at};
+ghost use Rattle.sshwire.specs.Types.{AreNames, BooleanText, IsBytes, IsName, IsShortestBody, MpintText, NameListText, StringText, Uint32Text, boolean, names_body, signed_value, uint32};
 ghost use Rattle.sshwire.specs.TypeRefusals.{BooleanRefused, MpintRefused, NameListRefused, RefusesExactly, StringRefused, Uint32Refused};
-ghost use Rattle.sshwire.specs.Reading.{Reading, Got, More, Stop, reading, then_on};
+ghost use Rattle.sshwire.specs.Reading.{Reading, Got, More, Stop, is_version_text, reading, then_on};
 
 /// The law of version lines (RFC 4253 section 4.2): what bytes read as is what they mean, and
 /// nothing else.
@@ -74,4 +75,12 @@ pub fn bytes_law()
     ensures append { (bytes more : List ℕ) → IsBytes bytes → IsBytes more → IsBytes (bytes ++ more) }
     ensures cons { (b : ℕ) (bytes : List ℕ) → b < 256 → IsBytes bytes → IsBytes (b ∷ bytes) }
     ensures uint32 { (n : ℕ) → IsBytes (uint32 n) }
+{}
+
+/// The law of names and texts: the tests say so exactly of names and of the texts of version lines, and
+/// a list's text has the bytes of its names and a comma between each two. Takes no memory.
+pub fn names_law()
+    ensures name { (name : List ℕ) → (is_name name ≡ true) ↔ IsName name }
+    ensures version { (text : List ℕ) → (is_version_text text ≡ true) ↔ IsVersionText text }
+    ensures body { (name : List ℕ) (names : List (List ℕ)) → length (names_body (name ∷ names)) + 1 ≡ sum_by (λ n. length n + 1) (name ∷ names) }
 {}

@@ -3,23 +3,27 @@
 //! Data types are those of RFC 4251 section 5, names those of its section 6, version lines those of RFC 4253 section 4.2.
 #![tactic(auto)]
 
+mod borrowed_name_list;
 mod fault;
 mod law;
 mod limits;
 mod line_reader;
 mod mpint;
 mod name_list;
+mod names;
 mod put;
 mod reader;
 mod share_form;
 mod version_line;
 
+pub use borrowed_name_list::BorrowedNameList;
 pub use fault::{Memory, WireFault};
-pub use law::{bytes_law, reading_law, types_law};
+pub use law::{bytes_law, names_law, reading_law, types_law};
 pub use limits::{LINE_LIMIT, NAME_LIMIT, OTHER_LINE_LIMIT, PAYLOAD_LIMIT};
 pub use line_reader::{LineReader, LineStep};
 pub use mpint::Mpint;
 pub use name_list::{NameList, as_name};
+pub use names::Names;
 pub use put::{put_boolean, put_mpint, put_string, put_u32};
 pub use reader::Reader;
 pub use share_form::ShareForm;

@@ -1,6 +1,6 @@
 //! Reads the lines at the start of a stream, up to the version line.
 
-ghost use Rattle.std.specs.Prelude.{◌≡◌, ◌≢◌, ◌-◌, ◌≤◌, ◌↔◌, ℕ, IsTrue, List, [], ◌∷◌, length, drop, None, Ok};
+ghost use Rattle.std.specs.Prelude.{◌≡◌, ◌≢◌, ◌-◌, ◌≤◌, ◌↔◌, ℕ, IsTrue, List, [], ◌∷◌, ◌++◌, length, drop, take, None, Ok, Err};
 ghost use Rattle.sshwire.specs.Lines.{IsUnfinished};
 ghost use Rattle.sshwire.specs.LineState.{Finished, Waits, held};
 ghost use Rattle.sshwire.specs.Reading.{ReadsTo, reading};
@@ -61,7 +61,7 @@ impl Model for LineReader {
 
 impl LineReader {
     ghost use Rattle.sshwire.specs.declared.fault.WireFault.{WireFault};
-    ghost use Rattle.sshwire.specs.Feeding.{IsAgain, Leaves, OnlyPreambleAnswer, Reads, StandsOpen, PreambleAnswer};
+    ghost use Rattle.sshwire.specs.Feeding.{IsAgain, Leaves, NoneRefused, OnlyPreambleAnswer, Reads, StandsOpen, PreambleAnswer};
     ghost use Rattle.sshwire.specs.LineState.{Refused};
 
     /// A reader that accepts so many other lines before the version line, and has read nothing. A
@@ -85,8 +85,9 @@ impl LineReader {
     /// Judges the bytes in order, and answers `Line` at a NUL, `TooLong` at byte 255 of a line where
     /// that is no LF, `Line` at the LF of a line that begins with `SSH-` and is no version line, and
     /// `TooManyLines` at the LF of the first other line too many (RFC 4253 section 4.2 gives the
-    /// forms; the order is profile). `Memory` comes where a growth was refused; `taken` is then at
-    /// most the piece. After a refusal it gives the same refusal for good and uses nothing.
+    /// forms; the order is profile). `Memory` comes where a growth was refused, never at a byte that is
+    /// refused itself; `taken` is then at most the piece. After a refusal it gives the same refusal for
+    /// good and uses nothing.
     pub fn feed(&mut self, piece: &[u8]) -> Result<LineStep, WireFault>
         requires { self.old.progress ≢ Finished }
 
@@ -95,6 +96,10 @@ impl LineReader {
             → PreambleAnswer k heard piece.now result self.new }
         ensures only { (k : ℕ) (heard : List ℕ) → StandsOpen k heard self.old.progress
             → OnlyPreambleAnswer k heard piece.now result }
+
+        // Want of memory never stands in place of a refusal: up to the last byte used none was due.
+        ensures memory { (k : ℕ) (heard : List ℕ) → StandsOpen k heard self.old.progress
+            → result ≡ Err WireFault.Memory → NoneRefused k (heard ++ take self.new.taken piece.now) }
 
         ensures leaves { Leaves result self.new.progress }
         ensures taken { self.new.taken ≤ length piece.now }
@@ -236,11 +241,8 @@ fn end_line(
     ensures { ReadsTo (reading left.old line.old.items (10 ∷ [])) left.new line.new.items [] result }
 {
     if line.starts_with(b"SSH-") {
-        let mut line = mem::replace(line, Vec::new(alloc));
-        if line.push(b'\n').is_err() {
-            return Err(WireFault::Memory);
-        }
-        return VersionLine::of_line(line).map(Some).ok_or(WireFault::Line);
+        let version = VersionLine::of_unfinished(mem::replace(line, Vec::new(alloc)))?;
+        return Ok(Some(version));
     }
     if *left == 0 {
         return Err(WireFault::TooManyLines);

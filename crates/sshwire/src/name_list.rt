@@ -1,14 +1,17 @@
 //! The name-list of RFC 4251 section 5, of names by section 6.
 
-ghost use Rattle.std.specs.Prelude.{◌≡◌, ◌≢◌, ◌<◌, ◌^◌, ◌++◌, ◌↔◌, ◌∷◌, ℕ, List, [], Contains, Err, IfErr, IfOk, IfSome, IsTrue, None, Ok, OnErr, OnOk, if◌then◌else◌, is_ok, length, map, option_map, position, slice_get, string_bytes, take};
+ghost use Rattle.std.specs.Prelude.{◌≡◌, ◌≢◌, ◌<◌, ◌^◌, ◌==◌, ◌++◌, ◌↔◌, ◌∷◌, ℕ, List, Contains, Err, IfErr, IfOk, IfSome, IsTrue, None, Ok, OnOk, Some, if◌then◌else◌, is_ok, length, map, option_map, slice_get, string_bytes};
 ghost use Rattle.std.specs.List.{list_all, list_any};
 ghost use Rattle.std.specs.Str.{bytes_eq};
 ghost use Rattle.sshwire.specs.Types.{AreNames, IsName, NameListText, name_list, names_body};
-ghost use Rattle.sshwire.specs.TypeReadings.{Gives, is_comma, is_name, is_name_byte, names_in, parts, parts_after};
+ghost use Rattle.sshwire.specs.TypeReadings.{Gives, IsNameTable, ends_from, is_name, is_name_byte, names_in, names_of};
+ghost use Rattle.sshwire.specs.Names.{names_left};
 
+use crate::borrowed_name_list::BorrowedNameList;
 use crate::fault::{Memory, WireFault};
 use crate::limits::NAME_LIMIT;
-use crate::put::put_u32;
+use crate::names::Names;
+use crate::put::put_string;
 use std::alloc::Global;
 use std::marker::Model;
 use std::str;
@@ -18,20 +21,21 @@ use std::str;
 /// Contracts see the names.
 #[derive(Debug, Drop)]
 pub struct NameList {
-    names: Vec<String>,
-    /// How many bytes the names have with commas between.
-    len: u32,
+    /// The names with commas between.
+    text: String,
+    /// Where in the text each name ends.
+    ends: Vec<u32>,
 }
 
 impl Model for NameList {
-    ghost use Rattle.std.specs.Prelude.{List, map, string_bytes, ℕ};
-    ghost use Rattle.sshwire.specs.TypeReadings.{HasBodyOf};
+    ghost use Rattle.std.specs.Prelude.{List, string_bytes, ℕ};
+    ghost use Rattle.sshwire.specs.TypeReadings.{IsNameTable, names_of};
 
     ghost Value = { List (List ℕ) };
 
-    ghost view = { λ l. map string_bytes l.names.items };
+    ghost view = { λ l. names_of (string_bytes l.text) };
 
-    ghost invariant = { λ l. HasBodyOf (map string_bytes l.names.items) l.len };
+    ghost invariant = { λ l. IsNameTable (string_bytes l.text) l.ends.items };
 }
 
 impl NameList {
@@ -45,11 +49,22 @@ impl NameList {
         ensures err { IfErr result (λ e. e ≢ WireFault.Memory → (e ≡ WireFault.Name)
             × ((names : List (List ℕ)) → AreNames names → body.now ≡ names_body names → ⊥)) }
         ensures exact { Gives (λ names. names) result (names_in body.now) }
+        // Memory is asked for only where names stand there.
+        ensures memory { IfErr result (λ e. e ≡ WireFault.Memory → (names : List (List ℕ)) × (names_in body.now ≡ Ok names)) }
     {
-        let names = names_of(alloc, body)?;
+        Ok(BorrowedNameList::new(body)?.to_owned(alloc)?)
+    }
+
+    /// The names of a body, of which there are so many: for more or fewer only room would be asked
+    /// for more often.
+    pub(crate) fn of_body(alloc: Global, body: &[u8], count: usize) -> Result<NameList, Memory>
+        requires short { length body.now < 2 ^ 32 }
+        requires names { names_in body.now ≡ Ok (names_of body.now) }
+        ensures { IfOk result (λ list. list ≡ names_of body.now) }
+    {
         Ok(NameList {
-            names,
-            len: body.len() as u32,
+            text: text_of(alloc, body)?,
+            ends: ends_of(alloc, body, count)?,
         })
     }
 
@@ -63,20 +78,15 @@ impl NameList {
         ensures complete { IfErr result (λ e. e ≢ WireFault.Memory → (e ≡ WireFault.Name)
             × (AreNames (map (λ name. name.now) names.now) → ⊥)) }
     {
-        let mut own = Vec::new(alloc);
-        let mut len = 0;
-        for (i, name) in names.iter().enumerate() {
-            let name = name_of(alloc, name.as_bytes())?;
-            if i > 0 {
-                len += 1;
+        let mut text = String::new(alloc);
+        for name in names {
+            if !is_name(name.as_bytes()) {
+                return Err(WireFault::Name);
             }
-            len += name.len() as u32;
-            match own.push(name) {
-                Ok(()) => {}
-                Err(_) => return Err(WireFault::Memory),
-            }
+            push_name(&mut text, name)?;
         }
-        Ok(NameList { names: own, len })
+        let ends = ends_of(alloc, text.as_bytes(), names.len())?;
+        Ok(NameList { text, ends })
     }
 
     /// Appends the whole string, its length included. For want of memory the vector is unchanged.
@@ -85,39 +95,53 @@ impl NameList {
         // What is appended stands for the names, and so is read again, whatever follows.
         ensures spells { NameListText self.now (name_list self.now) }
     {
-        let start = out.len();
-        put_u32(out, self.len)?;
-        if write_names(out, &self.names).is_err() {
-            out.truncate(start);
-            return Err(Memory);
-        }
-        Ok(())
+        put_string(out, self.text.as_bytes())
     }
 
     /// How many bytes `write` appends. Takes no memory.
     pub fn written_len(&self) -> usize
         ensures { result ≡ length (name_list self.now) }
     {
-        4 + self.len as usize
+        4 + self.text.len()
     }
 
-    /// The names, in order. Takes no memory.
-    pub fn names(&self) -> &[String]
-        ensures names { map string_bytes result.now ≡ self.now }
+    /// How many names there are. Takes no memory.
+    pub fn len(&self) -> usize
+        ensures count { result ≡ length self.now }
         ensures each { AreNames self.now }
         ensures short { length (names_body self.now) < 2 ^ 32 }
     {
-        &self.names
+        self.ends.len()
     }
 
-    /// The name at a position, the first at 0, or None where the list is shorter. Takes no memory.
+    /// Whether there is no name. Takes no memory.
+    pub fn is_empty(&self) -> bool
+        ensures { result ≡ (length self.now == 0) }
+    {
+        self.ends.is_empty()
+    }
+
+    /// The names, in order. Takes no memory.
+    pub fn names(&self) -> Names<'_>
+        ensures left { names_left result ≡ self.now }
+        ensures each { AreNames self.now }
+        ensures few { length self.now < 2 ^ 32 }
+    {
+        // Where a field is read the prover sees what every list holds.
+        let _ = &self.text;
+        Names::new(self)
+    }
+
+    /// The name at a position, the first at 0, or None where the list is shorter. Takes no memory,
+    /// and as long for each position.
     pub fn name_at(&self, position: usize) -> Option<&str>
         ensures exact { option_map (λ name. name.now) result ≡ slice_get self.now position }
         ensures sound { IfSome result (λ name. IsName name.now) }
     {
-        match self.names.get(position) {
-            Some(name) => Some(name.as_str()),
-            None => None,
+        if position < self.ends.len() {
+            Some(name_between(&self.text, &self.ends, position))
+        } else {
+            None
         }
     }
 
@@ -125,67 +149,69 @@ impl NameList {
     pub fn contains(&self, name: &str) -> bool
         ensures { IsTrue result ↔ Contains self.now name.now }
     {
-        has_name(&self.names, name)
+        has_name(self, name)
     }
 }
 
 /// Whether one of the names is this one.
-fn has_name(names: &[String], name: &str) -> bool
-    ensures { result ≡ list_any (λ own. bytes_eq name.now (string_bytes own)) names.now }
+fn has_name(list: &NameList, name: &str) -> bool
+    ensures { result ≡ list_any (λ own. bytes_eq name.now own) list.now }
 {
-    names.iter().any(|own| name == own.as_str())
+    list.names().any(|own| name == own)
 }
 
-/// The names of a body.
-fn names_of(alloc: Global, body: &[u8]) -> Result<Vec<String>, WireFault>
-    ensures { Gives (λ names. map string_bytes names.items) result (names_in body.now) }
+/// The name at a position of a text whose names end at these places.
+fn name_between<'a>(text: &'a str, ends: &[u32], position: usize) -> &'a str
+    requires table { IsNameTable text.now ends.now }
+    requires within { position < length ends.now }
+    ensures exact { slice_get (names_of text.now) position ≡ Some result.now }
+    ensures sound { IsName result.now }
 {
-    let mut names = Vec::new(alloc);
-    if body.is_empty() {
-        return Ok(names);
+    let end = ends[position] as usize;
+    if position == 0 {
+        &text[..end]
+    } else {
+        &text[ends[position - 1] as usize + 1..end]
     }
-    let mut rest = Some(body);
-    while let Some(bytes) = rest {
-        let (part, after) = first_part(bytes);
-        let name = name_of(alloc, part)?;
-        match names.push(name) {
-            Ok(()) => rest = after,
-            Err(_) => return Err(WireFault::Memory),
+}
+
+/// The text that the body of names is.
+fn text_of(alloc: Global, body: &[u8]) -> Result<String, Memory>
+    requires { names_in body.now ≡ Ok (names_of body.now) }
+    ensures { IfOk result (λ text. string_bytes text ≡ body.now) }
+{
+    let text = str::from_utf8(body).unwrap();
+    Ok(String::from_str(alloc, text)?)
+}
+
+/// Where the names of a body end, of which there are so many.
+fn ends_of(alloc: Global, body: &[u8], count: usize) -> Result<Vec<u32>, Memory>
+    requires { length body.now < 2 ^ 32 }
+    ensures { IfOk result (λ ends. ends.items ≡ ends_from 0 (names_of body.now)) }
+{
+    let mut ends = Vec::with_capacity(alloc, count)?;
+    if body.is_empty() {
+        return Ok(ends);
+    }
+    for (i, b) in body.iter().enumerate() {
+        if *b == b',' {
+            ends.push(i as u32)?;
         }
     }
-    Ok(names)
+    ends.push(body.len() as u32)?;
+    Ok(ends)
 }
 
-/// What stands before the first comma, and behind it, if there is one.
-fn first_part(bytes: &[u8]) -> (&[u8], Option<&[u8]>)
-    ensures { parts bytes.now ≡ result.0.now ∷ parts_after (option_map (λ rest. rest.now) result.1) }
+/// Appends a name, behind a comma where another stands before it.
+fn push_name(text: &mut String, name: &str) -> Result<(), Memory>
+    ensures { OnOk result (string_bytes text.new
+        ≡ (if length (string_bytes text.old) == 0 then name.now else string_bytes text.old ++ 44 ∷ name.now)) }
 {
-    match first_comma(bytes) {
-        Some(end) => (&bytes[..end], Some(&bytes[end + 1..])),
-        None => (bytes, None),
+    if !text.is_empty() {
+        text.push(',')?;
     }
-}
-
-fn first_comma(bytes: &[u8]) -> Option<usize>
-    ensures { result ≡ position is_comma bytes.now }
-{
-    bytes.iter().position(|b| *b == b',')
-}
-
-/// The bytes as a name.
-fn name_of(alloc: Global, bytes: &[u8]) -> Result<String, WireFault>
-    ensures { Gives string_bytes result (if is_name bytes.now then Ok bytes.now else Err WireFault.Name) }
-{
-    if !is_name(bytes) {
-        return Err(WireFault::Name);
-    }
-    match str::from_utf8(bytes) {
-        Ok(text) => match String::from_str(alloc, text) {
-            Ok(name) => Ok(name),
-            Err(_) => Err(WireFault::Memory),
-        },
-        Err(_) => Err(WireFault::Name),
-    }
+    text.push_str(name)?;
+    Ok(())
 }
 
 /// The name that the bytes are (RFC 4251 section 6), or None where they are none. Takes no memory.
@@ -218,22 +244,8 @@ fn are_name_bytes(bytes: &[u8]) -> bool
     bytes.iter().all(|b| is_name_byte(*b))
 }
 
-fn is_name_byte(b: u8) -> bool
+pub(crate) fn is_name_byte(b: u8) -> bool
     ensures { result ≡ is_name_byte b }
 {
     b.is_ascii_graphic() && b != b','
-}
-
-/// Appends the names with commas between; for want of memory some of them may stand there.
-fn write_names(out: &mut Vec<u8>, names: &[String]) -> Result<(), Memory>
-    ensures ok { OnOk result (out.new.items ≡ out.old.items ++ names_body (map string_bytes names.now)) }
-    ensures err { OnErr result (take (length out.old.items) out.new.items ≡ out.old.items) }
-{
-    for (i, name) in names.iter().enumerate() {
-        if i > 0 {
-            out.push(b',')?;
-        }
-        out.extend_from_slice(name.as_bytes())?;
-    }
-    Ok(())
 }

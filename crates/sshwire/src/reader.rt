@@ -1,9 +1,10 @@
 //! Reads the data types of RFC 4251 section 5 from the front of bytes.
 
-ghost use Rattle.std.specs.Prelude.{◌≡◌, ◌≢◌, ◌<◌, ◌^◌, IfErr, IfOk, length};
+ghost use Rattle.std.specs.Prelude.{◌≡◌, ◌≢◌, ◌<◌, ◌^◌, ℕ, IfErr, IfOk, List, length};
 ghost use Rattle.sshwire.specs.Types.{BooleanText, IsBytes, MpintText, NameListText, StringText, Uint32Text};
 ghost use Rattle.sshwire.specs.TypeReadings.{Gives, ReadsText, Takes, boolean_at, mpint_at, names_at, string_at, uint32_at};
 
+use crate::borrowed_name_list::BorrowedNameList;
 use crate::fault::WireFault;
 use crate::mpint::Mpint;
 use crate::name_list::NameList;
@@ -86,11 +87,25 @@ impl<'a> Reader<'a> {
         Ok(value)
     }
 
+    /// A string whose body is names with single commas between, which are lent. `Short` where bytes
+    /// are missing, `Name` for another body. Takes no memory.
+    pub fn borrowed_name_list(&mut self) -> Result<BorrowedNameList<'a>, WireFault>
+        ensures reads { ReadsText NameListText (λ l. l) result self.old self.new }
+        ensures exact { Takes (λ l. l) result self.old self.new (names_at self.old) }
+        ensures no_memory { IfErr result (λ e. e ≢ WireFault.Memory) }
+    {
+        let (value, rest) = read_borrowed_name_list(self.left)?;
+        self.left = rest;
+        Ok(value)
+    }
+
     /// A string whose body is names with single commas between. `Short` where bytes are missing,
     /// `Name` for another body, `Memory` for want of memory.
     pub fn name_list(&mut self, alloc: Global) -> Result<NameList, WireFault>
         ensures reads { ReadsText NameListText (λ l. l) result self.old self.new }
         ensures exact { Takes (λ l. l) result self.old self.new (names_at self.old) }
+        // Memory is asked for only where a name-list stands there.
+        ensures memory { IfErr result (λ e. e ≡ WireFault.Memory → (read : List (List ℕ) × List ℕ) × (names_at self.old ≡ Ok read)) }
     {
         let (value, rest) = read_name_list(alloc, self.left)?;
         self.left = rest;
@@ -152,10 +167,19 @@ fn read_mpint(bytes: &[u8]) -> Result<(Mpint<'_>, &[u8]), WireFault>
 }
 
 #[tactic(auto, unfolding(crate::specs::TypeReadings::names_at))]
-fn read_name_list(alloc: Global, bytes: &[u8]) -> Result<(NameList, &[u8]), WireFault>
-    ensures { Gives (λ x. (x.0, x.1.now)) result (names_at bytes.now) }
+fn read_borrowed_name_list(bytes: &[u8]) -> Result<(BorrowedNameList<'_>, &[u8]), WireFault>
+    ensures exact { Gives (λ x. (x.0, x.1.now)) result (names_at bytes.now) }
+    ensures no_memory { IfErr result (λ e. e ≢ WireFault.Memory) }
 {
     let (body, rest) = read_string(bytes)?;
-    let value = NameList::parse(alloc, body)?;
+    let value = BorrowedNameList::new(body)?;
     Ok((value, rest))
+}
+
+fn read_name_list(alloc: Global, bytes: &[u8]) -> Result<(NameList, &[u8]), WireFault>
+    ensures exact { Gives (λ x. (x.0, x.1.now)) result (names_at bytes.now) }
+    ensures memory { IfErr result (λ e. e ≡ WireFault.Memory → (read : List (List ℕ) × List ℕ) × (names_at bytes.now ≡ Ok read)) }
+{
+    let (value, rest) = read_borrowed_name_list(bytes)?;
+    Ok((value.to_owned(alloc)?, rest))
 }

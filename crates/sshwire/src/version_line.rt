@@ -1,9 +1,9 @@
 //! The version line of RFC 4253 section 4.2.
 
-ghost use Rattle.std.specs.Prelude.{◌≡◌, ◌++◌, ℕ, List, [], length, IfOk, IfErr, Some, None, is_ok, option_map, if◌then◌else◌};
+ghost use Rattle.std.specs.Prelude.{◌≡◌, ◌++◌, ℕ, List, [], length, IfOk, IfErr, Err, Some, None, is_ok, option_map, true, if◌then◌else◌};
 ghost use Rattle.std.specs.List.{after_first, before_first, list_all, position};
-ghost use Rattle.sshwire.specs.Lines.{IsNoVersionLine, IsVersionText, text_in, version_line, version_text};
-ghost use Rattle.sshwire.specs.Reading.{Got, is_space, is_comment_byte, is_software_and_comments, is_software_byte, is_version_line, is_version_text, reading};
+ghost use Rattle.sshwire.specs.Lines.{IsNoVersionLine, IsVersionText, IsWholeLine, text_in, version_line, version_text, with_lf};
+ghost use Rattle.sshwire.specs.Reading.{Got, are_parts, is_space, is_comment_byte, is_part, is_software_and_comments, is_software_byte, is_version_line, is_version_text, reading};
 
 use crate::fault::{Memory, WireFault};
 use crate::limits::LINE_LIMIT;
@@ -35,10 +35,11 @@ impl VersionLine {
     /// Reads one version line, CR LF included, which is all of `line`.
     ///
     /// Answers `TooLong` above 255 bytes, otherwise `Line` where `line` is no version line, and
-    /// `Memory` for want of memory.
+    /// `Memory` for want of memory, which is taken only where `line` is one.
     pub fn parse(alloc: Global, line: &[u8]) -> Result<VersionLine, WireFault>
         ensures ok { IfOk result (λ text. IsVersionText text × (line.now ≡ version_line text)) }
         ensures err { IfErr result (IsNoVersionLine line.now) }
+        ensures memory { result ≡ Err WireFault.Memory → IsWholeLine line.now }
     {
         if line.len() > LINE_LIMIT {
             return Err(WireFault::TooLong);
@@ -77,6 +78,20 @@ impl VersionLine {
         }
     }
 
+    /// Whether a softwareversion and comments spell a version line of at most 255 bytes, CR LF included
+    /// (RFC 4253 section 4.2), which [`new`](VersionLine::new) then answers where there is memory. Takes
+    /// no memory.
+    #[tactic(auto, using(crate::proofs::VersionParts::part_test, crate::proofs::VersionParts::parts_test))]
+    pub fn is_spelled_by(softwareversion: &str, comments: Option<&str>) -> bool
+        ensures { result ≡ is_version_text (version_text softwareversion.now (option_map (λ c. c.now) comments.entry)) }
+    {
+        let software = softwareversion.as_bytes();
+        match comments {
+            None => is_part(software),
+            Some(comments) => are_parts(software, comments.as_bytes()),
+        }
+    }
+
     /// Appends the line, CR LF included. For want of memory the vector is unchanged.
     pub fn write(&self, out: &mut Vec<u8>) -> Result<(), Memory>
         ensures appends { out.new.items ≡ (if is_ok result then out.old.items ++ version_line self.now else out.old.items) }
@@ -104,6 +119,22 @@ impl VersionLine {
             Some(VersionLine { line })
         } else {
             None
+        }
+    }
+
+    /// The version line that these bytes and an LF behind them are. Answers `Line` where they are none,
+    /// and `Memory` only where they are one.
+    #[tactic(auto, using(crate::proofs::VersionText::whole_line_from_test))]
+    pub(crate) fn of_unfinished(mut line: Vec<u8>) -> Result<VersionLine, WireFault>
+        ensures ok { IfOk result (λ text. (is_version_line (with_lf line.items) ≡ true) × (text ≡ text_in (with_lf line.items))) }
+        ensures err { IfErr result (λ code. code ≡ (if is_version_line (with_lf line.items) then WireFault.Memory else WireFault.Line)) }
+    {
+        if !is_unfinished_version_line(&line) {
+            return Err(WireFault::Line);
+        }
+        match line.push(b'\n') {
+            Ok(()) => Ok(VersionLine { line }),
+            Err(_) => Err(WireFault::Memory),
         }
     }
 }
@@ -141,6 +172,14 @@ fn is_version_line(line: &[u8]) -> bool
     line.ends_with(b"\r\n") && is_version_text(&line[..line.len() - 2])
 }
 
+/// Whether the bytes and an LF behind them are a version line.
+#[tactic(auto, using(crate::proofs::VersionText::unfinished_test))]
+fn is_unfinished_version_line(line: &[u8]) -> bool
+    ensures { result ≡ is_version_line (with_lf line.now) }
+{
+    line.ends_with(b"\r") && is_version_text(&line[..line.len() - 1])
+}
+
 /// Whether the bytes are the text of a version line.
 #[tactic(auto, unfolding(crate::specs::Reading::is_version_text))]
 fn is_version_text(text: &[u8]) -> bool
@@ -162,6 +201,28 @@ fn is_software_and_comments(bytes: &[u8]) -> bool
         return false;
     }
     are_software_bytes(software) && are_comment_bytes(comments)
+}
+
+/// Whether a softwareversion, without comments besides, is that of a version line.
+fn is_part(software: &[u8]) -> bool
+    ensures { result ≡ is_part software.now }
+{
+    // `SSH-2.0-` and CR LF have 10 bytes.
+    software.len() <= LINE_LIMIT - 10 && is_software_and_comments(software)
+}
+
+/// Whether a softwareversion and comments are those of a version line.
+fn are_parts(software: &[u8], comments: &[u8]) -> bool
+    ensures { result ≡ are_parts software.now comments.now }
+{
+    if software.len() > LINE_LIMIT || comments.len() > LINE_LIMIT {
+        return false;
+    }
+    // `SSH-2.0-`, the space and CR LF have 11 bytes.
+    if software.len() + comments.len() > LINE_LIMIT - 11 {
+        return false;
+    }
+    is_software_and_comments(software) && are_comment_bytes(comments)
 }
 
 /// What stands before the first space, and behind it.

@@ -6,4 +6,4 @@ pub returns-clause-spells : goal.returns-clause-spells
 returns-clause-spells c = written_spells
 
 pub returns-clause-again : goal.returns-clause-again
-returns-clause-again c = λ m h. c.messages_law.ensures.complete (written_message m) m (written_spells m h)
+returns-clause-again c = λ form m o h. c.messages_law.ensures.complete form (written_message m) m (written_spells form m o h)

@@ -1,7 +1,7 @@
 use Rattle.std.proofs.Common.{refl}
-use Rattle.sshmsg.specs.Messages.{form_of, disconnect, ignore, unimplemented, debug, service_request, service_accept, ext_info, kexinit, newkeys, kexdh_init, kexdh_reply, userauth_request, userauth_failure, userauth_success, userauth_banner}
+use Rattle.sshmsg.specs.Messages.{form_of, disconnect, ignore, init_of, unimplemented, debug, service_request, service_accept, newkeys, reply_of, userauth_request, userauth_success, userauth_banner}
 use Rattle.sshmsg.proofs.reading.read_numbered.Goals as goal
-use Rattle.sshmsg.proofs.reading.read_numbered.Goals.{in-1, in-2, in-3, in-4, in-5, in-6, in-7, in-20, in-21, in-30, in-31, in-50, in-51, in-52, in-53}
+use Rattle.sshmsg.proofs.reading.read_numbered.Goals.{in-1, in-2, in-3, in-4, in-5, in-6, in-21, in-30, in-31, in-50, in-52, in-53}
 
 pub returns : goal.returns
 unfolding form_of newkeys userauth_success
@@ -12,13 +12,10 @@ returns c = elim c.match-number.branch [
   | in-4 w ↦ (debug, rw w.in-4.is refl, rw (w.message-is, w.reader-is) w.read_debug-message.ensures)
   | in-5 w ↦ (service_request, rw w.in-5.is refl, rw (w.message-is, w.reader-is) w.read_service_request-message.ensures)
   | in-6 w ↦ (service_accept, rw w.in-6.is refl, rw (w.message-is, w.reader-is) w.read_service_accept-message.ensures)
-  | in-7 w ↦ (ext_info, rw w.in-7.is refl, rw (w.message-is, w.reader-is) w.read_ext_info-message.ensures)
-  | in-20 w ↦ (kexinit, rw w.in-20.is refl, rw (w.message-is, w.reader-is) w.read_kexinit-message.ensures)
   | in-21 w ↦ (newkeys, rw w.in-21.is refl, rw (w.message-is, w.reader-is) refl)
-  | in-30 w ↦ (kexdh_init, rw w.in-30.is refl, rw (w.message-is, w.reader-is) w.read_kexdh_init-message.ensures)
-  | in-31 w ↦ (kexdh_reply, rw w.in-31.is refl, rw (w.message-is, w.reader-is) w.read_kexdh_reply-message.ensures)
+  | in-30 w ↦ (init_of c.args.form, rw w.in-30.is refl, rw (w.message-is, w.reader-is) w.read_init-message.ensures)
+  | in-31 w ↦ (reply_of c.args.form, rw w.in-31.is refl, rw (w.message-is, w.reader-is) w.read_reply-message.ensures)
   | in-50 w ↦ (userauth_request, rw w.in-50.is refl, rw (w.message-is, w.reader-is) w.read_userauth_request-message.ensures)
-  | in-51 w ↦ (userauth_failure, rw w.in-51.is refl, rw (w.message-is, w.reader-is) w.read_userauth_failure-message.ensures)
   | in-52 w ↦ (userauth_success, rw w.in-52.is refl, rw (w.message-is, w.reader-is) refl)
   | in-53 w ↦ (userauth_banner, rw w.in-53.is refl, rw (w.message-is, w.reader-is) w.read_userauth_banner-message.ensures)
 ]

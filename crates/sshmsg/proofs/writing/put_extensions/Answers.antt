@@ -1,14 +1,16 @@
-use Rattle.std.proofs.Common.{rules, ◌≤◌, length, arith, take}
-use Rattle.sshmsg.specs.View.{pair_of, pairs_of}
-use Rattle.sshmsg.specs.Written.{pair_written, pairs_written}
-use Rattle.sshmsg.proofs.PutLemmas.{keeps_on, pair_within}
+use Rattle.std.proofs.Common.{rules, [], take}
+use Rattle.sshmsg.specs.declared.message.Extension.{Extension}
+use Rattle.sshmsg.specs.View.{pairs_of}
+use Rattle.sshmsg.specs.Written.{pairs_written}
+use Rattle.sshmsg.proofs.PutLemmas.{keeps_on, pair_short}
 use Rattle.sshmsg.proofs.writing.put_extensions.Goals as goal
+
+abbrev none : Extension
+none = record { name = record { ref_ptr = (0, 0); now = [] }; value = record { ref_ptr = (0, 0); now = [] } }
 
 pub put_extension-requires : goal.put_extension-requires
 put_extension-requires c =
-    let within : length (pair_written (pair_of c.extension-item.result)) ≤ length (pairs_written (pairs_of c.args.extensions.now))
-    = pair_within c.args.extensions.now c.loop-extension.extension-index c.extension-item.result c.loop-extension-test.true c.extension-item.is in
-    omega (arith, within, c.requires)
+    pair_short c.args.extensions.now c.loop-extension.extension-index none c.loop-extension-test.true c.requires
 
 pub returns-in_err-put_extension-clause-err : goal.returns-in_err-put_extension-clause-err
 returns-in_err-put_extension-clause-err c =

@@ -24,7 +24,7 @@ returns-clause-ok c =
       c.in_ok-extend_from_slice.ensures.items,
       c.in_ok-push.ensures.items,
     )
-    (thirteen_parts c.args.out.now.items (20 ∷ []) k.cookie (name_list k.kex_algorithms) (name_list k.server_host_key_algorithms)
+    (thirteen_parts c.args.out.now.items (20 ∷ []) k.cookie.now (name_list k.kex_algorithms) (name_list k.server_host_key_algorithms)
     (name_list k.encryption_client_to_server) (name_list k.encryption_server_to_client) (name_list k.mac_client_to_server)
     (name_list k.mac_server_to_client) (name_list k.compression_client_to_server) (name_list k.compression_server_to_client)
     (name_list k.languages_client_to_server) (name_list k.languages_server_to_client) (boolean k.first_kex_packet_follows) (uint32 0))

@@ -1,4 +1,4 @@
-use Rattle.std.proofs.Common.{◌≡◌, ◌&&◌, false, not, string_bytes, true}
+use Rattle.std.proofs.Common.{◌≡◌, ◌&&◌, false, not, true}
 use Rattle.sshmsg.specs.View.{offer_of}
 use Rattle.sshneg.specs.Choice.{serves}
 use Rattle.sshneg.specs.ChoiceReadings.{is_in, same_first}
@@ -11,12 +11,10 @@ pub returns-then-same_name : goal.returns-then-same_name
 returns-then-same_name g c =
     let same : same_first (offer_of c.args.client.now) (offer_of c.args.server.now) ≡ true
     = rw (← c.first_method.ensures, ← c.first_method-2.ensures, ← c.same_name.ensures) c.if-same_name.true in
-    let found = position_found string_bytes (λ name. not (is_marker name)) c.names-names.result.now in
     rw (
       kex_first (g.S.Suite.meaning c.args.suite.now) (offer_of c.args.client.now) (offer_of c.args.server.now) same,
-      ← c.names-names.ensures.names,
       c.first_unmarked.ensures,
-    ) found
+    ) (position_found (λ name. not (is_marker name)) c.args.client.now.kex_algorithms)
 
 pub returns : goal.returns
 returns g c =
@@ -25,8 +23,8 @@ returns g c =
     let server = offer_of c.args.server.now in
     let other : same_first client server ≡ false
     = rw (← c.first_method.ensures, ← c.first_method-2.ensures, ← c.same_name.ensures) c.if-same_name.false in
-    let common = together string_bytes m c.names.result.now client.server_host_key_algorithms server.server_host_key_algorithms
-    c.common_capability-common.result c.names.ensures.names c.common_capability-common.ensures.signature c.common_capability-common.ensures.encryption in
-    let found = position_found string_bytes
-    (λ name. not (is_marker name) && (is_in server.kex_algorithms name && serves (m.need name) c.common_capability-common.result)) c.names-names.result.now in
-    rw (kex_searched m client server c.common_capability-common.result common other, ← c.names-names.ensures.names, c.first_usable.ensures) found
+    let common = together m client.server_host_key_algorithms server.server_host_key_algorithms
+    c.common_capability-common.result c.common_capability-common.ensures.signature c.common_capability-common.ensures.encryption in
+    let found = position_found
+    (λ name. not (is_marker name) && (is_in server.kex_algorithms name && serves (m.need name) c.common_capability-common.result)) client.kex_algorithms in
+    rw (kex_searched m client server c.common_capability-common.result common other, c.first_usable.ensures) found

@@ -1,5 +1,4 @@
-use Rattle.sshwire.proofs.ByteLemmas.{bytes_append, bytes_cons, bytes_uint32}
-use Rattle.sshwire.proofs.TypeLemmas.{bytes_dropped, bytes_taken}
+use Rattle.sshwire.specs.ByteLaws.{bytes_append, bytes_cons, bytes_dropped, bytes_taken, bytes_uint32}
 use Rattle.sshwire.proofs.law.bytes_law.Goals as goal
 
 pub returns-clause-take : goal.returns-clause-take

@@ -15,7 +15,7 @@ returns-in-Err g c =
       (refl, λ _. tt, ((λ waits. let a = c.in-Err.ensures.advances (record { no_fault = waits.no_fault; unfinished_is = waits.unfinished_is; knows = waits.knows }) in (a.0, c.advance.ensures.taken, a.1)), search rules, c.advance.ensures.taken, tt)),
       record {
         tells = λ waits. tells_of m s piece (Err c.in-Err.fault) (search rules) (answer waits);
-        only = λ waits. only_of m s piece (Err c.in-Err.fault) (search rules) (search rules) (answer waits);
+        only = λ waits. only_of m s piece (Err c.in-Err.fault) (rw c.as_slice.ensures at c.front_means.ensures.only) (answer waits);
         again = search rules;
         uses = tt;
         answers = answer;
@@ -36,7 +36,7 @@ returns-in-Ok-None g c =
       (refl, λ _. tt, ((λ waits. let a = told waits in (a.0, a.1, a.3)), search rules, c.advance.ensures.taken, tt)),
       record {
         tells = λ waits. tells_of m s piece (Ok More) (search rules) (answer waits);
-        only = λ waits. only_of m s piece (Ok More) (search rules) (search rules) (answer waits);
+        only = λ waits. only_of m s piece (Ok More) (rw c.as_slice.ensures at c.front_means.ensures.only) (answer waits);
         again = search rules;
         uses = tt;
         answers = answer;
@@ -70,7 +70,7 @@ returns-in-Ok-Some g c =
       ),
       record {
         tells = λ waits. tells_of m s piece (Ok c.step.result) (search rules) (answer waits);
-        only = λ waits. only_of m s piece (Ok c.step.result) (search rules) (search rules) (answer waits);
+        only = λ waits. only_of m s piece (Ok c.step.result) (rw c.as_slice.ensures at c.front_means.ensures.only) (answer waits);
         again = search rules;
         uses = step_uses m s piece payload new.taken c.step.result c.step.ensures used.0 c.advance.ensures.taken;
         answers = answer;

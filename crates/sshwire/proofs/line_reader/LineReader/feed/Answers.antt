@@ -1,4 +1,4 @@
-use Rattle.sshwire.proofs.Tellings.{only, tells}
+use Rattle.sshwire.proofs.Tellings.{none_refused, only, tells}
 use Rattle.sshwire.proofs.line_reader.LineReader.feed.Goals as goal
 
 pub returns-clause-tells : goal.returns-clause-tells
@@ -6,3 +6,6 @@ returns-clause-tells c = λ k heard o. tells k heard _ _ _ _ o c.advance.ensures
 
 pub returns-clause-only : goal.returns-clause-only
 returns-clause-only c = λ k heard o. only k heard _ _ _ _ o c.advance.ensures.taken c.advance.ensures.reads
+
+pub returns-clause-memory : goal.returns-clause-memory
+returns-clause-memory c = λ k heard o e. none_refused k heard _ _ _ _ o c.advance.ensures.reads e

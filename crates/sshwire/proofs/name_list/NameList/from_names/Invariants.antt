@@ -3,5 +3,5 @@ use Rattle.std.specs.Prelude.{string_bytes}
 use Rattle.sshwire.proofs.NameLemmas.{PutNames}
 use Rattle.sshwire.proofs.name_list.NameList.from_names.Given as goal
 
-abbrev pub invariant-loop-i : goal.invariant-loop-i
-invariant-loop-i l = PutNames (map (λ name. name.now) (take l.i l.names)) (map string_bytes l.own.items) l.len
+abbrev pub invariant-loop-name : goal.invariant-loop-name
+invariant-loop-name l = PutNames (map (λ name. name.now) (take l.name-index l.names)) (string_bytes l.text)

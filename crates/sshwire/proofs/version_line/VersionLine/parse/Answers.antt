@@ -19,3 +19,8 @@ invariant_of-result c = whole c
 pub returns-in-Ok-clause-ok : goal.returns-in-Ok-clause-ok
 returns-in-Ok-clause-ok c =
     let w = whole c in (w.version, sym c.in-Ok.ensures.items ∙ w.line_is)
+
+pub returns-in-Err-clause-memory : goal.returns-in-Err-clause-memory
+returns-in-Err-clause-memory c = λ e.
+    let test : is_version_line c.args.line.now ≡ true = sym c.is_version_line.ensures ∙ c.if-not-is_version_line.false in
+    whole_line_from_test _ test

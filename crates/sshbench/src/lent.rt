@@ -1,0 +1,113 @@
+//! Messages without lists, which are read without memory.
+
+use crate::fault::Fault;
+use sshmsg::{Message, Method, read};
+use sshwire::put_string;
+use std::alloc::Global;
+use std::fmt;
+
+/// What is read.
+#[derive(Clone, Copy, Debug)]
+pub(crate) enum Kind {
+    /// An IGNORE.
+    Ignore,
+    /// A KEXDH_REPLY with a host key of this size, and a share and a signature of 256 bytes.
+    KexdhReply,
+    /// A USERAUTH_REQUEST with a password.
+    Password,
+    /// A USERAUTH_BANNER.
+    Banner,
+}
+
+impl fmt::Display for Kind {
+    fn fmt<W: fmt::Write>(&self, f: &mut fmt::Formatter<W>) -> fmt::Result {
+        f.write_str(match self {
+            Kind::Ignore => "IGNORE",
+            Kind::KexdhReply => "KEXDH_REPLY",
+            Kind::Password => "password",
+            Kind::Banner => "BANNER",
+        })
+    }
+}
+
+/// The payload of such a message, whose long field has so many bytes.
+pub(crate) fn payload(alloc: Global, kind: Kind, len: usize) -> Result<Vec<u8>, Fault> {
+    let mut long = Vec::new(alloc);
+    for _ in 0..len {
+        long.extend_from_slice(b"x")?;
+    }
+    let mut payload = Vec::new(alloc);
+    match kind {
+        Kind::Ignore => {
+            payload.extend_from_slice(&[2])?;
+            put_long(&mut payload, &long)?;
+        }
+        Kind::KexdhReply => put_reply(&mut payload, &long)?,
+        Kind::Password => {
+            payload.extend_from_slice(
+                b"\x32\x00\x00\x00\x05alice\x00\x00\x00\x0essh-connection\x00\x00\x00\x08password\x00",
+            )?;
+            put_long(&mut payload, &long)?;
+        }
+        Kind::Banner => {
+            payload.extend_from_slice(&[53])?;
+            put_long(&mut payload, &long)?;
+            put_long(&mut payload, b"en")?;
+        }
+    }
+    Ok(payload)
+}
+
+/// Appends a string, which is a field of a message and so short.
+fn put_long(payload: &mut Vec<u8>, bytes: &[u8]) -> Result<(), Fault> {
+    if bytes.len() > 40_000 {
+        return Err(Fault::Otherwise);
+    }
+    put_string(payload, bytes)?;
+    Ok(())
+}
+
+/// Appends a KEXDH_REPLY.
+fn put_reply(payload: &mut Vec<u8>, host_key: &[u8]) -> Result<(), Fault> {
+    payload.extend_from_slice(&[31])?;
+    put_long(payload, host_key)?;
+    put_long(payload, &[0x55; 256])?;
+    put_long(payload, &[0x55; 256])
+}
+
+/// Reads the payload, whose long field has to have so many bytes.
+pub(crate) fn read_only(alloc: Global, payload: &[u8], len: usize) -> Result<(), Fault> {
+    let found = match read(alloc, payload)? {
+        Message::Ignore { content } => content.len(),
+        Message::KexdhReply { host_key, .. } => host_key.len(),
+        Message::UserauthRequest {
+            method: Method::Password { password },
+            ..
+        } => password.len(),
+        Message::UserauthBanner { text, .. } => text.len(),
+        _ => 0,
+    };
+    if found == len {
+        Ok(())
+    } else {
+        Err(Fault::Otherwise)
+    }
+}
+
+/// Makes an owned copy of the payload.
+pub(crate) fn own(alloc: Global, payload: &[u8]) -> Result<(), Fault> {
+    let copy = payload.to_vec(alloc)?;
+    if copy.len() == payload.len() {
+        Ok(())
+    } else {
+        Err(Fault::Otherwise)
+    }
+}
+
+/// Whether a message of each kind is read.
+pub(crate) fn check(alloc: Global) -> Result<(), Fault> {
+    for kind in [Kind::Ignore, Kind::KexdhReply, Kind::Password, Kind::Banner] {
+        read_only(alloc, &payload(alloc, kind, 1000)?, 1000)?;
+    }
+    Ok(())
+}

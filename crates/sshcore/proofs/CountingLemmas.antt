@@ -1,0 +1,71 @@
+-- The number of the next packet, with one payload more.
+
+use Rattle.std.proofs.Common.{◌≡◌, ◌⊎◌, inl, inr, ℕ, ◌+◌, Bool, true, false, cond, List, [], ◌∷◌, ◌++◌, length, length-append, refl, sym, ap, ◌∙◌}
+use Rattle.std.specs.Prelude.{◌%◌, ◌^◌}
+use Rattle.std.proofs.Math.Nat.{suc-mod}
+use Rattle.std.proofs.Math.Numerals.{add-one}
+use Rattle.sshneg.specs.declared.role.Role.{Role}
+use Rattle.sshpacket.specs.Places.{after_first}
+use Rattle.sshpacket.specs.Stream.{Units}
+use Rattle.sshpacket.proofs.Places.{after-push}
+use Rattle.sshcore.specs.Before.{kept, offered, since, stood, strict_at}
+use Rattle.sshcore.specs.Counting.{number_by, number_in}
+use Rattle.sshcore.specs.Party.{Party}
+use Rattle.sshcore.proofs.GuessLemmas.{strict_push}
+use Rattle.sshcore.proofs.PhaseLemmas.{stood_push}
+
+pub mod_more : (n : ℕ) → (n + 1) % 2 ^ 32 ≡ (n % 2 ^ 32 + 1) % 2 ^ 32
+mod_more n = ap (λ k. k % 2 ^ 32) (add-one n) ∙ suc-mod n (2 ^ 32) ∙ ap (λ k. k % 2 ^ 32) (sym (add-one (n % 2 ^ 32)))
+
+-- one more, whether counted anew or not
+pub counted : (strict : Bool) (since all : ℕ) → number_by true strict (since + 1) (all + 1) ≡ (number_by true strict since all + 1) % 2 ^ 32
+counted true since all = mod_more since
+counted false since all = mod_more all
+
+pub switched : (strict : Bool) (all : ℕ) → number_by true strict 0 (all + 1) ≡ cond strict 0 ((number_by false strict 0 all + 1) % 2 ^ 32)
+switched true all = refl
+switched false all = mod_more all
+
+module _ (role : Role) (party : Party) (before : Units) (payload : List ℕ) where
+  since_on : stood role party.offer 21 before ≡ true → since role party.offer 21 (before ++ payload ∷ []) ≡ since role party.offer 21 before + 1
+  unfolding since stood
+  since_on on =
+      let more : after_first (kept role party.offer 21) [] (before ++ payload ∷ []) ≡ after_first (kept role party.offer 21) [] before ++ payload ∷ [] =
+      after-push (kept role party.offer 21) [] before payload ∙ rw on refl in
+      ap length more ∙ length-append (after_first (kept role party.offer 21) [] before) (payload ∷ [])
+
+  since_off : stood role party.offer 21 before ≡ false → since role party.offer 21 (before ++ payload ∷ []) ≡ 0
+  unfolding since stood
+  since_off off =
+      let none : after_first (kept role party.offer 21) [] (before ++ payload ∷ []) ≡ [] = after-push (kept role party.offer 21) [] before payload ∙ rw off refl in
+      ap (λ (l : Units). length l) none
+
+  -- the packet behind the key switch
+  pub number_switched : offered before ≡ true → stood role party.offer 21 before ≡ false → kept role party.offer 21 before payload ≡ true
+      → number_in role party (before ++ payload ∷ []) ≡ cond (strict_at role party before) 0 ((number_in role party before + 1) % 2 ^ 32)
+  number_switched is off here =
+      let now : stood role party.offer 21 (before ++ payload ∷ []) ≡ true = stood_push role party.offer before payload 21 ∙ rw (off, here) refl in
+      rw off (ap (λ (b : Bool). number_by b (strict_at role party (before ++ payload ∷ [])) (since role party.offer 21 (before ++ payload ∷ [])) (length (before ++ payload ∷ []))) now
+      ∙ ap (λ (b : Bool). number_by true b (since role party.offer 21 (before ++ payload ∷ [])) (length (before ++ payload ∷ []))) (strict_push role party before payload is)
+      ∙ ap (λ (n : ℕ). number_by true (strict_at role party before) n (length (before ++ payload ∷ []))) (since_off off)
+      ∙ ap (λ (n : ℕ). number_by true (strict_at role party before) 0 n) (length-append before (payload ∷ []))
+      ∙ switched (strict_at role party before) (length before))
+
+  -- every other
+  pub number_more : ((offered before ≡ true) × (stood role party.offer 21 before ≡ true)) ⊎ ((stood role party.offer 21 before ≡ false) × (kept role party.offer 21 before payload ≡ false))
+      → number_in role party (before ++ payload ∷ []) ≡ (number_in role party before + 1) % 2 ^ 32
+  number_more (inl t) =
+      let on : stood role party.offer 21 before ≡ true = t.1 in
+      let now : stood role party.offer 21 (before ++ payload ∷ []) ≡ true = stood_push role party.offer before payload 21 ∙ rw on refl in
+      rw on (ap (λ (b : Bool). number_by b (strict_at role party (before ++ payload ∷ [])) (since role party.offer 21 (before ++ payload ∷ [])) (length (before ++ payload ∷ []))) now
+      ∙ ap (λ (b : Bool). number_by true b (since role party.offer 21 (before ++ payload ∷ [])) (length (before ++ payload ∷ []))) (strict_push role party before payload t.0)
+      ∙ ap (λ (n : ℕ). number_by true (strict_at role party before) n (length (before ++ payload ∷ []))) (since_on on)
+      ∙ ap (λ (n : ℕ). number_by true (strict_at role party before) (since role party.offer 21 before + 1) n) (length-append before (payload ∷ []))
+      ∙ counted (strict_at role party before) (since role party.offer 21 before) (length before))
+  number_more (inr t) =
+      let off : stood role party.offer 21 before ≡ false = t.0 in
+      let not_kept : kept role party.offer 21 before payload ≡ false = t.1 in
+      let now : stood role party.offer 21 (before ++ payload ∷ []) ≡ false = stood_push role party.offer before payload 21 ∙ rw (off, not_kept) refl in
+      rw off (ap (λ (b : Bool). number_by b (strict_at role party (before ++ payload ∷ [])) (since role party.offer 21 (before ++ payload ∷ [])) (length (before ++ payload ∷ []))) now
+      ∙ ap (λ (n : ℕ). n % 2 ^ 32) (length-append before (payload ∷ []))
+      ∙ mod_more (length before))

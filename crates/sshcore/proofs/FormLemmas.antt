@@ -1,0 +1,66 @@
+-- Before a choice nothing depends on the form of shares.
+
+use Rattle.std.proofs.Common.{◌≡◌, ◌≢◌, ℕ, Bool, false, List, Result, Ok, Err, refl, ap, ◌∙◌, arith}
+use Rattle.sshwire.specs.declared.share_form.ShareForm.{ShareForm}
+use Rattle.sshmsg.specs.declared.fault.MsgFault.{MsgFault}
+use Rattle.sshmsg.specs.Content.{Content, KexEcdhInit, KexEcdhReply, KexInit, KexdhInit, KexdhReply}
+use Rattle.sshmsg.specs.Messages.{message_in}
+use Rattle.sshmsg.specs.Numbers.{kind, number_of}
+use Rattle.sshneg.specs.declared.role.Role.{Role}
+use Rattle.sshpacket.specs.Suite.{Meaning}
+use Rattle.sshcore.specs.declared.table.Line.{Line}
+use Rattle.sshcore.specs.declared.table.Line.TheVariants as line
+use Rattle.sshcore.specs.declared.table.Phase.TheVariants as phase
+use Rattle.sshcore.specs.Known.{Known}
+use Rattle.sshcore.specs.Party.{Party, Policy}
+use Rattle.sshcore.specs.Replies.{line_reply, read_reply}
+use Rattle.sshcore.specs.Table.{line_by}
+use Rattle.sshcore.specs.Work.{kexinit_reply, work}
+use Rattle.sshcore.proofs.Below.{Below}
+use Rattle.sshcore.proofs.StrictLemmas.{leaving_kexinit}
+use Rattle.sshcore.proofs.TableLemmas.{Closing, Dropped, Leaving, OffGuess, OffPhase, Sees, Staying, Useless, sees}
+
+no_share : (role : Role) (strict : Bool) (n : ℕ) → Sees role phase.KexInit strict false n line.Reads → (n ≢ 30) × (n ≢ 31)
+no_share role strict n (Closing one is) = (λ q. omega arith, λ q. omega arith)
+no_share role strict n (Dropped one due r is) = absurd cc
+no_share role strict n (OffGuess one due r out is) = absurd cc
+no_share role strict n (OffPhase one none r out is) = absurd cc
+no_share role strict n (Leaving none here is) =
+    let twenty : n ≡ 20 = here ∙ leaving_kexinit role in
+    (λ q. omega arith, λ q. omega arith)
+no_share role strict n (Staying none off out calm e) = (calm.init, calm.reply)
+no_share role strict n (Useless none off out is) = absurd cc
+
+module _ (below : Below) (m : Meaning) (d : Policy) (role : Role) (party : Party) where
+  alike_work : (known : Known) (form : ShareForm) (c : Content) → number_of c ≢ 30 → number_of c ≢ 31 → work m d role party (record known { shares = form }) c ≡ work m d role party known c
+  unfolding work kexinit_reply
+  alike_work known form (KexInit peer) a b = refl
+  alike_work known form (KexdhInit e) a b = absurd (a refl)
+  alike_work known form (KexEcdhInit share) a b = absurd (a refl)
+  alike_work known form (KexdhReply key f signature) a b = absurd (b refl)
+  alike_work known form (KexEcdhReply key share signature) a b = absurd (b refl)
+  alike_work known form _ a b = refl
+
+  alike_read : (known : Known) (form : ShareForm) (payload : List ℕ) → kind payload ≢ 30 → kind payload ≢ 31
+      → read_reply m d role party (record known { shares = form }) (kind payload) (message_in form payload) ≡ read_reply m d role party known (kind payload) (message_in known.shares payload)
+  alike_read known form payload a b =
+      ap (λ r. read_reply m d role party (record known { shares = form }) (kind payload) r) (below.alike form known.shares payload a b) ∙ by (message_in known.shares payload) refl
+    where
+      by : (r : Result Content MsgFault) → message_in known.shares payload ≡ r → read_reply m d role party (record known { shares = form }) (kind payload) r ≡ read_reply m d role party known (kind payload) r
+      by (Ok c) e = let is = below.numbers known.shares payload c e in alike_work known form c (λ q. a (is ∙ q)) (λ q. b (is ∙ q))
+      by (Err f) e = refl
+
+  alike_line : (known : Known) (packet : ℕ) (payload : List ℕ) (form : ShareForm) (strict : Bool) (l : Line) → Sees role phase.KexInit strict false (kind payload) l
+      → line_reply m d role party (record known { shares = form }) packet l payload ≡ line_reply m d role party known packet l payload
+  unfolding line_reply
+  alike_line known packet payload form strict line.Reads s = let two = no_share role strict (kind payload) s in alike_read known form payload two.0 two.1
+  alike_line known packet payload form strict line.Drops s = refl
+  alike_line known packet payload form strict line.Deviates s = refl
+  alike_line known packet payload form strict line.Unknown s = refl
+  alike_line known packet payload form strict line.Unexpected s = refl
+
+  pub formless : (known : Known) (packet : ℕ) (payload : List ℕ) (form : ShareForm)
+      → line_reply m d role party (record known { shares = form }) packet (line_by role phase.KexInit known.strict false (kind payload)) payload
+      ≡ line_reply m d role party known packet (line_by role phase.KexInit known.strict false (kind payload)) payload
+  formless known packet payload form =
+      alike_line known packet payload form known.strict (line_by role phase.KexInit known.strict false (kind payload)) (sees role phase.KexInit known.strict (kind payload) false)

@@ -1,0 +1,193 @@
+-- An endpoint that stands open, and a piece of what it hears.
+
+use Rattle.std.proofs.Common.{◌≡◌, ◌≢◌, ◌⊎◌, inl, inr, ℕ, ◌+◌, ◌≤◌, Bool, true, false, List, [], ◌∷◌, ◌++◌, length, take, Option, None, Some, refl, sym, ap, ◌∙◌, append_assoc}
+use Rattle.std.proofs.lemmas.Bool.{true≢false}
+use Rattle.std.proofs.lemmas.List.{append-nil}
+use Rattle.sshneg.specs.declared.role.Role.{Role}
+use Rattle.sshpacket.specs.Parse.{Protection, Refusal, parse_packet, refused, unfinished, whole}
+use Rattle.sshpacket.specs.Places.{EachPlace, IsPrefix, flat_places}
+use Rattle.sshpacket.specs.PreambleParser.{preamble_parser}
+use Rattle.sshpacket.specs.Stream.{Heard, IsIncremental, Parser, Said, Units}
+use Rattle.sshpacket.specs.Suite.{Meaning}
+use Rattle.sshpacket.proofs.Places.{each-append, each-push, flat-push}
+use Rattle.sshcore.specs.declared.end.Fault.{Fault}
+use Rattle.sshcore.specs.declared.table.Phase.TheVariants as phase
+use Rattle.sshcore.specs.Counting.{switched_out}
+use Rattle.sshcore.specs.Directions.{others_of, parsers, payloads_in, protection_in, spells}
+use Rattle.sshcore.specs.Ending.{Authenticated, Closed, Ending, Failed, Open, disconnect}
+use Rattle.sshcore.specs.History.{AllFit, BrokenOff, FitsPacket, History, IsReady}
+use Rattle.sshcore.specs.Party.{Party, Policy}
+use Rattle.sshcore.specs.Replies.{Ends, Replies, StaysOpen, answers_at, end_at, ended, fault_of, goes_on, refusal_reply}
+use Rattle.sshcore.specs.Work.{making}
+use Rattle.sshcore.proofs.Below.{Below}
+use Rattle.sshcore.proofs.KeyedLemmas.{keyed, still_fails, still_making}
+use Rattle.sshcore.proofs.StreamLemmas.{ready_units, said_stays, switched_append}
+use Rattle.sshcore.proofs.StrictLaws.{begun_none, stands}
+
+-- the laws of streams that the lemmas here rest on
+pub record Streams : Type 0 where
+  pub packets : (w : Protection) → IsIncremental (parse_packet w)
+  pub lines : (k : ℕ) → IsIncremental (preamble_parser k)
+  pub nothing : (parsers : Units → Parser) → ((us : Units) → IsIncremental (parsers us)) → Heard parsers [] [] [] None
+  pub unit : (parsers : Units → Parser) → ((us : Units) → IsIncremental (parsers us)) → (stream piece : List ℕ) (us : Units) (rest u : List ℕ) (used : ℕ)
+      → Heard parsers stream us rest None → used ≤ length piece → parsers us (rest ++ piece) ≡ whole u (length rest + used) → Heard parsers (stream ++ take used piece) (us ++ u ∷ []) [] None
+  pub refusal : (parsers : Units → Parser) → ((us : Units) → IsIncremental (parsers us)) → (stream piece : List ℕ) (us : Units) (rest : List ℕ) (r : Refusal) (used : ℕ)
+      → Heard parsers stream us rest None → used ≤ length piece → parsers us (rest ++ piece) ≡ refused r (length rest + used) → Heard parsers (stream ++ take used piece) us (rest ++ take used piece) (Some r)
+  pub part : (parsers : Units → Parser) → ((us : Units) → IsIncremental (parsers us)) → (stream piece : List ℕ) (us : Units) (rest : List ℕ)
+      → Heard parsers stream us rest None → parsers us (rest ++ piece) ≡ unfinished → Heard parsers (stream ++ piece) us (rest ++ piece) None
+  pub said : (spells : Units → List ℕ → List ℕ) (stream : List ℕ) (us more : Units) → Said spells stream us → Said spells (stream ++ flat_places spells us more) (us ++ more)
+
+fit_anywhere : (b c us : Units) → EachPlace (λ before payload. FitsPacket payload) b us → EachPlace (λ before payload. FitsPacket payload) c us
+fit_anywhere b c [] fit = tt
+fit_anywhere b c (u ∷ us) fit = (fit.0, fit_anywhere (b ++ u ∷ []) (c ++ u ∷ []) us fit.1)
+
+fit_both : (answers more : Units) → AllFit answers → AllFit more → AllFit (answers ++ more)
+fit_both answers more a b = each-append (λ before payload. FitsPacket payload) [] answers more a (fit_anywhere [] answers more b)
+
+failed_shut : (f : Fault) → Failed f ≢ Open
+failed_shut f e = absurd cc
+
+no_refusal : (r : Option Refusal) → (refusal_reply r).end ≡ Open → r ≡ None
+no_refusal None e = refl
+no_refusal (Some r) e = absurd cc
+
+is_open : (e : Ending) → (e ≡ Open) ⊎ (e ≢ Open)
+is_open Open = inl refl
+is_open (Authenticated a) = inr (λ e. absurd cc)
+is_open (Failed f) = inr (λ e. absurd cc)
+is_open (Closed reason) = inr (λ e. absurd cc)
+
+module _ (streams : Streams) (m : Meaning) (role : Role) (party : Party) where
+  pub each : (us : Units) → IsIncremental (parsers m role party us)
+  each [] = streams.lines (others_of role)
+  each (version ∷ before) = streams.packets (protection_in m role party version before)
+
+module _ (below : Below) (streams : Streams) (m : Meaning) (d : Policy) (role : Role) (party : Party) where
+  open_stays : (units : Units) (r : Option Refusal) (end : Ending) → end ≡ Open → Ends m d role party units r end → StaysOpen m d role party units
+  open_stays units r end is (goes_on stays e) = stays
+  open_stays units r end is (ended before last units_are stays e shut none) = absurd (shut is)
+
+  -- before any byte
+  pub begins : AllFit (making m role party)
+      → History m d role party [] [] None (making m role party) Open [] (flat_places (spells m role party []) [] (party.version ∷ making m role party))
+  begins fit = record {
+    heard = streams.nothing (parsers m role party) (each streams m role party);
+    said = record { spelled = refl };
+    replies = record { in_order = sym (append-nil (making m role party)); ends = goes_on tt refl };
+    fits = fit;
+    keyed = λ on. absurd (true≢false (sym on ∙ still_making m role party));
+    last = λ shut. absurd (shut refl);
+  }
+
+  -- the packet behind an open history is answered by NEWKEYS only where the exchange is heard with it
+  keyed_unit : (units : Units) (u : List ℕ) → StaysOpen m d role party units → switched_out (answers_at m d role party units u) ≡ true → IsReady role party (payloads_in (units ++ u ∷ []))
+  unfolding switched_out
+  keyed_unit [] u stays on = absurd (true≢false (sym on))
+  keyed_unit (version ∷ before) u stays on =
+      let f = stands below m d role party version [] before phase.KexInit (begun_none below m d role party) stays.1 in
+      keyed below m d role party version before u f.0 f.1.tied on
+
+  module _ (units : Units) (rest : List ℕ) (answers : Units) (h s : List ℕ) (a : History m d role party units rest None answers Open h s) where
+    all_open : StaysOpen m d role party units
+    all_open = open_stays units None Open refl a.replies.ends
+
+    in_order : answers ≡ making m role party ++ flat_places (answers_at m d role party) [] units
+    in_order = a.replies.in_order ∙ ap (λ (l : Units). making m role party ++ l) (append-nil (flat_places (answers_at m d role party) [] units))
+
+    -- more bytes of an unfinished unit
+    pub part : (piece : List ℕ) → parsers m role party units (rest ++ piece) ≡ unfinished → History m d role party units (rest ++ piece) None answers Open (h ++ piece) s
+    part piece e = record {
+      heard = streams.part (parsers m role party) (each streams m role party) h piece units rest a.heard e;
+      said = a.said;
+      replies = record { in_order = a.replies.in_order; ends = goes_on all_open refl };
+      fits = a.fits;
+      keyed = a.keyed;
+      last = λ shut. absurd (shut refl);
+    }
+
+    -- the bytes are refused
+    pub refusal : (piece : List ℕ) (used : ℕ) (r : Refusal) → used ≤ length piece → parsers m role party units (rest ++ piece) ≡ refused r (length rest + used) → AllFit (disconnect (fault_of r))
+        → History m d role party units (rest ++ take used piece) (Some r) (answers ++ disconnect (fault_of r)) (Failed (fault_of r)) (h ++ take used piece)
+        (s ++ flat_places (spells m role party units) (party.version ∷ answers) (disconnect (fault_of r)))
+    refusal piece used r low e fit = record {
+      heard = streams.refusal (parsers m role party) (each streams m role party) h piece units rest r used a.heard low e;
+      said = streams.said (spells m role party units) s (party.version ∷ answers) (disconnect (fault_of r)) a.said;
+      replies = record {
+        in_order = ap (λ (l : Units). l ++ disconnect (fault_of r)) in_order ∙ append_assoc (making m role party) (flat_places (answers_at m d role party) [] units) (disconnect (fault_of r));
+        ends = goes_on all_open refl;
+      };
+      fits = fit_both answers (disconnect (fault_of r)) a.fits fit;
+      keyed = λ on. a.keyed (told (switched_out answers) refl on);
+      last = λ _ n. absurd cc;
+    }
+      where
+        told : (b : Bool) → switched_out answers ≡ b → switched_out (answers ++ disconnect (fault_of r)) ≡ true → switched_out answers ≡ true
+        told true e on = e
+        told false e on = absurd (true≢false (sym on ∙ (switched_append answers (disconnect (fault_of r)) ∙ rw e (still_fails (fault_of r)))))
+
+    replies_behind : (u : List ℕ) → Replies m d role party (units ++ u ∷ []) None (answers ++ answers_at m d role party units u) (end_at m d role party units u)
+    replies_behind u =
+        let more = answers_at m d role party units u in
+        record {
+          in_order = ap (λ (l : Units). l ++ more) in_order
+              ∙ append_assoc (making m role party) (flat_places (answers_at m d role party) [] units) more
+              ∙ ap (λ (l : Units). making m role party ++ l) (sym (flat-push (answers_at m d role party) [] units u) ∙ sym (append-nil (flat_places (answers_at m d role party) [] (units ++ u ∷ []))));
+          ends = pushed (is_open (end_at m d role party units u));
+        }
+      where
+        pushed : (end_at m d role party units u ≡ Open) ⊎ (end_at m d role party units u ≢ Open) → Ends m d role party (units ++ u ∷ []) None (end_at m d role party units u)
+        pushed (inl o) = goes_on (each-push (λ before unit. end_at m d role party before unit ≡ Open) [] units u all_open o) o
+        pushed (inr shut) = ended units u refl all_open refl shut refl
+
+    -- a whole unit, with its answers
+    pub unit : (piece u : List ℕ) (used : ℕ) → used ≤ length piece → parsers m role party units (rest ++ piece) ≡ whole u (length rest + used) → AllFit (answers_at m d role party units u)
+        → History m d role party (units ++ u ∷ []) [] None (answers ++ answers_at m d role party units u) (end_at m d role party units u) (h ++ take used piece)
+        (s ++ flat_places (spells m role party (units ++ u ∷ [])) (party.version ∷ answers) (answers_at m d role party units u))
+    unit piece u used low e fit =
+        let more = answers_at m d role party units u in
+        record {
+          heard = streams.unit (parsers m role party) (each streams m role party) h piece units rest u used a.heard low e;
+          said = streams.said (spells m role party (units ++ u ∷ [])) s (party.version ∷ answers) more (said_stays m role party units (u ∷ []) answers s a.keyed a.said);
+          replies = replies_behind u;
+          fits = fit_both answers more a.fits fit;
+          keyed = λ on. keyed_by (switched_out answers) refl on;
+          last = λ _ _. refl;
+        }
+      where
+        keyed_by : (b : Bool) → switched_out answers ≡ b → switched_out (answers ++ answers_at m d role party units u) ≡ true → IsReady role party (payloads_in (units ++ u ∷ []))
+        keyed_by true e on = ready_units role party units (u ∷ []) (a.keyed e)
+        keyed_by false e on = keyed_unit units u all_open (sym (switched_append answers (answers_at m d role party units u) ∙ rw e refl) ∙ on)
+
+    -- memory is wanted while the answers to a unit are said
+    pub breaks : (piece u : List ℕ) (used : ℕ) (some : Units) → used ≤ length piece → parsers m role party units (rest ++ piece) ≡ whole u (length rest + used) → IsPrefix some (answers_at m d role party units u)
+        → BrokenOff m d role party (h ++ take used piece) (s ++ flat_places (spells m role party (units ++ u ∷ [])) (party.version ∷ answers) some)
+    breaks piece u used some low e prefix =
+        let more = answers_at m d role party units u in
+        record {
+          units = units ++ u ∷ [];
+          rest = [];
+          refusal = None;
+          answers = answers ++ more;
+          end = end_at m d role party units u;
+          some_answers = answers ++ some;
+          heard = streams.unit (parsers m role party) (each streams m role party) h piece units rest u used a.heard low e;
+          replies = replies_behind u;
+          prefix = record { rest = prefix.rest; whole_is = ap (λ (l : Units). answers ++ l) prefix.whole_is ∙ sym (append_assoc answers some prefix.rest) };
+          said = streams.said (spells m role party (units ++ u ∷ [])) s (party.version ∷ answers) some (said_stays m role party units (u ∷ []) answers s a.keyed a.said);
+        }
+
+-- and before any of them
+pub broken : (m : Meaning) (d : Policy) (role : Role) (party : Party) (units : Units) (rest : List ℕ) (refusal : Option Refusal) (answers : Units) (end : Ending) (h s : List ℕ)
+    → History m d role party units rest refusal answers end h s → BrokenOff m d role party h s
+broken m d role party units rest refusal answers end h s a = record {
+  units = units;
+  rest = rest;
+  refusal = refusal;
+  answers = answers;
+  end = end;
+  some_answers = answers;
+  heard = a.heard;
+  replies = a.replies;
+  prefix = record { rest = []; whole_is = sym (append-nil answers) };
+  said = a.said;
+}

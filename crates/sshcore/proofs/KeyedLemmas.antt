@@ -1,0 +1,223 @@
+-- NEWKEYS is said in answer to the exchange message alone.
+
+use Rattle.std.proofs.Common.{◌≡◌, ◌≢◌, ◌⊎◌, inl, inr, ℕ, ◌==◌, Bool, true, false, cond, List, [], ◌∷◌, ◌++◌, Option, None, Some, Result, Ok, Err, refl, sym, ap, ◌∙◌, arith}
+use Rattle.std.specs.Prelude.{◌&&◌, not}
+use Rattle.std.specs.Str.{bytes_eq}
+use Rattle.std.proofs.lemmas.Bool.{cases_Bool, eq-eqb, eqb-true, true≢false}
+use Rattle.sshwire.specs.declared.share_form.ShareForm.{ShareForm}
+use Rattle.sshwire.specs.declared.share_form.ShareForm.TheVariants.{Hybrid, Mpint, OctetString}
+use Rattle.sshmsg.specs.declared.fault.MsgFault.{MsgFault}
+use Rattle.sshmsg.specs.Content.{Content, KexEcdhInit, KexEcdhReply, KexInit, KexdhInit, KexdhReply, Offer, ServiceAccept, ServiceRequest}
+use Rattle.sshmsg.specs.Messages.{message_in}
+use Rattle.sshmsg.specs.Numbers.{kind, number_of}
+use Rattle.sshmsg.specs.Written.{written_message}
+use Rattle.sshneg.specs.declared.choice.NoCommon.{NoCommon}
+use Rattle.sshneg.specs.declared.role.Role.{Role}
+use Rattle.sshneg.specs.declared.role.Role.TheVariants.{Client, Server}
+use Rattle.sshneg.specs.Fields.{Algorithms}
+use Rattle.sshneg.specs.Strictness.{is_right_guess}
+use Rattle.sshpacket.specs.Stream.{Units}
+use Rattle.sshpacket.specs.Suite.{Meaning}
+use Rattle.sshcore.specs.declared.end.Fault.{Fault}
+use Rattle.sshcore.specs.declared.end.Fault.TheVariants as fault
+use Rattle.sshcore.specs.declared.table.Line.{Line}
+use Rattle.sshcore.specs.declared.table.Line.TheVariants as line
+use Rattle.sshcore.specs.declared.table.Phase.{Phase}
+use Rattle.sshcore.specs.declared.table.Phase.TheVariants as phase
+use Rattle.sshcore.specs.Before.{expects_guess, kept, offered, stood, strict_at, strict_towards}
+use Rattle.sshcore.specs.Counting.{number_in, switched_out}
+use Rattle.sshcore.specs.Ending.{Reply, disconnect_by, fails, goes, reason_of}
+use Rattle.sshcore.specs.Exchange.{choice_with, own_kexinit}
+use Rattle.sshcore.specs.History.{IsReady}
+use Rattle.sshcore.specs.Known.{Known, known_at}
+use Rattle.sshcore.specs.Party.{Party, Policy}
+use Rattle.sshcore.specs.Phases.{leaving}
+use Rattle.sshcore.specs.Replies.{answers_at, line_reply, read_reply}
+use Rattle.sshcore.specs.Standing.{Tied}
+use Rattle.sshcore.specs.Table.{line_by}
+use Rattle.sshcore.specs.Work.{banner_by, chosen_reply, guess_of, guessed_method, init_for, init_in, kexinit_reply, making, opening, service_reply, userauth, work}
+use Rattle.sshcore.proofs.Below.{Below}
+use Rattle.sshcore.proofs.PhaseLemmas.{kept_free, offered_push, stood_push}
+use Rattle.sshcore.proofs.StreamLemmas.{newkeys_anywhere}
+use Rattle.sshcore.proofs.StrictSteps.{line_is}
+use Rattle.sshcore.proofs.TableLemmas.{Closing, Dropped, Leaving, OffGuess, OffPhase, Sees, Staying, Useless, sees}
+
+-- no NEWKEYS is said
+abbrev IsStill : Units → Type 0
+IsStill answers = switched_out answers ≡ false
+
+still_none : IsStill []
+unfolding switched_out
+still_none = refl
+
+still_told : (reason : Option ℕ) → IsStill (disconnect_by reason)
+unfolding switched_out written_message
+still_told None = refl
+still_told (Some reason) = refl
+
+pub still_fails : (f : Fault) → IsStill (fails f).answers
+still_fails f = still_told (reason_of f)
+
+init_kind : (form : ShareForm) (share : List ℕ) → kind (written_message (init_in form share)) ≡ 30
+unfolding written_message
+init_kind Mpint share = refl
+init_kind OctetString share = refl
+init_kind Hybrid share = refl
+
+still_one : (payload : List ℕ) → kind payload ≡ 30 → IsStill (payload ∷ [])
+unfolding switched_out
+still_one payload is = rw is refl
+
+still_cond : (b : Bool) (x y : Reply) → IsStill x.answers → IsStill y.answers → IsStill (cond b x y).answers
+still_cond true x y p q = p
+still_cond false x y p q = q
+
+still_units : (b : Bool) (x y : Units) → IsStill x → IsStill y → IsStill (cond b x y)
+still_units true x y p q = p
+still_units false x y p q = q
+
+module _ (m : Meaning) (party : Party) where
+  still_init : (kex : List ℕ) → IsStill (init_for m party kex ∷ [])
+  still_init kex = still_one (init_for m party kex) (init_kind (m.share_form kex) (m.share kex party.random))
+
+  still_opening : (role : Role) (peer : Offer) (kex : List ℕ) → IsStill (opening m role party peer kex)
+  still_opening Server peer kex = still_none
+  still_opening Client peer kex =
+      still_units (party.offer.first_kex_packet_follows && is_right_guess party.offer peer) [] (init_for m party kex ∷ []) still_none (still_init kex)
+
+  still_chosen : (role : Role) (peer : Offer) (r : Result Algorithms NoCommon) → IsStill (chosen_reply m role party peer r).answers
+  still_chosen role peer (Ok a) = still_opening role peer a.kex
+  still_chosen role peer (Err f) = still_fails (fault.NoCommon f)
+
+  still_kexinit : (role : Role) (known : Known) (peer : Offer) → IsStill (kexinit_reply m role party known peer).answers
+  unfolding kexinit_reply
+  still_kexinit role known peer =
+      still_cond (strict_towards role party.strict (Some peer) && not known.first) (fails (fault.Strict 20)) (chosen_reply m role party peer (choice_with m role party.offer (Some peer)))
+      (still_fails (fault.Strict 20)) (still_chosen role peer (choice_with m role party.offer (Some peer)))
+
+  still_guess : (role : Role) → IsStill (guess_of m role party)
+  still_guess Server = still_none
+  still_guess Client = still_units party.offer.first_kex_packet_follows (init_for m party (guessed_method party) ∷ []) [] (still_init (guessed_method party)) still_none
+
+still_banner : (banner : Option (List ℕ)) → IsStill (written_message (ServiceAccept userauth) ∷ banner_by banner)
+unfolding switched_out written_message
+still_banner None = refl
+still_banner (Some text) = refl
+
+still_service : (party : Party) (service : List ℕ) → IsStill (service_reply party service).answers
+still_service party service =
+    still_cond (bytes_eq service userauth) (goes (written_message (ServiceAccept userauth) ∷ banner_by party.banner)) (fails fault.Service) (still_banner party.banner) (still_fails fault.Service)
+
+module _ (below : Below) (m : Meaning) (d : Policy) (role : Role) (party : Party) where
+  -- a message that isn't an exchange message is answered without one
+  still_work : (known : Known) (c : Content) → number_of c ≢ 30 → number_of c ≢ 31 → IsStill (work m d role party known c).answers
+  unfolding work
+  still_work known (KexInit peer) a b = still_kexinit m party role known peer
+  still_work known (KexdhInit e) a b = absurd (a refl)
+  still_work known (KexEcdhInit share) a b = absurd (a refl)
+  still_work known (KexdhReply key f signature) a b = absurd (b refl)
+  still_work known (KexEcdhReply key share signature) a b = absurd (b refl)
+  still_work known (ServiceRequest service) a b = still_service party service
+  still_work known (ServiceAccept service) a b =
+      still_cond (bytes_eq service userauth) (fails fault.NoMoreMethods) (fails (fault.Unexpected 6)) (still_fails fault.NoMoreMethods) (still_fails (fault.Unexpected 6))
+  still_work known _ a b = still_none
+
+  still_read : (known : Known) (packet : ℕ) (payload : List ℕ) → kind payload ≢ 30 → kind payload ≢ 31 → IsStill (line_reply m d role party known packet line.Reads payload).answers
+  unfolding line_reply
+  still_read known packet payload a b = by (message_in known.shares payload) refl
+    where
+      by : (r : Result Content MsgFault) → message_in known.shares payload ≡ r → IsStill (read_reply m d role party known (kind payload) r).answers
+      by (Ok c) e = let is = below.numbers known.shares payload c e in still_work known c (λ q. a (is ∙ q)) (λ q. b (is ∙ q))
+      by (Err f) e = still_fails (fault.Malformed (kind payload))
+
+  still_unknown : (known : Known) (packet : ℕ) (payload : List ℕ) → IsStill (line_reply m d role party known packet line.Unknown payload).answers
+  unfolding line_reply switched_out written_message
+  still_unknown known packet payload = refl
+
+  -- a number that leaves a phase and is an exchange message's leaves phase exchange
+  from_exchange : (r : Role) (p : Phase) (n : ℕ) → n ≡ leaving r p → (n ≡ 30) ⊎ (n ≡ 31) → p ≡ phase.Exchange
+  from_exchange r phase.Exchange n here two = refl
+  from_exchange r phase.KexInit n here two = absurd (by r here two)
+    where
+      by : (r : Role) → n ≡ leaving r phase.KexInit → (n ≡ 30) ⊎ (n ≡ 31) → ⊥
+      by Client h (inl e) = absurd (omega arith)
+      by Client h (inr e) = absurd (omega arith)
+      by Server h (inl e) = absurd (omega arith)
+      by Server h (inr e) = absurd (omega arith)
+  from_exchange r phase.NewKeys n here two = absurd (by r here two)
+    where
+      by : (r : Role) → n ≡ leaving r phase.NewKeys → (n ≡ 30) ⊎ (n ≡ 31) → ⊥
+      by Client h (inl e) = absurd (omega arith)
+      by Client h (inr e) = absurd (omega arith)
+      by Server h (inl e) = absurd (omega arith)
+      by Server h (inr e) = absurd (omega arith)
+  from_exchange r phase.Service n here two = absurd (by r here two)
+    where
+      by : (r : Role) → n ≡ leaving r phase.Service → (n ≡ 30) ⊎ (n ≡ 31) → ⊥
+      by Client h (inl e) = absurd (omega arith)
+      by Client h (inr e) = absurd (omega arith)
+      by Server h (inl e) = absurd (omega arith)
+      by Server h (inr e) = absurd (omega arith)
+  from_exchange r phase.Auth n here two = absurd (by r here two)
+    where
+      by : (r : Role) → n ≡ leaving r phase.Auth → (n ≡ 30) ⊎ (n ≡ 31) → ⊥
+      by Client h (inl e) = absurd (omega arith)
+      by Client h (inr e) = absurd (omega arith)
+      by Server h (inl e) = absurd (omega arith)
+      by Server h (inr e) = absurd (omega arith)
+
+  module _ (version : List ℕ) (before : Units) (payload : List ℕ) where
+    ready_behind : (p : Phase) → Tied role party.offer before p → expects_guess role party.offer before ≡ false → p ≡ phase.Exchange → kind payload ≡ leaving role phase.Exchange
+        → IsReady role party (before ++ payload ∷ [])
+    ready_behind phase.Exchange t none e is =
+        let begun : offered before ≡ true = t.offer in
+        let off : stood role party.offer (leaving role phase.Exchange) before ≡ false = t.exchange in
+        let here : kept role party.offer (leaving role phase.Exchange) before payload ≡ true =
+        kept_free role party.offer before payload (leaving role phase.Exchange) none ∙ eq-eqb (kind payload) (leaving role phase.Exchange) is in
+        record {
+          offer = offered_push before payload ∙ rw begun refl;
+          exchange = stood_push role party.offer before payload (leaving role phase.Exchange) ∙ rw (off, here) refl;
+        }
+    ready_behind phase.KexInit t none e is = absurd cc
+    ready_behind phase.NewKeys t none e is = absurd cc
+    ready_behind phase.Service t none e is = absurd cc
+    ready_behind phase.Auth t none e is = absurd cc
+
+    by_line : (known : Known) (packet : ℕ) (p : Phase) → Tied role party.offer before p → (l : Line)
+        → Sees role p (strict_at role party before) (expects_guess role party.offer before) (kind payload) l
+        → switched_out (line_reply m d role party known packet l payload).answers ≡ true → IsReady role party (before ++ payload ∷ [])
+    unfolding line_reply
+    by_line known packet p t l (Closing one is) on = absurd (true≢false (sym (rw is at on) ∙ still_read known packet payload (λ q. omega arith) (λ q. omega arith)))
+    by_line known packet p t l (Dropped one due r is) on = absurd (true≢false (sym (rw is at on) ∙ still_none))
+    by_line known packet p t l (OffGuess one due r out is) on = absurd (true≢false (sym (rw is at on) ∙ still_fails (fault.Strict (kind payload))))
+    by_line known packet p t l (OffPhase one none r out is) on = absurd (true≢false (sym (rw is at on) ∙ still_fails (fault.Strict (kind payload))))
+    by_line known packet p t l (Useless none off out is) on = absurd (true≢false (sym (rw is at on) ∙ still_fails (fault.Unexpected (kind payload))))
+    by_line known packet p t line.Reads (Staying none off out calm e) on = absurd (true≢false (sym on ∙ still_read known packet payload calm.init calm.reply))
+    by_line known packet p t line.Drops (Staying none off out calm e) on = absurd (e refl)
+    by_line known packet p t line.Deviates (Staying none off out calm e) on = absurd (true≢false (sym on ∙ still_fails (fault.Strict (kind payload))))
+    by_line known packet p t line.Unknown (Staying none off out calm e) on = absurd (true≢false (sym on ∙ still_unknown known packet payload))
+    by_line known packet p t line.Unexpected (Staying none off out calm e) on = absurd (true≢false (sym on ∙ still_fails (fault.Unexpected (kind payload))))
+    by_line known packet p t l (Leaving none here is) on = elim (cases_Bool (kind payload == 30)) [
+      | inl a ↦ exchanged (inl (eqb-true (kind payload) 30 a))
+      | inr a ↦ elim (cases_Bool (kind payload == 31)) [
+        | inl b ↦ exchanged (inr (eqb-true (kind payload) 31 b))
+        | inr b ↦ absurd (true≢false (sym (rw is at on) ∙ still_read known packet payload (λ q. true≢false (sym (eq-eqb (kind payload) 30 q) ∙ a)) (λ q. true≢false (sym (eq-eqb (kind payload) 31 q) ∙ b))))
+      ]
+    ]
+      where
+        exchanged : (kind payload ≡ 30) ⊎ (kind payload ≡ 31) → IsReady role party (before ++ payload ∷ [])
+        exchanged two =
+            let q : p ≡ phase.Exchange = from_exchange role p (kind payload) here two in
+            ready_behind p t none q (here ∙ ap (leaving role) q)
+
+    pub keyed : (p : Phase) → Tied role party.offer before p → switched_out (answers_at m d role party (version ∷ before) payload) ≡ true → IsReady role party (before ++ payload ∷ [])
+    keyed p t on =
+        by_line (known_at m role party version before) (number_in role party before) p t
+        (line_by role p (strict_at role party before) (expects_guess role party.offer before) (kind payload))
+        (sees role p (strict_at role party before) (kind payload) (expects_guess role party.offer before))
+        (ap (λ (l : Line). switched_out (line_reply m d role party (known_at m role party version before) (number_in role party before) l payload).answers)
+        (line_is below m d role party version before payload p t) ∙ on)
+
+pub still_making : (m : Meaning) (role : Role) (party : Party) → IsStill (making m role party)
+unfolding switched_out written_message
+still_making m role party = newkeys_anywhere (own_kexinit party ∷ []) [] (guess_of m role party) ∙ still_guess m party role

@@ -1,0 +1,152 @@
+-- What is known, with one payload more.
+
+use Rattle.std.proofs.Common.{◌≡◌, ◌⊎◌, inl, inr, ℕ, ◌+◌, ◌==◌, Bool, true, false, cond, List, [], ◌∷◌, ◌++◌, length, length-append, Some, refl, sym, ap, ◌∙◌, arith}
+use Rattle.std.proofs.lemmas.Bool.{ne_eqb, true≢false}
+use Rattle.sshwire.specs.declared.share_form.ShareForm.{ShareForm}
+use Rattle.sshmsg.specs.Content.{Offer}
+use Rattle.sshmsg.specs.Messages.{message_in}
+use Rattle.sshmsg.specs.Numbers.{kind}
+use Rattle.sshneg.specs.declared.role.Role.{Role}
+use Rattle.sshneg.specs.Derivations.{ExchangeData}
+use Rattle.sshneg.specs.ExchangeEnd.{exchange_hash, offer_in}
+use Rattle.sshneg.specs.Fields.{Algorithms}
+use Rattle.sshpacket.specs.KeyData.{KeyData}
+use Rattle.sshpacket.specs.Stream.{Units}
+use Rattle.sshpacket.specs.Suite.{Meaning}
+use Rattle.sshpacket.proofs.Places.{first-push}
+use Rattle.sshcore.specs.declared.table.Phase.TheVariants as phase
+use Rattle.sshcore.specs.Before.{first_kept, kept, kexinit, offered, stood, strict_towards}
+use Rattle.sshcore.specs.Exchange.{algorithms_at, choice_with, chosen_or, exchange_message, exchange_with, keys_at, keys_by, session_at, shares_by}
+use Rattle.sshcore.specs.Known.{Known, known_at}
+use Rattle.sshcore.specs.Party.{Party}
+use Rattle.sshcore.specs.Phases.{leaving}
+use Rattle.sshcore.specs.Standing.{behind_exchange, behind_offer, exchange_of, nothing_known}
+use Rattle.sshcore.proofs.GuessLemmas.{first_kexinit, none_stood}
+use Rattle.sshcore.proofs.PhaseLemmas.{kexinit_push, stood_push}
+
+abbrev known_with : List ℕ → List ℕ → Algorithms → ShareForm → List ℕ → Bool → Bool → Known
+known_with v k a f s t i = record { version = v; kexinit = k; algorithms = a; shares = f; session = s; strict = t; first = i }
+
+known_same : (v k k' : List ℕ) (a a' : Algorithms) (f f' : ShareForm) (s s' : List ℕ) (t t' i i' : Bool)
+    → k ≡ k' → a ≡ a' → f ≡ f' → s ≡ s' → t ≡ t' → i ≡ i' → known_with v k a f s t i ≡ known_with v k' a' f' s' t' i'
+known_same v k k' a a' f f' s s' t t' i i' ek ea ef es et ei = cc
+
+pub kexinit_stays : (before : Units) (payload : List ℕ) → offered before ≡ true → kexinit (before ++ payload ∷ []) ≡ kexinit before
+kexinit_stays before payload is = kexinit_push before payload ∙ rw is refl
+
+pub kexinit_none : (before : Units) (payload : List ℕ) → offered before ≡ false → (kind payload == 20) ≡ false → kexinit (before ++ payload ∷ []) ≡ kexinit before
+kexinit_none before payload none other = kexinit_push before payload ∙ rw (none, other) (sym (none_stood before none))
+
+some_stood : (before : Units) → offered before ≡ true → (length before == 0) ≡ false
+unfolding offered
+some_stood [] e = absurd (true≢false (sym e))
+some_stood (u ∷ us) e = ne_eqb (length (u ∷ us)) 0 (λ q. omega (arith, q))
+
+one_more : (before : Units) (payload : List ℕ) → (length (before ++ payload ∷ []) == 0) ≡ false
+one_more before payload = ne_eqb (length (before ++ payload ∷ [])) 0 (λ e. let more : length (before ++ payload ∷ []) ≡ length before + 1 = length-append before (payload ∷ []) in omega arith)
+
+module _ (m : Meaning) (role : Role) (party : Party) (version : List ℕ) where
+  abbrev algorithms_of : List ℕ → Algorithms
+  algorithms_of k = chosen_or (choice_with m role party.offer (offer_in k))
+
+  abbrev shares_of : List ℕ → ShareForm
+  shares_of k = shares_by m (choice_with m role party.offer (offer_in k))
+
+  abbrev exchange_by_payloads : List ℕ → List ℕ → ExchangeData
+  exchange_by_payloads k message = exchange_with m role party (algorithms_of k) version k (message_in (shares_of k) message)
+
+  abbrev session_by_payloads : List ℕ → List ℕ → List ℕ
+  session_by_payloads k message = exchange_hash m (algorithms_of k).kex (exchange_by_payloads k message)
+
+  abbrev pub keys_by_payloads : Role → List ℕ → List ℕ → KeyData
+  keys_by_payloads sender k message = keys_by m (algorithms_of k) (exchange_by_payloads k message) sender
+
+  message_push : (before : Units) (payload : List ℕ) → exchange_message role party (before ++ payload ∷ [])
+      ≡ cond (stood role party.offer (leaving role phase.Exchange) before) (exchange_message role party before)
+      (cond (kept role party.offer (leaving role phase.Exchange) before payload) payload [])
+  unfolding first_kept stood
+  message_push before payload = first-push [] (kept role party.offer (leaving role phase.Exchange)) [] before payload
+
+  -- once the exchange message has stood, nothing of the exchange changes
+  module _ (before : Units) (payload : List ℕ) (is : offered before ≡ true) (on : stood role party.offer (leaving role phase.Exchange) before ≡ true) where
+    message_stays : exchange_message role party (before ++ payload ∷ []) ≡ exchange_message role party before
+    message_stays = message_push before payload ∙ rw on refl
+
+    session_stays : session_at m role party version (before ++ payload ∷ []) ≡ session_at m role party version before
+    session_stays =
+        ap (λ (k : List ℕ). session_by_payloads k (exchange_message role party (before ++ payload ∷ []))) (kexinit_stays before payload is)
+        ∙ ap (λ (l : List ℕ). session_by_payloads (kexinit before) l) message_stays
+
+    pub keys_stay : (sender : Role) → keys_at m role party version (before ++ payload ∷ []) sender ≡ keys_at m role party version before sender
+    keys_stay sender =
+        ap (λ (k : List ℕ). keys_by_payloads sender k (exchange_message role party (before ++ payload ∷ []))) (kexinit_stays before payload is)
+        ∙ ap (λ (l : List ℕ). keys_by_payloads sender (kexinit before) l) message_stays
+
+  -- and the exchange message gives it
+  module _ (before : Units) (payload : List ℕ) (is : offered before ≡ true) (none : stood role party.offer (leaving role phase.Exchange) before ≡ false)
+      (here : kept role party.offer (leaving role phase.Exchange) before payload ≡ true) where
+    message_is : exchange_message role party (before ++ payload ∷ []) ≡ payload
+    message_is = message_push before payload ∙ rw (none, here) refl
+
+    session_is : session_at m role party version (before ++ payload ∷ []) ≡ session_by_payloads (kexinit before) payload
+    session_is =
+        ap (λ (k : List ℕ). session_by_payloads k (exchange_message role party (before ++ payload ∷ []))) (kexinit_stays before payload is)
+        ∙ ap (λ (l : List ℕ). session_by_payloads (kexinit before) l) message_is
+
+    pub keys_are : (sender : Role) → keys_at m role party version (before ++ payload ∷ []) sender
+        ≡ keys_by m (algorithms_at m role party before) (exchange_of m role party (known_at m role party version before) payload) sender
+    keys_are sender =
+        ap (λ (k : List ℕ). keys_by_payloads sender k (exchange_message role party (before ++ payload ∷ []))) (kexinit_stays before payload is)
+        ∙ ap (λ (l : List ℕ). keys_by_payloads sender (kexinit before) l) message_is
+
+    stood_on : stood role party.offer (leaving role phase.Exchange) (before ++ payload ∷ []) ≡ true
+    stood_on = stood_push role party.offer before payload (leaving role phase.Exchange) ∙ rw (none, here) refl
+
+    pub known_exchanged : known_at m role party version (before ++ payload ∷ []) ≡ behind_exchange m role party (known_at m role party version before) payload
+    known_exchanged =
+        let k : kexinit (before ++ payload ∷ []) ≡ kexinit before = kexinit_stays before payload is in
+        known_same version _ _ _ _ _ _ _ _ _ _ _ _ k (ap algorithms_of k) (ap shares_of k) (rw stood_on session_is)
+        (ap (λ (x : List ℕ). strict_towards role party.strict (offer_in x)) k) (one_more before payload ∙ sym (some_stood before is))
+
+  -- a payload that is neither the first KEXINIT nor the first exchange message
+  module _ (before : Units) (payload : List ℕ)
+      (same : kexinit (before ++ payload ∷ []) ≡ kexinit before)
+      (side : ((offered before ≡ true) × (stood role party.offer (leaving role phase.Exchange) before ≡ true))
+      ⊎ ((stood role party.offer (leaving role phase.Exchange) before ≡ false) × (kept role party.offer (leaving role phase.Exchange) before payload ≡ false))) where
+    session_kept : cond (stood role party.offer (leaving role phase.Exchange) (before ++ payload ∷ [])) (session_at m role party version (before ++ payload ∷ [])) []
+        ≡ cond (stood role party.offer (leaving role phase.Exchange) before) (session_at m role party version before) []
+    session_kept = by side
+      where
+        by : ((offered before ≡ true) × (stood role party.offer (leaving role phase.Exchange) before ≡ true))
+            ⊎ ((stood role party.offer (leaving role phase.Exchange) before ≡ false) × (kept role party.offer (leaving role phase.Exchange) before payload ≡ false))
+            → cond (stood role party.offer (leaving role phase.Exchange) (before ++ payload ∷ [])) (session_at m role party version (before ++ payload ∷ [])) []
+            ≡ cond (stood role party.offer (leaving role phase.Exchange) before) (session_at m role party version before) []
+        by (inl t) =
+            let on : stood role party.offer (leaving role phase.Exchange) before ≡ true = t.1 in
+            let now : stood role party.offer (leaving role phase.Exchange) (before ++ payload ∷ []) ≡ true = stood_push role party.offer before payload (leaving role phase.Exchange) ∙ rw on refl in
+            rw (on, now) (session_stays before payload t.0 on)
+        by (inr t) =
+            let off : stood role party.offer (leaving role phase.Exchange) before ≡ false = t.0 in
+            let not_kept : kept role party.offer (leaving role phase.Exchange) before payload ≡ false = t.1 in
+            let now : stood role party.offer (leaving role phase.Exchange) (before ++ payload ∷ []) ≡ false = stood_push role party.offer before payload (leaving role phase.Exchange) ∙ rw (off, not_kept) refl in
+            rw (off, now) refl
+
+    pub known_kept : known_at m role party version (before ++ payload ∷ []) ≡ record (known_at m role party version before) { first = false }
+    known_kept =
+        known_same version _ _ _ _ _ _ _ _ _ _ _ _ same (ap algorithms_of same) (ap shares_of same) session_kept
+        (ap (λ (x : List ℕ). strict_towards role party.strict (offer_in x)) same) (one_more before payload)
+
+  pub known_none : known_at m role party version [] ≡ nothing_known version
+  unfolding kexinit stood message_in
+  known_none = refl
+
+  -- the first KEXINIT
+  pub known_offered : (before : Units) (payload : List ℕ) (peer : Offer) → offered before ≡ false → kind payload ≡ 20 → offer_in payload ≡ Some peer
+      → stood role party.offer (leaving role phase.Exchange) before ≡ false → stood role party.offer (leaving role phase.Exchange) (before ++ payload ∷ []) ≡ false
+      → known_at m role party version (before ++ payload ∷ []) ≡ behind_offer m role party (known_at m role party version before) payload peer
+  known_offered before payload peer none is offers off now =
+      let k : kexinit (before ++ payload ∷ []) ≡ payload = first_kexinit before payload none is in
+      known_same version _ _ _ _ _ _ _ _ _ _ _ _ k
+      (ap algorithms_of k ∙ ap (λ o. chosen_or (choice_with m role party.offer o)) offers)
+      (ap shares_of k ∙ ap (λ o. shares_by m (choice_with m role party.offer o)) offers) (rw (off, now) refl)
+      (ap (λ (x : List ℕ). strict_towards role party.strict (offer_in x)) k ∙ ap (λ o. strict_towards role party.strict o) offers) (one_more before payload)

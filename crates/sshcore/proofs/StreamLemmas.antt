@@ -1,0 +1,108 @@
+-- What an endpoint has said, with more heard.
+
+use Rattle.std.proofs.Common.{◌≡◌, inl, inr, ℕ, Bool, true, false, cond, List, [], ◌∷◌, ◌++◌, None, Some, refl, sym, ap, ◌∙◌, append_assoc}
+use Rattle.std.proofs.lemmas.Bool.{cases_Bool, true≢false}
+use Rattle.sshneg.specs.declared.role.Role.{Role}
+use Rattle.sshneg.specs.ExchangeEnd.{offer_in}
+use Rattle.sshpacket.specs.KeyData.{KeyData}
+use Rattle.sshpacket.specs.Places.{EachPlace, stands}
+use Rattle.sshpacket.specs.Stream.{Said, Units}
+use Rattle.sshpacket.specs.Suite.{Meaning}
+use Rattle.sshpacket.proofs.Places.{first-append, flat-same, stands-append, stands-prefix}
+use Rattle.sshcore.specs.declared.table.Phase.TheVariants as phase
+use Rattle.sshcore.specs.Before.{first_kept, is_kexinit, kept, kexinit, offered, stood, strict_at, strict_towards}
+use Rattle.sshcore.specs.Counting.{is_newkeys, number_out, switched_out}
+use Rattle.sshcore.specs.Directions.{payloads_in, spelled_by, spells}
+use Rattle.sshcore.specs.Exchange.{exchange_message, keys_at}
+use Rattle.sshcore.specs.History.{IsReady}
+use Rattle.sshcore.specs.Party.{Party}
+use Rattle.sshcore.specs.Phases.{leaving}
+use Rattle.sshcore.proofs.KnownLemmas.{keys_by_payloads}
+
+-- a KEXINIT and an exchange message that have stood stay the first
+kexinit_stays : (before more : Units) → offered before ≡ true → kexinit (before ++ more) ≡ kexinit before
+unfolding offered kexinit
+kexinit_stays before more is = first-append [] is_kexinit [] before more ∙ rw is refl
+
+message_stays : (role : Role) (party : Party) (before more : Units) → stood role party.offer (leaving role phase.Exchange) before ≡ true
+    → exchange_message role party (before ++ more) ≡ exchange_message role party before
+unfolding stood first_kept
+message_stays role party before more is = first-append [] (kept role party.offer (leaving role phase.Exchange)) [] before more ∙ rw is refl
+
+offered_more : (before more : Units) → offered before ≡ true → offered (before ++ more) ≡ true
+unfolding offered
+offered_more before more is = stands-append is_kexinit [] before more ∙ rw is refl
+
+stood_more : (role : Role) (party : Party) (k : ℕ) (before more : Units) → stood role party.offer k before ≡ true → stood role party.offer k (before ++ more) ≡ true
+unfolding stood
+stood_more role party k before more is = stands-append (kept role party.offer k) [] before more ∙ rw is refl
+
+module _ (role : Role) (party : Party) where
+  pub ready_more : (before more : Units) → IsReady role party before → IsReady role party (before ++ more)
+  ready_more before more r = record {
+    offer = offered_more before more r.offer;
+    exchange = stood_more role party (leaving role phase.Exchange) before more r.exchange;
+  }
+
+  -- an endpoint that is ready has heard a version
+  pub ready_units : (units more : Units) → IsReady role party (payloads_in units) → IsReady role party (payloads_in (units ++ more))
+  unfolding offered
+  ready_units [] more r = absurd (true≢false (sym r.offer))
+  ready_units (v ∷ us) more r = ready_more us more r
+
+module _ (m : Meaning) (role : Role) (party : Party) where
+  keys_stay : (version : List ℕ) (before more : Units) (sender : Role) → IsReady role party before → keys_at m role party version (before ++ more) sender ≡ keys_at m role party version before sender
+  keys_stay version before more sender r =
+      ap (λ (k : List ℕ). keys_by_payloads m role party version sender k (exchange_message role party (before ++ more))) (kexinit_stays before more r.offer)
+      ∙ ap (λ (l : List ℕ). keys_by_payloads m role party version sender (kexinit before) l) (message_stays role party before more r.exchange)
+
+  strict_stays : (before more : Units) → offered before ≡ true → strict_at role party (before ++ more) ≡ strict_at role party before
+  strict_stays before more is = ap (λ (k : List ℕ). strict_towards role party.strict (offer_in k)) (kexinit_stays before more is)
+
+  ready_some : (units : Units) → IsReady role party (payloads_in units) → (v : List ℕ) × (us : Units) × (units ≡ v ∷ us)
+  unfolding offered
+  ready_some [] r = absurd (true≢false (sym r.offer))
+  ready_some (v ∷ us) r = (v, us, refl)
+
+  unready : (strict other_strict : Bool) (said : Units) → switched_out said ≡ false → number_out strict said ≡ number_out other_strict said
+  unfolding number_out
+  unready strict other_strict said none = rw none refl
+
+  -- what was said is spelled as before, whatever is heard behind
+  spelled_stays : (units more said : Units) (payload : List ℕ) → (switched_out said ≡ true → IsReady role party (payloads_in units))
+      → spells m role party units (party.version ∷ said) payload ≡ spells m role party (units ++ more) (party.version ∷ said) payload
+  spelled_stays units more said payload keyed = elim (cases_Bool (switched_out said)) [
+    | inl on ↦ at units (ready_some units (keyed on)) (keyed on) on
+    | inr off ↦ rw off (ap (λ n. spelled_by m None party.seed n payload) (unready (strict_at role party (payloads_in units)) (strict_at role party (payloads_in (units ++ more))) said off))
+  ]
+    where
+      at : (us : Units) → (v : List ℕ) × (vs : Units) × (us ≡ v ∷ vs) → IsReady role party (payloads_in us) → switched_out said ≡ true
+          → spells m role party us (party.version ∷ said) payload ≡ spells m role party (us ++ more) (party.version ∷ said) payload
+      at [] (v, vs, e) r on = absurd cc
+      at (v ∷ vs) w r on = rw on (
+          ap (λ (k : KeyData). spelled_by m (Some k) party.seed (number_out (strict_at role party vs) said) payload) (sym (keys_stay v vs more role r))
+          ∙ ap (λ (b : Bool). spelled_by m (Some (keys_at m role party v (vs ++ more) role)) party.seed (number_out b said) payload) (sym (strict_stays vs more r.offer)))
+
+  each_stays : (units more before us : Units) → (switched_out (before ++ us) ≡ true → IsReady role party (payloads_in units))
+      → EachPlace (λ b u. spells m role party units b u ≡ spells m role party (units ++ more) b u) (party.version ∷ before) us
+  unfolding switched_out
+  each_stays units more before [] keyed = tt
+  each_stays units more before (u ∷ us) keyed = (
+    spelled_stays units more before u (λ on. keyed (stands-prefix is_newkeys before (before ++ u ∷ us) (record { rest = u ∷ us; whole_is = refl }) on)),
+    each_stays units more (before ++ u ∷ []) us (λ on. keyed (ap switched_out (sym (append_assoc before (u ∷ []) us)) ∙ on)),
+  )
+
+  pub said_stays : (units more answers : Units) (s : List ℕ) → (switched_out answers ≡ true → IsReady role party (payloads_in units))
+      → Said (spells m role party units) s (party.version ∷ answers) → Said (spells m role party (units ++ more)) s (party.version ∷ answers)
+  said_stays units more answers s keyed said = record {
+    spelled = said.spelled ∙ flat-same (spells m role party units) (spells m role party (units ++ more)) [] (party.version ∷ answers) (refl, each_stays units more [] answers keyed);
+  }
+
+-- whether NEWKEYS was said, of a list in two parts
+pub newkeys_anywhere : (b c us : Units) → stands is_newkeys b us ≡ stands is_newkeys c us
+newkeys_anywhere b c [] = refl
+newkeys_anywhere b c (u ∷ us) = ap (λ (x : Bool). cond (is_newkeys [] u) true x) (newkeys_anywhere (b ++ u ∷ []) (c ++ u ∷ []) us)
+
+pub switched_append : (said more : Units) → switched_out (said ++ more) ≡ cond (switched_out said) true (switched_out more)
+unfolding switched_out
+switched_append said more = stands-append is_newkeys [] said more ∙ ap (λ (x : Bool). cond (stands is_newkeys [] said) true x) (newkeys_anywhere said [] more)

@@ -1,0 +1,180 @@
+-- What a payload does at an endpoint that stands open, of strictness.
+
+use Rattle.std.proofs.Common.{◌≡◌, ◌≢◌, inl, inr, ℕ, ◌==◌, true, false, List, [], ◌∷◌, ◌++◌, length, Some, Result, Ok, Err, refl, sym, ap, ◌∙◌, subst, arith}
+use Rattle.std.proofs.lemmas.Bool.{cases_Bool, eqb-true, true≢false}
+use Rattle.std.proofs.lemmas.List.{nil_from_length}
+use Rattle.sshwire.specs.declared.share_form.ShareForm.TheVariants.{Mpint}
+use Rattle.sshmsg.specs.declared.fault.MsgFault.{MsgFault}
+use Rattle.sshmsg.specs.Content.{Content, Disconnect, KexInit}
+use Rattle.sshmsg.specs.Messages.{message_in}
+use Rattle.sshmsg.specs.Numbers.{kind, number_of}
+use Rattle.sshneg.specs.declared.role.Role.{Role}
+use Rattle.sshneg.specs.ExchangeEnd.{offer_in}
+use Rattle.sshpacket.specs.Stream.{Units}
+use Rattle.sshpacket.specs.Suite.{Meaning}
+use Rattle.sshcore.specs.declared.end.Fault.TheVariants as fault
+use Rattle.sshcore.specs.declared.table.Line.{Line}
+use Rattle.sshcore.specs.declared.table.Line.TheVariants as line
+use Rattle.sshcore.specs.declared.table.Phase.{Phase}
+use Rattle.sshcore.specs.declared.table.Phase.TheVariants as phase
+use Rattle.sshcore.specs.Before.{expects_guess, offered, strict_at, strict_towards}
+use Rattle.sshcore.specs.Counting.{number_in}
+use Rattle.sshcore.specs.Ending.{Ending, Failed, Open}
+use Rattle.sshcore.specs.Known.{Known, known_at}
+use Rattle.sshcore.specs.Party.{Party, Policy}
+use Rattle.sshcore.specs.Phases.{leaving, past_exchange}
+use Rattle.sshcore.specs.Replies.{end_at, line_at, line_reply, read_reply}
+use Rattle.sshcore.specs.Standing.{LeavesNone, Tied}
+use Rattle.sshcore.specs.StrictSequence.{AsClosed, AsMalformed, AsStrict, Begins, Conforms, EndsStrictly}
+use Rattle.sshcore.specs.Table.{is_of_method, is_ruled, line_by}
+use Rattle.sshcore.specs.Work.{kexinit_reply, work}
+use Rattle.sshcore.proofs.Below.{Below}
+use Rattle.sshcore.proofs.GuessLemmas.{no_guess, none_chosen, read_offer, shown, strict_first, strict_none, strict_push}
+use Rattle.sshcore.proofs.PhaseLemmas.{guess_offered, tied_dropped, tied_leaves, tied_phase, tied_stays}
+use Rattle.sshcore.proofs.StrictLemmas.{begins_more, completes, dropped_guess, leaving_kexinit, more, opens, past_offer, shares, stays_so_far, strict_before}
+use Rattle.sshcore.proofs.StrictStages.{Follows, SoFar}
+use Rattle.sshcore.proofs.TableLemmas.{Closing, Dropped, Leaving, OffGuess, OffPhase, Sees, Staying, Useless, sees}
+
+-- what a payload does: the endpoint stands where the next phase wants; it deviates; or it fails without deviating
+pub data Step (role : Role) (party : Party) (before : Units) (payload : List ℕ) (end : Ending) : Type 0 where
+  Goes : (q : Phase) → Follows role party (before ++ payload ∷ []) q → Step role party before payload end
+  Off : EndsStrictly (kind payload) end → Step role party before payload end
+  Fails : end ≢ Open → (strict_at role party (before ++ payload ∷ []) ≡ true → Conforms role party.offer (before ++ payload ∷ [])) → Step role party before payload end
+
+module _ (below : Below) (m : Meaning) (d : Policy) (role : Role) (party : Party) where
+  closes : (known : Known) (payload : List ℕ) (c : Content) → kind payload ≡ 1 → number_of c ≡ 1 → EndsStrictly (kind payload) (work m d role party known c).end
+  unfolding work
+  closes known payload (Disconnect reason description language) is e = AsClosed is reason refl
+  closes known payload _ is e = absurd (omega (arith, e))
+
+  pub closing : (known : Known) (packet : ℕ) (payload : List ℕ) → kind payload ≡ 1 → EndsStrictly (kind payload) (line_reply m d role party known packet line.Reads payload).end
+  unfolding line_reply
+  closing known packet payload is = by (message_in known.shares payload) refl
+    where
+      by : (r : Result Content MsgFault) → message_in known.shares payload ≡ r → EndsStrictly (kind payload) (read_reply m d role party known (kind payload) r).end
+      by (Ok c) e = closes known payload c is (sym (below.numbers known.shares payload c e) ∙ is)
+      by (Err f) e = AsMalformed is (ap (λ n. Failed (fault.Malformed n)) is)
+
+  module _ (before : Units) (payload : List ℕ) (p : Phase) (f : Follows role party before p) where
+    pub not_due : offered before ≡ true → past_exchange p ≡ true → expects_guess role party.offer (more role party before payload) ≡ false
+    not_due is e = no_guess role party.offer before payload is
+
+    drops : expects_guess role party.offer before ≡ true → (kind payload == 1) ≡ false
+        → (is_ruled p (strict_at role party before) ≡ true → is_of_method (kind payload) ≡ true) → Follows role party (before ++ payload ∷ []) p
+    drops due one ruled =
+        let is = guess_offered role party.offer before payload due in
+        record {
+          tied = tied_dropped role party.offer before payload p f.tied due one;
+          none_due = λ _. no_guess role party.offer before payload is;
+          so_far = λ s. dropped_guess role party before payload p f due ruled (sym (strict_push role party before payload is) ∙ s);
+        }
+
+    so_far_stays : (q : Phase) → p ≡ q → LeavesNone role (kind payload) → is_ruled q (strict_at role party before) ≡ false → strict_at role party (before ++ payload ∷ []) ≡ true
+        → SoFar role party.offer (before ++ payload ∷ []) q
+    so_far_stays phase.KexInit e l off s = tt
+    so_far_stays phase.Exchange e l off s = let g : Follows role party before phase.Exchange = subst (Follows role party before) e f in
+        stays_so_far role party before payload phase.Exchange g off (strict_before role party before payload phase.Exchange g.tied refl s)
+    so_far_stays phase.NewKeys e l off s = let g : Follows role party before phase.NewKeys = subst (Follows role party before) e f in
+        stays_so_far role party before payload phase.NewKeys g off (strict_before role party before payload phase.NewKeys g.tied refl s)
+    so_far_stays phase.Service e l off s = let g : Follows role party before phase.Service = subst (Follows role party before) e f in
+        stays_so_far role party before payload phase.Service g off (strict_before role party before payload phase.Service g.tied refl s)
+    so_far_stays phase.Auth e l off s = let g : Follows role party before phase.Auth = subst (Follows role party before) e f in
+        stays_so_far role party before payload phase.Auth g off (strict_before role party before payload phase.Auth g.tied refl s)
+
+    stays : expects_guess role party.offer before ≡ false → is_ruled p (strict_at role party before) ≡ false → LeavesNone role (kind payload) → Follows role party (before ++ payload ∷ []) p
+    stays none off l = record {
+      tied = tied_stays role party.offer before payload p f.tied none l;
+      none_due = λ past. no_guess role party.offer before payload (past_offer role party before payload p f.tied past);
+      so_far = λ s. so_far_stays p refl l off s;
+    }
+
+    useless : (q : Phase) → p ≡ q → is_ruled q (strict_at role party before) ≡ false → (kind payload == leaving role q) ≡ false → strict_at role party (before ++ payload ∷ []) ≡ true
+        → Conforms role party.offer (before ++ payload ∷ [])
+    useless phase.KexInit e off not_here s =
+        let t : Tied role party.offer before phase.KexInit = subst (Tied role party.offer before) e f.tied in
+        let other_kind : (kind payload == 20) ≡ false = ap (λ n. kind payload == n) (sym (leaving_kexinit role)) ∙ not_here in
+        absurd (true≢false (sym s ∙ strict_none role party before payload t.offer other_kind))
+    useless phase.Exchange e off not_here s = let g : Follows role party before phase.Exchange = subst (Follows role party before) e f in
+        absurd (true≢false (sym (strict_before role party before payload phase.Exchange g.tied refl s) ∙ off))
+    useless phase.NewKeys e off not_here s = let g : Follows role party before phase.NewKeys = subst (Follows role party before) e f in
+        absurd (true≢false (sym (strict_before role party before payload phase.NewKeys g.tied refl s) ∙ off))
+    useless phase.Service e off not_here s = let g : Follows role party before phase.Service = subst (Follows role party before) e f in
+        Begins (begins_more role party.offer before payload (g.so_far (strict_before role party before payload phase.Service g.tied refl s)))
+    useless phase.Auth e off not_here s = let g : Follows role party before phase.Auth = subst (Follows role party before) e f in
+        Begins (begins_more role party.offer before payload (g.so_far (strict_before role party before payload phase.Auth g.tied refl s)))
+
+  -- at a KEXINIT with a marker, where another payload stood before
+  late : (known : Known) (packet : ℕ) (payload : List ℕ) → kind payload ≡ 20 → strict_towards role party.strict (offer_in payload) ≡ true → known.shares ≡ Mpint → known.first ≡ false
+      → (line_reply m d role party known packet line.Reads payload).end ≡ Failed (fault.Strict (kind payload))
+  unfolding line_reply work kexinit_reply
+  late known packet payload is s form not_first =
+      let x = shown role party.strict payload s in
+      let flag : strict_towards role party.strict (Some x.0) ≡ true = ap (λ o. strict_towards role party.strict o) (sym x.1) ∙ s in
+      let reads : message_in known.shares payload ≡ Ok (KexInit x.0) = ap (λ f. message_in f payload) form ∙ read_offer payload x.0 x.1 in
+      rw (reads, flag, not_first) (ap (λ n. Failed (fault.Strict n)) (sym is))
+
+  first_none : (before : Units) → (length before == 0) ≡ true → before ≡ []
+  first_none before e = nil_from_length before (eqb-true (length before) 0 e)
+
+  module _ (version : List ℕ) (before : Units) (payload : List ℕ) where
+    leaves_kexinit : Follows role party before phase.KexInit → expects_guess role party.offer before ≡ false → kind payload ≡ 20
+        → Step role party before payload (line_reply m d role party (known_at m role party version before) (number_in role party before) line.Reads payload).end
+    leaves_kexinit f none is = elim (cases_Bool (strict_towards role party.strict (offer_in payload))) [
+      | inl s ↦ elim (cases_Bool (length before == 0)) [
+        | inl first ↦ Goes phase.Exchange (record {
+          tied = tied_leaves role party.offer before payload phase.KexInit f.tied none (is ∙ sym (leaving_kexinit role));
+          none_due = λ e. absurd (true≢false (sym e));
+          so_far = λ _. ([], opens role party before payload below (shown role party.strict payload s).0 (first_none before first) f.tied.offer is (shown role party.strict payload s).1);
+        })
+        | inr not_first ↦ Off (AsStrict (late (known_at m role party version before) (number_in role party before) payload is s (none_chosen m role party before f.tied.offer) not_first))
+      ]
+      | inr s ↦ Goes phase.Exchange (record {
+        tied = tied_leaves role party.offer before payload phase.KexInit f.tied none (is ∙ sym (leaving_kexinit role));
+        none_due = λ e. absurd (true≢false (sym e));
+        so_far = λ t. absurd (true≢false (sym t ∙ (strict_first role party before payload f.tied.offer is ∙ s)));
+      })
+    ]
+
+    leaves : (p : Phase) → Follows role party before p → expects_guess role party.offer before ≡ false → kind payload ≡ leaving role p
+        → Step role party before payload (line_reply m d role party (known_at m role party version before) (number_in role party before) line.Reads payload).end
+    leaves phase.KexInit f none is = leaves_kexinit f none (is ∙ leaving_kexinit role)
+    leaves phase.Exchange f none is = Goes phase.NewKeys (record {
+      tied = tied_leaves role party.offer before payload phase.Exchange f.tied none is;
+      none_due = λ _. no_guess role party.offer before payload f.tied.offer;
+      so_far = λ s. shares role party before payload f none is (strict_before role party before payload phase.Exchange f.tied refl s);
+    })
+    leaves phase.NewKeys f none is = Goes phase.Service (record {
+      tied = tied_leaves role party.offer before payload phase.NewKeys f.tied none is;
+      none_due = λ _. no_guess role party.offer before payload f.tied.offer;
+      so_far = λ s. completes role party before payload f is (strict_before role party before payload phase.NewKeys f.tied refl s);
+    })
+    leaves phase.Service f none is = Goes phase.Auth (record {
+      tied = tied_leaves role party.offer before payload phase.Service f.tied none is;
+      none_due = λ _. no_guess role party.offer before payload f.tied.offer;
+      so_far = λ s. begins_more role party.offer before payload (f.so_far (strict_before role party before payload phase.Service f.tied refl s));
+    })
+    leaves phase.Auth f none is = Goes phase.Auth (record {
+      tied = tied_leaves role party.offer before payload phase.Auth f.tied none is;
+      none_due = λ _. no_guess role party.offer before payload f.tied.offer;
+      so_far = λ s. begins_more role party.offer before payload (f.so_far (strict_before role party before payload phase.Auth f.tied refl s));
+    })
+
+    by_line : (p : Phase) → Follows role party before p → (l : Line) → Sees role p (strict_at role party before) (expects_guess role party.offer before) (kind payload) l
+        → Step role party before payload (line_reply m d role party (known_at m role party version before) (number_in role party before) l payload).end
+    unfolding line_reply
+    by_line p f l (Closing one is) = rw is (Off (closing (known_at m role party version before) (number_in role party before) payload one))
+    by_line p f l (Dropped one due ruled is) = Goes p (drops before payload p f due one ruled)
+    by_line p f l (OffGuess one due ruled out is) = rw is (Off (AsStrict refl))
+    by_line p f l (OffPhase one none ruled out is) = rw is (Off (AsStrict refl))
+    by_line p f l (Leaving none here is) = rw is (leaves p f none here)
+    by_line p f l (Staying none off not_here quiet not_drops) = Goes p (stays before payload p f none off quiet.leaves)
+    by_line p f l (Useless none off not_here is) = rw is (Fails (λ e. absurd cc) (λ s. useless before payload p f p refl off not_here s))
+
+    pub line_is : (p : Phase) → Tied role party.offer before p
+        → line_by role p (strict_at role party before) (expects_guess role party.offer before) (kind payload) ≡ line_at role party before payload
+    line_is p t = ap (λ q. line_by role q (strict_at role party before) (expects_guess role party.offer before) (kind payload)) (sym (tied_phase role party.offer before p t))
+
+    pub step : (p : Phase) → Follows role party before p → Step role party before payload (end_at m d role party (version ∷ before) payload)
+    step p f = subst (λ (l : Line). Step role party before payload (line_reply m d role party (known_at m role party version before) (number_in role party before) l payload).end) (line_is p f.tied)
+        (by_line p f (line_by role p (strict_at role party before) (expects_guess role party.offer before) (kind payload))
+        (sees role p (strict_at role party before) (kind payload) (expects_guess role party.offer before)))

@@ -1,0 +1,31 @@
+use Rattle.sshcore.specs.Directions.{parsers}
+use Rattle.sshcore.proofs.Below.{Below}
+use Rattle.sshcore.proofs.HistoryLemmas as history
+use Rattle.sshcore.proofs.HistoryLemmas.{Streams}
+use Rattle.sshcore.proofs.OneHistory.{one_by}
+use Rattle.sshcore.proofs.law.history_law.Goals as goal
+
+pub returns : goal.returns
+returns c =
+    let below : Below = record { numbers = c.numbers_law.ensures.kind; alike = c.numbers_law.ensures.alike; right = c.markers_law.ensures.right } in
+    let streams : Streams = record {
+      packets = c.parser_law.ensures.packets;
+      lines = c.parser_law.ensures.lines;
+      nothing = c.stream_law.ensures.nothing;
+      unit = c.stream_law.ensures.heard_unit;
+      refusal = c.stream_law.ensures.heard_refusal;
+      part = c.stream_law.ensures.heard_part;
+      said = c.stream_law.ensures.said_append;
+    } in
+    record {
+      parsers = history.each streams;
+      begins = history.begins below streams;
+      part = history.part below streams;
+      refusal = history.refusal below streams;
+      unit = history.unit below streams;
+      broken = history.broken;
+      breaks = history.breaks below streams;
+      one = λ m d role party units other_units rest other_rest r other_r answers other_answers end other_end h s t a b.
+          one_by m d role party units other_units r other_r rest other_rest answers other_answers end other_end h s t
+          (c.stream_law.ensures.one (parsers m role party) h units other_units rest other_rest r other_r a.heard b.heard) a b;
+    }

@@ -1,0 +1,71 @@
+-- What stood before a place of the payloads that an endpoint heard: the peer's KEXINIT, the packet of a wrong guess, and the
+-- messages that were kept. `before` are the payloads before the place; the text of the peer's version line isn't among them.
+
+use Rattle.std.specs.Prelude.{ℕ, ◌==◌, ◌&&◌, Bool, false, not, List, [], length, Option, None, Some}
+use Rattle.sshmsg.specs.declared.numbers.TheConstants.{SSH_MSG_DISCONNECT, SSH_MSG_KEXINIT}
+use Rattle.sshmsg.specs.Content.{Offer}
+use Rattle.sshmsg.specs.Numbers.{kind}
+use Rattle.sshneg.specs.declared.role.Role.{Role}
+use Rattle.sshneg.specs.ExchangeEnd.{client_of, offer_in, server_of}
+use Rattle.sshneg.specs.Strictness.{is_right_guess, is_strict}
+use Rattle.sshpacket.specs.Places.{after_first, first_where, stands}
+use Rattle.sshpacket.specs.Stream.{Units}
+use Rattle.sshcore.specs.Party.{Party}
+
+-- the payload is a KEXINIT, by its number (RFC 4253 section 7.1)
+abbrev pub is_kexinit : Units → List ℕ → Bool
+is_kexinit before payload = kind payload == SSH_MSG_KEXINIT
+
+-- a KEXINIT stood
+unfoldable pub offered : Units → Bool
+offered before = stands is_kexinit [] before
+
+-- the first KEXINIT, or nothing
+unfoldable pub kexinit : Units → List ℕ
+kexinit before = first_where [] is_kexinit [] before
+
+-- what it offers, if it can be read
+abbrev pub peer_offer : Units → Option Offer
+peer_offer before = offer_in (kexinit before)
+
+-- how many payloads stood behind it
+unfoldable pub since_offer : Units → ℕ
+since_offer before = length (after_first is_kexinit [] before)
+
+-- a peer that offers this announced a guess, and it is wrong (RFC 4253 section 7)
+abbrev pub wrong_guess : Role → Offer → Option Offer → Bool
+wrong_guess role own None = false
+wrong_guess role own (Some peer) = peer.first_kex_packet_follows && not (is_right_guess (client_of role own peer) (server_of role own peer))
+
+-- the place right behind the first KEXINIT, where that announced a wrong guess
+unfoldable pub expects_guess : Role → Offer → Units → Bool
+expects_guess role own before = offered before && (since_offer before == 0 && wrong_guess role own (peer_offer before))
+
+-- The packet at that place is dropped unread (RFC 4253 section 7: the next packet is ignored), a DISCONNECT excepted (profile).
+abbrev pub dropped : Role → Offer → Units → List ℕ → Bool
+dropped role own before payload = expects_guess role own before && not (kind payload == SSH_MSG_DISCONNECT)
+
+-- a payload of this number that isn't dropped
+abbrev pub kept : Role → Offer → ℕ → Units → List ℕ → Bool
+kept role own n before payload = kind payload == n && not (dropped role own before payload)
+
+-- one stood
+unfoldable pub stood : Role → Offer → ℕ → Units → Bool
+stood role own n before = stands (kept role own n) [] before
+
+-- the first that stood, or nothing
+unfoldable pub first_kept : Role → Offer → ℕ → Units → List ℕ
+first_kept role own n before = first_where [] (kept role own n) [] before
+
+-- how many payloads stood behind it
+unfoldable pub since : Role → Offer → ℕ → Units → ℕ
+since role own n before = length (after_first (kept role own n) [] before)
+
+-- an endpoint with this flag is strict towards a peer that offers this (OpenSSH PROTOCOL section 1.10)
+abbrev pub strict_towards : Role → Bool → Option Offer → Bool
+strict_towards role flag None = false
+strict_towards role flag (Some peer) = is_strict flag role peer
+
+-- an endpoint is strict from the peer's KEXINIT on, if it shows the peer's marker
+abbrev pub strict_at : Role → Party → Units → Bool
+strict_at role party before = strict_towards role party.strict (peer_offer before)

@@ -1,0 +1,56 @@
+-- What parts hold, without where it lies in memory.
+
+use Rattle.std.specs.Prelude.{map, option_map, string_bytes}
+use Rattle.sshcore.specs.declared.config_parts.Attempt as attempt_parts
+use Rattle.sshcore.specs.declared.config_parts.ClientParts.{ClientParts}
+use Rattle.sshcore.specs.declared.config_parts.Credential.{Credential}
+use Rattle.sshcore.specs.declared.config_parts.Credential.TheVariants as credential
+use Rattle.sshcore.specs.declared.config_parts.HostKey as host_key_parts
+use Rattle.sshcore.specs.declared.config_parts.ServerParts.{ServerParts}
+use Rattle.sshcore.specs.declared.config_parts.SideParts.{SideParts}
+use Rattle.sshcore.specs.ConfigData.{Attempt, ByKey, ByNothing, ByPassword, ClientData, HostKey, Proving, ServerData, SideData}
+
+abbrev pub proving_of : Credential → Proving
+proving_of credential.None = ByNothing
+proving_of (credential.Password password) = ByPassword password.items
+proving_of (credential.PublicKey algorithm private_key) = ByKey (string_bytes algorithm) private_key.items
+
+abbrev pub attempt_of : attempt_parts.Attempt → Attempt
+attempt_of a = record { user = string_bytes a.user; service = string_bytes a.service; proving = proving_of a.credential }
+
+abbrev pub host_key_of : host_key_parts.HostKey → HostKey
+host_key_of key = record { algorithm = string_bytes key.algorithm; secret = key.private_key.items }
+
+abbrev pub side_data : SideParts → SideData
+side_data parts = record {
+  softwareversion = string_bytes parts.softwareversion;
+  comments = option_map string_bytes parts.comments;
+  kex_algorithms = map string_bytes parts.kex_algorithms.items;
+  encryption_client_to_server = map string_bytes parts.encryption_client_to_server.items;
+  encryption_server_to_client = map string_bytes parts.encryption_server_to_client.items;
+  mac_client_to_server = map string_bytes parts.mac_client_to_server.items;
+  mac_server_to_client = map string_bytes parts.mac_server_to_client.items;
+  strict = parts.strict;
+  cookie = parts.cookie.items;
+  random = parts.exchange_random.items;
+  seed = parts.padding_seed.items;
+}
+
+abbrev pub client_data : ClientParts → ClientData
+client_data parts = record {
+  side = side_data parts.side;
+  host_key_algorithms = map string_bytes parts.server_host_key_algorithms.items;
+  guess = parts.guess;
+  plan = map attempt_of parts.plan.items;
+}
+
+abbrev pub server_data : ServerParts → ServerData
+server_data parts = record {
+  side = side_data parts.side;
+  host_keys = map host_key_of parts.host_keys.items;
+  services = map string_bytes parts.services.items;
+  methods = map string_bytes parts.methods.items;
+  tries = parts.tries;
+  banner = option_map (λ text. text.items) parts.banner;
+  notices = map (λ line. line.items) parts.notice_lines.items;
+}

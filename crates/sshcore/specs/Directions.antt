@@ -1,0 +1,67 @@
+-- How an endpoint reads what it hears and spells what it says, unit by unit: RFC 4253 sections 4.2, 6, 7.2 and 7.3. Unit 0 of
+-- either direction is the text of a version line, and the others are payloads.
+
+use Rattle.std.specs.Prelude.{ℕ, if◌then◌else◌, List, [], ◌∷◌, ◌++◌, drop, flat_map, Option, None, Some}
+use Rattle.sshwire.specs.declared.limits.TheConstants.{OTHER_LINE_LIMIT}
+use Rattle.sshwire.specs.Lines.{version_line}
+use Rattle.sshmsg.specs.declared.numbers.TheConstants.{SSH_MSG_NEWKEYS}
+use Rattle.sshneg.specs.declared.role.Role.{Role}
+use Rattle.sshneg.specs.declared.role.Role.TheVariants.{Client, Server}
+use Rattle.sshneg.specs.Markers.{other}
+use Rattle.sshpacket.specs.KeyData.{KeyData}
+use Rattle.sshpacket.specs.Parse.{Protection, parse_packet, protection}
+use Rattle.sshpacket.specs.PreambleParser.{preamble_parser}
+use Rattle.sshpacket.specs.Stream.{Parser, Units}
+use Rattle.sshpacket.specs.Suite.{Meaning}
+use Rattle.sshpacket.specs.Written.{written_clear, written_sealed}
+use Rattle.sshcore.specs.Before.{stood, strict_at}
+use Rattle.sshcore.specs.Counting.{number_in, number_out, switched_out}
+use Rattle.sshcore.specs.Exchange.{keys_at}
+use Rattle.sshcore.specs.Party.{Party}
+
+-- what of the units heard is the version, and what are payloads
+abbrev pub version_in : Units → List ℕ
+version_in [] = []
+version_in (version ∷ payloads) = version
+
+abbrev pub payloads_in : Units → Units
+payloads_in units = drop 1 units
+
+-- how many other lines are taken before the version line (profile)
+abbrev pub others_of : Role → ℕ
+others_of Client = OTHER_LINE_LIMIT
+others_of Server = 0
+
+-- the keys of what is heard: none up to the key switch, which is the first NEWKEYS that isn't dropped (RFC 4253 section 7.3)
+abbrev pub keys_in : Meaning → Role → Party → List ℕ → Units → Option KeyData
+keys_in m role party version before =
+    if stood role party.offer SSH_MSG_NEWKEYS before then Some (keys_at m role party version before (other role)) else None
+
+-- how the next packet is protected
+abbrev pub protection_in : Meaning → Role → Party → List ℕ → Units → Protection
+protection_in m role party version before = protection m (keys_in m role party version before) (number_in role party before)
+
+-- how the next unit is read behind these: lines first, then packets
+abbrev pub parsers : Meaning → Role → Party → Units → Parser
+parsers m role party [] = preamble_parser (others_of role)
+parsers m role party (version ∷ before) = parse_packet (protection_in m role party version before)
+
+-- the lines that are said first: notices and the version line
+abbrev pub preamble_of : Party → List ℕ
+preamble_of party = flat_map version_line party.notices ++ version_line party.version
+
+-- the keys of what is said: none up to the NEWKEYS that was said, the exchange's behind it
+abbrev pub keys_out : Meaning → Role → Party → Units → Units → Option KeyData
+keys_out m role party heard said =
+    if switched_out said then Some (keys_at m role party (version_in heard) (payloads_in heard) role) else None
+
+-- a payload as a packet, in clear or sealed (RFC 4253 section 6)
+abbrev pub spelled_by : Meaning → Option KeyData → List ℕ → ℕ → List ℕ → List ℕ
+spelled_by m None seed seq payload = written_clear m seed seq payload
+spelled_by m (Some keys) seed seq payload = written_sealed m keys seed seq payload
+
+-- how a unit is spelled behind those said before, by an endpoint that has heard these units
+abbrev pub spells : Meaning → Role → Party → Units → Units → List ℕ → List ℕ
+spells m role party heard [] version = preamble_of party
+spells m role party heard (version ∷ said) payload =
+    spelled_by m (keys_out m role party heard said) party.seed (number_out (strict_at role party (payloads_in heard)) said) payload

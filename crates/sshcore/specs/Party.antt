@@ -1,0 +1,65 @@
+-- What an endpoint is made of and whom it asks, as plain data.
+
+use Rattle.std.specs.Prelude.{ℕ, Bool, List, [], Option, None}
+use Rattle.sshmsg.specs.Content.{Offer}
+use Rattle.sshcore.specs.ConfigData.{Attempt, ClientData, HostKey, ServerData, client_offer, server_offer, version_of}
+
+-- What an endpoint is made of. What its role doesn't have is empty: notices, host keys, services, methods and banner are a
+-- server's, the plan is a client's.
+pub record Party : Type 0 where
+  pub version : List ℕ
+  pub notices : List (List ℕ)
+  pub offer : Offer
+  pub strict : Bool
+  pub random : List ℕ
+  pub seed : List ℕ
+  pub plan : List Attempt
+  pub host_keys : List HostKey
+  pub services : List (List ℕ)
+  pub methods : List (List ℕ)
+  pub tries : ℕ
+  pub banner : Option (List ℕ)
+
+abbrev pub client_party : ClientData → Party
+client_party client = record {
+  version = version_of client.side;
+  notices = [];
+  offer = client_offer client;
+  strict = client.side.strict;
+  random = client.side.random;
+  seed = client.side.seed;
+  plan = client.plan;
+  host_keys = [];
+  services = [];
+  methods = [];
+  tries = 0;
+  banner = None;
+}
+
+abbrev pub server_party : ServerData → Party
+server_party server = record {
+  version = version_of server.side;
+  notices = server.notices;
+  offer = server_offer server;
+  strict = server.side.strict;
+  random = server.side.random;
+  seed = server.side.seed;
+  plan = [];
+  host_keys = server.host_keys;
+  services = server.services;
+  methods = server.methods;
+  tries = server.tries;
+  banner = server.banner;
+}
+
+-- what a request proves: nothing, a password, or a key by its algorithm and blob
+pub data ProofData : Type 0 where
+  NoProof : ProofData
+  PasswordProof : List ℕ → ProofData
+  KeyProof : List ℕ → List ℕ → ProofData
+
+-- the decisions of whoever runs an endpoint: on a host key (algorithm and blob), and on a request (its number from 1, user,
+-- service and proof)
+pub record Policy : Type 0 where
+  pub host_key : List ℕ → List ℕ → Bool
+  pub user : ℕ → List ℕ → List ℕ → ProofData → Bool

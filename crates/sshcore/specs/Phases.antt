@@ -1,0 +1,63 @@
+-- What an endpoint waits for, by the payloads that stood before.
+
+use Rattle.std.specs.Prelude.{ℕ, Bool, true, false, not, if◌then◌else◌}
+use Rattle.sshmsg.specs.declared.numbers.TheConstants.{SSH_MSG_KEXDH_INIT, SSH_MSG_KEXDH_REPLY, SSH_MSG_KEXINIT, SSH_MSG_NEWKEYS, SSH_MSG_SERVICE_ACCEPT, SSH_MSG_SERVICE_REQUEST}
+use Rattle.sshmsg.specs.Content.{Offer}
+use Rattle.sshneg.specs.declared.role.Role.{Role}
+use Rattle.sshneg.specs.declared.role.Role.TheVariants.{Client, Server}
+use Rattle.sshpacket.specs.Stream.{Units}
+use Rattle.sshcore.specs.declared.table.Phase.{Phase}
+use Rattle.sshcore.specs.declared.table.Phase.TheVariants as phase
+use Rattle.sshcore.specs.Before.{stood}
+
+-- The number of the message that leaves a phase: RFC 4253 sections 7.1, 8, 7.3 and 10. Nothing leaves phase auth, so a number
+-- stands there that no message has.
+abbrev pub leaving : Role → Phase → ℕ
+leaving role phase.KexInit = SSH_MSG_KEXINIT
+leaving Client phase.Exchange = SSH_MSG_KEXDH_REPLY
+leaving Server phase.Exchange = SSH_MSG_KEXDH_INIT
+leaving role phase.NewKeys = SSH_MSG_NEWKEYS
+leaving Client phase.Service = SSH_MSG_SERVICE_ACCEPT
+leaving Server phase.Service = SSH_MSG_SERVICE_REQUEST
+leaving role phase.Auth = 256
+
+-- the first phase whose leaving message hasn't stood, of whether those of kexinit, exchange, newkeys and service have
+abbrev pub phase_by : Bool → Bool → Bool → Bool → Phase
+phase_by kexinit exchange newkeys service =
+    if not kexinit then phase.KexInit
+    else if not exchange then phase.Exchange
+    else if not newkeys then phase.NewKeys
+    else if not service then phase.Service
+    else phase.Auth
+
+abbrev pub phase_at : Role → Offer → Units → Phase
+phase_at role own before =
+    phase_by (stood role own SSH_MSG_KEXINIT before) (stood role own (leaving role phase.Exchange) before)
+    (stood role own SSH_MSG_NEWKEYS before) (stood role own (leaving role phase.Service) before)
+
+-- which phases are behind an endpoint that is in this one
+abbrev pub past_kexinit : Phase → Bool
+past_kexinit phase.KexInit = false
+past_kexinit _ = true
+
+abbrev pub past_exchange : Phase → Bool
+past_exchange phase.KexInit = false
+past_exchange phase.Exchange = false
+past_exchange _ = true
+
+abbrev pub past_newkeys : Phase → Bool
+past_newkeys phase.Service = true
+past_newkeys phase.Auth = true
+past_newkeys _ = false
+
+abbrev pub past_service : Phase → Bool
+past_service phase.Auth = true
+past_service _ = false
+
+-- the phase behind one
+abbrev pub behind : Phase → Phase
+behind phase.KexInit = phase.Exchange
+behind phase.Exchange = phase.NewKeys
+behind phase.NewKeys = phase.Service
+behind phase.Service = phase.Auth
+behind phase.Auth = phase.Auth

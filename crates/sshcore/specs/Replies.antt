@@ -1,0 +1,88 @@
+-- What an endpoint of either role says and how it ends, by the units that it heard.
+
+use Rattle.std.specs.Prelude.{◌≡◌, ◌≢◌, ℕ, List, [], ◌∷◌, ◌++◌, Option, None, Some, Result, Ok, Err}
+use Rattle.sshmsg.specs.declared.fault.MsgFault.{MsgFault}
+use Rattle.sshmsg.specs.Content.{Content, Unimplemented}
+use Rattle.sshmsg.specs.Messages.{message_in}
+use Rattle.sshmsg.specs.Numbers.{kind}
+use Rattle.sshmsg.specs.Written.{written_message}
+use Rattle.sshneg.specs.declared.role.Role.{Role}
+use Rattle.sshpacket.specs.declared.fault.PacketFault.TheVariants as packet
+use Rattle.sshpacket.specs.Parse.{OfLine, OfPacket, Refusal}
+use Rattle.sshpacket.specs.Places.{EachPlace, flat_places}
+use Rattle.sshpacket.specs.Stream.{Units}
+use Rattle.sshpacket.specs.Suite.{Meaning}
+use Rattle.sshcore.specs.declared.end.Fault.{Fault}
+use Rattle.sshcore.specs.declared.end.Fault.TheVariants as fault
+use Rattle.sshcore.specs.declared.table.Line.{Line}
+use Rattle.sshcore.specs.declared.table.Line.TheVariants as line
+use Rattle.sshcore.specs.Before.{expects_guess, strict_at}
+use Rattle.sshcore.specs.Counting.{number_in}
+use Rattle.sshcore.specs.Ending.{Ending, Open, Reply, fails, goes}
+use Rattle.sshcore.specs.Known.{Known, known_at}
+use Rattle.sshcore.specs.Party.{Party, Policy}
+use Rattle.sshcore.specs.Phases.{phase_at}
+use Rattle.sshcore.specs.Table.{line_by}
+use Rattle.sshcore.specs.Work.{making, work}
+
+-- a message that is read is worked on, and one that can't be read is malformed
+abbrev pub read_reply : Meaning → Policy → Role → Party → Known → ℕ → Result Content MsgFault → Reply
+read_reply m d role party known n (Ok content) = work m d role party known content
+read_reply m d role party known n (Err e) = fails (fault.Malformed n)
+
+-- what a line of the table says of a packet with this number; UNIMPLEMENTED tells it (RFC 4253 section 11.4)
+unfoldable pub line_reply : Meaning → Policy → Role → Party → Known → ℕ → Line → List ℕ → Reply
+line_reply m d role party known packet line.Reads payload = read_reply m d role party known (kind payload) (message_in known.shares payload)
+line_reply m d role party known packet line.Drops payload = goes []
+line_reply m d role party known packet line.Deviates payload = fails (fault.Strict (kind payload))
+line_reply m d role party known packet line.Unknown payload = goes (written_message (Unimplemented packet) ∷ [])
+line_reply m d role party known packet line.Unexpected payload = fails (fault.Unexpected (kind payload))
+
+-- the line that decides at a place
+abbrev pub line_at : Role → Party → Units → List ℕ → Line
+line_at role party before payload =
+    line_by role (phase_at role party.offer before) (strict_at role party before) (expects_guess role party.offer before) (kind payload)
+
+-- what a payload brings behind those before it
+abbrev pub reply_at : Meaning → Policy → Role → Party → List ℕ → Units → List ℕ → Reply
+reply_at m d role party version before payload =
+    line_reply m d role party (known_at m role party version before) (number_in role party before) (line_at role party before payload) payload
+
+-- the same of a unit: the version line is answered by nothing
+abbrev pub unit_reply : Meaning → Policy → Role → Party → Units → List ℕ → Reply
+unit_reply m d role party [] version = goes []
+unit_reply m d role party (version ∷ before) payload = reply_at m d role party version before payload
+
+abbrev pub answers_at : Meaning → Policy → Role → Party → Units → List ℕ → Units
+answers_at m d role party before unit = (unit_reply m d role party before unit).answers
+
+abbrev pub end_at : Meaning → Policy → Role → Party → Units → List ℕ → Ending
+end_at m d role party before unit = (unit_reply m d role party before unit).end
+
+-- the failure at bytes that are refused
+abbrev pub fault_of : Refusal → Fault
+fault_of (OfLine f) = fault.Version
+fault_of (OfPacket packet.Length) = fault.Length
+fault_of (OfPacket packet.Padding) = fault.Padding
+fault_of (OfPacket packet.Empty) = fault.Padding
+fault_of (OfPacket packet.Mac) = fault.Mac
+fault_of (OfPacket packet.Memory) = fault.Memory
+
+abbrev pub refusal_reply : Option Refusal → Reply
+refusal_reply None = goes []
+refusal_reply (Some r) = fails (fault_of r)
+
+-- the endpoint stays open at each of these units
+abbrev pub StaysOpen : Meaning → Policy → Role → Party → Units → Type 0
+StaysOpen m d role party units = EachPlace (λ before unit. end_at m d role party before unit ≡ Open) [] units
+
+-- how it stands: open or refused behind all units; or the last unit ended it, and nothing stands behind
+pub data Ends (m : Meaning) (d : Policy) (role : Role) (party : Party) (units : Units) (refusal : Option Refusal) (end : Ending) : Type 0 where
+  goes_on : StaysOpen m d role party units → end ≡ (refusal_reply refusal).end → Ends m d role party units refusal end
+  ended : (before : Units) (last : List ℕ) → units ≡ before ++ last ∷ [] → StaysOpen m d role party before
+      → end ≡ end_at m d role party before last → end ≢ Open → refusal ≡ None → Ends m d role party units refusal end
+
+-- What an endpoint says: its first payloads, then the answers to each unit heard, in order, and to a refusal.
+pub record Replies (m : Meaning) (d : Policy) (role : Role) (party : Party) (units : Units) (refusal : Option Refusal) (answers : Units) (end : Ending) : Type 0 where
+  pub in_order : answers ≡ making m role party ++ (flat_places (answers_at m d role party) [] units ++ (refusal_reply refusal).answers)
+  pub ends : Ends m d role party units refusal end

@@ -1,0 +1,74 @@
+-- Where an endpoint stands between two payloads: its phase, whether the packet of a wrong guess is due, and what it knows.
+
+use Rattle.std.specs.Prelude.{◌≡◌, ℕ, ◌==◌, Bool, true, false, List, [], Some}
+use Rattle.sshwire.specs.declared.share_form.ShareForm.TheVariants.{Mpint}
+use Rattle.sshmsg.specs.declared.numbers.TheConstants.{SSH_MSG_KEXINIT, SSH_MSG_NEWKEYS}
+use Rattle.sshmsg.specs.Content.{Offer}
+use Rattle.sshmsg.specs.Messages.{message_in}
+use Rattle.sshneg.specs.declared.role.Role.{Role}
+use Rattle.sshneg.specs.Derivations.{ExchangeData}
+use Rattle.sshneg.specs.ExchangeEnd.{exchange_hash}
+use Rattle.sshpacket.specs.Stream.{Units}
+use Rattle.sshpacket.specs.Suite.{Meaning}
+use Rattle.sshcore.specs.declared.table.Phase.{Phase}
+use Rattle.sshcore.specs.declared.table.Phase.TheVariants as phase
+use Rattle.sshcore.specs.Before.{expects_guess, offered, stood, strict_towards}
+use Rattle.sshcore.specs.Exchange.{choice_with, chosen_or, exchange_with, no_algorithms, shares_by}
+use Rattle.sshcore.specs.Known.{Known, known_at}
+use Rattle.sshcore.specs.Party.{Party}
+use Rattle.sshcore.specs.Phases.{leaving, past_exchange, past_kexinit, past_newkeys, past_service}
+
+-- of the messages that leave phases, those stood that the phase has behind it
+pub record Tied (role : Role) (own : Offer) (before : Units) (p : Phase) : Type 0 where
+  pub offer : offered before ≡ past_kexinit p
+  pub kexinit : stood role own SSH_MSG_KEXINIT before ≡ past_kexinit p
+  pub exchange : stood role own (leaving role phase.Exchange) before ≡ past_exchange p
+  pub newkeys : stood role own SSH_MSG_NEWKEYS before ≡ past_newkeys p
+  pub service : stood role own (leaving role phase.Service) before ≡ past_service p
+
+-- a number that leaves no phase
+pub record LeavesNone (role : Role) (n : ℕ) : Type 0 where
+  pub kexinit : (n == SSH_MSG_KEXINIT) ≡ false
+  pub exchange : (n == leaving role phase.Exchange) ≡ false
+  pub newkeys : (n == SSH_MSG_NEWKEYS) ≡ false
+  pub service : (n == leaving role phase.Service) ≡ false
+
+-- what is known before the peer's KEXINIT
+abbrev pub nothing_known : List ℕ → Known
+nothing_known version = record {
+  version = version;
+  kexinit = [];
+  algorithms = no_algorithms;
+  shares = Mpint;
+  session = [];
+  strict = false;
+  first = true;
+}
+
+-- what is known behind the first KEXINIT, which is this payload and offers this
+abbrev pub behind_offer : Meaning → Role → Party → Known → List ℕ → Offer → Known
+behind_offer m role party known payload peer = record {
+  version = known.version;
+  kexinit = payload;
+  algorithms = chosen_or (choice_with m role party.offer (Some peer));
+  shares = shares_by m (choice_with m role party.offer (Some peer));
+  session = known.session;
+  strict = strict_towards role party.strict (Some peer);
+  first = false;
+}
+
+-- what is hashed, once this payload is the exchange message
+abbrev pub exchange_of : Meaning → Role → Party → Known → List ℕ → ExchangeData
+exchange_of m role party known payload =
+    exchange_with m role party known.algorithms known.version known.kexinit (message_in known.shares payload)
+
+-- and what is known behind it
+abbrev pub behind_exchange : Meaning → Role → Party → Known → List ℕ → Known
+behind_exchange m role party known payload =
+    record known { session = exchange_hash m known.algorithms.kex (exchange_of m role party known payload) }
+
+-- An endpoint that has heard this version and these payloads stands so.
+pub record Sits (m : Meaning) (role : Role) (party : Party) (version : List ℕ) (before : Units) (p : Phase) (guess : Bool) (known : Known) : Type 0 where
+  pub tied : Tied role party.offer before p
+  pub due : expects_guess role party.offer before ≡ guess
+  pub knows : known_at m role party version before ≡ known

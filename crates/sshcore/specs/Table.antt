@@ -1,0 +1,58 @@
+-- The phase table: what a packet is to an endpoint, by its number and by what the endpoint waits for. The lines stand in the
+-- order in which they are tried, and the first that applies decides.
+
+use Rattle.std.specs.Prelude.{ℕ, ◌==◌, ◌&&◌, ◌||◌, Bool, true, false, not, nat_le, if◌then◌else◌}
+use Rattle.sshmsg.specs.declared.numbers.TheConstants.{SSH_MSG_DISCONNECT, SSH_MSG_EXT_INFO}
+use Rattle.sshneg.specs.declared.role.Role.{Role}
+use Rattle.sshcore.specs.declared.table.Line.{Line}
+use Rattle.sshcore.specs.declared.table.Line.TheVariants as line
+use Rattle.sshcore.specs.declared.table.Phase.{Phase}
+use Rattle.sshcore.specs.declared.table.Phase.TheVariants as phase
+use Rattle.sshcore.specs.Phases.{leaving}
+
+abbrev pub within : ℕ → ℕ → ℕ → Bool
+within low high n = nat_le low n && nat_le n high
+
+-- strictness rules the packets from KEXINIT to NEWKEYS (OpenSSH PROTOCOL section 1.10); those before KEXINIT are judged there
+abbrev pub is_ruled : Phase → Bool → Bool
+is_ruled phase.Exchange strict = strict
+is_ruled phase.NewKeys strict = strict
+is_ruled _ strict = false
+
+-- 30 to 49 are the key exchange method's own (RFC 4250 section 4.1.1), so a guess has one of them
+abbrev pub is_of_method : ℕ → Bool
+is_of_method n = within 30 49 n
+
+-- the requests and answers of authentication (RFC 4252 section 5): none is taken yet
+abbrev pub is_of_auth : Role → Phase → ℕ → Bool
+is_of_auth role p n = false
+
+-- IGNORE, UNIMPLEMENTED and DEBUG may come at any time (RFC 4253 section 11)
+abbrev pub is_ignored : ℕ → Bool
+is_ignored n = within 2 4 n
+
+-- EXT_INFO has a place behind NEWKEYS (RFC 8308 section 2.4)
+abbrev pub takes_extensions : Phase → Bool
+takes_extensions phase.Service = true
+takes_extensions phase.Auth = true
+takes_extensions _ = false
+
+-- numbers without a meaning here, up to the end of authentication (RFC 4253 section 11.4, RFC 4250 section 4.1)
+abbrev pub is_unknown : ℕ → Bool
+is_unknown n = within 8 19 n || (within 22 29 n || (within 32 49 n || within 54 79 n))
+
+-- The table; `guess` says that the packet of a wrong guess is due. Its lines: a DISCONNECT; that packet, where strictness
+-- doesn't rule; that packet, with a number of the method's own; what strictness doesn't require; what leaves the phase; what
+-- is of authentication; what is ignored; EXT_INFO; what has no meaning; and what has no use.
+unfoldable pub line_by : Role → Phase → Bool → Bool → ℕ → Line
+line_by role p strict guess n =
+    if n == SSH_MSG_DISCONNECT then line.Reads
+    else if guess && not (is_ruled p strict) then line.Drops
+    else if guess && is_of_method n then line.Drops
+    else if is_ruled p strict && (guess || not (n == leaving role p)) then line.Deviates
+    else if n == leaving role p then line.Reads
+    else if is_of_auth role p n then line.Reads
+    else if is_ignored n then line.Reads
+    else if n == SSH_MSG_EXT_INFO && takes_extensions p then line.Reads
+    else if is_unknown n then line.Unknown
+    else line.Unexpected

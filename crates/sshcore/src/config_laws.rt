@@ -1,0 +1,28 @@
+//! What the layers above may rest on: what is true of each accepted config.
+
+ghost use Rattle.std.specs.Prelude.{◌≤◌, Contains, length};
+ghost use Rattle.sshwire.specs.declared.limits.TheConstants.{PAYLOAD_LIMIT};
+ghost use Rattle.sshmsg.specs.Content.{KexInit};
+ghost use Rattle.sshmsg.specs.Written.{IsOffer, written_message};
+ghost use Rattle.sshneg.specs.declared.role.Role.{Role};
+ghost use Rattle.sshneg.specs.Markers.{strict_marker};
+ghost use Rattle.sshcore.specs.ConfigData.{ClientData, ServerData, client_offer, server_offer};
+ghost use Rattle.sshcore.specs.ConfigRules.{FitsKexInit, IsClient, IsServer};
+
+/// The law of configs: the KEXINIT of an accepted config is well-formed and fits a payload, and no
+/// marker of strictness stands in the kex list that is configured. Takes no memory.
+pub fn config_law()
+    ensures client_offer { (client : ClientData) → IsClient client → IsOffer (client_offer client) }
+    ensures server_offer { (server : ServerData) → IsServer server → IsOffer (server_offer server) }
+    ensures client_fits { (client : ClientData) → IsClient client → length (written_message (KexInit (client_offer client))) ≤ PAYLOAD_LIMIT }
+    ensures server_fits { (server : ServerData) → IsServer server → length (written_message (KexInit (server_offer server))) ≤ PAYLOAD_LIMIT }
+    ensures client_unmarked { (client : ClientData) → IsClient client → (role : Role) → Contains client.side.kex_algorithms (strict_marker role) → ⊥ }
+    ensures server_unmarked { (server : ServerData) → IsServer server → (role : Role) → Contains server.side.kex_algorithms (strict_marker role) → ⊥ }
+
+    // Lists have so few names that they fit the fields of a KEXINIT.
+    ensures client_few { (client : ClientData) → IsClient client → FitsKexInit client.side × (length client.host_key_algorithms ≤ 1001) }
+    ensures server_few { (server : ServerData) → IsServer server → FitsKexInit server.side × (length server.host_keys ≤ 1001) }
+{
+    sshwire::names_law();
+    sshmsg::lengths_law();
+}

@@ -1,0 +1,130 @@
+//! What configs are made of.
+//!
+//! None of these types has a `Debug`: passwords and private keys are never printed.
+
+/// The most bytes of the text of a list, markers left out (profile).
+pub const LIST_LIMIT: usize = 1000;
+
+/// The most notice lines of a server (profile).
+pub const NOTICE_LIMIT: usize = 20;
+
+/// The most bytes of a notice line, its CR LF left out (profile; RFC 4253 section 4.2 gives none).
+pub const NOTICE_LINE_LIMIT: usize = 253;
+
+/// The most bytes of a user's name (profile).
+pub const USER_LIMIT: usize = 255;
+
+/// The most bytes of a password (profile).
+pub const PASSWORD_LIMIT: usize = 1024;
+
+/// The most bytes of a private key (profile).
+pub const PRIVATE_KEY_LIMIT: usize = 8192;
+
+/// The most bytes of a banner (profile).
+pub const BANNER_LIMIT: usize = 8192;
+
+/// The most attempts of a plan (profile).
+pub const PLAN_LIMIT: usize = 64;
+
+/// The most tries that a server grants (profile; RFC 4252 section 4 recommends 20).
+pub const TRIES_LIMIT: u32 = 20;
+
+/// How a client proves who its user is.
+#[derive(Drop)]
+pub enum Credential {
+    /// Not at all: the method `none` (RFC 4252 section 5.2).
+    None,
+    /// By a password of at most 1024 bytes, any bytes (RFC 4252 section 8).
+    Password(Vec<u8>),
+    /// By a signature (RFC 4252 section 7).
+    PublicKey {
+        /// The name of the key's algorithm.
+        algorithm: String,
+        /// The private key as the suite has it, at most 8192 bytes.
+        private_key: Vec<u8>,
+    },
+}
+
+/// One attempt of a client's plan (RFC 4252 section 5).
+#[derive(Drop)]
+pub struct Attempt {
+    /// The user's name, at most 255 bytes.
+    pub user: String,
+    /// The name of the service that is to start behind authentication.
+    pub service: String,
+    /// How the client proves who the user is.
+    pub credential: Credential,
+}
+
+/// One host key of a server.
+#[derive(Drop)]
+pub struct HostKey {
+    /// The name of its algorithm.
+    pub algorithm: String,
+    /// The private key as the suite has it, at most 8192 bytes.
+    pub private_key: Vec<u8>,
+}
+
+/// What the parts of both sides have.
+#[derive(Drop)]
+pub struct SideParts {
+    /// The softwareversion of the version line (RFC 4253 section 4.2).
+    pub softwareversion: String,
+    /// The comments of the version line, if there are some.
+    pub comments: Option<String>,
+    /// Key exchange methods, without markers; at least one. Like each list its text, which is the names
+    /// with single commas between, has at most 1000 bytes.
+    pub kex_algorithms: Vec<String>,
+    /// Ciphers from client to server, at least one.
+    pub encryption_client_to_server: Vec<String>,
+    /// Ciphers from server to client, at least one.
+    pub encryption_server_to_client: Vec<String>,
+    /// MACs from client to server, at least one.
+    pub mac_client_to_server: Vec<String>,
+    /// MACs from server to client, at least one.
+    pub mac_server_to_client: Vec<String>,
+    /// Whether the side is willing to be strict (OpenSSH PROTOCOL section 1.10): its marker then stands
+    /// last in the kex list that it sends.
+    pub strict: bool,
+    /// The cookie of the KEXINIT: 16 random bytes.
+    pub cookie: Vec<u8>,
+    /// The secret of which the suite makes this side's share: 32 random bytes.
+    pub exchange_random: Vec<u8>,
+    /// The secret of which the suite makes padding: 32 random bytes.
+    pub padding_seed: Vec<u8>,
+}
+
+/// What a client's config is made of.
+#[derive(Drop)]
+pub struct ClientParts {
+    /// What both sides have.
+    pub side: SideParts,
+    /// Algorithms of the server's host key, at least one.
+    pub server_host_key_algorithms: Vec<String>,
+    /// Whether the client announces a guess and sends its share at once (RFC 4253 section 7).
+    pub guess: bool,
+    /// The attempts to authenticate, in order, at most 64.
+    pub plan: Vec<Attempt>,
+}
+
+/// What a server's config is made of.
+#[derive(Drop)]
+pub struct ServerParts {
+    /// What both sides have.
+    pub side: SideParts,
+    /// The host keys, at least one. Their algorithms in order are the list that the server offers; of
+    /// two with one algorithm the first is used.
+    pub host_keys: Vec<HostKey>,
+    /// The names of the services that may start behind authentication; there may be none.
+    pub services: Vec<String>,
+    /// The methods that a FAILURE lists, each `password` or `publickey`; there may be none.
+    pub methods: Vec<String>,
+    /// The number of the request at which a failure ends the session, 1 to 20.
+    pub tries: u32,
+    /// The text of the BANNER that follows the accepted service (RFC 4252 section 5.4), at most 8192
+    /// bytes, if one is to be sent.
+    pub banner: Option<Vec<u8>>,
+    /// Lines that are sent before the version line (RFC 4253 section 4.2), without their CR LF: at most
+    /// 20, each of at most 253 bytes from 32 to 126, and none that begins with `SSH-`.
+    pub notice_lines: Vec<Vec<u8>>,
+}

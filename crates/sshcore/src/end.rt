@@ -1,0 +1,109 @@
+//! How an endpoint ends.
+
+use sshneg::NoCommon;
+use std::error::Error;
+use std::fmt;
+
+/// Why an endpoint failed.
+#[derive(Clone, Copy, Debug, PartialEq, Eq)]
+pub enum Fault {
+    /// F1: a line is refused: the version line, or one before it.
+    Version,
+    /// F2: a packet_length that isn't taken.
+    Length,
+    /// F3: bad padding, or an empty payload.
+    Padding,
+    /// F4: a wrong tag.
+    Mac,
+    /// F5: a message of this number that can't be read.
+    Malformed(u8),
+    /// F6: a message of this number in a place where it has no use.
+    Unexpected(u8),
+    /// F7: a message of this number where strict key exchange requires another.
+    Strict(u8),
+    /// F8: no common algorithm in this field.
+    NoCommon(NoCommon),
+    /// F9: the suite gives no shared number.
+    Exchange,
+    /// F10: the host key isn't trusted.
+    HostKey,
+    /// F11: the server's signature of the exchange hash is wrong.
+    Signature,
+    /// F12: a service that the server doesn't have.
+    Service,
+    /// F13: too many requests.
+    TooManyTries,
+    /// F14: no attempt is left.
+    NoMoreMethods,
+    /// F15: a growth was refused.
+    Memory,
+    /// F16: the input ended before.
+    Cut,
+}
+
+impl fmt::Display for Fault {
+    fn fmt<W: fmt::Write>(&self, f: &mut fmt::Formatter<W>) -> fmt::Result {
+        match self {
+            Fault::Version => f.write_str("F1"),
+            Fault::Length => f.write_str("F2"),
+            Fault::Padding => f.write_str("F3"),
+            Fault::Mac => f.write_str("F4"),
+            Fault::Malformed(number) => write!(f, "F5 {number}"),
+            Fault::Unexpected(number) => write!(f, "F6 {number}"),
+            Fault::Strict(number) => write!(f, "F7 {number}"),
+            Fault::NoCommon(field) => write!(f, "F8 {field}"),
+            Fault::Exchange => f.write_str("F9"),
+            Fault::HostKey => f.write_str("F10"),
+            Fault::Signature => f.write_str("F11"),
+            Fault::Service => f.write_str("F12"),
+            Fault::TooManyTries => f.write_str("F13"),
+            Fault::NoMoreMethods => f.write_str("F14"),
+            Fault::Memory => f.write_str("F15"),
+            Fault::Cut => f.write_str("F16"),
+        }
+    }
+}
+
+impl Error for Fault {}
+
+/// What both sides agreed on.
+#[derive(Debug, Drop)]
+pub struct Agreed {
+    /// The key exchange method.
+    pub kex: String,
+    /// The algorithm of the server's host key.
+    pub host_key: String,
+    /// The cipher from client to server.
+    pub encryption_client_to_server: String,
+    /// The cipher from server to client.
+    pub encryption_server_to_client: String,
+    /// The MAC from client to server.
+    pub mac_client_to_server: String,
+    /// The MAC from server to client.
+    pub mac_server_to_client: String,
+    /// Compression from client to server.
+    pub compression_client_to_server: String,
+    /// Compression from server to client.
+    pub compression_server_to_client: String,
+    /// Whether both sides were strict.
+    pub strict: bool,
+    /// The session identifier.
+    pub session: Vec<u8>,
+    /// The user who was authenticated.
+    pub user: String,
+    /// The service that follows.
+    pub service: String,
+}
+
+/// How an endpoint stands.
+#[derive(Debug, Drop)]
+pub enum End {
+    /// It goes on.
+    Open,
+    /// The user is authenticated.
+    Authenticated(Agreed),
+    /// It failed.
+    Failed(Fault),
+    /// The peer sent a DISCONNECT with this reason.
+    Closed(u32),
+}

@@ -1,0 +1,158 @@
+//! What the layers above may rest on.
+
+ghost use Rattle.std.specs.Prelude.{◌≡◌, ◌⊎◌, ℕ, ◌+◌, ◌≤◌, ◌%◌, ◌^◌, ◌==◌, Bool, true, false, if◌then◌else◌, List, [], ◌∷◌, ◌++◌, length, take, Option, None, Some};
+ghost use Rattle.sshwire.specs.declared.share_form.ShareForm.{ShareForm};
+ghost use Rattle.sshmsg.specs.declared.numbers.TheConstants.{SSH_MSG_DISCONNECT, SSH_MSG_NEWKEYS};
+ghost use Rattle.sshmsg.specs.Content.{Offer};
+ghost use Rattle.sshmsg.specs.Numbers.{kind};
+ghost use Rattle.sshpacket.specs.Parse.{Refusal, refused, unfinished, whole};
+ghost use Rattle.sshpacket.specs.Places.{IsPrefix, flat_places};
+ghost use Rattle.sshpacket.specs.Stream.{IsIncremental, Said, Units};
+ghost use Rattle.sshpacket.specs.Suite.{Meaning};
+ghost use Rattle.sshneg.specs.declared.role.Role.{Role};
+ghost use Rattle.sshneg.specs.ExchangeEnd.{offer_in};
+ghost use Rattle.sshcore.specs.declared.table.Line.TheVariants as line;
+ghost use Rattle.sshcore.specs.declared.table.Phase.{Phase};
+ghost use Rattle.sshcore.specs.declared.table.Phase.TheVariants as phase;
+ghost use Rattle.sshcore.specs.Before.{kept, wrong_guess};
+ghost use Rattle.sshcore.specs.Counting.{number_in, number_out, switched_out};
+ghost use Rattle.sshcore.specs.Directions.{parsers, payloads_in, spells};
+ghost use Rattle.sshcore.specs.Ending.{Ending, Failed, Open, disconnect};
+ghost use Rattle.sshcore.specs.Exchange.{keys_at, keys_by};
+ghost use Rattle.sshcore.specs.History.{AllFit, BrokenOff, History, IsOneHistory, IsReady};
+ghost use Rattle.sshcore.specs.Known.{Known};
+ghost use Rattle.sshcore.specs.Party.{Party, Policy};
+ghost use Rattle.sshcore.specs.Phases.{behind, leaving, past_exchange, past_newkeys};
+ghost use Rattle.sshcore.specs.Replies.{Ends, answers_at, end_at, fault_of, line_reply, reply_at};
+ghost use Rattle.sshcore.specs.Standing.{LeavesNone, Sits, behind_exchange, behind_offer, exchange_of, nothing_known};
+ghost use Rattle.sshcore.specs.StrictClause.{KeepsStrict};
+ghost use Rattle.sshcore.specs.Table.{line_by};
+ghost use Rattle.sshcore.specs.Work.{making};
+
+/// The law of strictness (OpenSSH PROTOCOL section 1.10): an endpoint that heard these units and
+/// ended so, or stands open, keeps it, whoever sent them.
+pub fn strict_law()
+    ensures keeps { (m : Meaning) (d : Policy) (role : Role) (party : Party) (units : Units) (refusal : Option Refusal) (end : Ending)
+        → Ends m d role party units refusal end → KeepsStrict role party units end }
+{
+    sshmsg::numbers_law();
+    sshneg::markers_law();
+}
+
+/// The law of standing: where an endpoint stands between two payloads, what the next one brings there,
+/// and where it stands behind it.
+pub fn standing_law()
+    // Before anything but the peer's version line was heard.
+    ensures begins { (m : Meaning) (role : Role) (party : Party) (version : List ℕ) → Sits m role party version [] phase.KexInit false (nothing_known version) }
+    // What a payload brings is what its line of the phase table says.
+    ensures replies { (m : Meaning) (d : Policy) (role : Role) (party : Party) (version : List ℕ) (before : Units) (payload : List ℕ) (p : Phase) (guess : Bool) (known : Known)
+        → Sits m role party version before p guess known → reply_at m d role party version before payload
+        ≡ line_reply m d role party known (number_in role party before) (line_by role p known.strict guess (kind payload)) payload }
+
+    // Behind the peer's KEXINIT; behind the packet of a wrong guess; behind the exchange message; behind every other message that
+    // leaves a phase; and behind one that leaves none.
+    ensures offers { (m : Meaning) (role : Role) (party : Party) (version : List ℕ) (before : Units) (payload : List ℕ) (peer : Offer) (known : Known)
+        → Sits m role party version before phase.KexInit false known → offer_in payload ≡ Some peer
+        → Sits m role party version (before ++ payload ∷ []) phase.Exchange (wrong_guess role party.offer (Some peer)) (behind_offer m role party known payload peer) }
+    ensures drops { (m : Meaning) (role : Role) (party : Party) (version : List ℕ) (before : Units) (payload : List ℕ) (p : Phase) (known : Known)
+        → Sits m role party version before p true known → (kind payload == SSH_MSG_DISCONNECT) ≡ false
+        → Sits m role party version (before ++ payload ∷ []) p false (record known { first = false }) }
+    ensures exchanges { (m : Meaning) (role : Role) (party : Party) (version : List ℕ) (before : Units) (payload : List ℕ) (known : Known)
+        → Sits m role party version before phase.Exchange false known → kind payload ≡ leaving role phase.Exchange
+        → Sits m role party version (before ++ payload ∷ []) phase.NewKeys false (behind_exchange m role party known payload) }
+    ensures leaves { (m : Meaning) (role : Role) (party : Party) (version : List ℕ) (before : Units) (payload : List ℕ) (p : Phase) (known : Known)
+        → Sits m role party version before p false known → past_exchange p ≡ true → kind payload ≡ leaving role p
+        → Sits m role party version (before ++ payload ∷ []) (behind p) false (record known { first = false }) }
+    ensures stays { (m : Meaning) (role : Role) (party : Party) (version : List ℕ) (before : Units) (payload : List ℕ) (p : Phase) (known : Known)
+        → Sits m role party version before p false known → LeavesNone role (kind payload)
+        → Sits m role party version (before ++ payload ∷ []) p false (record known { first = false }) }
+
+    // A number that is read or unknown where no guess is due, and neither closes nor leaves the phase, leaves none.
+    ensures quiet { (role : Role) (p : Phase) (strict : Bool) (n : ℕ) → (n == SSH_MSG_DISCONNECT) ≡ false → (n == leaving role p) ≡ false
+        → (line_by role p strict false n ≡ line.Reads) ⊎ (line_by role p strict false n ≡ line.Unknown) → LeavesNone role n }
+
+    // Before a choice nothing depends on the form of shares.
+    ensures formless { (m : Meaning) (d : Policy) (role : Role) (party : Party) (known : Known) (packet : ℕ) (payload : List ℕ) (form : ShareForm)
+        → line_reply m d role party (record known { shares = form }) packet (line_by role phase.KexInit known.strict false (kind payload)) payload
+        ≡ line_reply m d role party known packet (line_by role phase.KexInit known.strict false (kind payload)) payload }
+
+    // The keys of both directions come of the exchange message, and stay.
+    ensures makes_keys { (m : Meaning) (role : Role) (party : Party) (version : List ℕ) (before : Units) (payload : List ℕ) (known : Known)
+        → Sits m role party version before phase.Exchange false known → kind payload ≡ leaving role phase.Exchange → (sender : Role)
+        → keys_at m role party version (before ++ payload ∷ []) sender ≡ keys_by m known.algorithms (exchange_of m role party known payload) sender }
+    ensures keeps_keys { (m : Meaning) (role : Role) (party : Party) (version : List ℕ) (before : Units) (payload : List ℕ) (p : Phase) (guess : Bool) (known : Known)
+        → Sits m role party version before p guess known → past_exchange p ≡ true → (sender : Role)
+        → keys_at m role party version (before ++ payload ∷ []) sender ≡ keys_at m role party version before sender }
+
+    // Behind the key switch a strict endpoint counts packets anew; behind every other packet it counts one more.
+    ensures counts_anew { (m : Meaning) (role : Role) (party : Party) (version : List ℕ) (before : Units) (payload : List ℕ) (known : Known)
+        → Sits m role party version before phase.NewKeys false known → kind payload ≡ SSH_MSG_NEWKEYS
+        → number_in role party (before ++ payload ∷ []) ≡ (if known.strict then 0 else (number_in role party before + 1) % 2 ^ 32) }
+    ensures counts_on { (m : Meaning) (role : Role) (party : Party) (version : List ℕ) (before : Units) (payload : List ℕ) (p : Phase) (guess : Bool) (known : Known)
+        → Sits m role party version before p guess known → (past_newkeys p ≡ true) ⊎ (kept role party.offer SSH_MSG_NEWKEYS before payload ≡ false)
+        → number_in role party (before ++ payload ∷ []) ≡ (number_in role party before + 1) % 2 ^ 32 }
+{
+    sshmsg::numbers_law();
+    sshneg::markers_law();
+}
+
+/// The law of saying: the key switch and the number of the next packet that is said, before anything
+/// and with one payload more (RFC 4253 sections 6.4 and 7.3, OpenSSH PROTOCOL section 1.10).
+pub fn saying_law()
+    ensures nothing { (strict : Bool) → (switched_out [] ≡ false) × (number_out strict [] ≡ 0) }
+    ensures switches { (said : Units) (payload : List ℕ)
+        → switched_out (said ++ payload ∷ []) ≡ (if switched_out said then true else kind payload == SSH_MSG_NEWKEYS) }
+    ensures counts { (strict : Bool) (said : Units) (payload : List ℕ)
+        → number_out strict (said ++ payload ∷ []) ≡ (if switched_out said then (number_out strict said + 1) % 2 ^ 32
+        else if kind payload == SSH_MSG_NEWKEYS then (if strict then 0 else (number_out strict said + 1) % 2 ^ 32)
+        else (number_out strict said + 1) % 2 ^ 32) }
+
+    // What was said stays spelled as it is when more is heard, once both directions have their keys.
+    ensures stays { (m : Meaning) (role : Role) (party : Party) (units more answers : Units) (s : List ℕ)
+        → (switched_out answers ≡ true → IsReady role party (payloads_in units))
+        → Said (spells m role party units) s (party.version ∷ answers) → Said (spells m role party (units ++ more)) s (party.version ∷ answers) }
+{}
+
+/// The law of histories: what an endpoint has heard and said, before any byte and with each piece more;
+/// and that the bytes heard decide it, in whatever pieces they came.
+///
+/// Behind a history in which the endpoint stands open a piece brings more of an unfinished unit, a
+/// refusal, or a unit with its answers. That NEWKEYS is said only where the exchange was heard comes of
+/// the definitions; that the answers fit packets is for the code to see to.
+pub fn history_law()
+    ensures parsers { (m : Meaning) (role : Role) (party : Party) (units : Units) → IsIncremental (parsers m role party units) }
+    ensures begins { (m : Meaning) (d : Policy) (role : Role) (party : Party) → AllFit (making m role party)
+        → History m d role party [] [] None (making m role party) Open [] (flat_places (spells m role party []) [] (party.version ∷ making m role party)) }
+    ensures part { (m : Meaning) (d : Policy) (role : Role) (party : Party) (units : Units) (rest : List ℕ) (answers : Units) (h s : List ℕ)
+        → History m d role party units rest None answers Open h s → (piece : List ℕ) → parsers m role party units (rest ++ piece) ≡ unfinished
+        → History m d role party units (rest ++ piece) None answers Open (h ++ piece) s }
+    ensures refusal { (m : Meaning) (d : Policy) (role : Role) (party : Party) (units : Units) (rest : List ℕ) (answers : Units) (h s : List ℕ)
+        → History m d role party units rest None answers Open h s → (piece : List ℕ) (used : ℕ) (r : Refusal) → used ≤ length piece
+        → parsers m role party units (rest ++ piece) ≡ refused r (length rest + used) → AllFit (disconnect (fault_of r))
+        → History m d role party units (rest ++ take used piece) (Some r) (answers ++ disconnect (fault_of r)) (Failed (fault_of r)) (h ++ take used piece)
+        (s ++ flat_places (spells m role party units) (party.version ∷ answers) (disconnect (fault_of r))) }
+    ensures unit { (m : Meaning) (d : Policy) (role : Role) (party : Party) (units : Units) (rest : List ℕ) (answers : Units) (h s : List ℕ)
+        → History m d role party units rest None answers Open h s → (piece u : List ℕ) (used : ℕ) → used ≤ length piece
+        → parsers m role party units (rest ++ piece) ≡ whole u (length rest + used) → AllFit (answers_at m d role party units u)
+        → History m d role party (units ++ u ∷ []) [] None (answers ++ answers_at m d role party units u) (end_at m d role party units u) (h ++ take used piece)
+        (s ++ flat_places (spells m role party (units ++ u ∷ [])) (party.version ∷ answers) (answers_at m d role party units u)) }
+
+    // Where memory is wanted: before anything was said, or behind some of the answers to a unit.
+    ensures broken { (m : Meaning) (d : Policy) (role : Role) (party : Party) (units : Units) (rest : List ℕ) (r : Option Refusal) (answers : Units) (end : Ending) (h s : List ℕ)
+        → History m d role party units rest r answers end h s → BrokenOff m d role party h s }
+    ensures breaks { (m : Meaning) (d : Policy) (role : Role) (party : Party) (units : Units) (rest : List ℕ) (answers : Units) (h s : List ℕ)
+        → History m d role party units rest None answers Open h s → (piece u : List ℕ) (used : ℕ) (some : Units) → used ≤ length piece
+        → parsers m role party units (rest ++ piece) ≡ whole u (length rest + used) → IsPrefix some (answers_at m d role party units u)
+        → BrokenOff m d role party (h ++ take used piece) (s ++ flat_places (spells m role party (units ++ u ∷ [])) (party.version ∷ answers) some) }
+
+    // The bytes heard decide the units, the answers, the end and the bytes said.
+    ensures one { (m : Meaning) (d : Policy) (role : Role) (party : Party) (units other_units : Units) (rest other_rest : List ℕ) (r other_r : Option Refusal)
+        (answers other_answers : Units) (end other_end : Ending) (h s t : List ℕ)
+        → History m d role party units rest r answers end h s → History m d role party other_units other_rest other_r other_answers other_end h t
+        → IsOneHistory units other_units answers other_answers end other_end s t }
+{
+    sshmsg::numbers_law();
+    sshneg::markers_law();
+    sshpacket::parser_law();
+    sshpacket::stream_law();
+}

@@ -1,0 +1,11 @@
+use Rattle.std.proofs.Common.{not, rules, tests}
+use Rattle.std.proofs.lemmas.Iterator.Consumers.{YieldsList-from_first}
+use Rattle.std.proofs.lemmas.Iterator.Search.{position_from_yields_List}
+use Rattle.sshwire.specs.Names.{names_left}
+use Rattle.sshneg.specs.Markers.{is_marker}
+use Rattle.sshneg.proofs.choice.first_unmarked.Goals as goal
+
+pub returns : goal.returns
+returns c =
+    position_from_yields_List (λ name. not (is_marker name)) c.position.new.self _ c.position.result c.position.ensures.ran
+    (YieldsList-from_first (λ name. name.now) names_left {s = c.names.result} c.args.names.now c.names.ensures.left) (λ x b q k. search (rules, tests))

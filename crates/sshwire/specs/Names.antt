@@ -1,0 +1,7 @@
+-- The names that an iterator has left.
+
+use Rattle.std.specs.Prelude.{ℕ, List, drop}
+use Rattle.sshwire.specs.declared.names.Names.{Names}
+
+abbrev pub names_left : Names → List (List ℕ)
+names_left names = drop names.given names.list.now
