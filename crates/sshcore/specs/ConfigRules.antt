@@ -129,13 +129,13 @@ pub record IsRefused (Rule : ConfigFault → Type 0) (code : ConfigFault) : Type
   pub broken : Rule code → ⊥
   pub least : (other : ConfigFault) → number_of other < number_of code → Rule other
 
--- the bytes of a side are bytes
+-- cookie, exchange random and padding seed of a side are bytes
 pub record HasBytes (side : SideData) : Type 0 where
   pub cookie : IsBytes side.cookie
   pub random : IsBytes side.random
   pub seed : IsBytes side.seed
 
--- what is true of every client's config: every rule is kept, users are UTF-8, bytes are bytes
+-- what is true of every client's config: every rule is kept, users are UTF-8, cookie, random and seed are bytes
 pub record IsClient (client : ClientData) : Type 0 where
   pub keeps : (code : ConfigFault) → ClientRule code client
   pub users : AllByRecursion (λ (a : Attempt). IsUtf8 a.user) client.plan

@@ -1,5 +1,5 @@
 -- How an endpoint reads what it hears and spells what it says, unit by unit: RFC 4253 sections 4.2, 6, 7.2 and 7.3. Unit 0 of
--- either direction is the text of a version line, and the others are payloads.
+-- either direction is the text of a version line, and the others are payloads: `before` stands behind the version here.
 
 use Rattle.std.specs.Prelude.{ℕ, if◌then◌else◌, List, [], ◌∷◌, ◌++◌, drop, flat_map, Option, None, Some}
 use Rattle.sshwire.specs.declared.limits.TheConstants.{OTHER_LINE_LIMIT}

@@ -1,4 +1,5 @@
--- What an endpoint of either role says and how it ends, by the units that it heard.
+-- What an endpoint of either role says and how it ends, by the units that it heard. In `reply_at` the payloads before a place
+-- stand without the version; from `unit_reply` on `before` and `units` have the text of the version line in front.
 
 use Rattle.std.specs.Prelude.{◌≡◌, ◌≢◌, ℕ, List, [], ◌∷◌, ◌++◌, Option, None, Some, Result, Ok, Err}
 use Rattle.sshmsg.specs.declared.fault.MsgFault.{MsgFault}
@@ -59,7 +60,7 @@ answers_at m d role party before unit = (unit_reply m d role party before unit).
 abbrev pub end_at : Meaning → Policy → Role → Party → Units → List ℕ → Ending
 end_at m d role party before unit = (unit_reply m d role party before unit).end
 
--- the failure at bytes that are refused
+-- the failure at bytes that are refused (lines are refused for what they are, never for want of memory)
 abbrev pub fault_of : Refusal → Fault
 fault_of (OfLine f) = fault.Version
 fault_of (OfPacket packet.Length) = fault.Length

@@ -1,11 +1,12 @@
 //! What the layers above may rest on: what is true of each accepted config.
 
-ghost use Rattle.std.specs.Prelude.{◌≤◌, Contains, length};
+ghost use Rattle.std.specs.Prelude.{◌+◌, ◌≤◌, Contains, length};
 ghost use Rattle.sshwire.specs.declared.limits.TheConstants.{PAYLOAD_LIMIT};
 ghost use Rattle.sshmsg.specs.Content.{KexInit};
 ghost use Rattle.sshmsg.specs.Written.{IsOffer, written_message};
 ghost use Rattle.sshneg.specs.declared.role.Role.{Role};
 ghost use Rattle.sshneg.specs.Markers.{strict_marker};
+ghost use Rattle.sshcore.specs.declared.config_parts.TheConstants.{LIST_LIMIT};
 ghost use Rattle.sshcore.specs.ConfigData.{ClientData, ServerData, client_offer, server_offer};
 ghost use Rattle.sshcore.specs.ConfigRules.{FitsKexInit, IsClient, IsServer};
 
@@ -20,8 +21,8 @@ pub fn config_law()
     ensures server_unmarked { (server : ServerData) → IsServer server → (role : Role) → Contains server.side.kex_algorithms (strict_marker role) → ⊥ }
 
     // Lists have so few names that they fit the fields of a KEXINIT.
-    ensures client_few { (client : ClientData) → IsClient client → FitsKexInit client.side × (length client.host_key_algorithms ≤ 1001) }
-    ensures server_few { (server : ServerData) → IsServer server → FitsKexInit server.side × (length server.host_keys ≤ 1001) }
+    ensures client_few { (client : ClientData) → IsClient client → FitsKexInit client.side × (length client.host_key_algorithms ≤ LIST_LIMIT + 1) }
+    ensures server_few { (server : ServerData) → IsServer server → FitsKexInit server.side × (length server.host_keys ≤ LIST_LIMIT + 1) }
 {
     sshwire::names_law();
     sshmsg::lengths_law();

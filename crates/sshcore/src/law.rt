@@ -114,7 +114,7 @@ pub fn saying_law()
 {}
 
 /// The law of histories: what an endpoint has heard and said, before any byte and with each piece more;
-/// and that the bytes heard decide it, in whatever pieces they came.
+/// and that the bytes that it used decide the rest, in whatever pieces they came.
 ///
 /// Behind a history in which the endpoint stands open a piece brings more of an unfinished unit, a
 /// refusal, or a unit with its answers. That NEWKEYS is said only where the exchange was heard comes of
@@ -145,7 +145,8 @@ pub fn history_law()
         → parsers m role party units (rest ++ piece) ≡ whole u (length rest + used) → IsPrefix some (answers_at m d role party units u)
         → BrokenOff m d role party (h ++ take used piece) (s ++ flat_places (spells m role party (units ++ u ∷ [])) (party.version ∷ answers) some) }
 
-    // The bytes heard decide the units, the answers, the end and the bytes said.
+    // The bytes used decide the units, the answers, the end and the bytes said. That two cuts of one input use the same bytes of
+    // it isn't said here.
     ensures one { (m : Meaning) (d : Policy) (role : Role) (party : Party) (units other_units : Units) (rest other_rest : List ℕ) (r other_r : Option Refusal)
         (answers other_answers : Units) (end other_end : Ending) (h s t : List ℕ)
         → History m d role party units rest r answers end h s → History m d role party other_units other_rest other_r other_answers other_end h t

@@ -83,7 +83,7 @@ fn lend_kexinit<'a>(reader: &mut Reader<'a>) -> Result<LentKexInit<'a>, WireFaul
     })
 }
 
-/// The same with lists of its own, in a box.
+/// The KEXINIT with lists of its own, in a box.
 fn own_kexinit<'a>(alloc: Global, lent: &LentKexInit<'a>) -> Result<Box<KexInit<'a>>, Memory>
     ensures { IfOk result (λ k. offer_of k.value ≡ lent_offer lent.now) }
 {
@@ -91,7 +91,7 @@ fn own_kexinit<'a>(alloc: Global, lent: &LentKexInit<'a>) -> Result<Box<KexInit<
     Ok(Box::new(alloc, kexinit)?)
 }
 
-/// The same with lists of its own.
+/// The KEXINIT with lists of its own.
 fn own_lists<'a>(alloc: Global, lent: &LentKexInit<'a>) -> Result<KexInit<'a>, Memory>
     ensures { IfOk result (λ k. offer_of k ≡ lent_offer lent.now) }
 {
@@ -187,6 +187,7 @@ pub(crate) fn read_ext_info<'a>(alloc: Global, fields: &'a [u8]) -> Result<Messa
     match own_extensions(alloc, count, &mut pairs) {
         Ok(extensions) => Ok(Message::ExtInfo { extensions }),
         Err(WireFault::Memory) => Err(MsgFault::Memory),
+        // It doesn't come to this: the pairs were judged.
         Err(_) => Err(MsgFault::Malformed(SSH_MSG_EXT_INFO)),
     }
 }
