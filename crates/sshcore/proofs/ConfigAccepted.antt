@@ -10,7 +10,7 @@ use Rattle.sshcore.specs.declared.config_parts.Attempt as attempt_parts
 use Rattle.sshcore.specs.declared.config_parts.ClientParts.{ClientParts}
 use Rattle.sshcore.specs.declared.config_parts.ServerParts.{ServerParts}
 use Rattle.sshcore.specs.ConfigData.{Attempt}
-use Rattle.sshcore.specs.ConfigRules.{ClientRule, HasBytes, IsClient, IsRefused, IsServer, ServerRule}
+use Rattle.sshcore.specs.ConfigRules.{ClientRule, HasBytes, IsClient, IsLeastBroken, IsServer, ServerRule}
 use Rattle.sshcore.specs.ConfigTests.{client_test, refusal, server_test}
 use Rattle.sshcore.specs.ConfigView.{attempt_of, client_data, server_data, side_data}
 use Rattle.sshcore.proofs.ConfigJudged.{NameLaw, VersionLaw, client_decided, server_decided}
@@ -22,14 +22,14 @@ users_utf8 [] = tt
 users_utf8 (a ∷ plan) = (IsUtf8-string_bytes a.user, users_utf8 plan)
 
 -- want of memory isn't a rule's breach
-not_memory : (Rule : ConfigFault → Type 0) (code : ConfigFault) → Rule fault.Memory → IsRefused Rule code → code ≡ fault.Memory → ⊥
+not_memory : (Rule : ConfigFault → Type 0) (code : ConfigFault) → Rule fault.Memory → IsLeastBroken Rule code → code ≡ fault.Memory → ⊥
 not_memory Rule code memory r is = r.broken (subst Rule (sym is) memory)
 
 pub client_kept : NameLaw → VersionLaw → (parts : ClientParts) → refusal (client_test parts) ≡ None → (rule : ConfigFault) → ClientRule rule (client_data parts)
 client_kept names versions parts = all_kept (λ rule. ClientRule rule (client_data parts)) (client_test parts) (client_decided names versions parts) tt
 
 pub client_refused : NameLaw → VersionLaw → (parts : ClientParts) (code : ConfigFault) → refusal (client_test parts) ≡ Some code
-    → IsRefused (λ rule. ClientRule rule (client_data parts)) code
+    → IsLeastBroken (λ rule. ClientRule rule (client_data parts)) code
 client_refused names versions parts = refused (λ rule. ClientRule rule (client_data parts)) (client_test parts) (client_decided names versions parts) tt
 
 pub client_not_memory : NameLaw → VersionLaw → (parts : ClientParts) (code : ConfigFault) → refusal (client_test parts) ≡ Some code → code ≢ fault.Memory
@@ -44,7 +44,7 @@ pub server_kept : NameLaw → VersionLaw → (parts : ServerParts) → refusal (
 server_kept names versions parts = all_kept (λ rule. ServerRule rule (server_data parts)) (server_test parts) (server_decided names versions parts) tt
 
 pub server_refused : NameLaw → VersionLaw → (parts : ServerParts) (code : ConfigFault) → refusal (server_test parts) ≡ Some code
-    → IsRefused (λ rule. ServerRule rule (server_data parts)) code
+    → IsLeastBroken (λ rule. ServerRule rule (server_data parts)) code
 server_refused names versions parts = refused (λ rule. ServerRule rule (server_data parts)) (server_test parts) (server_decided names versions parts) tt
 
 pub server_not_memory : NameLaw → VersionLaw → (parts : ServerParts) (code : ConfigFault) → refusal (server_test parts) ≡ Some code → code ≢ fault.Memory

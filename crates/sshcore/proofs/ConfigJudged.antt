@@ -23,8 +23,8 @@ use Rattle.sshcore.specs.declared.config_parts.Credential.TheVariants as credent
 use Rattle.sshcore.specs.declared.config_parts.HostKey as host_key_parts
 use Rattle.sshcore.specs.declared.config_parts.ServerParts.{ServerParts}
 use Rattle.sshcore.specs.declared.config_parts.SideParts.{SideParts}
-use Rattle.sshcore.specs.ConfigData.{Attempt, HostKey, algorithms_of}
-use Rattle.sshcore.specs.ConfigRules.{ClientRule, HasLengths, HasShortKey, HasShortPassword, IsListed, IsMethod, IsNamed, IsNotice, IsNoticeByte, IsShortList, IsSome, ServerRule, lists_of}
+use Rattle.sshcore.specs.ConfigData.{Attempt, HostKey, key_algorithms}
+use Rattle.sshcore.specs.ConfigRules.{ClientRule, HasLengths, HasShortKey, HasShortPassword, IsListed, IsUnmarked, IsNamed, IsNotice, IsNoticeByte, IsShortList, IsSome, ServerRule, lists_of}
 use Rattle.sshcore.specs.ConfigTests.{are_methods, are_names, are_notices, client_test, has_lengths, has_short_key, has_short_password, host_keys_are_named, host_keys_are_short, is_attempt_named, is_listed, is_named, is_notice, is_notice_byte, is_short_banner, is_some, lists_are_names, lists_are_short, lists_are_some, server_test, text_is_short}
 use Rattle.sshcore.specs.ConfigView.{attempt_of, client_data, host_key_of, proving_of, server_data, side_data}
 
@@ -69,7 +69,7 @@ NameLaw = (name : List ℕ) → (is_name name ≡ true) ↔ IsName name
 abbrev pub VersionLaw : Type 0
 VersionLaw = (text : List ℕ) → (is_version_text text ≡ true) ↔ IsVersionText text
 
-method_decided : (name : List ℕ) → Decides (not (is_marker name)) (IsMethod name)
+method_decided : (name : List ℕ) → Decides (not (is_marker name)) (IsUnmarked name)
 method_decided name = (not-true (is_marker name), not_from_false (is_marker name))
 
 listed_decided : (name : List ℕ) → Decides (is_listed name) (IsListed name)
@@ -121,8 +121,8 @@ lengths_decided side =
     Decides-like (has_lengths side) (λ h. record { cookie = h.0; random = h.1; seed = h.2 }) (λ h. (h.cookie, h.random, h.seed))
     (three _ _ _ (Decides-eqb (length side.cookie.items) 16) (Decides-eqb (length side.exchange_random.items) 32) (Decides-eqb (length side.padding_seed.items) 32))
 
-methods_decided : {Z : Type 0} (names : List (String Z)) → Decides (are_methods names) (AllByRecursion IsMethod (map string_bytes names))
-methods_decided names = each_decided (λ name. not (is_marker (string_bytes name))) IsMethod string_bytes (λ name. method_decided (string_bytes name)) names
+methods_decided : {Z : Type 0} (names : List (String Z)) → Decides (are_methods names) (AllByRecursion IsUnmarked (map string_bytes names))
+methods_decided names = each_decided (λ name. not (is_marker (string_bytes name))) IsUnmarked string_bytes (λ name. method_decided (string_bytes name)) names
 
 pub client_decided : NameLaw → VersionLaw → (parts : ClientParts) (code : ConfigFault) → Decides (client_test parts code) (ClientRule code (client_data parts))
 client_decided names versions parts fault.EmptyList =
@@ -150,19 +150,19 @@ client_decided names versions parts fault.Tries = true_decided
 client_decided names versions parts fault.Random = lengths_decided parts.side
 client_decided names versions parts fault.Memory = true_decided
 
-pub host_keys_mapped : (keys : List host_key_parts.HostKey) → algorithms_of (map host_key_of keys) ≡ map (λ (k : host_key_parts.HostKey). string_bytes k.algorithm) keys
+pub host_keys_mapped : (keys : List host_key_parts.HostKey) → key_algorithms (map host_key_of keys) ≡ map (λ (k : host_key_parts.HostKey). string_bytes k.algorithm) keys
 host_keys_mapped [] = refl
 host_keys_mapped (key ∷ keys) = ap (λ names. string_bytes key.algorithm ∷ names) (host_keys_mapped keys)
 
-host_keys_named_decided : NameLaw → (keys : List host_key_parts.HostKey) → Decides (host_keys_are_named keys) (AreNames (algorithms_of (map host_key_of keys)))
+host_keys_named_decided : NameLaw → (keys : List host_key_parts.HostKey) → Decides (host_keys_are_named keys) (AreNames (key_algorithms (map host_key_of keys)))
 host_keys_named_decided law keys =
     rw (host_keys_mapped keys) (each_decided (λ (k : host_key_parts.HostKey). is_name (string_bytes k.algorithm)) IsName
     (λ (k : host_key_parts.HostKey). string_bytes k.algorithm) (λ k. law (string_bytes k.algorithm)) keys)
 
-host_keys_some_decided : (keys : List host_key_parts.HostKey) → Decides (is_some keys) (IsSome (algorithms_of (map host_key_of keys)))
+host_keys_some_decided : (keys : List host_key_parts.HostKey) → Decides (is_some keys) (IsSome (key_algorithms (map host_key_of keys)))
 host_keys_some_decided keys = rw (host_keys_mapped keys) (some_decided (λ (k : host_key_parts.HostKey). string_bytes k.algorithm) keys)
 
-host_keys_short_decided : (keys : List host_key_parts.HostKey) → Decides (host_keys_are_short keys) (IsShortList (algorithms_of (map host_key_of keys)))
+host_keys_short_decided : (keys : List host_key_parts.HostKey) → Decides (host_keys_are_short keys) (IsShortList (key_algorithms (map host_key_of keys)))
 host_keys_short_decided keys = rw (host_keys_mapped keys) (short_decided (map (λ (k : host_key_parts.HostKey). string_bytes k.algorithm) keys))
 
 -- of eight facts in a row, where the first six are one test
@@ -201,14 +201,14 @@ notices_decided lines = each_decided (λ line. is_notice line.items) IsNotice (�
 
 pub server_decided : NameLaw → VersionLaw → (parts : ServerParts) (code : ConfigFault) → Decides (server_test parts code) (ServerRule code (server_data parts))
 server_decided names versions parts fault.EmptyList =
-    lists_some_decided parts.side (algorithms_of (map host_key_of parts.host_keys.items)) _ (host_keys_some_decided parts.host_keys.items)
+    lists_some_decided parts.side (key_algorithms (map host_key_of parts.host_keys.items)) _ (host_keys_some_decided parts.host_keys.items)
 server_decided names versions parts fault.Name =
-    three _ _ _ (two_more _ _ _ (lists_named_decided names parts.side (algorithms_of (map host_key_of parts.host_keys.items)) _
+    three _ _ _ (two_more _ _ _ (lists_named_decided names parts.side (key_algorithms (map host_key_of parts.host_keys.items)) _
     (host_keys_named_decided names parts.host_keys.items)) (names_decided names parts.services.items) (names_decided names parts.methods.items))
     (methods_decided parts.side.kex_algorithms.items)
     (each_decided (λ name. is_listed (string_bytes name)) IsListed string_bytes (λ name. listed_decided (string_bytes name)) parts.methods.items)
 server_decided names versions parts fault.ListTooLong =
-    two_more _ _ _ (lists_short_decided parts.side (algorithms_of (map host_key_of parts.host_keys.items)) _ (host_keys_short_decided parts.host_keys.items))
+    two_more _ _ _ (lists_short_decided parts.side (key_algorithms (map host_key_of parts.host_keys.items)) _ (host_keys_short_decided parts.host_keys.items))
     (short_decided (map string_bytes parts.services.items)) (short_decided (map string_bytes parts.methods.items))
 server_decided names versions parts fault.Line =
     three _ _ _ (versions _) (count_decided (λ line. line.items) parts.notice_lines.items 20) (notices_decided parts.notice_lines.items)

@@ -6,7 +6,7 @@ use Rattle.std.specs.List.{find}
 use Rattle.std.proofs.lemmas.Bool.{cases_Bool, both_ways}
 use Rattle.sshcore.specs.declared.config_fault.ConfigFault.{ConfigFault}
 use Rattle.sshcore.specs.declared.config_fault.ConfigFault.TheVariants as fault
-use Rattle.sshcore.specs.ConfigRules.{IsRefused, number_of}
+use Rattle.sshcore.specs.ConfigRules.{IsLeastBroken, rule_number}
 use Rattle.sshcore.specs.ConfigTests.{judged, refusal}
 
 IsIn : ConfigFault → List ConfigFault → Type 0
@@ -16,23 +16,23 @@ IsIn code (x ∷ xs) = (code ≡ x) ⊎ IsIn code xs
 -- their numbers follow one another, from n on
 AreNumbered : ℕ → List ConfigFault → Type 0
 AreNumbered n [] = Unit {0}
-AreNumbered n (x ∷ xs) = (number_of x ≡ n) × AreNumbered (n + 1) xs
+AreNumbered n (x ∷ xs) = (rule_number x ≡ n) × AreNumbered (n + 1) xs
 
-from_first : (n : ℕ) (xs : List ConfigFault) → AreNumbered n xs → (code : ConfigFault) → IsIn code xs → n ≤ number_of code
+from_first : (n : ℕ) (xs : List ConfigFault) → AreNumbered n xs → (code : ConfigFault) → IsIn code xs → n ≤ rule_number code
 unfolding IsIn AreNumbered
 from_first n [] h code i = elim i [ ]
-from_first n (x ∷ xs) h code (inl e) = let is : number_of code ≡ number_of x = ap number_of e in let first : number_of x ≡ n = h.0 in omega arith
-from_first n (x ∷ xs) h code (inr i) = let later : n + 1 ≤ number_of code = from_first (n + 1) xs h.1 code i in omega arith
+from_first n (x ∷ xs) h code (inl e) = let is : rule_number code ≡ rule_number x = ap rule_number e in let first : rule_number x ≡ n = h.0 in omega arith
+from_first n (x ∷ xs) h code (inr i) = let later : n + 1 ≤ rule_number code = from_first (n + 1) xs h.1 code i in omega arith
 
 record IsFirst (test : ConfigFault → Bool) (xs : List ConfigFault) (code : ConfigFault) : Type 0 where
   fails : test code ≡ false
-  least : (other : ConfigFault) → IsIn other xs → number_of other < number_of code → test other ≡ true
+  least : (other : ConfigFault) → IsIn other xs → rule_number other < rule_number code → test other ≡ true
 
 some_same : (x y : ConfigFault) → ◌≡◌ {A = Option ConfigFault} (Some x) (Some y) → x ≡ y
 some_same x y e = cc
 
 later : (test : ConfigFault → Bool) (x : ConfigFault) (xs : List ConfigFault) (code : ConfigFault) → test x ≡ true → IsFirst test xs code
-    → (other : ConfigFault) → IsIn other (x ∷ xs) → number_of other < number_of code → test other ≡ true
+    → (other : ConfigFault) → IsIn other (x ∷ xs) → rule_number other < rule_number code → test other ≡ true
 unfolding IsIn
 later test x xs code t first other (inl e) less = ap test e ∙ t
 later test x xs code t first other (inr i) less = first.least other i less
@@ -49,11 +49,11 @@ first_failing test n (x ∷ xs) h code e = elim (cases_Bool (test x)) [
   | inr f ↦
       let here : Some x ≡ Some code = rw f at e in
       let is : x ≡ code = some_same x code here in
-      let first : number_of x ≡ n = h.0 in
-      let same : number_of x ≡ number_of code = ap number_of is in
+      let first : rule_number x ≡ n = h.0 in
+      let same : rule_number x ≡ rule_number code = ap rule_number is in
       record {
         fails = ap test (sym is) ∙ f;
-        least = λ other i less. let after : n ≤ number_of other = from_first n (x ∷ xs) h other i in absurd (omega arith);
+        least = λ other i less. let after : n ≤ rule_number other = from_first n (x ∷ xs) h other i in absurd (omega arith);
       }
 ]
 
@@ -89,7 +89,7 @@ numbered = (refl, (refl, (refl, (refl, (refl, (refl, (refl, (refl, (refl, (refl,
 
 -- the refusal that is told is broken, and no lesser one is
 pub refused : (Rule : ConfigFault → Type 0) (test : ConfigFault → Bool) → ((code : ConfigFault) → Decides (test code) (Rule code))
-    → Rule fault.Memory → (code : ConfigFault) → refusal test ≡ Some code → IsRefused Rule code
+    → Rule fault.Memory → (code : ConfigFault) → refusal test ≡ Some code → IsLeastBroken Rule code
 refused Rule test decides memory code e =
     let first : IsFirst test judged code = first_failing test 1 judged numbered code e in
     record {

@@ -14,8 +14,8 @@ use Rattle.sshneg.specs.declared.role.Role.{Role}
 use Rattle.sshneg.specs.declared.role.Role.TheVariants.{Client, Server}
 use Rattle.sshneg.specs.Markers.{is_marker, strict_marker}
 use Rattle.sshcore.specs.declared.config_fault.ConfigFault.TheVariants as fault
-use Rattle.sshcore.specs.ConfigData.{ClientData, HostKey, ServerData, SideData, algorithms_of, client_offer, own_marker, server_offer, side_offer}
-use Rattle.sshcore.specs.ConfigRules.{FitsKexInit, HasLengths, IsClient, IsMethod, IsServer, IsShortList, all_server_lists, lists_of}
+use Rattle.sshcore.specs.ConfigData.{ClientData, HostKey, ServerData, SideData, key_algorithms, client_offer, own_marker, server_offer, side_offer}
+use Rattle.sshcore.specs.ConfigRules.{FitsKexInit, HasLengths, IsClient, IsUnmarked, IsServer, IsShortList, all_server_lists, lists_of}
 use Rattle.sshcore.proofs.ConfigJudged.{NameLaw}
 use Rattle.sshcore.proofs.ConfigLemmas.{BodyLaw}
 
@@ -124,7 +124,7 @@ fits_kexinit body side host_keys short lengths = record {
 }
 
 -- no marker stands in the list that is configured
-method_at : (kex : List (List ℕ)) → AllByRecursion IsMethod kex → (k : ℕ) (name : List ℕ) → k < length kex → slice_index_or kex k name ≡ name
+method_at : (kex : List (List ℕ)) → AllByRecursion IsUnmarked kex → (k : ℕ) (name : List ℕ) → k < length kex → slice_index_or kex k name ≡ name
     → is_marker name ≡ false
 method_at [] methods k name l e = absurd (omega (arith, l))
 method_at (x ∷ kex) methods zero name l e = rw (← e) methods.0
@@ -134,13 +134,13 @@ marker_is : (role : Role) → is_marker (strict_marker role) ≡ true
 marker_is Client = refl
 marker_is Server = refl
 
-unmarked : (kex : List (List ℕ)) → AllByRecursion IsMethod kex → (role : Role) → Contains kex (strict_marker role) → ⊥
+unmarked : (kex : List (List ℕ)) → AllByRecursion IsUnmarked kex → (role : Role) → Contains kex (strict_marker role) → ⊥
 unmarked kex methods role found =
     both_ways (is_marker (strict_marker role)) (method_at kex methods found.0 (strict_marker role) found.1 found.2) (marker_is role)
 
 -- the first six of eight lists
 first_lists : (P : List (List ℕ) → Type 0) (server : ServerData) → AllByRecursion P (all_server_lists server)
-    → AllByRecursion P (lists_of server.side (algorithms_of server.host_keys))
+    → AllByRecursion P (lists_of server.side (key_algorithms server.host_keys))
 first_lists P server h = (h.0, (h.1.0, (h.1.1.0, (h.1.1.1.0, (h.1.1.1.1.0, (h.1.1.1.1.1.0, tt))))))
 
 pub client_formed : BodyLaw → NameLaw → (client : ClientData) → IsClient client → IsOffer (client_offer client)
@@ -149,7 +149,7 @@ client_formed body law client is =
 
 pub server_formed : BodyLaw → NameLaw → (server : ServerData) → IsServer server → IsOffer (server_offer server)
 server_formed body law server is =
-    offer_formed body law Server server.side (algorithms_of server.host_keys) false (first_lists AreNames server (is.keeps fault.Name).0)
+    offer_formed body law Server server.side (key_algorithms server.host_keys) false (first_lists AreNames server (is.keeps fault.Name).0)
     (first_lists IsShortList server (is.keeps fault.ListTooLong)) (is.keeps fault.Random)
 
 pub client_fits : BodyLaw → LengthLaw → (client : ClientData) → IsClient client → length (written_message (KexInit (client_offer client))) ≤ 32768
@@ -158,7 +158,7 @@ client_fits body law client is =
 
 pub server_fits : BodyLaw → LengthLaw → (server : ServerData) → IsServer server → length (written_message (KexInit (server_offer server))) ≤ 32768
 server_fits body law server is =
-    offer_fits body law Server server.side (algorithms_of server.host_keys) false (first_lists IsShortList server (is.keeps fault.ListTooLong)) (is.keeps fault.Random)
+    offer_fits body law Server server.side (key_algorithms server.host_keys) false (first_lists IsShortList server (is.keeps fault.ListTooLong)) (is.keeps fault.Random)
 
 pub client_unmarked : (client : ClientData) → IsClient client → (role : Role) → Contains client.side.kex_algorithms (strict_marker role) → ⊥
 client_unmarked client is = unmarked client.side.kex_algorithms (is.keeps fault.Name).1
@@ -175,7 +175,7 @@ client_few body client is = (
 pub server_few : BodyLaw → (server : ServerData) → IsServer server → FitsKexInit server.side × (length server.host_keys ≤ 1001)
 server_few body server is =
     let short = first_lists IsShortList server (is.keeps fault.ListTooLong) in
-    let few : length (algorithms_of server.host_keys) ≤ 1001 = few_names body (algorithms_of server.host_keys) short.1.0 in (
-      fits_kexinit body server.side (algorithms_of server.host_keys) short (is.keeps fault.Random),
+    let few : length (key_algorithms server.host_keys) ≤ 1001 = few_names body (key_algorithms server.host_keys) short.1.0 in (
+      fits_kexinit body server.side (key_algorithms server.host_keys) short (is.keeps fault.Random),
       rw (length-map server.host_keys (λ (k : HostKey). k.algorithm)) at few,
     )

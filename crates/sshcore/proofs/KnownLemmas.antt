@@ -20,7 +20,7 @@ use Rattle.sshcore.specs.Exchange.{algorithms_at, choice_with, chosen_or, exchan
 use Rattle.sshcore.specs.Known.{Known, known_at}
 use Rattle.sshcore.specs.Party.{Party}
 use Rattle.sshcore.specs.Phases.{leaving}
-use Rattle.sshcore.specs.Standing.{behind_exchange, behind_offer, exchange_of, nothing_known}
+use Rattle.sshcore.specs.Standing.{behind_exchange, behind_offer, exchange_heard, nothing_known}
 use Rattle.sshcore.proofs.GuessLemmas.{first_kexinit, none_stood}
 use Rattle.sshcore.proofs.PhaseLemmas.{kexinit_push, stood_push}
 
@@ -94,7 +94,7 @@ module _ (m : Meaning) (role : Role) (party : Party) (version : List ℕ) where
         ∙ ap (λ (l : List ℕ). session_by_payloads (kexinit before) l) message_is
 
     pub keys_are : (sender : Role) → keys_at m role party version (before ++ payload ∷ []) sender
-        ≡ keys_by m (algorithms_at m role party before) (exchange_of m role party (known_at m role party version before) payload) sender
+        ≡ keys_by m (algorithms_at m role party before) (exchange_heard m role party (known_at m role party version before) payload) sender
     keys_are sender =
         ap (λ (k : List ℕ). keys_by_payloads sender k (exchange_message role party (before ++ payload ∷ []))) (kexinit_stays before payload is)
         ∙ ap (λ (l : List ℕ). keys_by_payloads sender (kexinit before) l) message_is

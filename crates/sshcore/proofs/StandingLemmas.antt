@@ -19,7 +19,7 @@ use Rattle.sshcore.specs.Known.{Known}
 use Rattle.sshcore.specs.Party.{Party, Policy}
 use Rattle.sshcore.specs.Phases.{behind, leaving, past_exchange, past_kexinit, past_newkeys}
 use Rattle.sshcore.specs.Replies.{line_at, line_reply, reply_at}
-use Rattle.sshcore.specs.Standing.{LeavesNone, Sits, Tied, behind_exchange, behind_offer, exchange_of, nothing_known}
+use Rattle.sshcore.specs.Standing.{LeavesNone, Sits, Tied, behind_exchange, behind_offer, exchange_heard, nothing_known}
 use Rattle.sshcore.specs.Table.{line_by}
 use Rattle.sshcore.proofs.Below.{Below}
 use Rattle.sshcore.proofs.CountingLemmas.{number_more, number_switched}
@@ -160,11 +160,11 @@ module _ (m : Meaning) (role : Role) (party : Party) (version : List ℕ) where
 
     -- keys
     pub makes_keys : (known : Known) → Sits m role party version before phase.Exchange false known → kind payload ≡ leaving role phase.Exchange → (sender : Role)
-        → keys_at m role party version (before ++ payload ∷ []) sender ≡ keys_by m known.algorithms (exchange_of m role party known payload) sender
+        → keys_at m role party version (before ++ payload ∷ []) sender ≡ keys_by m known.algorithms (exchange_heard m role party known payload) sender
     makes_keys known s is sender =
         let here : kept role party.offer (leaving role phase.Exchange) before payload ≡ true = kept_free role party.offer before payload (leaving role phase.Exchange) s.due ∙ eq-eqb (kind payload) (leaving role phase.Exchange) is in
         keys_are m role party version before payload s.tied.offer s.tied.exchange here sender
-        ∙ ap (λ (k : Known). keys_by m k.algorithms (exchange_of m role party k payload) sender) s.knows
+        ∙ ap (λ (k : Known). keys_by m k.algorithms (exchange_heard m role party k payload) sender) s.knows
 
     pub keeps_keys : (p : Phase) (guess : Bool) (known : Known) → Sits m role party version before p guess known → past_exchange p ≡ true → (sender : Role)
         → keys_at m role party version (before ++ payload ∷ []) sender ≡ keys_at m role party version before sender

@@ -59,8 +59,8 @@ abbrev pub version_of : SideData → List ℕ
 version_of side = version_text side.softwareversion side.comments
 
 -- the algorithms of host keys, in their order
-abbrev pub algorithms_of : List HostKey → List (List ℕ)
-algorithms_of keys = map (λ (key : HostKey). key.algorithm) keys
+abbrev pub key_algorithms : List HostKey → List (List ℕ)
+key_algorithms keys = map (λ (key : HostKey). key.algorithm) keys
 
 -- the marker of a side of this role that is willing to be strict (OpenSSH PROTOCOL section 1.10), else none
 abbrev pub own_marker : Role → Bool → List (List ℕ)
@@ -90,4 +90,4 @@ client_offer client = side_offer Client client.side client.host_key_algorithms c
 
 -- a server announces no guess
 abbrev pub server_offer : ServerData → Offer
-server_offer server = side_offer Server server.side (algorithms_of server.host_keys) false
+server_offer server = side_offer Server server.side (key_algorithms server.host_keys) false

@@ -9,21 +9,21 @@ use Rattle.sshneg.specs.Markers.{is_marker}
 use Rattle.sshcore.specs.declared.config_fault.ConfigFault.{ConfigFault}
 use Rattle.sshcore.specs.declared.config_fault.ConfigFault.TheVariants as fault
 use Rattle.sshcore.specs.declared.config_parts.TheConstants.{BANNER_LIMIT, PRIVATE_KEY_LIMIT, LIST_LIMIT, NOTICE_LIMIT, NOTICE_LINE_LIMIT, PASSWORD_LIMIT, PLAN_LIMIT, TRIES_LIMIT, USER_LIMIT}
-use Rattle.sshcore.specs.ConfigData.{Attempt, ByKey, ByNothing, ByPassword, ClientData, HostKey, Proving, ServerData, SideData, algorithms_of, version_of}
+use Rattle.sshcore.specs.ConfigData.{Attempt, ByKey, ByNothing, ByPassword, ClientData, HostKey, Proving, ServerData, SideData, key_algorithms, version_of}
 
 -- the number of a refusal
-abbrev pub number_of : ConfigFault → ℕ
-number_of fault.EmptyList = 1
-number_of fault.Name = 2
-number_of fault.ListTooLong = 3
-number_of fault.Line = 4
-number_of fault.User = 5
-number_of fault.Secret = 6
-number_of fault.Blob = 7
-number_of fault.Plan = 8
-number_of fault.Tries = 9
-number_of fault.Random = 10
-number_of fault.Memory = 11
+abbrev pub rule_number : ConfigFault → ℕ
+rule_number fault.EmptyList = 1
+rule_number fault.Name = 2
+rule_number fault.ListTooLong = 3
+rule_number fault.Line = 4
+rule_number fault.User = 5
+rule_number fault.Secret = 6
+rule_number fault.Blob = 7
+rule_number fault.Plan = 8
+rule_number fault.Tries = 9
+rule_number fault.Random = 10
+rule_number fault.Memory = 11
 
 -- the lists of algorithms that a side configures, in the order of a KEXINIT (RFC 4253 section 7.1)
 abbrev pub lists_of : SideData → List (List ℕ) → List (List (List ℕ))
@@ -36,7 +36,7 @@ client_lists client = lists_of client.side client.host_key_algorithms
 
 -- a server has two lists more
 abbrev pub server_lists : ServerData → List (List (List ℕ))
-server_lists server = lists_of server.side (algorithms_of server.host_keys)
+server_lists server = lists_of server.side (key_algorithms server.host_keys)
 
 abbrev pub all_server_lists : ServerData → List (List (List ℕ))
 all_server_lists server = server_lists server ++ server.services ∷ server.methods ∷ []
@@ -50,8 +50,8 @@ abbrev pub IsShortList : List (List ℕ) → Type 0
 IsShortList names = length (names_body names) ≤ LIST_LIMIT
 
 -- a name of a kex list that is a method: no marker
-abbrev pub IsMethod : List ℕ → Type 0
-IsMethod name = is_marker name ≡ false
+abbrev pub IsUnmarked : List ℕ → Type 0
+IsUnmarked name = is_marker name ≡ false
 
 -- the method of a request that a server can list
 abbrev pub IsListed : List ℕ → Type 0
@@ -95,7 +95,7 @@ pub record HasLengths (side : SideData) : Type 0 where
 abbrev pub ClientRule : ConfigFault → ClientData → Type 0
 ClientRule fault.EmptyList client = AllByRecursion IsSome (client_lists client)
 ClientRule fault.Name client =
-    AllByRecursion AreNames (client_lists client) × AllByRecursion IsMethod client.side.kex_algorithms
+    AllByRecursion AreNames (client_lists client) × AllByRecursion IsUnmarked client.side.kex_algorithms
     × AllByRecursion (λ (a : Attempt). IsName a.service × IsNamed a.proving) client.plan
 ClientRule fault.ListTooLong client = AllByRecursion IsShortList (client_lists client)
 ClientRule fault.Line client = IsVersionText (version_of client.side)
@@ -110,7 +110,7 @@ ClientRule fault.Memory client = Unit {0}
 abbrev pub ServerRule : ConfigFault → ServerData → Type 0
 ServerRule fault.EmptyList server = AllByRecursion IsSome (server_lists server)
 ServerRule fault.Name server =
-    AllByRecursion AreNames (all_server_lists server) × AllByRecursion IsMethod server.side.kex_algorithms
+    AllByRecursion AreNames (all_server_lists server) × AllByRecursion IsUnmarked server.side.kex_algorithms
     × AllByRecursion IsListed server.methods
 ServerRule fault.ListTooLong server = AllByRecursion IsShortList (all_server_lists server)
 ServerRule fault.Line server =
@@ -125,9 +125,9 @@ ServerRule fault.Random server = HasLengths server.side
 ServerRule fault.Memory server = Unit {0}
 
 -- It is refused so: this rule is broken, and every rule with a lesser number is kept.
-pub record IsRefused (Rule : ConfigFault → Type 0) (code : ConfigFault) : Type 0 where
+pub record IsLeastBroken (Rule : ConfigFault → Type 0) (code : ConfigFault) : Type 0 where
   pub broken : Rule code → ⊥
-  pub least : (other : ConfigFault) → number_of other < number_of code → Rule other
+  pub least : (other : ConfigFault) → rule_number other < rule_number code → Rule other
 
 -- cookie, exchange random and padding seed of a side are bytes
 pub record HasBytes (side : SideData) : Type 0 where

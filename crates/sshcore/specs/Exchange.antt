@@ -116,14 +116,14 @@ keys_by m a x Server = derived m (source_by m a.kex x) Server a.encryption_serve
 
 -- The same of what stood before a place: of the first KEXINIT, and of the first exchange message that wasn't dropped, read in
 -- the form of the chosen method.
-abbrev pub choice_at : Meaning → Role → Party → Units → Result Algorithms NoCommon
-choice_at m role party before = choice_with m role party.offer (peer_offer before)
+abbrev pub choice_before : Meaning → Role → Party → Units → Result Algorithms NoCommon
+choice_before m role party before = choice_with m role party.offer (peer_offer before)
 
 abbrev pub algorithms_at : Meaning → Role → Party → Units → Algorithms
-algorithms_at m role party before = chosen_or (choice_at m role party before)
+algorithms_at m role party before = chosen_or (choice_before m role party before)
 
 abbrev pub shares_at : Meaning → Role → Party → Units → ShareForm
-shares_at m role party before = shares_by m (choice_at m role party before)
+shares_at m role party before = shares_by m (choice_before m role party before)
 
 abbrev pub exchange_message : Role → Party → Units → List ℕ
 exchange_message role party before = first_kept role party.offer (leaving role phase.Exchange) before

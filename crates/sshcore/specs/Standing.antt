@@ -58,14 +58,14 @@ behind_offer m role party known payload peer = record {
 }
 
 -- what is hashed, once this payload is the exchange message
-abbrev pub exchange_of : Meaning → Role → Party → Known → List ℕ → ExchangeData
-exchange_of m role party known payload =
+abbrev pub exchange_heard : Meaning → Role → Party → Known → List ℕ → ExchangeData
+exchange_heard m role party known payload =
     exchange_with m role party known.algorithms known.version known.kexinit (message_in known.shares payload)
 
 -- and what is known behind it
 abbrev pub behind_exchange : Meaning → Role → Party → Known → List ℕ → Known
 behind_exchange m role party known payload =
-    record known { session = exchange_hash m known.algorithms.kex (exchange_of m role party known payload) }
+    record known { session = exchange_hash m known.algorithms.kex (exchange_heard m role party known payload) }
 
 -- An endpoint that has heard this version and these payloads stands so.
 pub record Sits (m : Meaning) (role : Role) (party : Party) (version : List ℕ) (before : Units) (p : Phase) (guess : Bool) (known : Known) : Type 0 where

@@ -8,7 +8,7 @@ ghost use Rattle.sshmsg.specs.Written.{IsOffer, written_message};
 ghost use Rattle.sshcore.specs.declared.config_fault.ConfigFault.{ConfigFault};
 ghost use Rattle.sshcore.specs.declared.config_fault.ConfigFault.TheVariants as fault;
 ghost use Rattle.sshcore.specs.ConfigData.{client_offer, version_of};
-ghost use Rattle.sshcore.specs.ConfigRules.{ClientRule, IsClient, IsRefused};
+ghost use Rattle.sshcore.specs.ConfigRules.{ClientRule, IsClient, IsLeastBroken};
 ghost use Rattle.sshcore.specs.ConfigView.{client_data};
 
 use crate::config_fault::ConfigFault;
@@ -53,7 +53,7 @@ impl ClientConfig {
     /// each has), and `Memory` only where none does, for want of memory.
     pub fn new(alloc: Global, parts: ClientParts) -> Result<ClientConfig, ConfigFault>
         ensures accepted { IfOk result (λ config. (config ≡ client_data parts) × IsClient config) }
-        ensures refused { IfErr result (λ code. code ≢ fault.Memory → IsRefused (λ rule. ClientRule rule (client_data parts)) code) }
+        ensures refused { IfErr result (λ code. code ≢ fault.Memory → IsLeastBroken (λ rule. ClientRule rule (client_data parts)) code) }
         ensures memory { result ≡ Err fault.Memory → (rule : ConfigFault) → ClientRule rule (client_data parts) }
     {
         sshwire::names_law();

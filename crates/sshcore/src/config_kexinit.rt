@@ -2,7 +2,7 @@
 
 ghost use Rattle.std.specs.Prelude.{◌≡◌, ◌+◌, ◌<◌, ◌^◌, ◌++◌, ◌∷◌, [], IfOk, codes, length, map, string_bytes};
 ghost use Rattle.sshmsg.specs.View.{offer_of};
-ghost use Rattle.sshcore.specs.ConfigData.{algorithms_of, own_marker, side_offer};
+ghost use Rattle.sshcore.specs.ConfigData.{key_algorithms, own_marker, side_offer};
 ghost use Rattle.sshcore.specs.ConfigRules.{FitsKexInit};
 ghost use Rattle.sshcore.specs.ConfigView.{host_key_of, side_data};
 
@@ -125,7 +125,7 @@ pub(crate) fn list_of(alloc: Global, names: &[String]) -> Result<NameList, Memor
 #[tactic(auto, using(crate::proofs::ConfigJudged::host_keys_mapped))]
 pub(crate) fn list_of_host_keys(alloc: Global, keys: &[HostKey]) -> Result<NameList, Memory>
     requires { length keys.now < 2 ^ 25 }
-    ensures { IfOk result (λ list. list ≡ algorithms_of (map host_key_of keys.now)) }
+    ensures { IfOk result (λ list. list ≡ key_algorithms (map host_key_of keys.now)) }
 {
     let texts = texts_of_host_keys(alloc, keys)?;
     list_of_texts(alloc, &texts)

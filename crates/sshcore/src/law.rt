@@ -24,7 +24,7 @@ ghost use Rattle.sshcore.specs.Known.{Known};
 ghost use Rattle.sshcore.specs.Party.{Party, Policy};
 ghost use Rattle.sshcore.specs.Phases.{behind, leaving, past_exchange, past_newkeys};
 ghost use Rattle.sshcore.specs.Replies.{Ends, answers_at, end_at, fault_of, line_reply, reply_at};
-ghost use Rattle.sshcore.specs.Standing.{LeavesNone, Sits, behind_exchange, behind_offer, exchange_of, nothing_known};
+ghost use Rattle.sshcore.specs.Standing.{LeavesNone, Sits, behind_exchange, behind_offer, exchange_heard, nothing_known};
 ghost use Rattle.sshcore.specs.StrictClause.{KeepsStrict};
 ghost use Rattle.sshcore.specs.Table.{line_by};
 ghost use Rattle.sshcore.specs.Work.{making};
@@ -79,7 +79,7 @@ pub fn standing_law()
     // The keys of both directions come of the exchange message, and stay.
     ensures makes_keys { (m : Meaning) (role : Role) (party : Party) (version : List ℕ) (before : Units) (payload : List ℕ) (known : Known)
         → Sits m role party version before phase.Exchange false known → kind payload ≡ leaving role phase.Exchange → (sender : Role)
-        → keys_at m role party version (before ++ payload ∷ []) sender ≡ keys_by m known.algorithms (exchange_of m role party known payload) sender }
+        → keys_at m role party version (before ++ payload ∷ []) sender ≡ keys_by m known.algorithms (exchange_heard m role party known payload) sender }
     ensures keeps_keys { (m : Meaning) (role : Role) (party : Party) (version : List ℕ) (before : Units) (payload : List ℕ) (p : Phase) (guess : Bool) (known : Known)
         → Sits m role party version before p guess known → past_exchange p ≡ true → (sender : Role)
         → keys_at m role party version (before ++ payload ∷ []) sender ≡ keys_at m role party version before sender }

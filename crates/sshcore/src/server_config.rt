@@ -8,7 +8,7 @@ ghost use Rattle.sshmsg.specs.Written.{IsOffer, written_message};
 ghost use Rattle.sshcore.specs.declared.config_fault.ConfigFault.{ConfigFault};
 ghost use Rattle.sshcore.specs.declared.config_fault.ConfigFault.TheVariants as fault;
 ghost use Rattle.sshcore.specs.ConfigData.{server_offer, version_of};
-ghost use Rattle.sshcore.specs.ConfigRules.{ServerRule, IsServer, IsRefused};
+ghost use Rattle.sshcore.specs.ConfigRules.{ServerRule, IsServer, IsLeastBroken};
 ghost use Rattle.sshcore.specs.ConfigView.{server_data};
 
 use crate::config_fault::ConfigFault;
@@ -53,7 +53,7 @@ impl ServerConfig {
     /// each has), and `Memory` only where none does, for want of memory.
     pub fn new(alloc: Global, parts: ServerParts) -> Result<ServerConfig, ConfigFault>
         ensures accepted { IfOk result (λ config. (config ≡ server_data parts) × IsServer config) }
-        ensures refused { IfErr result (λ code. code ≢ fault.Memory → IsRefused (λ rule. ServerRule rule (server_data parts)) code) }
+        ensures refused { IfErr result (λ code. code ≢ fault.Memory → IsLeastBroken (λ rule. ServerRule rule (server_data parts)) code) }
         ensures memory { result ≡ Err fault.Memory → (rule : ConfigFault) → ServerRule rule (server_data parts) }
     {
         sshwire::names_law();
