@@ -1,9 +1,10 @@
 //! Why there is no answer.
 
+use sshcore::ConfigFault;
 use sshmsg::MsgFault;
 use sshpacket::PacketFault;
 use sshwire::Memory;
-use std::alloc::AllocError;
+use std::alloc::{AllocError, AllocFailed};
 use std::io;
 use thiserror::Error;
 
@@ -22,7 +23,10 @@ pub(crate) enum Fault {
     /// A stream of packets of this program's own wasn't read.
     #[error("not read: {0}")]
     Packet(PacketFault),
-    /// What was written isn't what was read.
+    /// The lab's parts were refused.
+    #[error("no config: {0}")]
+    Config(ConfigFault),
+    /// What came out isn't what had to, such as what was written and what was read.
     #[error("written otherwise than read")]
     Otherwise,
     /// The clock, the words or the output failed.
@@ -39,6 +43,18 @@ impl From<Memory> for Fault {
 impl From<AllocError> for Fault {
     fn from(_: AllocError) -> Fault {
         Fault::Memory
+    }
+}
+
+impl<T: Drop> From<AllocFailed<T>> for Fault {
+    fn from(_: AllocFailed<T>) -> Fault {
+        Fault::Memory
+    }
+}
+
+impl From<ConfigFault> for Fault {
+    fn from(fault: ConfigFault) -> Fault {
+        Fault::Config(fault)
     }
 }
 

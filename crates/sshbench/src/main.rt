@@ -5,6 +5,7 @@
 //! piece by piece, and prints how long the reading took.
 #![tactic(auto)]
 
+mod calls;
 mod choices;
 mod digests;
 mod fault;
@@ -12,7 +13,9 @@ mod kexinit;
 mod lent;
 mod long;
 mod packets;
+mod sent;
 mod table;
+mod talk;
 
 use crate::fault::Fault;
 use std::env;
@@ -58,6 +61,8 @@ fn check(rt: &HostRuntime) -> Result<(), Fault> {
     writeln!(rt.stdout(), "packets ok")?;
     choices::check(alloc)?;
     writeln!(rt.stdout(), "choice ok")?;
+    talk::check(alloc)?;
+    writeln!(rt.stdout(), "negotiation ok")?;
     Ok(())
 }
 

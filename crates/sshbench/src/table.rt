@@ -1,11 +1,13 @@
 //! Times, and their ratios.
 
+use crate::calls::Calls;
 use crate::choices::{Offers, Payloads};
 use crate::digests::digest;
 use crate::fault::Fault;
 use crate::kexinit::{copy, read_and_write};
 use crate::lent::{Kind, own, payload, read_only};
 use crate::packets::{Load, PIECE_LENS, Stream};
+use crate::talk::{Lab, WHOLE, negotiate};
 use std::fmt;
 use std::io::Write;
 use std::time::{Duration, Instant};
@@ -28,6 +30,9 @@ const READS: u32 = 400;
 /// How often where the pieces are single bytes or the packets are sealed, which takes longer.
 const SLOW_READS: u32 = 20;
 
+/// How often is negotiated.
+const NEGOTIATIONS: u32 = 5_000;
+
 /// What a row's work stands beside.
 #[derive(Clone, Copy, Debug)]
 pub(crate) enum Beside {
@@ -43,6 +48,10 @@ pub(crate) enum Beside {
     Comparing,
     /// The same work for a tenth of the bytes.
     Tenth,
+    /// The suite's calls alone, with the same arguments.
+    Calls,
+    /// The same work in pieces that are as large as can be.
+    Whole,
 }
 
 impl fmt::Display for Beside {
@@ -54,6 +63,8 @@ impl fmt::Display for Beside {
             Beside::Digests => "digests",
             Beside::Comparing => "comparing names",
             Beside::Tenth => "a tenth of it",
+            Beside::Calls => "the suite's calls",
+            Beside::Whole => "whole",
         })
     }
 }
@@ -127,7 +138,28 @@ pub(crate) fn print(rt: &HostRuntime, payload: &[u8]) -> Result<(), Fault> {
             },
         )?;
     }
-    print_row(rt, "2 MB of clear packets by 1448", &time_ten_times(rt)?)
+    print_row(rt, "2 MB of clear packets by 1448", &time_ten_times(rt)?)?;
+    print_negotiations(rt)
+}
+
+/// Times negotiations, and prints the rows.
+fn print_negotiations(rt: &HostRuntime) -> Result<(), Fault> {
+    let lab = Lab::new(rt.alloc())?;
+    let whole = time_negotiations(rt, &lab, WHOLE)?;
+    let row = Row {
+        rounds: NEGOTIATIONS,
+        work: whole,
+        other: time_calls(rt, &lab)?,
+        beside: Beside::Calls,
+    };
+    print_row(rt, "negotiation", &row)?;
+    let bytes = Row {
+        rounds: NEGOTIATIONS,
+        work: time_negotiations(rt, &lab, 1)?,
+        other: whole,
+        beside: Beside::Whole,
+    };
+    print_row(rt, "negotiation by 1", &bytes)
 }
 
 /// Times reads of packets in clear, and prints the rows.
@@ -314,6 +346,26 @@ fn time_digests(rt: &HostRuntime, stream: &Stream, rounds: u32) -> Result<Durati
         if digest(stream) != first {
             return Err(Fault::Otherwise);
         }
+    }
+    Ok(start.elapsed(rt)?)
+}
+
+/// Times negotiations in pieces of so many bytes.
+fn time_negotiations(rt: &HostRuntime, lab: &Lab, piece_len: usize) -> Result<Duration, Fault> {
+    let start = Instant::now(rt)?;
+    for _ in 0..NEGOTIATIONS {
+        negotiate(rt.alloc(), lab, piece_len)?;
+    }
+    Ok(start.elapsed(rt)?)
+}
+
+/// Times the suite's calls of as many negotiations.
+fn time_calls(rt: &HostRuntime, lab: &Lab) -> Result<Duration, Fault> {
+    let alloc = rt.alloc();
+    let calls = Calls::new(alloc, &negotiate(alloc, lab, WHOLE)?)?;
+    let start = Instant::now(rt)?;
+    for _ in 0..NEGOTIATIONS {
+        calls.make(alloc)?;
     }
     Ok(start.elapsed(rt)?)
 }

@@ -7,7 +7,7 @@ use Rattle.sshneg.specs.declared.role.Role.{Role}
 use Rattle.sshpacket.specs.Parse.{Protection, Refusal, parse_packet, refused, unfinished, whole}
 use Rattle.sshpacket.specs.Places.{EachPlace, IsPrefix, flat_places}
 use Rattle.sshpacket.specs.PreambleParser.{preamble_parser}
-use Rattle.sshpacket.specs.Stream.{Heard, IsIncremental, Parser, Said, Units}
+use Rattle.sshpacket.specs.Stream.{Heard, IsIncremental, Parser, Read, Said, Same, Units}
 use Rattle.sshpacket.specs.Suite.{Meaning}
 use Rattle.sshpacket.proofs.Places.{each-append, each-push, flat-push}
 use Rattle.sshcore.specs.declared.end.Fault.{Fault}
@@ -35,19 +35,25 @@ pub record Streams : Type 0 where
       → Heard parsers stream us rest None → used ≤ length piece → parsers us (rest ++ piece) ≡ refused r (length rest + used) → Heard parsers (stream ++ take used piece) us (rest ++ take used piece) (Some r)
   pub part : (parsers : Units → Parser) → ((us : Units) → IsIncremental (parsers us)) → (stream piece : List ℕ) (us : Units) (rest : List ℕ)
       → Heard parsers stream us rest None → parsers us (rest ++ piece) ≡ unfinished → Heard parsers (stream ++ piece) us (rest ++ piece) None
+  pub one : (parsers : Units → Parser) (stream : List ℕ) (us vs : Units) (x y : List ℕ) (r q : Option Refusal)
+      → Heard parsers stream us x r → Heard parsers stream vs y q → Same us vs x y r q
+  pub front : (parsers : Units → Parser) → ((us : Units) → IsIncremental (parsers us)) → (stream more : List ℕ) (us vs : Units) (x y : List ℕ) (r q : Option Refusal)
+      → Heard parsers stream us x r → Heard parsers (stream ++ more) vs y q → IsPrefix us vs
+  pub more : (parsers : Units → Parser) → ((us : Units) → IsIncremental (parsers us)) → (before : Units) (bytes more : List ℕ) (us : Units) (rest : List ℕ)
+      → Read parsers before bytes us rest → Read parsers before (bytes ++ more) us (rest ++ more)
   pub said : (spells : Units → List ℕ → List ℕ) (stream : List ℕ) (us more : Units) → Said spells stream us → Said spells (stream ++ flat_places spells us more) (us ++ more)
 
 fit_anywhere : (b c us : Units) → EachPlace (λ before payload. FitsPacket payload) b us → EachPlace (λ before payload. FitsPacket payload) c us
 fit_anywhere b c [] fit = tt
 fit_anywhere b c (u ∷ us) fit = (fit.0, fit_anywhere (b ++ u ∷ []) (c ++ u ∷ []) us fit.1)
 
-fit_both : (answers more : Units) → AllFit answers → AllFit more → AllFit (answers ++ more)
+pub fit_both : (answers more : Units) → AllFit answers → AllFit more → AllFit (answers ++ more)
 fit_both answers more a b = each-append (λ before payload. FitsPacket payload) [] answers more a (fit_anywhere [] answers more b)
 
 failed_shut : (f : Fault) → Failed f ≢ Open
 failed_shut f e = absurd cc
 
-no_refusal : (r : Option Refusal) → (refusal_reply r).end ≡ Open → r ≡ None
+pub no_refusal : (r : Option Refusal) → (refusal_reply r).end ≡ Open → r ≡ None
 no_refusal None e = refl
 no_refusal (Some r) e = absurd cc
 

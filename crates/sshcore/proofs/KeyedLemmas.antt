@@ -58,7 +58,7 @@ still_told (Some reason) = refl
 pub still_fails : (f : Fault) → IsStill (fails f).answers
 still_fails f = still_told (reason_of f)
 
-init_kind : (form : ShareForm) (share : List ℕ) → kind (written_message (init_in form share)) ≡ 30
+pub init_kind : (form : ShareForm) (share : List ℕ) → kind (written_message (init_in form share)) ≡ 30
 unfolding written_message
 init_kind Mpint share = refl
 init_kind OctetString share = refl
@@ -107,6 +107,12 @@ still_banner (Some text) = refl
 still_service : (party : Party) (service : List ℕ) → IsStill (service_reply party service).answers
 still_service party service =
     still_cond (bytes_eq service userauth) (goes (written_message (ServiceAccept userauth) ∷ banner_by party.banner)) (fails fault.Service) (still_banner party.banner) (still_fails fault.Service)
+
+-- at this place the exchange message comes
+pub record IsExchangePlace (role : Role) (party : Party) (before : Units) (payload : List ℕ) (p : Phase) : Type 0 where
+  pub at : p ≡ phase.Exchange
+  pub none_due : expects_guess role party.offer before ≡ false
+  pub leaves : kind payload ≡ leaving role phase.Exchange
 
 module _ (below : Below) (m : Meaning) (d : Policy) (role : Role) (party : Party) where
   -- a message that isn't an exchange message is answered without one
@@ -185,7 +191,7 @@ module _ (below : Below) (m : Meaning) (d : Policy) (role : Role) (party : Party
 
     by_line : (known : Known) (packet : ℕ) (p : Phase) → Tied role party.offer before p → (l : Line)
         → Sees role p (strict_at role party before) (expects_guess role party.offer before) (kind payload) l
-        → switched_out (line_reply m d role party known packet l payload).answers ≡ true → IsReady role party (before ++ payload ∷ [])
+        → switched_out (line_reply m d role party known packet l payload).answers ≡ true → IsExchangePlace role party before payload p
     unfolding line_reply
     by_line known packet p t l (Closing one is) on = absurd (true≢false (sym (rw is at on) ∙ still_read known packet payload (λ q. omega arith) (λ q. omega arith)))
     by_line known packet p t l (Dropped one due r is) on = absurd (true≢false (sym (rw is at on) ∙ still_none))
@@ -205,18 +211,24 @@ module _ (below : Below) (m : Meaning) (d : Policy) (role : Role) (party : Party
       ]
     ]
       where
-        exchanged : (kind payload ≡ 30) ⊎ (kind payload ≡ 31) → IsReady role party (before ++ payload ∷ [])
+        exchanged : (kind payload ≡ 30) ⊎ (kind payload ≡ 31) → IsExchangePlace role party before payload p
         exchanged two =
             let q : p ≡ phase.Exchange = from_exchange role p (kind payload) here two in
-            ready_behind p t none q (here ∙ ap (leaving role) q)
+            record { at = q; none_due = none; leaves = here ∙ ap (leaving role) q }
 
-    pub keyed : (p : Phase) → Tied role party.offer before p → switched_out (answers_at m d role party (version ∷ before) payload) ≡ true → IsReady role party (before ++ payload ∷ [])
-    keyed p t on =
+    -- NEWKEYS is answered at the exchange message alone
+    pub told_at : (p : Phase) → Tied role party.offer before p → switched_out (answers_at m d role party (version ∷ before) payload) ≡ true → IsExchangePlace role party before payload p
+    told_at p t on =
         by_line (known_at m role party version before) (number_in role party before) p t
         (line_by role p (strict_at role party before) (expects_guess role party.offer before) (kind payload))
         (sees role p (strict_at role party before) (kind payload) (expects_guess role party.offer before))
         (ap (λ (l : Line). switched_out (line_reply m d role party (known_at m role party version before) (number_in role party before) l payload).answers)
         (line_is below m d role party version before payload p t) ∙ on)
+
+    pub keyed : (p : Phase) → Tied role party.offer before p → switched_out (answers_at m d role party (version ∷ before) payload) ≡ true → IsReady role party (before ++ payload ∷ [])
+    keyed p t on =
+        let e = told_at p t on in
+        ready_behind p t e.none_due e.at e.leaves
 
 pub still_making : (m : Meaning) (role : Role) (party : Party) → IsStill (making m role party)
 unfolding switched_out written_message

@@ -23,7 +23,8 @@ last_same (b ∷ c ∷ cs) [] x y e = absurd cc
 last_same (b ∷ bs) (c ∷ cs) x y e = let t = last_same bs cs x y cc in (let first : b ≡ c = cc in let behind : bs ≡ cs = t.0 in cc, t.1)
 
 module _ (m : Meaning) (d : Policy) (role : Role) (party : Party) where
-  last_open : (units before : Units) (last : List ℕ) → units ≡ before ++ last ∷ [] → StaysOpen m d role party units → end_at m d role party before last ≡ Open
+  -- where an endpoint stays open, its last unit leaves it open
+  pub last_open : (units before : Units) (last : List ℕ) → units ≡ before ++ last ∷ [] → StaysOpen m d role party units → end_at m d role party before last ≡ Open
   last_open units before last is stays =
       each-last (λ b u. end_at m d role party b u ≡ Open) [] before last (subst (StaysOpen m d role party) is stays)
 
@@ -38,7 +39,7 @@ module _ (m : Meaning) (d : Policy) (role : Role) (party : Party) where
   pub one_by : (units other_units : Units) (refusal other_refusal : Option Refusal) (rest other_rest : List ℕ) (answers other_answers : Units) (end other_end : Ending) (h s t : List ℕ)
       → Same units other_units rest other_rest refusal other_refusal
       → History m d role party units rest refusal answers end h s → History m d role party other_units other_rest other_refusal other_answers other_end h t
-      → IsOneHistory units other_units answers other_answers end other_end s t
+      → IsOneHistory units other_units rest other_rest refusal other_refusal answers other_answers end other_end s t
   one_by units other_units refusal other_refusal rest other_rest answers other_answers end other_end h s t same a b =
       let replied : answers ≡ other_answers =
       a.replies.in_order
@@ -47,6 +48,8 @@ module _ (m : Meaning) (d : Policy) (role : Role) (party : Party) where
       ∙ sym b.replies.in_order in
       record {
         same_units = same.same_units;
+        same_rest = same.same_rest;
+        same_refusal = same.same_refusal;
         same_answers = replied;
         same_end = same_end other_units other_refusal end other_end
             (subst (λ (r : Option Refusal). Ends m d role party other_units r end) same.same_refusal (subst (λ (us : Units). Ends m d role party us refusal end) same.same_units a.replies.ends))

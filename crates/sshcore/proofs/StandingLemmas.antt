@@ -32,7 +32,7 @@ nothing_offered : offered [] ≡ false
 unfolding offered
 nothing_offered = refl
 
-past_past : (p : Phase) → past_exchange p ≡ true → past_kexinit p ≡ true
+pub past_past : (p : Phase) → past_exchange p ≡ true → past_kexinit p ≡ true
 past_past phase.KexInit e = absurd (true≢false (sym e))
 past_past phase.Exchange e = refl
 past_past phase.NewKeys e = refl

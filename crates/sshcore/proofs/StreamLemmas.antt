@@ -50,23 +50,25 @@ module _ (role : Role) (party : Party) where
   ready_units [] more r = absurd (true≢false (sym r.offer))
   ready_units (v ∷ us) more r = ready_more us more r
 
+-- before the key switch strictness doesn't matter
+pub unready : (strict other_strict : Bool) (said : Units) → switched_out said ≡ false → number_out strict said ≡ number_out other_strict said
+unfolding number_out
+unready strict other_strict said none = rw none refl
+
 module _ (m : Meaning) (role : Role) (party : Party) where
-  keys_stay : (version : List ℕ) (before more : Units) (sender : Role) → IsReady role party before → keys_at m role party version (before ++ more) sender ≡ keys_at m role party version before sender
+  -- the keys and the strictness of an endpoint that is ready stay, whatever is heard behind
+  pub keys_stay : (version : List ℕ) (before more : Units) (sender : Role) → IsReady role party before → keys_at m role party version (before ++ more) sender ≡ keys_at m role party version before sender
   keys_stay version before more sender r =
       ap (λ (k : List ℕ). keys_by_payloads m role party version sender k (exchange_message role party (before ++ more))) (kexinit_stays before more r.offer)
       ∙ ap (λ (l : List ℕ). keys_by_payloads m role party version sender (kexinit before) l) (message_stays role party before more r.exchange)
 
-  strict_stays : (before more : Units) → offered before ≡ true → strict_at role party (before ++ more) ≡ strict_at role party before
+  pub strict_stays : (before more : Units) → offered before ≡ true → strict_at role party (before ++ more) ≡ strict_at role party before
   strict_stays before more is = ap (λ (k : List ℕ). strict_towards role party.strict (offer_in k)) (kexinit_stays before more is)
 
-  ready_some : (units : Units) → IsReady role party (payloads_in units) → (v : List ℕ) × (us : Units) × (units ≡ v ∷ us)
+  pub ready_some : (units : Units) → IsReady role party (payloads_in units) → (v : List ℕ) × (us : Units) × (units ≡ v ∷ us)
   unfolding offered
   ready_some [] r = absurd (true≢false (sym r.offer))
   ready_some (v ∷ us) r = (v, us, refl)
-
-  unready : (strict other_strict : Bool) (said : Units) → switched_out said ≡ false → number_out strict said ≡ number_out other_strict said
-  unfolding number_out
-  unready strict other_strict said none = rw none refl
 
   -- what was said is spelled as before, whatever is heard behind
   spelled_stays : (units more said : Units) (payload : List ℕ) → (switched_out said ≡ true → IsReady role party (payloads_in units))

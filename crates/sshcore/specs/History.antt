@@ -55,9 +55,11 @@ pub record BrokenOff (m : Meaning) (d : Policy) (role : Role) (party : Party) (h
   pub prefix : IsPrefix some_answers answers
   pub said : Said (spells m role party units) said_bytes (party.version ∷ some_answers)
 
--- two histories are one: the same units were heard, and the same was answered, said and come to
-pub record IsOneHistory (units other_units answers other_answers : Units) (end other_end : Ending) (said_bytes other_bytes : List ℕ) : Type 0 where
+-- Two histories are one: the same units were heard, with the same rest and refusal, and the same was answered, said and come to.
+pub record IsOneHistory (units other_units : Units) (rest other_rest : List ℕ) (refusal other_refusal : Option Refusal) (answers other_answers : Units) (end other_end : Ending) (said_bytes other_bytes : List ℕ) : Type 0 where
   pub same_units : units ≡ other_units
+  pub same_rest : rest ≡ other_rest
+  pub same_refusal : refusal ≡ other_refusal
   pub same_answers : answers ≡ other_answers
   pub same_end : end ≡ other_end
   pub same_said : said_bytes ≡ other_bytes

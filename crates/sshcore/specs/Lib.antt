@@ -1,4 +1,5 @@
 pub mod Party
+pub mod PartyView
 pub mod Before
 pub mod Phases
 pub mod Counting
@@ -13,7 +14,21 @@ pub mod StrictSequence
 pub mod StrictClause
 pub mod Standing
 pub mod History
+pub mod Output
 pub mod ConfigData
 pub mod ConfigView
 pub mod ConfigRules
 pub mod ConfigTests
+pub mod ConfigParty
+pub mod Chosen
+pub mod ChosenView
+pub mod Made
+pub mod Kept
+pub mod Brings
+pub mod Negotiated
+pub mod Exchanged
+pub mod ExchangedView
+pub mod Inputs
+pub mod HearsLines
+pub mod EndpointData
+pub mod Endpoints

@@ -108,7 +108,8 @@ impl ClientConfig {
 
     /// The version line that an endpoint of this config sends. Takes no memory.
     pub(crate) fn version(&self) -> &VersionLine
-        ensures { result.now ≡ version_of self.now.side }
+        ensures same { result.now ≡ version_of self.now.side }
+        ensures accepted { IsClient self.now }
     {
         &self.version
     }

@@ -37,6 +37,6 @@ pub(crate) fn side_law(side: &SideParts)
 }
 
 /// The law of a slice of bytes: they are bytes. Takes no memory.
-fn bytes_law(bytes: &[u8])
+pub(crate) fn bytes_law(bytes: &[u8])
     ensures { IsBytes bytes.now }
 {}

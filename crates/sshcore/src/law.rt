@@ -107,6 +107,9 @@ pub fn saying_law()
         else if kind payload == SSH_MSG_NEWKEYS then (if strict then 0 else (number_out strict said + 1) % 2 ^ 32)
         else (number_out strict said + 1) % 2 ^ 32) }
 
+    // Before the key switch strictness doesn't matter.
+    ensures unswitched { (strict other : Bool) (said : Units) → switched_out said ≡ false → number_out strict said ≡ number_out other said }
+
     // What was said stays spelled as it is when more is heard, once both directions have their keys.
     ensures stays { (m : Meaning) (role : Role) (party : Party) (units more answers : Units) (s : List ℕ)
         → (switched_out answers ≡ true → IsReady role party (payloads_in units))
@@ -114,7 +117,7 @@ pub fn saying_law()
 {}
 
 /// The law of histories: what an endpoint has heard and said, before any byte and with each piece more;
-/// and that the bytes that it used decide the rest, in whatever pieces they came.
+/// and that its input decides the bytes that it uses and all the rest, in whatever pieces it came.
 ///
 /// Behind a history in which the endpoint stands open a piece brings more of an unfinished unit, a
 /// refusal, or a unit with its answers. That NEWKEYS is said only where the exchange was heard comes of
@@ -145,12 +148,17 @@ pub fn history_law()
         → parsers m role party units (rest ++ piece) ≡ whole u (length rest + used) → IsPrefix some (answers_at m d role party units u)
         → BrokenOff m d role party (h ++ take used piece) (s ++ flat_places (spells m role party (units ++ u ∷ [])) (party.version ∷ answers) some) }
 
-    // The bytes used decide the units, the answers, the end and the bytes said. That two cuts of one input use the same bytes of
-    // it isn't said here.
+    // The bytes used decide the units, the rest, the answers, the end and the bytes said. And one input decides the bytes used: an
+    // endpoint uses some bytes at the front of its input, and all of them while it stands open.
     ensures one { (m : Meaning) (d : Policy) (role : Role) (party : Party) (units other_units : Units) (rest other_rest : List ℕ) (r other_r : Option Refusal)
         (answers other_answers : Units) (end other_end : Ending) (h s t : List ℕ)
         → History m d role party units rest r answers end h s → History m d role party other_units other_rest other_r other_answers other_end h t
-        → IsOneHistory units other_units answers other_answers end other_end s t }
+        → IsOneHistory units other_units rest other_rest r other_r answers other_answers end other_end s t }
+    ensures joined { (m : Meaning) (d : Policy) (role : Role) (party : Party) (units other_units : Units) (rest other_rest : List ℕ) (r other_r : Option Refusal)
+        (answers other_answers : Units) (end other_end : Ending) (h g s t x y : List ℕ)
+        → History m d role party units rest r answers end h s → History m d role party other_units other_rest other_r other_answers other_end g t
+        → h ++ x ≡ g ++ y → (end ≡ Open → x ≡ []) → (other_end ≡ Open → y ≡ [])
+        → (h ≡ g) × IsOneHistory units other_units rest other_rest r other_r answers other_answers end other_end s t }
 {
     sshmsg::numbers_law();
     sshneg::markers_law();

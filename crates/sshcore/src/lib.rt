@@ -1,18 +1,31 @@
-//! One endpoint of SSH up to authentication (RFC 4253, RFC 4252), which is fed with bytes: so far what
-//! it is made of (configs), what its answers are (definitions over the payloads that it heard), and
-//! laws of them.
+//! One endpoint of SSH, a client or a server, which is fed with bytes: from the first byte of the version
+//! line to the accepted service of authentication (RFC 4253).
 #![tactic(auto)]
 
+mod algorithms;
 mod client_config;
+mod config;
 mod config_fault;
 mod config_judge;
 mod config_kexinit;
 mod config_laws;
 mod config_parts;
 mod config_version;
+mod decisions;
 mod end;
+mod endpoint;
+mod endpoint_laws;
+mod exchange;
+mod greeting;
+mod input;
+mod kexinit;
 mod law;
+mod newkeys;
+mod packet;
+mod payloads;
 mod server_config;
+mod service;
+mod state;
 mod table;
 
 pub use client_config::ClientConfig;
@@ -23,7 +36,10 @@ pub use config_parts::{
     NOTICE_LINE_LIMIT, PASSWORD_LIMIT, PLAN_LIMIT, PRIVATE_KEY_LIMIT, ServerParts, SideParts,
     TRIES_LIMIT, USER_LIMIT,
 };
+pub use decisions::{Decisions, Proof};
 pub use end::{Agreed, End, Fault};
+pub use endpoint::Endpoint;
+pub use endpoint_laws::endpoint_law;
 pub use law::{history_law, saying_law, standing_law, strict_law};
 pub use server_config::ServerConfig;
 pub use table::{Line, Phase};

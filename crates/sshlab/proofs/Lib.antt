@@ -1,2 +1,4 @@
 pub mod ReceiverLemmas
 pub mod StreamLemmas
+pub mod DecisionLemmas
+pub mod DecisionLaws

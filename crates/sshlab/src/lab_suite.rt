@@ -200,7 +200,7 @@ pub fn lab_law()
 
 /// The public key of a private key: the name of the algorithm and the hash of the private key.
 #[tactic(auto, using(crate::specs::LabLaws::blob_length), unfolding(crate::specs::Lab::lab_blob))]
-fn blob(alloc: Global, alg: &str, secret: &[u8]) -> Result<Vec<u8>, Memory>
+pub(crate) fn blob(alloc: Global, alg: &str, secret: &[u8]) -> Result<Vec<u8>, Memory>
     requires { IsName alg.now }
     ensures value { IfOk result (λ v. v.items ≡ lab_blob alg.now secret.now) }
     ensures short { IfOk result (λ v. length v.items < 2 ^ 32) }

@@ -4,6 +4,8 @@
 mod delivery;
 mod greetings;
 mod kem_suite;
+mod lab_decisions;
+mod lab_parts;
 mod lab_suite;
 mod program;
 mod schedule;
@@ -13,6 +15,8 @@ mod words;
 pub use delivery::{Delivery, Side};
 pub use greetings::{Greeting, Hearing, greet};
 pub use kem_suite::KemSuite;
+pub use lab_decisions::{LabDecisions, lab_decisions_law};
+pub use lab_parts::{lab_client_parts, lab_server_parts};
 pub use lab_suite::{LabSuite, lab_law};
 pub use program::{refuse_words, tool};
 pub use streams::{Broken, Sink, Source, StreamSink, StreamSource};

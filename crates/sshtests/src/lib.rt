@@ -11,6 +11,14 @@ mod data_types;
 #[cfg(test)]
 mod derivations;
 #[cfg(test)]
+mod endpoint_lab;
+#[cfg(test)]
+mod endpoint_packets;
+#[cfg(test)]
+mod endpoint_rows;
+#[cfg(test)]
+mod endpoint_table;
+#[cfg(test)]
 mod greetings;
 #[cfg(test)]
 mod guesses;
@@ -18,6 +26,8 @@ mod guesses;
 mod helpers;
 #[cfg(test)]
 mod kem_suite;
+#[cfg(test)]
+mod lab_decisions;
 #[cfg(test)]
 mod lab_suite;
 #[cfg(test)]

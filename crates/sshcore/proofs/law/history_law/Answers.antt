@@ -2,6 +2,7 @@ use Rattle.sshcore.specs.Directions.{parsers}
 use Rattle.sshcore.proofs.Below.{Below}
 use Rattle.sshcore.proofs.HistoryLemmas as history
 use Rattle.sshcore.proofs.HistoryLemmas.{Streams}
+use Rattle.sshcore.proofs.JoinedHistory.{joined}
 use Rattle.sshcore.proofs.OneHistory.{one_by}
 use Rattle.sshcore.proofs.law.history_law.Goals as goal
 
@@ -15,6 +16,9 @@ returns c =
       unit = c.stream_law.ensures.heard_unit;
       refusal = c.stream_law.ensures.heard_refusal;
       part = c.stream_law.ensures.heard_part;
+      one = c.stream_law.ensures.one;
+      front = c.stream_law.ensures.prefix;
+      more = c.stream_law.ensures.read_more;
       said = c.stream_law.ensures.said_append;
     } in
     record {
@@ -28,4 +32,5 @@ returns c =
       one = λ m d role party units other_units rest other_rest r other_r answers other_answers end other_end h s t a b.
           one_by m d role party units other_units r other_r rest other_rest answers other_answers end other_end h s t
           (c.stream_law.ensures.one (parsers m role party) h units other_units rest other_rest r other_r a.heard b.heard) a b;
+      joined = joined streams;
     }

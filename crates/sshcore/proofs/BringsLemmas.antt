@@ -1,0 +1,113 @@
+-- What a packet brings by each line of the phase table.
+
+use Rattle.std.proofs.Common.{◌≡◌, ℕ, ◌==◌, Bool, true, false, List, [], ◌∷◌, sym, ap, ◌∙◌}
+use Rattle.sshmsg.specs.Content.{Unimplemented}
+use Rattle.sshmsg.specs.Messages.{message_in}
+use Rattle.sshmsg.specs.Numbers.{kind}
+use Rattle.sshmsg.specs.Written.{written_message}
+use Rattle.sshneg.specs.declared.role.Role.{Role}
+use Rattle.sshpacket.specs.KeyData.{KeyData}
+use Rattle.sshpacket.specs.Suite.{Meaning}
+use Rattle.sshcore.specs.declared.end.Fault.{Fault}
+use Rattle.sshcore.specs.declared.end.Fault.TheVariants as fault
+use Rattle.sshcore.specs.declared.table.Line.{Line}
+use Rattle.sshcore.specs.declared.table.Line.TheVariants as line
+use Rattle.sshcore.specs.declared.table.Phase.{Phase}
+use Rattle.sshcore.specs.Brings.{Brings, Drops, Gives, Stays, Works, heard_one}
+use Rattle.sshcore.specs.Ending.{Open, fails, goes}
+use Rattle.sshcore.specs.Kept.{Kept}
+use Rattle.sshcore.specs.Party.{Party, Policy}
+use Rattle.sshcore.specs.Replies.{line_reply, read_reply}
+use Rattle.sshcore.specs.Standing.{LeavesNone}
+use Rattle.sshcore.specs.Table.{line_by}
+use Rattle.sshcore.proofs.TableLemmas.{Closing, Dropped, Leaving, OffGuess, OffPhase, Sees, Staying, Useless, sees}
+use Rattle.sshcore.proofs.WorksLemmas.{failed_ends, silent}
+
+-- the line that the code has found
+pub line_is : (l : Line) (role same_role : Role) (p : Phase) (strict guess : Bool) (n same_number : ℕ) → same_role ≡ role → same_number ≡ n
+    → l ≡ line_by same_role p strict guess same_number → line_by role p strict guess n ≡ l
+line_is l role same_role p strict guess n same_number r k e =
+    sym (e ∙ (ap (λ (x : Role). line_by x p strict guess same_number) r ∙ ap (λ (x : ℕ). line_by role p strict guess x) k))
+
+module _ (role : Role) (p : Phase) (strict guess : Bool) (n : ℕ) where
+  -- what holds where a packet is dropped, and where its number is unknown
+  dropped : (l : Line) → Sees role p strict guess n l → l ≡ line.Drops → (guess ≡ true) × ((n == 1) ≡ false)
+  dropped l (Closing is e) q = absurd cc
+  dropped l (Dropped one due r e) q = (due, one)
+  dropped l (OffGuess one due r m e) q = absurd cc
+  dropped l (OffPhase one none r h e) q = absurd cc
+  dropped l (Leaving none here e) q = absurd cc
+  dropped l (Staying none off h calm e) q = absurd (e q)
+  dropped l (Useless none off h e) q = absurd cc
+
+  unknown : (l : Line) → Sees role p strict guess n l → l ≡ line.Unknown → (guess ≡ false) × LeavesNone role n
+  unknown l (Closing is e) q = absurd cc
+  unknown l (Dropped one due r e) q = absurd cc
+  unknown l (OffGuess one due r m e) q = absurd cc
+  unknown l (OffPhase one none r h e) q = absurd cc
+  unknown l (Leaving none here e) q = absurd cc
+  unknown l (Staying none off h calm e) q = (none, calm.leaves)
+  unknown l (Useless none off h e) q = absurd cc
+
+module _ (m : Meaning) (d : Policy) (role : Role) (party : Party) (old new : Kept) (packet : ℕ) (payload before after : List ℕ) where
+  pub reads_brings : line_by role old.phase old.known.strict old.guess (kind payload) ≡ line.Reads
+      → Works m role party old new payload before after (read_reply m d role party old.known (kind payload) (message_in old.known.shares payload))
+      → Brings m d role party old new packet payload before after
+  unfolding line_reply
+  reads_brings is works = rw is works
+
+  -- it fails, so nothing goes on
+  fails_works : (f : Fault) → ((strict : Bool) (next : KeyData) → Gives m party.seed strict next old new before after (fails f)) → Works m role party old new payload before after (fails f)
+  fails_works f gives = record { gives = gives _ _; moves = λ goes_on. absurd (failed_ends new.end f (gives false (record { cipher = []; mac = []; iv = []; enc = []; mac_key = [] })).ends goes_on) }
+
+  pub deviates_brings : (n : ℕ) → n ≡ kind payload → line_by role old.phase old.known.strict old.guess (kind payload) ≡ line.Deviates
+      → ((strict : Bool) (next : KeyData) → Gives m party.seed strict next old new before after (fails (fault.Strict n)))
+      → Brings m d role party old new packet payload before after
+  unfolding line_reply
+  deviates_brings n same is gives = rw (is, ← same) (fails_works (fault.Strict n) gives)
+
+  pub unexpected_brings : (n : ℕ) → n ≡ kind payload → line_by role old.phase old.known.strict old.guess (kind payload) ≡ line.Unexpected
+      → ((strict : Bool) (next : KeyData) → Gives m party.seed strict next old new before after (fails (fault.Unexpected n)))
+      → Brings m d role party old new packet payload before after
+  unfolding line_reply
+  unexpected_brings n same is gives = rw (is, ← same) (fails_works (fault.Unexpected n) gives)
+
+  pub unknown_brings : line_by role old.phase old.known.strict old.guess (kind payload) ≡ line.Unknown
+      → ((strict : Bool) (next : KeyData) → Gives m party.seed strict next old new before after (goes (written_message (Unimplemented packet) ∷ [])))
+      → new ≡ record old { known = heard_one old.known; sending = new.sending }
+      → Brings m d role party old new packet payload before after
+  unfolding line_reply
+  unknown_brings is gives stays =
+      let seen = unknown role old.phase old.known.strict old.guess (kind payload) _ (sees role old.phase old.known.strict (kind payload) old.guess) is in
+      let none : old.guess ≡ false = seen.0 in
+      let works : Works m role party old new payload before after (goes (written_message (Unimplemented packet) ∷ [])) = record {
+        gives = gives _ _;
+        moves = λ goes_on. Stays none seen.1
+            (ap (λ (k : Kept). k.pending) stays)
+            (record {
+              phase_is = ap (λ (k : Kept). k.phase) stays;
+              guess_is = ap (λ (k : Kept). k.guess) stays ∙ none;
+              known_is = ap (λ (k : Kept). k.known) stays;
+            });
+      } in
+      rw is works
+
+-- the packet of a wrong guess is dropped, and nothing is said
+pub drops_brings : (m : Meaning) (d : Policy) (role : Role) (party : Party) (old new : Kept) (packet : ℕ) (payload before : List ℕ)
+    → line_by role old.phase old.known.strict old.guess (kind payload) ≡ line.Drops → old.end ≡ Open
+    → new ≡ record old { guess = false; known = heard_one old.known }
+    → Brings m d role party old new packet payload before before
+unfolding line_reply
+drops_brings m d role party old new packet payload before is stays next =
+    let seen = dropped role old.phase old.known.strict old.guess (kind payload) _ (sees role old.phase old.known.strict (kind payload) old.guess) is in
+    let works : Works m role party old new payload before before (goes []) = record {
+      gives = silent m party.seed old.known.strict _ old new before Open (ap (λ (k : Kept). k.end) next ∙ stays) (ap (λ (k : Kept). k.sending) next);
+      moves = λ goes_on. Drops seen.0 seen.1
+          (ap (λ (k : Kept). k.pending) next)
+          (record {
+            phase_is = ap (λ (k : Kept). k.phase) next;
+            guess_is = ap (λ (k : Kept). k.guess) next;
+            known_is = ap (λ (k : Kept). k.known) next;
+          });
+    } in
+    rw is works

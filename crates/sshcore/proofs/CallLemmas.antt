@@ -1,0 +1,113 @@
+-- Calls of an endpoint, one after another.
+
+use Rattle.std.proofs.Common.{◌≡◌, ℕ, ◌+◌, ◌-◌, ◌≤◌, List, [], ◌++◌, length, take, drop, Result, Ok, Err, refl, sym, ap, subst, ◌∙◌, append_assoc, arith}
+use Rattle.std.proofs.lemmas.List.{append-nil, length-drop}
+use Rattle.std.proofs.Math.Seq.{take-add, take-length}
+use Rattle.std.specs.Result.{OnErr}
+use Rattle.sshneg.specs.declared.role.Role.{Role}
+use Rattle.sshpacket.specs.Suite.{Meaning}
+use Rattle.sshcore.specs.Endpoints.{After, Breaks, Fed, IsSameEndpoint}
+use Rattle.sshcore.specs.EndpointData.{EndpointData}
+use Rattle.sshcore.specs.History.{BrokenOff}
+use Rattle.sshcore.specs.declared.input.Input.{Input}
+use Rattle.sshcore.specs.declared.state.State.{State}
+use Rattle.sshcore.specs.Inputs.{Stands, Steps}
+use Rattle.sshcore.specs.Kept.{kept_of}
+use Rattle.sshcore.specs.Party.{Party, Policy}
+use Rattle.sshcore.proofs.HistoryLemmas.{broken}
+
+-- what is behind a place, as code cuts it out
+pub tail_is : (n : ℕ) (piece : List ℕ) → take (length piece - n) (drop n piece) ≡ drop n piece
+tail_is n piece = ap (λ k. take k (drop n piece)) (sym (length-drop n piece)) ∙ take-length (drop n piece)
+
+pub on_err : {T E P : Type 0} (r : Result T E) → P → OnErr r P
+on_err (Ok x) p = tt
+on_err (Err e) p = p
+
+module _ {S D : Type 0} where
+  pub same_none : (e : EndpointData S D) → IsSameEndpoint e e
+  same_none e = record { same_role = refl; same_party = refl; same_suite = refl; same_decisions = refl }
+
+  pub same_then : (old mid new : EndpointData S D) → IsSameEndpoint old mid → IsSameEndpoint mid new → IsSameEndpoint old new
+  same_then old mid new a b = record {
+    same_role = b.same_role ∙ a.same_role;
+    same_party = b.same_party ∙ a.same_party;
+    same_suite = b.same_suite ∙ a.same_suite;
+    same_decisions = b.same_decisions ∙ a.same_decisions;
+  }
+
+module _ {S D : Type 0} (meaning : S → Meaning) (policy : D → Policy) where
+  pub fed_none : (e : EndpointData S D) (out : List ℕ) → Fed meaning policy e e [] out out
+  fed_none e out = record {
+    added = [];
+    appended = sym (append-nil out);
+    follows = λ h s a. subst (λ (x : List ℕ). After meaning policy e x (s ++ [])) (sym (append-nil h)) (subst (λ (x : List ℕ). After meaning policy e h x) (sym (append-nil s)) a);
+    same = same_none e;
+  }
+
+  pub fed_then : (old mid new : EndpointData S D) (t u o0 o1 o2 : List ℕ) → Fed meaning policy old mid t o0 o1 → Fed meaning policy mid new u o1 o2 → Fed meaning policy old new (t ++ u) o0 o2
+  fed_then old mid new t u o0 o1 o2 f g = record {
+    added = f.added ++ g.added;
+    appended = g.appended ∙ ap (λ (x : List ℕ). x ++ g.added) f.appended ∙ append_assoc o0 f.added g.added;
+    follows = λ h s a. subst (λ (x : List ℕ). After meaning policy new x (s ++ (f.added ++ g.added))) (append_assoc h t u)
+        (subst (λ (x : List ℕ). After meaning policy new ((h ++ t) ++ u) x) (append_assoc s f.added g.added) (g.follows (h ++ t) (s ++ f.added) (f.follows h s a)));
+    same = same_then old mid new f.same g.same;
+  }
+
+  pub fed_as : (old new : EndpointData S D) (t u o0 o1 : List ℕ) → t ≡ u → Fed meaning policy old new t o0 o1 → Fed meaning policy old new u o0 o1
+  fed_as old new t u o0 o1 e f = subst (λ (x : List ℕ). Fed meaning policy old new x o0 o1) e f
+
+  -- memory is wanted before anything is said
+  pub breaks_none : (e new : EndpointData S D) (piece out : List ℕ) → IsSameEndpoint e new → Breaks meaning policy e new piece out out
+  breaks_none e new piece out same = record {
+    used = 0;
+    within = omega arith;
+    added = [];
+    appended = sym (append-nil out);
+    follows = λ h s a. subst (λ (x : List ℕ). BrokenOff (meaning e.suite) (policy e.decisions) e.role e.party x (s ++ [])) (sym (append-nil h))
+        (subst (λ (x : List ℕ). BrokenOff (meaning e.suite) (policy e.decisions) e.role e.party h x) (sym (append-nil s))
+        (broken (meaning e.suite) (policy e.decisions) e.role e.party a.units a.rest a.refusal a.answers a.heard_end h s a.history));
+    same = same;
+  }
+
+  broken_as : (m n : Meaning) (d c : Policy) (r q : Role) (p o : Party) (h k s t : List ℕ) → m ≡ n → d ≡ c → r ≡ q → p ≡ o → h ≡ k → s ≡ t → BrokenOff m d r p h s → BrokenOff n c q o k t
+  broken_as m n d c r q p o h k s t em ed er ep eh es x =
+      subst (λ (m : Meaning). BrokenOff m c q o k t) em (subst (λ (d : Policy). BrokenOff m d q o k t) ed (subst (λ (r : Role). BrokenOff m d r o k t) er
+      (subst (λ (p : Party). BrokenOff m d r p k t) ep (subst (λ (h : List ℕ). BrokenOff m d r p h t) eh (subst (λ (s : List ℕ). BrokenOff m d r p h s) es x)))))
+
+  -- memory is wanted behind what went well
+  pub breaks_then : (old mid new : EndpointData S D) (piece : List ℕ) (n : ℕ) (o0 o1 o2 : List ℕ) → n ≤ length piece → Fed meaning policy old mid (take n piece) o0 o1
+      → Breaks meaning policy mid new (drop n piece) o1 o2 → Breaks meaning policy old new piece o0 o2
+  breaks_then old mid new piece n o0 o1 o2 low f b =
+      let left : b.used ≤ length (drop n piece) = b.within in
+      let size : length (drop n piece) ≡ length piece - n = length-drop n piece in
+      record {
+        used = n + b.used;
+        within = omega arith;
+        added = f.added ++ b.added;
+        appended = b.appended ∙ ap (λ (x : List ℕ). x ++ b.added) f.appended ∙ append_assoc o0 f.added b.added;
+        follows = λ h s a. broken_as (meaning mid.suite) (meaning old.suite) (policy mid.decisions) (policy old.decisions) mid.role old.role mid.party old.party
+            ((h ++ take n piece) ++ take b.used (drop n piece)) (h ++ take (n + b.used) piece) ((s ++ f.added) ++ b.added) (s ++ (f.added ++ b.added))
+            (ap meaning f.same.same_suite) (ap policy f.same.same_decisions) f.same.same_role f.same.same_party
+            (append_assoc h (take n piece) (take b.used (drop n piece)) ∙ ap (λ (x : List ℕ). h ++ x) (sym (take-add n b.used piece)))
+            (append_assoc s f.added b.added)
+            (b.follows (h ++ take n piece) (s ++ f.added) (f.follows h s a));
+        same = same_then old mid new f.same b.same;
+      }
+
+  -- a step of what an endpoint keeps is a call that used these bytes
+  pub fed_by : (role : Role) (party : Party) (suite : S) (decisions : D) (i j : Input) (x y : State) (taken before after : List ℕ)
+      → (added : List ℕ) × (after ≡ before ++ added) × Steps (meaning suite) (policy decisions) role party i (kept_of x) j (kept_of y) taken [] added
+      → Fed meaning policy (record { role = role; party = party; suite = suite; decisions = decisions; input = i; state = x })
+      (record { role = role; party = party; suite = suite; decisions = decisions; input = j; state = y }) taken before after
+  fed_by role party suite decisions i j x y taken before after step = record {
+    added = step.0;
+    appended = step.1;
+    follows = λ h s a. let g = step.2 h s a in
+        subst (λ (l : List ℕ). Stands (meaning suite) (policy decisions) role party (kept_of y) j (h ++ taken) (s ++ l)) (sym g.appended) g.stands;
+    same = record { same_role = refl; same_party = refl; same_suite = refl; same_decisions = refl };
+  }
+
+  -- and one that wanted memory said nothing
+  pub breaks_same : (e new : EndpointData S D) (piece before after : List ℕ) → IsSameEndpoint e new → after ≡ before → Breaks meaning policy e new piece before after
+  breaks_same e new piece before after same is = subst (λ (l : List ℕ). Breaks meaning policy e new piece before l) (sym is) (breaks_none e new piece before same)

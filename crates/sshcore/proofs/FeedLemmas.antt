@@ -1,0 +1,266 @@
+-- An endpoint that stands open, and one step of its reader.
+
+use Rattle.std.proofs.Common.{◌≡◌, inl, inr, ℕ, ◌+◌, ◌≤◌, ◌==◌, Bool, true, false, cond, List, [], ◌∷◌, ◌++◌, length, take, Option, None, Some, refl, sym, ap, ◌∙◌, subst}
+use Rattle.std.proofs.lemmas.Bool.{cases_Bool, true≢false}
+use Rattle.sshmsg.specs.Numbers.{kind}
+use Rattle.sshneg.specs.declared.role.Role.{Role}
+use Rattle.sshneg.specs.Markers.{other}
+use Rattle.sshpacket.specs.KeyData.{KeyData}
+use Rattle.sshpacket.specs.declared.fault.PacketFault.{PacketFault}
+use Rattle.sshpacket.specs.declared.fault.PacketFault.TheVariants as packet
+use Rattle.sshpacket.specs.Parse.{OfPacket, Refusal, refused, unfinished, whole}
+use Rattle.sshpacket.specs.Places.{EachPlace, flat_places, stands}
+use Rattle.sshpacket.specs.Stream.{Units}
+use Rattle.sshpacket.specs.Suite.{Meaning}
+use Rattle.sshcore.specs.declared.end.Fault.{Fault}
+use Rattle.sshcore.specs.declared.end.Fault.TheVariants as fault
+use Rattle.sshcore.specs.declared.input.Input.{Input}
+use Rattle.sshcore.specs.declared.table.Phase.{Phase}
+use Rattle.sshcore.specs.declared.table.Phase.TheVariants as phase
+use Rattle.sshcore.specs.Before.{stood, strict_at}
+use Rattle.sshcore.specs.Brings.{Brings, Gives, IsOngoing}
+use Rattle.sshcore.specs.Counting.{is_newkeys, number_in, switched_out}
+use Rattle.sshcore.specs.Directions.{keys_in, parsers, payloads_in, spells, version_in}
+use Rattle.sshcore.specs.Ending.{Authenticated, Ending, Failed, Open, Reply, disconnect, fails}
+use Rattle.sshcore.specs.Exchange.{keys_at, keys_by}
+use Rattle.sshcore.specs.History.{AllFit, History, IsReady}
+use Rattle.sshcore.specs.Inputs.{AsHeard, CutOff, GoesOn, IsInput, IsInside, Stands, StandsSo, pending_at}
+use Rattle.sshcore.specs.Kept.{Kept, keys_due, keys_left}
+use Rattle.sshcore.specs.Known.{Known}
+use Rattle.sshcore.specs.Output.{Sending, Speaks, said_from, sending_from}
+use Rattle.sshcore.specs.Party.{Party, Policy}
+use Rattle.sshcore.specs.Phases.{leaving, past_exchange, past_kexinit}
+use Rattle.sshcore.specs.Replies.{Ends, answers_at, end_at, ended, fault_of, goes_on, line_reply, reply_at}
+use Rattle.sshcore.specs.Standing.{Sits, exchange_heard}
+use Rattle.sshcore.specs.Table.{line_by}
+use Rattle.sshcore.proofs.Below.{Below}
+use Rattle.sshcore.proofs.HistoryLemmas as history
+use Rattle.sshcore.proofs.HistoryLemmas.{Streams, no_refusal}
+use Rattle.sshcore.proofs.KeyedLemmas.{IsExchangePlace, still_fails, told_at}
+use Rattle.sshcore.proofs.MoveLemmas.{form_behind, keys_with, number_with, sits_behind, turned}
+use Rattle.sshcore.proofs.OutputLemmas.{said_is, said_quiet, speaks_heard}
+use Rattle.sshcore.proofs.StandingLemmas as standing
+
+-- no NEWKEYS stands among these
+none_anywhere : (b c us : Units) → stands is_newkeys b us ≡ false → EachPlace (λ before a. (kind a == 21) ≡ false) c us
+none_anywhere b c [] e = tt
+none_anywhere b c (u ∷ us) e = by (kind u == 21) refl (none_anywhere (b ++ u ∷ []) (c ++ u ∷ []) us) e
+  where
+    by : (x : Bool) → (kind u == 21) ≡ x → (stands is_newkeys (b ++ u ∷ []) us ≡ false → EachPlace (λ before a. (kind a == 21) ≡ false) (c ++ u ∷ []) us)
+        → cond x true (stands is_newkeys (b ++ u ∷ []) us) ≡ false → EachPlace (λ before a. (kind a == 21) ≡ false) c (u ∷ us)
+    by true f rest g = absurd (true≢false g)
+    by false f rest g = (f, rest g)
+
+pub none_said : (us : Units) → switched_out us ≡ false → EachPlace (λ before a. (kind a == 21) ≡ false) [] us
+unfolding switched_out
+none_said us e = none_anywhere [] [] us e
+
+-- an endpoint that has failed isn't open, nor is its session ongoing
+pub failed_over : (f : Fault) (e : Ending) → e ≡ Failed f → IsOngoing e → ⊥
+failed_over f e is (inl o) = absurd cc
+failed_over f e is (inr a) = let same : e ≡ Authenticated a.0 = a.1 in absurd cc
+
+-- of refused packets want of memory alone fails as that
+pub from_memory : (f : PacketFault) → Failed (fault_of (OfPacket f)) ≡ Failed fault.Memory → f ≡ packet.Memory
+from_memory packet.Length e = absurd cc
+from_memory packet.Padding e = absurd cc
+from_memory packet.Empty e = absurd cc
+from_memory packet.Mac e = absurd cc
+from_memory packet.Memory e = refl
+
+-- an endpoint that is open has come to that by what it heard, and nothing of it was refused
+pub heard_open : (heard_end end : Ending) → StandsSo heard_end end → end ≡ Open → heard_end ≡ Open
+heard_open heard_end end (AsHeard e) o = sym e ∙ o
+heard_open heard_end end (CutOff h e) o = absurd cc
+
+pub none_refused : (m : Meaning) (d : Policy) (role : Role) (party : Party) (units : Units) (r : Option Refusal) (end : Ending) → end ≡ Open → Ends m d role party units r end → r ≡ None
+none_refused m d role party units r end o (goes_on stays e) = no_refusal r (sym e ∙ o)
+none_refused m d role party units r end o (ended before last is stays e shut none) = none
+
+-- before the exchange was heard nothing is sealed
+clear_by : (b : Bool) (k : KeyData) → b ≡ false → cond b (Some k) None ≡ None
+clear_by b k e = rw e refl
+
+pub clear_before : (m : Meaning) (role : Role) (party : Party) (units answers : Units) (p : Phase) (o : Sending)
+    → stood role party.offer (leaving role phase.Exchange) (payloads_in units) ≡ past_exchange p → Speaks m role party units answers o
+    → (switched_out answers ≡ true → IsReady role party (payloads_in units)) → past_exchange p ≡ false → o.keys ≡ None
+clear_before m role party units answers p o exchange speaks keyed not_past = elim (cases_Bool (switched_out answers)) [
+  | inl on ↦ absurd (true≢false (sym (keyed on).exchange ∙ exchange ∙ not_past))
+  | inr off ↦ speaks.keys ∙ clear_by (switched_out answers) (keys_at m role party (version_in units) (payloads_in units) role) off
+]
+
+clear_at : (m : Meaning) (d : Policy) (role : Role) (party : Party) (version : List ℕ) (before : Units) (payload : List ℕ) (last : Kept)
+    → Sits m role party version (before ++ payload ∷ []) last.phase last.guess last.known → {behind : Units} → behind ≡ version ∷ (before ++ payload ∷ [])
+    → (answers : Units) → Speaks m role party behind answers last.sending → (switched_out answers ≡ true → IsReady role party (payloads_in behind))
+    → past_exchange last.phase ≡ false → last.sending.keys ≡ None
+clear_at m d role party version before payload last s {behind} is answers speaks keyed not_past =
+    clear_before m role party behind answers last.phase last.sending
+    (ap (λ (us : Units). stood role party.offer (leaving role phase.Exchange) (payloads_in us)) is ∙ s.tied.exchange) speaks keyed not_past
+
+module _ (below : Below) (streams : Streams) (m : Meaning) (d : Policy) (role : Role) (party : Party) (kept : Kept) (i : Input) (h s : List ℕ) (is : kept.end ≡ Open) (a : Stands m d role party kept i h s) where
+  heard_is : a.heard_end ≡ Open
+  heard_is = heard_open a.heard_end kept.end a.ends is
+
+  none : a.refusal ≡ None
+  none = none_refused m d role party a.units a.refusal a.heard_end heard_is a.history.replies.ends
+
+  pub open_history : History m d role party a.units a.rest None a.answers Open h s
+  open_history = subst (λ (r : Option Refusal). History m d role party a.units a.rest r a.answers Open h s) none
+      (subst (λ (e : Ending). History m d role party a.units a.rest a.refusal a.answers e h s) heard_is a.history)
+
+  pub within : IsInside m role party a.units a.answers a.rest kept i
+  within = a.inside (inl is)
+
+  -- more bytes of an unfinished unit
+  pub stands_part : (j : Input) (piece : List ℕ) → parsers m role party a.units (a.rest ++ piece) ≡ unfinished → IsInput m role party a.units (a.rest ++ piece) j
+      → Stands m d role party kept j (h ++ piece) s
+  stands_part j piece e reads = record {
+    units = a.units;
+    rest = a.rest ++ piece;
+    refusal = None;
+    answers = a.answers;
+    heard_end = Open;
+    history = history.part below streams m d role party a.units a.rest a.answers h s open_history piece e;
+    ends = AsHeard is;
+    inside = λ o. record { sits = within.sits; form = within.form; reads = reads; pending = within.pending; speaks = within.speaks };
+  }
+
+  -- the bytes are refused
+  pub stands_refused : (new : Kept) (j : Input) (piece : List ℕ) (used : ℕ) (r : Refusal) (before after : List ℕ) (strict : Bool) (next : KeyData) → used ≤ length piece
+      → parsers m role party a.units (a.rest ++ piece) ≡ refused r (length a.rest + used) → Gives m party.seed strict next kept new before after (fails (fault_of r))
+      → GoesOn m d role party new j h s (take used piece) before after
+  stands_refused new j piece used r before after strict next low e gives =
+      let said = said_quiet m role party a.units strict next a.answers (disconnect (fault_of r)) kept.sending (none_said (disconnect (fault_of r)) (still_fails (fault_of r))) within.speaks in record {
+        added = flat_places (spells m role party a.units) (party.version ∷ a.answers) (disconnect (fault_of r));
+        appended = gives.says ∙ ap (λ (l : List ℕ). before ++ l) said.0;
+        stands = record {
+          units = a.units;
+          rest = a.rest ++ take used piece;
+          refusal = Some r;
+          answers = a.answers ++ disconnect (fault_of r);
+          heard_end = Failed (fault_of r);
+          history = history.refusal below streams m d role party a.units a.rest a.answers h s open_history piece used r low e gives.fits;
+          ends = AsHeard gives.ends;
+          inside = λ o. absurd (failed_over (fault_of r) new.end gives.ends o);
+        };
+      }
+
+  -- a packet, with its answers
+  module _ (version : List ℕ) (before_units : Units) (units_are : a.units ≡ version ∷ before_units) (new last : Kept) (j : Input) (piece payload : List ℕ) (used packet : ℕ) (before after : List ℕ)
+      (low : used ≤ length piece) (read : parsers m role party a.units (a.rest ++ piece) ≡ whole payload (length a.rest + used))
+      (number : packet ≡ number_in role party before_units)
+      (brings : Brings m d role party kept new packet payload before after)
+      (same_end : last.end ≡ new.end) (same_phase : last.phase ≡ new.phase) (same_guess : last.guess ≡ new.guess) (same_known : last.known ≡ new.known) (same_sending : last.sending ≡ new.sending)
+      (left : last.pending ≡ keys_left new.phase new.pending)
+      (reads : keys_in m role party version (before_units ++ payload ∷ []) ≡ keys_with (keys_due new.phase new.pending) (keys_in m role party version before_units)
+      → number_in role party (before_units ++ payload ∷ []) ≡ number_with (keys_due new.phase new.pending) new.known.strict (number_in role party before_units)
+      → IsInput m role party (a.units ++ payload ∷ []) [] j) where
+    abbrev more : Units
+    more = answers_at m d role party a.units payload
+
+    sits : Sits m role party version before_units kept.phase kept.guess kept.known
+    sits = subst (λ (us : Units). Sits m role party (version_in us) (payloads_in us) kept.phase kept.guess kept.known) units_are within.sits
+
+    abbrev reply : Reply
+    reply = line_reply m d role party kept.known packet (line_by role kept.phase kept.known.strict kept.guess (kind payload)) payload
+
+    reply_is : reply ≡ reply_at m d role party version before_units payload
+    reply_is = ap (λ n. line_reply m d role party kept.known n (line_by role kept.phase kept.known.strict kept.guess (kind payload)) payload) number
+        ∙ sym (standing.replies m role party version before_units payload d kept.phase kept.guess kept.known sits)
+
+    answers_are : reply.answers ≡ more
+    answers_are = ap (λ (r : Reply). r.answers) reply_is ∙ ap (λ (us : Units). answers_at m d role party us payload) (sym units_are)
+
+    end_is : reply.end ≡ end_at m d role party a.units payload
+    end_is = ap (λ (r : Reply). r.end) reply_is ∙ ap (λ (us : Units). end_at m d role party us payload) (sym units_are)
+
+    abbrev behind : Units
+    behind = a.units ++ payload ∷ []
+
+    behind_is : behind ≡ version ∷ (before_units ++ payload ∷ [])
+    behind_is = ap (λ (us : Units). us ++ payload ∷ []) units_are
+
+    done : History m d role party behind [] None (a.answers ++ more) (end_at m d role party a.units payload) (h ++ take used piece)
+        (s ++ flat_places (spells m role party behind) (party.version ∷ a.answers) more)
+    done = history.unit below streams m d role party a.units a.rest a.answers h s open_history piece payload used low read (subst (λ (us : Units). AllFit us) answers_are brings.gives.fits)
+
+    speaks_on : Speaks m role party behind a.answers kept.sending
+    speaks_on = speaks_heard m role party a.units (payload ∷ []) a.answers kept.sending a.history.keyed within.speaks
+
+    abbrev next : KeyData
+    next = keys_by m kept.known.algorithms (exchange_heard m role party kept.known payload) role
+
+    abbrev Spoken : Type 0
+    Spoken = (said_from m party.seed kept.known.strict next kept.sending more ≡ flat_places (spells m role party behind) (party.version ∷ a.answers) more)
+        × Speaks m role party behind (a.answers ++ more) (sending_from kept.known.strict next kept.sending more)
+
+    told : switched_out more ≡ true → IsExchangePlace role party before_units payload kept.phase
+    told on = told_at below m d role party version before_units payload kept.phase sits.tied (ap switched_out (ap (λ (us : Units). answers_at m d role party us payload) (sym units_are)) ∙ on)
+
+    exchange_told : IsExchangePlace role party before_units payload kept.phase → Spoken
+    exchange_told e =
+        let s0 : Sits m role party version before_units phase.Exchange false kept.known =
+        subst (λ (g : Bool). Sits m role party version before_units phase.Exchange g kept.known) (sym sits.due ∙ e.none_due)
+        (subst (λ (p : Phase). Sits m role party version before_units p kept.guess kept.known) e.at sits) in
+        let t0 = standing.exchanges m role party version before_units payload kept.known s0 e.leaves in
+        let strict_is : kept.known.strict ≡ strict_at role party (payloads_in behind) =
+        sym (ap (λ (k : Known). k.strict) t0.knows) ∙ ap (λ (us : Units). strict_at role party (payloads_in us)) (sym behind_is) in
+        let keys_are : next ≡ keys_at m role party (version_in behind) (payloads_in behind) role =
+        sym (standing.makes_keys m role party version before_units payload kept.known s0 e.leaves role)
+        ∙ ap (λ (us : Units). keys_at m role party (version_in us) (payloads_in us) role) (sym behind_is) in
+        said_is m role party behind kept.known.strict next a.answers more kept.sending strict_is keys_are speaks_on
+
+    spoken : Spoken
+    spoken = elim (cases_Bool (switched_out more)) [
+      | inl on ↦ exchange_told (told on)
+      | inr off ↦ said_quiet m role party behind kept.known.strict next a.answers more kept.sending (none_said more off) speaks_on
+    ]
+
+    end_new : last.end ≡ end_at m d role party a.units payload
+    end_new = same_end ∙ brings.gives.ends ∙ end_is
+
+    inside_new : IsOngoing last.end → IsInside m role party behind (a.answers ++ more) [] last j
+    inside_new ongoing =
+        let moves = brings.moves (subst IsOngoing same_end ongoing) in
+        let s1 : Sits m role party version (before_units ++ payload ∷ []) new.phase new.guess new.known = sits_behind below m role party version before_units payload kept new sits moves in
+        let s2 : Sits m role party version (before_units ++ payload ∷ []) last.phase last.guess last.known =
+        subst (λ (k : Known). Sits m role party version (before_units ++ payload ∷ []) last.phase last.guess k) (sym same_known)
+        (subst (λ (g : Bool). Sits m role party version (before_units ++ payload ∷ []) last.phase g new.known) (sym same_guess)
+        (subst (λ (p : Phase). Sits m role party version (before_units ++ payload ∷ []) p new.guess new.known) (sym same_phase) s1)) in
+        let pending : kept.pending ≡ pending_at kept.phase (keys_at m role party version before_units (other role)) =
+        within.pending ∙ ap (λ (us : Units). pending_at kept.phase (keys_at m role party (version_in us) (payloads_in us) (other role))) units_are in
+        let t = turned below m role party version before_units payload kept new sits pending moves in
+        let speaks : Speaks m role party behind (a.answers ++ more) last.sending =
+        subst (λ (o : Sending). Speaks m role party behind (a.answers ++ more) o)
+        (sym (same_sending ∙ brings.gives.sends ∙ ap (λ (us : Units). sending_from kept.known.strict next kept.sending us) answers_are)) spoken.1 in
+        record {
+          sits = subst (λ (us : Units). Sits m role party (version_in us) (payloads_in us) last.phase last.guess last.known) (sym behind_is) s2;
+          form = record {
+            form = λ past. form_new (form_behind below m role party version before_units payload kept new sits pending within.form.form moves) past;
+            clear = λ not_past. clear_at m d role party version before_units payload last s2 behind_is (a.answers ++ more) speaks done.keyed not_past;
+          };
+          reads = reads t.keys t.number;
+          pending = left ∙ t.left ∙ ap (λ (p : Phase). pending_at p (keys_at m role party version (before_units ++ payload ∷ []) (other role))) (sym same_phase)
+              ∙ ap (λ (us : Units). pending_at last.phase (keys_at m role party (version_in us) (payloads_in us) (other role))) (sym behind_is);
+          speaks = speaks;
+        }
+      where
+        form_new : (past_kexinit new.phase ≡ true → new.known.shares ≡ m.share_form new.known.algorithms.kex) → past_kexinit last.phase ≡ true → last.known.shares ≡ m.share_form last.known.algorithms.kex
+        form_new form past =
+            ap (λ (k : Known). k.shares) same_known ∙ form (ap past_kexinit (sym same_phase) ∙ past) ∙ ap (λ (k : Known). m.share_form k.algorithms.kex) (sym same_known)
+
+    pub stands_unit : GoesOn m d role party last j h s (take used piece) before after
+    stands_unit = record {
+      added = flat_places (spells m role party behind) (party.version ∷ a.answers) more;
+      appended = brings.gives.says ∙ ap (λ (us : Units). before ++ said_from m party.seed kept.known.strict next kept.sending us) answers_are ∙ ap (λ (l : List ℕ). before ++ l) spoken.0;
+      stands = record {
+        units = behind;
+        rest = [];
+        refusal = None;
+        answers = a.answers ++ more;
+        heard_end = end_at m d role party a.units payload;
+        history = done;
+        ends = AsHeard end_new;
+        inside = inside_new;
+      };
+    }

@@ -1,0 +1,288 @@
+-- What each message that has a place brings.
+
+use Rattle.std.proofs.Common.{◌≡◌, ◌≢◌, inl, inr, ℕ, Bool, false, List, [], Bor, Box, Global, Some, Result, Ok, Err, OnOk, refl, sym, ap, ◌∙◌, subst, arith}
+use Rattle.std.proofs.lemmas.List.{append-nil}
+use Rattle.sshwire.specs.declared.mpint.Mpint as mpint
+use Rattle.sshwire.specs.declared.share_form.ShareForm.{ShareForm}
+use Rattle.sshwire.specs.declared.share_form.ShareForm.TheVariants.{Mpint}
+use Rattle.sshmsg.specs.Content.{Content, Disconnect, KexEcdhInit, KexEcdhReply, KexInit, KexdhInit, KexdhReply, NewKeys, Offer, ServiceAccept, ServiceRequest}
+use Rattle.sshmsg.specs.Messages.{Spells, message_in}
+use Rattle.sshmsg.specs.Numbers.{kind, number_of}
+use Rattle.sshmsg.specs.declared.message.KexInit as kexinit
+use Rattle.sshmsg.specs.declared.message.Message.{Message}
+use Rattle.sshmsg.specs.declared.message.Message.TheVariants as message
+use Rattle.sshmsg.specs.View.{content_of}
+use Rattle.sshneg.specs.declared.role.Role.{Role}
+use Rattle.sshneg.specs.declared.role.Role.TheVariants.{Client, Server}
+use Rattle.sshneg.specs.ExchangeEnd.{offer_by, offer_in}
+use Rattle.sshpacket.specs.KeyData.{KeyData}
+use Rattle.sshpacket.specs.Suite.{Meaning}
+use Rattle.sshcore.specs.declared.end.Fault.{Fault}
+use Rattle.sshcore.specs.declared.table.Line.TheVariants as line
+use Rattle.sshcore.specs.declared.table.Phase.TheVariants as phase
+use Rattle.sshcore.specs.Before.{wrong_guess}
+use Rattle.sshcore.specs.Brings.{Exchanges, Gives, IsOngoing, Leaves, Offers, StandsAt, Stays, Works, heard_one}
+use Rattle.sshcore.specs.Ending.{Authenticated, Closed, Ending, Failed, Open, Reply, goes}
+use Rattle.sshcore.specs.Exchanged.{HearsExchange}
+use Rattle.sshcore.specs.Kept.{Kept}
+use Rattle.sshcore.specs.Known.{Known}
+use Rattle.sshcore.specs.Output.{said_from, sending_from}
+use Rattle.sshcore.specs.Party.{Party, Policy}
+use Rattle.sshcore.specs.Phases.{behind, leaving, past_exchange}
+use Rattle.sshcore.specs.Standing.{LeavesNone, behind_offer}
+use Rattle.sshcore.specs.Table.{line_by}
+use Rattle.sshcore.specs.Work.{accept_reply, init_reply, kexinit_reply, reply_reply, service_reply, work}
+use Rattle.sshcore.proofs.ReadsLemmas as table
+use Rattle.sshcore.proofs.ReadsLemmas.{IsAt, IsPlain, Reads, plain_calm, plain_other, reads}
+
+-- what several clauses of a call that returned `Ok` give together
+pub on_two : {T E A B Z : Type 0} (r : Result T E) → OnOk r A → OnOk r B → (A → B → Z) → OnOk r Z
+on_two (Ok x) a b f = f a b
+on_two (Err e) a b f = tt
+
+pub on_three : {T E A B C Z : Type 0} (r : Result T E) → OnOk r A → OnOk r B → OnOk r C → (A → B → C → Z) → OnOk r Z
+on_three (Ok x) a b c f = f a b c
+on_three (Err e) a b c f = tt
+
+pub on_four : {T E A B C D Z : Type 0} (r : Result T E) → OnOk r A → OnOk r B → OnOk r C → OnOk r D → (A → B → C → D → Z) → OnOk r Z
+on_four (Ok x) a b c d f = f a b c d
+on_four (Err e) a b c d f = tt
+
+-- a payload of this message is read
+pub record HasPlace (role : Role) (old : Kept) (payload : List ℕ) (c : Content) : Type 0 where
+  pub reads_it : Reads role old.phase old.guess (number_of c)
+  pub read_is : message_in old.known.shares payload ≡ Ok c
+  pub kind_is : kind payload ≡ number_of c
+  pub offers : (peer : Offer) → c ≡ KexInit peer → offer_in payload ≡ Some peer
+
+pub has_place : ((form : ShareForm) (payload : List ℕ) (c : Content) → Spells form c payload → message_in form payload ≡ Ok c)
+    → ((form : ShareForm) (payload : List ℕ) (c : Content) → message_in form payload ≡ Ok c → kind payload ≡ number_of c)
+    → ((form other : ShareForm) (payload : List ℕ) → kind payload ≢ 30 → kind payload ≢ 31 → message_in form payload ≡ message_in other payload)
+    → (role : Role) (old : Kept) (payload : List ℕ) (c : Content) → line_by role old.phase old.known.strict old.guess (kind payload) ≡ line.Reads → Spells old.known.shares c payload
+    → HasPlace role old payload c
+has_place complete number alike role old payload c line_is spelled =
+    let read : message_in old.known.shares payload ≡ Ok c = complete old.known.shares payload c spelled in
+    let same : kind payload ≡ number_of c = number old.known.shares payload c read in
+    record {
+      reads_it = subst (λ (k : ℕ). Reads role old.phase old.guess k) same (reads role old.phase old.known.strict (kind payload) old.guess line_is);
+      read_is = read;
+      kind_is = same;
+      offers = λ peer is.
+          let twenty : kind payload ≡ 20 = same ∙ ap number_of is in
+          ap offer_by (alike Mpint old.known.shares payload (λ q. omega arith) (λ q. omega arith) ∙ (read ∙ ap (λ (x : Content). Ok x) is));
+    }
+
+-- a session that is closed or has failed doesn't go on
+closed_ends : (end : Ending) (reason : ℕ) → end ≡ Closed reason → IsOngoing end → ⊥
+closed_ends end reason e (inl stays) = absurd cc
+closed_ends end reason e (inr done) = let is : end ≡ Authenticated done.0 = done.1 in absurd cc
+
+pub failed_ends : (end : Ending) (f : Fault) → end ≡ Failed f → IsOngoing end → ⊥
+failed_ends end f e (inl stays) = absurd cc
+failed_ends end f e (inr done) = let is : end ≡ Authenticated done.0 = done.1 in absurd cc
+
+-- nothing is said
+pub silent : (m : Meaning) (seed : List ℕ) (strict : Bool) (next : KeyData) (old new : Kept) (before : List ℕ) (end : Ending) → new.end ≡ end → new.sending ≡ old.sending
+    → Gives m seed strict next old new before before (record { answers = []; end = end })
+unfolding said_from sending_from
+silent m seed strict next old new before end e s = record { ends = e; says = sym (append-nil before); sends = s; fits = tt }
+
+module _ (role : Role) (old : Kept) (payload : List ℕ) (c : Content) (has : HasPlace role old payload c) where
+  -- where it is read
+  at_number : (n : ℕ) → number_of c ≡ n → Reads role old.phase old.guess n
+  at_number n is = subst (λ (k : ℕ). Reads role old.phase old.guess k) is has.reads_it
+
+  at_kexinit : number_of c ≡ 20 → IsAt role role old.phase phase.KexInit old.guess
+  at_kexinit is = table.kexinit_read role old.phase old.guess (at_number 20 is)
+
+  pub at_newkeys : number_of c ≡ 21 → IsAt role role old.phase phase.NewKeys old.guess
+  at_newkeys is = table.newkeys_read role old.phase old.guess (at_number 21 is)
+
+  pub at_init : number_of c ≡ 30 → IsAt role Server old.phase phase.Exchange old.guess
+  at_init is = table.init_read role old.phase old.guess (at_number 30 is)
+
+  pub at_reply : number_of c ≡ 31 → IsAt role Client old.phase phase.Exchange old.guess
+  at_reply is = table.reply_read role old.phase old.guess (at_number 31 is)
+
+  pub at_request : number_of c ≡ 5 → IsAt role Server old.phase phase.Service old.guess
+  at_request is = table.request_read role old.phase old.guess (at_number 5 is)
+
+module _ (m : Meaning) (d : Policy) (role : Role) (party : Party) (old new : Kept) (payload before after : List ℕ) (c : Content) (has : HasPlace role old payload c) where
+  -- a message that is worked on so
+  by_reply : (r : Reply) → work m d role party old.known c ≡ r → Works m role party old new payload before after r → Works m role party old new payload before after (work m d role party old.known c)
+  by_reply r is w = subst (λ (x : Reply). Works m role party old new payload before after x) (sym is) w
+
+  pub kexinit_works : (peer : Offer) → c ≡ KexInit peer
+      → ((strict : Bool) (next : KeyData) → Gives m party.seed strict next old new before after (kexinit_reply m role party old.known peer))
+      → (IsOngoing new.end → new.known.shares ≡ m.share_form new.known.algorithms.kex)
+      → new.pending ≡ old.pending
+      → (IsOngoing new.end → StandsAt new phase.Exchange (wrong_guess role party.offer (Some peer)) (behind_offer m role party old.known payload peer))
+      → Works m role party old new payload before after (work m d role party old.known c)
+  unfolding work
+  kexinit_works peer is gives form keys moves =
+      let at = at_kexinit role old payload c has (ap number_of is) in
+      by_reply (kexinit_reply m role party old.known peer) (ap (work m d role party old.known) is) (record {
+        gives = gives _ _;
+        moves = λ goes_on. Offers peer at.phase_is at.none_due (has.offers peer is) keys (form goes_on) (moves goes_on);
+      })
+
+  -- the exchange message, at the side that hears it
+  exchange_works : (side : Role) (n : ℕ) (r : Reply) → number_of c ≡ n → leaving side phase.Exchange ≡ n → IsAt role side old.phase phase.Exchange old.guess
+      → HearsExchange m side party old new before after c r → Works m role party old new payload before after r
+  exchange_works side n r number leaves at h =
+      let same : role ≡ side = at.side_is in
+      let read = has.read_is in
+      let none : old.guess ≡ false = at.none_due in
+      record {
+        gives = rw (same, read) h.gives;
+        moves = λ goes_on. Exchanges at.phase_is none
+            (has.kind_is ∙ (number ∙ sym leaves ∙ ap (λ (x : Role). leaving x phase.Exchange) (sym same)))
+            (rw (same, read) (h.keys goes_on))
+            (rw (same, read, ← none) (h.stands goes_on));
+      }
+
+  pub init_works : number_of c ≡ 30 → work m d role party old.known c ≡ init_reply m role party old.known c
+      → HearsExchange m Server party old new before after c (init_reply m Server party old.known c)
+      → Works m role party old new payload before after (work m d role party old.known c)
+  init_works number is h =
+      let at = at_init role old payload c has number in
+      by_reply (init_reply m Server party old.known c) (is ∙ ap (λ (x : Role). init_reply m x party old.known c) at.side_is)
+      (exchange_works Server 30 (init_reply m Server party old.known c) number refl at h)
+
+  pub reply_works : (signature : List ℕ) → number_of c ≡ 31 → work m d role party old.known c ≡ reply_reply m d role party old.known c signature
+      → HearsExchange m Client party old new before after c (reply_reply m d Client party old.known c signature)
+      → Works m role party old new payload before after (work m d role party old.known c)
+  reply_works signature number is h =
+      let at = at_reply role old payload c has number in
+      by_reply (reply_reply m d Client party old.known c signature) (is ∙ ap (λ (x : Role). reply_reply m d x party old.known c signature) at.side_is)
+      (exchange_works Client 31 (reply_reply m d Client party old.known c signature) number refl at h)
+
+  pub request_works : (service : List ℕ) → c ≡ ServiceRequest service
+      → ((strict : Bool) (next : KeyData) → Gives m party.seed strict next old new before after (service_reply party service))
+      → new.pending ≡ old.pending
+      → (IsOngoing new.end → StandsAt new phase.Auth old.guess (heard_one old.known))
+      → Works m role party old new payload before after (work m d role party old.known c)
+  unfolding work
+  request_works service is gives keys stands =
+      let at = at_request role old payload c has (ap number_of is) in
+      let none : old.guess ≡ false = at.none_due in
+      by_reply (service_reply party service) (ap (work m d role party old.known) is) (record {
+        gives = gives _ _;
+        moves = λ goes_on. Leaves none (ap past_exchange at.phase_is)
+            (has.kind_is ∙ ap number_of is ∙ sym (rw (at.phase_is, at.side_is) refl))
+            keys
+            (record {
+              phase_is = (stands goes_on).phase_is ∙ sym (ap behind at.phase_is);
+              guess_is = (stands goes_on).guess_is ∙ none;
+              known_is = (stands goes_on).known_is;
+            });
+      })
+
+  pub accept_works : (service : List ℕ) → c ≡ ServiceAccept service
+      → ((strict : Bool) (next : KeyData) → Gives m party.seed strict next old new before after (accept_reply service))
+      → (IsOngoing new.end → ⊥)
+      → Works m role party old new payload before after (work m d role party old.known c)
+  unfolding work
+  accept_works service is gives ends =
+      by_reply (accept_reply service) (ap (work m d role party old.known) is) (record { gives = gives _ _; moves = λ goes_on. absurd (ends goes_on) })
+
+-- messages to which nothing is said
+module _ (m : Meaning) (d : Policy) (role : Role) (party : Party) (old new : Kept) (payload before : List ℕ) (c : Content) (has : HasPlace role old payload c) where
+  pub disconnect_works : (reason : ℕ) (description language : List ℕ) → c ≡ Disconnect reason description language → new.end ≡ Closed reason → new.sending ≡ old.sending
+      → Works m role party old new payload before before (work m d role party old.known c)
+  unfolding work
+  disconnect_works reason description language is ends sends =
+      by_reply m d role party old new payload before before c has (record { answers = []; end = Closed reason }) (ap (work m d role party old.known) is) (record {
+        gives = silent m party.seed old.known.strict _ old new before (Closed reason) ends sends;
+        moves = λ goes_on. absurd (closed_ends new.end reason ends goes_on);
+      })
+
+  pub newkeys_works : c ≡ NewKeys → old.end ≡ Open → new ≡ record old { phase = phase.Service; known = heard_one old.known }
+      → Works m role party old new payload before before (work m d role party old.known c)
+  unfolding work
+  newkeys_works is stays next =
+      let at = at_newkeys role old payload c has (ap number_of is) in
+      let none : old.guess ≡ false = at.none_due in
+      by_reply m d role party old new payload before before c has (goes []) (ap (work m d role party old.known) is) (record {
+        gives = silent m party.seed old.known.strict _ old new before Open (ap (λ (k : Kept). k.end) next ∙ stays) (ap (λ (k : Kept). k.sending) next);
+        moves = λ goes_on. Leaves none (ap past_exchange at.phase_is)
+            (has.kind_is ∙ ap number_of is ∙ sym (ap (leaving role) at.phase_is))
+            (ap (λ (k : Kept). k.pending) next)
+            (record {
+              phase_is = ap (λ (k : Kept). k.phase) next ∙ sym (ap behind at.phase_is);
+              guess_is = ap (λ (k : Kept). k.guess) next ∙ none;
+              known_is = ap (λ (k : Kept). k.known) next;
+            });
+      })
+
+  pub plain_works : IsPlain (number_of c) → work m d role party old.known c ≡ goes [] → old.end ≡ Open → new ≡ record old { known = heard_one old.known }
+      → Works m role party old new payload before before (work m d role party old.known c)
+  plain_works plain is stays next =
+      let calm = table.plain_read role old.phase old.guess (number_of c) plain has.reads_it in
+      let none : old.guess ≡ false = calm.0 in
+      by_reply m d role party old new payload before before c has (goes []) is (record {
+        gives = silent m party.seed old.known.strict _ old new before Open (ap (λ (k : Kept). k.end) next ∙ stays) (ap (λ (k : Kept). k.sending) next);
+        moves = λ goes_on. Stays none (subst (λ (n : ℕ). LeavesNone role n) (sym has.kind_is) calm.1)
+            (ap (λ (k : Kept). k.pending) next)
+            (record {
+              phase_is = ap (λ (k : Kept). k.phase) next;
+              guess_is = ap (λ (k : Kept). k.guess) next ∙ none;
+              known_is = ap (λ (k : Kept). k.known) next;
+            });
+      })
+
+-- what the messages of the exchange are answered
+module _ (m : Meaning) (d : Policy) (role : Role) (party : Party) (known : Known) (c : Content) where
+  pub kexdh_init : (e : List ℕ) → c ≡ KexdhInit e → work m d role party known c ≡ init_reply m role party known c
+  unfolding work
+  kexdh_init e is = rw is refl
+
+  pub kex_ecdh_init : (share : List ℕ) → c ≡ KexEcdhInit share → work m d role party known c ≡ init_reply m role party known c
+  unfolding work
+  kex_ecdh_init share is = rw is refl
+
+  pub kexdh_reply : (host_key f signature : List ℕ) → c ≡ KexdhReply host_key f signature → work m d role party known c ≡ reply_reply m d role party known c signature
+  unfolding work
+  kexdh_reply host_key f signature is = rw is refl
+
+  pub kex_ecdh_reply : (host_key share signature : List ℕ) → c ≡ KexEcdhReply host_key share signature → work m d role party known c ≡ reply_reply m d role party known c signature
+  unfolding work
+  kex_ecdh_reply host_key share signature is = rw is refl
+
+-- every other message is read and ignored
+pub record IsIgnored (m : Meaning) (d : Policy) (role : Role) (party : Party) (known : Known) (c : Content) : Type 0 where
+  pub plain : IsPlain (number_of c)
+  pub work_is : work m d role party known c ≡ goes []
+
+-- none of the messages that the code names
+pub record IsNone (x : Message) : Type 0 where
+  pub disconnect : (reason : ℕ) (description language : Bor (List ℕ)) → x ≡ message.Disconnect reason description language → ⊥
+  pub request : (service : Bor (List ℕ)) → x ≡ message.ServiceRequest service → ⊥
+  pub accept : (service : Bor (List ℕ)) → x ≡ message.ServiceAccept service → ⊥
+  pub kexinit : (peer : Box kexinit.KexInit Global) → x ≡ message.KexInit peer → ⊥
+  pub newkeys : x ≡ message.NewKeys → ⊥
+  pub kexdh_init : (e : mpint.Mpint) → x ≡ message.KexdhInit e → ⊥
+  pub kexdh_reply : (host_key : Bor (List ℕ)) (f : mpint.Mpint) (signature : Bor (List ℕ)) → x ≡ message.KexdhReply host_key f signature → ⊥
+  pub kex_ecdh_init : (share : Bor (List ℕ)) → x ≡ message.KexEcdhInit share → ⊥
+  pub kex_ecdh_reply : (host_key share signature : Bor (List ℕ)) → x ≡ message.KexEcdhReply host_key share signature → ⊥
+
+module _ (m : Meaning) (d : Policy) (role : Role) (party : Party) (known : Known) where
+  pub ignores : (x : Message) → IsNone x → IsIgnored m d role party known (content_of x)
+  unfolding work
+  ignores (message.Disconnect reason description language) h = absurd (h.disconnect reason description language refl)
+  ignores (message.Ignore bytes) h = record { plain = plain_calm 2 (omega arith) (omega arith); work_is = refl }
+  ignores (message.Unimplemented number) h = record { plain = plain_calm 3 (omega arith) (omega arith); work_is = refl }
+  ignores (message.Debug display text language) h = record { plain = plain_calm 4 (omega arith) (omega arith); work_is = refl }
+  ignores (message.ServiceRequest service) h = absurd (h.request service refl)
+  ignores (message.ServiceAccept service) h = absurd (h.accept service refl)
+  ignores (message.ExtInfo extensions) h = record { plain = plain_other 7 (inl refl); work_is = refl }
+  ignores (message.KexInit peer) h = absurd (h.kexinit peer refl)
+  ignores message.NewKeys h = absurd (h.newkeys refl)
+  ignores (message.KexdhInit e) h = absurd (h.kexdh_init e refl)
+  ignores (message.KexdhReply host_key f signature) h = absurd (h.kexdh_reply host_key f signature refl)
+  ignores (message.KexEcdhInit share) h = absurd (h.kex_ecdh_init share refl)
+  ignores (message.KexEcdhReply host_key share signature) h = absurd (h.kex_ecdh_reply host_key share signature refl)
+  ignores (message.UserauthRequest user service request) h = record { plain = plain_other 50 (inr (omega arith, omega arith)); work_is = refl }
+  ignores (message.UserauthFailure methods partial) h = record { plain = plain_other 51 (inr (omega arith, omega arith)); work_is = refl }
+  ignores message.UserauthSuccess h = record { plain = plain_other 52 (inr (omega arith, omega arith)); work_is = refl }
+  ignores (message.UserauthBanner text language) h = record { plain = plain_other 53 (inr (omega arith, omega arith)); work_is = refl }

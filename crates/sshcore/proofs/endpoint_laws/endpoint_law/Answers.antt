@@ -1,0 +1,22 @@
+use Rattle.sshcore.specs.Endpoints.{ending_of}
+use Rattle.sshcore.proofs.EndpointLemmas.{as_heard, cut_open, joined_ends, joined_heard}
+use Rattle.sshcore.proofs.endpoint_laws.endpoint_law.Goals as goal
+
+pub returns-clause-joined : goal.returns-clause-joined
+returns-clause-joined g c = joined_ends g.S.Suite.meaning g.D.Decisions.policy c.history_law.ensures.joined c.args.one.now c.args.other.now
+
+pub returns-clause-joined_heard : goal.returns-clause-joined_heard
+returns-clause-joined_heard g c = joined_heard g.S.Suite.meaning g.D.Decisions.policy c.history_law.ensures.joined c.args.one.now c.args.other.now
+
+pub returns-clause-strict : goal.returns-clause-strict
+returns-clause-strict g c = λ h s a.
+    c.strict_law.ensures.keeps (g.S.Suite.meaning c.args.one.now.suite) (g.D.Decisions.policy c.args.one.now.decisions) c.args.one.now.role c.args.one.now.party a.units a.refusal a.heard_end
+    a.history.replies.ends
+
+pub returns-clause-heard : goal.returns-clause-heard
+returns-clause-heard g c = λ h s a other. as_heard a.heard_end (ending_of c.args.one.now) a.ends other
+
+pub returns-clause-cut : goal.returns-clause-cut
+returns-clause-cut g c = λ h s a.
+    cut_open (g.S.Suite.meaning c.args.one.now.suite) (g.D.Decisions.policy c.args.one.now.decisions) c.args.one.now.role c.args.one.now.party a.units a.refusal a.heard_end
+    (ending_of c.args.one.now) a.history.replies.ends a.ends

@@ -1,0 +1,74 @@
+-- What a packet does to what an endpoint keeps, and what is said to it.
+
+use Rattle.std.specs.Prelude.{◌≡◌, ◌⊎◌, ℕ, ◌==◌, Bool, true, false, List, ◌++◌, Some}
+use Rattle.sshmsg.specs.declared.numbers.TheConstants.{SSH_MSG_DISCONNECT}
+use Rattle.sshmsg.specs.Content.{Offer}
+use Rattle.sshmsg.specs.Numbers.{kind}
+use Rattle.sshneg.specs.declared.role.Role.{Role}
+use Rattle.sshneg.specs.ExchangeEnd.{offer_in}
+use Rattle.sshneg.specs.Markers.{other}
+use Rattle.sshpacket.specs.KeyData.{KeyData}
+use Rattle.sshpacket.specs.Suite.{Meaning}
+use Rattle.sshcore.specs.declared.table.Phase.{Phase}
+use Rattle.sshcore.specs.declared.table.Phase.TheVariants as phase
+use Rattle.sshcore.specs.Before.{wrong_guess}
+use Rattle.sshcore.specs.Ending.{AgreedData, Authenticated, Ending, Open, Reply}
+use Rattle.sshcore.specs.Exchange.{keys_by}
+use Rattle.sshcore.specs.History.{AllFit}
+use Rattle.sshcore.specs.Kept.{Kept}
+use Rattle.sshcore.specs.Known.{Known}
+use Rattle.sshcore.specs.Output.{said_from, sending_from}
+use Rattle.sshcore.specs.Party.{Party, Policy}
+use Rattle.sshcore.specs.Phases.{behind, leaving, past_exchange}
+use Rattle.sshcore.specs.Replies.{line_reply}
+use Rattle.sshcore.specs.Standing.{LeavesNone, behind_exchange, behind_offer, exchange_heard}
+use Rattle.sshcore.specs.Table.{line_by}
+
+-- the session goes on: the endpoint is open, or the user is authenticated
+abbrev pub IsOngoing : Ending → Type 0
+IsOngoing end = (end ≡ Open) ⊎ ((a : AgreedData) × (end ≡ Authenticated a))
+
+-- the same, with one payload more heard
+abbrev pub heard_one : Known → Known
+heard_one known = record known { first = false }
+
+-- It gives this reply: it ends so, and says these answers, padded from this seed, with these keys behind a NEWKEYS.
+pub record Gives (m : Meaning) (seed : List ℕ) (strict : Bool) (next : KeyData) (old new : Kept) (before after : List ℕ) (r : Reply) : Type 0 where
+  pub ends : new.end ≡ r.end
+  pub says : after ≡ before ++ said_from m seed strict next old.sending r.answers
+  pub sends : new.sending ≡ sending_from strict next old.sending r.answers
+  pub fits : AllFit r.answers
+
+-- what it stands at behind a payload
+pub record StandsAt (new : Kept) (p : Phase) (guess : Bool) (known : Known) : Type 0 where
+  pub phase_is : new.phase ≡ p
+  pub guess_is : new.guess ≡ guess
+  pub known_is : new.known ≡ known
+
+-- How a payload moves what is kept: behind the peer's KEXINIT; behind the packet of a wrong guess; behind the exchange
+-- message, which brings the keys of what is heard; behind every other message that leaves a phase; and behind one that
+-- leaves none.
+pub data Moves (m : Meaning) (role : Role) (party : Party) (payload : List ℕ) (old new : Kept) : Type 0 where
+  Offers : (peer : Offer) → old.phase ≡ phase.KexInit → old.guess ≡ false → offer_in payload ≡ Some peer → new.pending ≡ old.pending
+      → new.known.shares ≡ m.share_form new.known.algorithms.kex
+      → StandsAt new phase.Exchange (wrong_guess role party.offer (Some peer)) (behind_offer m role party old.known payload peer) → Moves m role party payload old new
+  Drops : old.guess ≡ true → (kind payload == SSH_MSG_DISCONNECT) ≡ false → new.pending ≡ old.pending
+      → StandsAt new old.phase false (heard_one old.known) → Moves m role party payload old new
+  Exchanges : old.phase ≡ phase.Exchange → old.guess ≡ false → kind payload ≡ leaving role phase.Exchange
+      → new.pending ≡ Some (keys_by m old.known.algorithms (exchange_heard m role party old.known payload) (other role))
+      → StandsAt new phase.NewKeys false (behind_exchange m role party old.known payload) → Moves m role party payload old new
+  Leaves : old.guess ≡ false → past_exchange old.phase ≡ true → kind payload ≡ leaving role old.phase → new.pending ≡ old.pending
+      → StandsAt new (behind old.phase) false (heard_one old.known) → Moves m role party payload old new
+  Stays : old.guess ≡ false → LeavesNone role (kind payload) → new.pending ≡ old.pending
+      → StandsAt new old.phase false (heard_one old.known) → Moves m role party payload old new
+
+-- What a packet brings: this reply, and where the session goes on the endpoint stands behind the packet.
+pub record Works (m : Meaning) (role : Role) (party : Party) (old new : Kept) (payload before after : List ℕ) (r : Reply) : Type 0 where
+  pub gives : Gives m party.seed old.known.strict (keys_by m old.known.algorithms (exchange_heard m role party old.known payload) role) old new before after r
+  pub moves : IsOngoing new.end → Moves m role party payload old new
+
+-- What a packet with this sequence number brings: the reply of its line of the phase table.
+abbrev pub Brings : Meaning → Policy → Role → Party → Kept → Kept → ℕ → List ℕ → List ℕ → List ℕ → Type 0
+Brings m d role party old new packet payload before after =
+    Works m role party old new payload before after
+    (line_reply m d role party old.known packet (line_by role old.phase old.known.strict old.guess (kind payload)) payload)

@@ -1,0 +1,15 @@
+-- An endpoint, as contracts see it.
+
+use Rattle.sshneg.specs.declared.role.Role.{Role}
+use Rattle.sshcore.specs.declared.input.Input.{Input}
+use Rattle.sshcore.specs.declared.state.State.{State}
+use Rattle.sshcore.specs.Party.{Party}
+
+-- its role and its config, whom it asks, and what it keeps, which no layer above opens
+pub record EndpointData (S D : Type 0) : Type 0 where
+  pub role : Role
+  pub party : Party
+  pub suite : S
+  pub decisions : D
+  pub input : Input
+  pub state : State

@@ -1,0 +1,86 @@
+-- An endpoint and its history.
+
+use Rattle.std.specs.Prelude.{◌≡◌, ℕ, ◌≤◌, List, [], ◌∷◌, ◌++◌, length, take}
+use Rattle.sshwire.specs.Lines.{LineOpen}
+use Rattle.sshneg.specs.declared.role.Role.{Role}
+use Rattle.sshpacket.specs.Stream.{Units}
+use Rattle.sshpacket.specs.Suite.{Meaning}
+use Rattle.sshcore.specs.declared.end.Fault.TheVariants as fault
+use Rattle.sshcore.specs.Directions.{others_of}
+use Rattle.sshcore.specs.Ending.{Authenticated, Closed, Ending, Failed, Open, ending}
+use Rattle.sshcore.specs.EndpointData.{EndpointData}
+use Rattle.sshcore.specs.History.{BrokenOff}
+use Rattle.sshcore.specs.Inputs.{Stands, held_by, turns_left}
+use Rattle.sshcore.specs.Kept.{kept_of}
+use Rattle.sshcore.specs.Party.{Party, Policy}
+
+abbrev pub ending_of : {S D : Type 0} → EndpointData S D → Ending
+ending_of e = ending e.state.end
+
+-- An endpoint has heard and said these bytes. Of one that failed for want of memory BrokenOff tells what it has said.
+abbrev pub After : {S D : Type 0} → (S → Meaning) → (D → Policy) → EndpointData S D → List ℕ → List ℕ → Type 0
+After meaning policy e h s = Stands (meaning e.suite) (policy e.decisions) e.role e.party (kept_of e.state) e.input h s
+
+-- what never changes
+pub record IsSameEndpoint {S D : Type 0} (old new : EndpointData S D) : Type 0 where
+  pub same_role : new.role ≡ old.role
+  pub same_party : new.party ≡ old.party
+  pub same_suite : new.suite ≡ old.suite
+  pub same_decisions : new.decisions ≡ old.decisions
+
+-- what a call did that used these bytes
+pub record Fed {S D : Type 0} (meaning : S → Meaning) (policy : D → Policy) (old new : EndpointData S D) (taken before after : List ℕ) : Type 0 where
+  pub added : List ℕ
+  pub appended : after ≡ before ++ added
+  pub follows : (h s : List ℕ) → After meaning policy old h s → After meaning policy new (h ++ taken) (s ++ added)
+  pub same : IsSameEndpoint old new
+
+-- What a call did that wanted memory: it used some of the piece, and said whole packets, a prefix of those that it would have
+-- said.
+pub record Breaks {S D : Type 0} (meaning : S → Meaning) (policy : D → Policy) (old new : EndpointData S D) (piece before after : List ℕ) : Type 0 where
+  pub used : ℕ
+  pub within : used ≤ length piece
+  pub added : List ℕ
+  pub appended : after ≡ before ++ added
+  pub follows : (h s : List ℕ) → After meaning policy old h s
+      → BrokenOff (meaning old.suite) (policy old.decisions) old.role old.party (h ++ take used piece) (s ++ added)
+  pub same : IsSameEndpoint old new
+
+-- an endpoint before any byte is heard
+pub record Made {S D : Type 0} (meaning : S → Meaning) (policy : D → Policy) (role : Role) (party : Party) (suite : S) (decisions : D) (new : EndpointData S D) (before after : List ℕ) : Type 0 where
+  pub added : List ℕ
+  pub appended : after ≡ before ++ added
+  pub begins : After meaning policy new [] added
+  pub is_open : ending_of new ≡ Open
+  pub is_role : new.role ≡ role
+  pub is_party : new.party ≡ party
+  pub is_suite : new.suite ≡ suite
+  pub is_decisions : new.decisions ≡ decisions
+
+-- what the end of input does to an open endpoint: it has failed, and has heard and said the same bytes
+pub record Cuts {S D : Type 0} (meaning : S → Meaning) (policy : D → Policy) (old new : EndpointData S D) : Type 0 where
+  pub cut : ending_of new ≡ Failed fault.Cut
+  pub follows : (h s : List ℕ) → After meaning policy old h s → After meaning policy new h s
+  pub same : IsSameEndpoint old new
+
+-- how many bytes are held: none once the endpoint has ended
+abbrev pub held_at : Ending → ℕ → ℕ
+held_at Open n = n
+held_at (Authenticated a) n = 0
+held_at (Failed f) n = 0
+held_at (Closed reason) n = 0
+
+abbrev pub buffered_of : {S D : Type 0} → EndpointData S D → ℕ
+buffered_of e = held_at (ending_of e) (held_by e.input)
+
+-- how many bytes that is, of what was heard: of the unfinished line before the version line, of the unfinished packet behind it
+abbrev pub HasUnfinished : Role → Units → List ℕ → Ending → ℕ → Type 0
+HasUnfinished role [] rest Open n = (left : ℕ) × (line : List ℕ) × LineOpen (others_of role) rest left line × (n ≡ length line)
+HasUnfinished role (version ∷ before) rest Open n = n ≡ length rest
+HasUnfinished role units rest (Authenticated a) n = n ≡ 0
+HasUnfinished role units rest (Failed f) n = n ≡ 0
+HasUnfinished role units rest (Closed reason) n = n ≡ 0
+
+-- the bound of turns of an endpoint
+abbrev pub turns_of : {S D : Type 0} → EndpointData S D → ℕ
+turns_of e = turns_left (ending_of e) e.input

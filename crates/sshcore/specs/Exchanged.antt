@@ -1,0 +1,128 @@
+-- What an endpoint does at the peer's exchange message (RFC 4253 section 8).
+
+use Rattle.std.specs.Prelude.{◌≡◌, ℕ, ◌≤◌, Bool, true, false, List, ◌++◌, length, None, Some, Ok}
+use Rattle.sshmsg.specs.Content.{Content, NewKeys, ServiceRequest}
+use Rattle.sshmsg.specs.Written.{written_message}
+use Rattle.sshneg.specs.declared.role.Role.{Role}
+use Rattle.sshneg.specs.Derivations.{ExchangeData, derived}
+use Rattle.sshneg.specs.ExchangeEnd.{client_of, exchange_hash, server_of}
+use Rattle.sshneg.specs.Fields.{Algorithms}
+use Rattle.sshneg.specs.Markers.{other}
+use Rattle.sshpacket.specs.KeyData.{KeyData}
+use Rattle.sshpacket.specs.declared.limits.TheConstants.{DIGEST_LIMIT}
+use Rattle.sshpacket.specs.Suite.{Meaning, ResponseData}
+use Rattle.sshcore.specs.declared.end.Fault.TheVariants as fault
+use Rattle.sshcore.specs.declared.table.Phase.TheVariants as phase
+use Rattle.sshcore.specs.Brings.{Gives, IsOngoing, StandsAt}
+use Rattle.sshcore.specs.Chosen.{cipher_of, mac_of}
+use Rattle.sshcore.specs.Ending.{Reply, fails}
+use Rattle.sshcore.specs.Exchange.{exchange_with, keys_by, own_kexinit, secret_of}
+use Rattle.sshcore.specs.Directions.{spelled_by}
+use Rattle.sshcore.specs.History.{FitsPacket}
+use Rattle.sshcore.specs.Kept.{Kept}
+use Rattle.sshcore.specs.Output.{Sending, with_packet, with_newkeys}
+use Rattle.sshcore.specs.Work.{reply_in, userauth}
+use Rattle.sshcore.specs.Known.{Known}
+use Rattle.sshcore.specs.Party.{Party}
+use Rattle.sshcore.specs.Phases.{past_exchange, past_kexinit}
+
+-- the form of shares is that of the method, once there is one; and before the exchange nothing is sealed
+pub record HasForm (m : Meaning) (kept : Kept) : Type 0 where
+  pub form : past_kexinit kept.phase ≡ true → kept.known.shares ≡ m.share_form kept.known.algorithms.kex
+  pub clear : past_exchange kept.phase ≡ false → kept.sending.keys ≡ None
+
+-- what both sides have given and come to, besides version lines and KEXINITs
+pub record ShareData : Type 0 where
+  pub host_key : List ℕ
+  pub client_share : List ℕ
+  pub server_share : List ℕ
+  pub shared : List ℕ
+
+-- what is hashed of that at an endpoint of this role
+abbrev pub exchanged : Role → Party → Known → ShareData → ExchangeData
+exchanged role party known shares = record {
+  client_version = client_of role party.version known.version;
+  server_version = server_of role party.version known.version;
+  client_kexinit = client_of role (own_kexinit party) known.kexinit;
+  server_kexinit = server_of role (own_kexinit party) known.kexinit;
+  host_key = shares.host_key;
+  client_share = shares.client_share;
+  server_share = shares.server_share;
+  shared = shares.shared;
+}
+
+-- the keys with which this role sends, by the shared number and the exchange hash, which in a first exchange is the session
+-- identifier (RFC 4253 section 7.2)
+abbrev pub kex_keys : Meaning → Algorithms → List ℕ → List ℕ → Role → KeyData
+kex_keys m a shared hash sender =
+    derived m (record { kex = a.kex; shared = shared; hash = hash; session = hash }) sender (cipher_of a sender) (mac_of a sender)
+
+-- what is hashed, once this message has come
+abbrev pub exchange_of_message : Meaning → Role → Party → Known → Content → ExchangeData
+exchange_of_message m role party known message = exchange_with m role party known.algorithms known.version known.kexinit (Ok message)
+
+-- It hears the exchange message: it gives this reply; and where it goes on it stands behind the exchange, with the keys of what
+-- is heard.
+pub record HearsExchange (m : Meaning) (role : Role) (party : Party) (old new : Kept) (before after : List ℕ) (message : Content) (r : Reply) : Type 0 where
+  pub gives : Gives m party.seed old.known.strict (keys_by m old.known.algorithms (exchange_of_message m role party old.known message) role) old new before after r
+  pub keys : IsOngoing new.end → new.pending ≡ Some (keys_by m old.known.algorithms (exchange_of_message m role party old.known message) (other role))
+  pub stands : IsOngoing new.end → StandsAt new phase.NewKeys old.guess
+      (record old.known { session = exchange_hash m old.known.algorithms.kex (exchange_of_message m role party old.known message) })
+
+-- what a client and its server have given, once the client has received the server's host key and share and made this shared
+-- number
+abbrev pub client_shares : Meaning → Party → Known → List ℕ → List ℕ → List ℕ → ShareData
+client_shares m party known host_key share shared = record {
+  host_key = host_key;
+  client_share = m.share known.algorithms.kex party.random;
+  server_share = share;
+  shared = shared;
+}
+
+-- what a server and its client have given, once the server has answered the client's share
+abbrev pub server_shares : Meaning → Party → Known → List ℕ → ResponseData → ShareData
+server_shares m party known share answer = record {
+  host_key = m.blob known.algorithms.host_key (secret_of party.host_keys known.algorithms.host_key);
+  client_share = share;
+  server_share = answer.share;
+  shared = answer.shared;
+}
+
+-- The exchange hash of a server that has answered so, and the message with its signature.
+pub record IsSigned (m : Meaning) (role : Role) (party : Party) (known : Known) (share : List ℕ) (answer : ResponseData) (hash reply : List ℕ) : Type 0 where
+  pub hash_is : hash ≡ exchange_hash m known.algorithms.kex (exchanged role party known (server_shares m party known share answer))
+  pub short : length hash ≤ DIGEST_LIMIT
+  pub reply_is : reply ≡ written_message (reply_in (m.share_form known.algorithms.kex) (server_shares m party known share answer).host_key answer.share
+      (m.sign known.algorithms.host_key (secret_of party.host_keys known.algorithms.host_key) hash))
+  pub fits : FitsPacket reply
+
+-- what is kept behind an exchange of this hash and shared number, with these packets said
+pub record StandsBehind (m : Meaning) (role : Role) (old new : Kept) (shared hash : List ℕ) (o : Sending) : Type 0 where
+  pub kept : new ≡ record old {
+    phase = phase.NewKeys;
+    known = record old.known { session = hash };
+    pending = Some (kex_keys m old.known.algorithms shared hash (other role));
+    sending = o;
+  }
+
+-- A server says its answer and NEWKEYS, and stands behind the exchange.
+pub record AnswersInit (m : Meaning) (role : Role) (party : Party) (old new : Kept) (shared hash reply before after : List ℕ) : Type 0 where
+  pub says : after ≡ (before ++ spelled_by m old.sending.keys party.seed old.sending.number reply)
+      ++ spelled_by m old.sending.keys party.seed (with_packet old.sending).number (written_message NewKeys)
+  pub stands : StandsBehind m role old new shared hash (with_newkeys old.known.strict (kex_keys m old.known.algorithms shared hash role) (with_packet old.sending))
+
+-- the same of a client, which says NEWKEYS and requests the service
+pub record AcceptsReply (m : Meaning) (role : Role) (party : Party) (old new : Kept) (shared hash before after : List ℕ) : Type 0 where
+  pub says : let o = with_newkeys old.known.strict (kex_keys m old.known.algorithms shared hash role) old.sending in
+      after ≡ (before ++ spelled_by m old.sending.keys party.seed old.sending.number (written_message NewKeys))
+      ++ spelled_by m o.keys party.seed o.number (written_message (ServiceRequest userauth))
+  pub stands : StandsBehind m role old new shared hash (with_packet (with_newkeys old.known.strict (kex_keys m old.known.algorithms shared hash role) old.sending))
+
+-- A client judges the signature over what both have given: it accepts, or fails.
+pub data JudgesReply (m : Meaning) (role : Role) (party : Party) (old new : Kept) (shares : ShareData) (signature before after : List ℕ) : Type 0 where
+  Accepts : m.verify old.known.algorithms.host_key shares.host_key (exchange_hash m old.known.algorithms.kex (exchanged role party old.known shares)) signature ≡ true
+      → AcceptsReply m role party old new shares.shared (exchange_hash m old.known.algorithms.kex (exchanged role party old.known shares)) before after
+      → JudgesReply m role party old new shares signature before after
+  Refuses : m.verify old.known.algorithms.host_key shares.host_key (exchange_hash m old.known.algorithms.kex (exchanged role party old.known shares)) signature ≡ false
+      → ((strict : Bool) (next : KeyData) → Gives m party.seed strict next old new before after (fails fault.Signature))
+      → JudgesReply m role party old new shares signature before after

@@ -1,0 +1,67 @@
+-- What an endpoint keeps between two packets, besides its reader.
+
+use Rattle.std.specs.Prelude.{Bool, false, [], Option, None, Some}
+use Rattle.sshneg.specs.Fields.{Algorithms}
+use Rattle.sshpacket.specs.KeyData.{KeyData}
+use Rattle.sshcore.specs.declared.state.State.{State}
+use Rattle.sshcore.specs.declared.table.Phase.{Phase}
+use Rattle.sshcore.specs.declared.table.Phase.TheVariants as phase
+use Rattle.sshcore.specs.Ending.{Ending, Open, ending}
+use Rattle.sshcore.specs.Exchange.{no_algorithms}
+use Rattle.sshcore.specs.Known.{Known}
+use Rattle.sshcore.specs.Output.{Sending}
+use Rattle.sshcore.specs.Standing.{nothing_known}
+
+-- How it stands; its phase; whether the packet of a wrong guess is due; what it knows; the keys of what is heard, from the
+-- exchange up to NEWKEYS; and what it says packets with.
+pub record Kept : Type 0 where
+  pub end : Ending
+  pub phase : Phase
+  pub guess : Bool
+  pub known : Known
+  pub pending : Option KeyData
+  pub sending : Sending
+
+-- the algorithms of a choice, or no names before it
+abbrev pub algorithms_or : Option Algorithms → Algorithms
+algorithms_or (Some a) = a
+algorithms_or None = no_algorithms
+
+abbrev pub kept_of : State → Kept
+kept_of s = record {
+  end = ending s.end;
+  phase = s.phase;
+  guess = s.guess;
+  known = record {
+    version = s.version.items;
+    kexinit = s.kexinit.items;
+    algorithms = algorithms_or s.algorithms;
+    shares = s.shares;
+    session = s.session.items;
+    strict = s.strict;
+    first = s.first;
+  };
+  pending = s.pending;
+  sending = record { keys = s.keys_out; number = s.number_out };
+}
+
+-- before any byte
+abbrev pub begun : Kept
+begun = record {
+  end = Open;
+  phase = phase.KexInit;
+  guess = false;
+  known = nothing_known [];
+  pending = None;
+  sending = record { keys = None; number = 0 };
+}
+
+-- The keys of what is heard that are taken into use, and those that are left, by the phase: right behind NEWKEYS they are handed
+-- over, once, and none are left (RFC 4253 section 7.3).
+abbrev pub keys_due : Phase → Option KeyData → Option KeyData
+keys_due phase.Service pending = pending
+keys_due _ pending = None
+
+abbrev pub keys_left : Phase → Option KeyData → Option KeyData
+keys_left phase.Service pending = None
+keys_left _ pending = pending

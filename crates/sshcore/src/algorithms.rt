@@ -1,0 +1,180 @@
+//! The names of the algorithms that are used.
+
+ghost use Rattle.std.specs.Prelude.{◌≡◌, ◌<◌, IfOk, Some, length, string_bytes};
+ghost use Rattle.std.specs.List.{slice_get};
+ghost use Rattle.sshwire.specs.Types.{IsName};
+ghost use Rattle.sshmsg.specs.View.{offer_of};
+ghost use Rattle.sshneg.specs.Fields as fields;
+ghost use Rattle.sshcore.specs.Chosen.{AreAt, ArePlaced, cipher_of, mac_of};
+
+use sshmsg::KexInit;
+use sshneg::{Chosen, Role};
+use sshwire::{Memory, NameList};
+use std::alloc::Global;
+use std::marker::Model;
+
+/// The algorithm of each direction.
+#[derive(Drop)]
+pub(crate) struct Directions {
+    client_to_server: String,
+    server_to_client: String,
+}
+
+/// The algorithms of a choice (RFC 4253 section 7.1), by their names.
+#[derive(Drop)]
+pub(crate) struct Algorithms {
+    kex: String,
+    host_key: String,
+    encryption: Directions,
+    mac: Directions,
+    compression: Directions,
+}
+
+impl Model for Algorithms {
+    ghost use Rattle.std.specs.Prelude.{string_bytes};
+    ghost use Rattle.sshneg.specs.Fields as fields;
+    ghost use Rattle.sshcore.specs.Chosen.{AreNamed};
+    ghost use Rattle.sshcore.specs.ChosenView.{algorithms_of};
+
+    ghost Value = { fields.Algorithms };
+
+    ghost view = { algorithms_of };
+
+    ghost invariant = { λ a. AreNamed (algorithms_of a) };
+}
+
+impl Algorithms {
+    /// The names at these positions of the client's lists.
+    pub(crate) fn at(
+        alloc: Global,
+        client: &KexInit<'_>,
+        chosen: &Chosen,
+    ) -> Result<Algorithms, Memory>
+        requires { ArePlaced (offer_of client.now) chosen.now }
+        ensures { (a : fields.Algorithms) → AreAt (offer_of client.now) chosen.now a → IfOk result (λ names. names ≡ a) }
+    {
+        let kex = name_at(alloc, &client.kex_algorithms, chosen.kex)?;
+        let host_key = name_at(alloc, &client.server_host_key_algorithms, chosen.host_key)?;
+        let encryption = ciphers_at(alloc, client, chosen)?;
+        let mac = macs_at(alloc, client, chosen)?;
+        let compression = compressions_at(alloc, client, chosen)?;
+        Ok(Algorithms {
+            kex,
+            host_key,
+            encryption,
+            mac,
+            compression,
+        })
+    }
+
+    /// The key exchange method.
+    pub(crate) fn kex(&self) -> &str
+        ensures kex { result.now ≡ self.now.kex }
+        ensures name { IsName self.now.kex }
+    {
+        &self.kex
+    }
+
+    /// The algorithm of the server's host key.
+    pub(crate) fn host_key(&self) -> &str
+        ensures host_key { result.now ≡ self.now.host_key }
+        ensures name { IsName self.now.host_key }
+    {
+        &self.host_key
+    }
+
+    /// The cipher of what this role sends.
+    pub(crate) fn cipher(&self, sender: Role) -> &str
+        ensures cipher { result.now ≡ cipher_of self.now sender }
+        ensures name { IsName (cipher_of self.now sender) }
+    {
+        match sender {
+            Role::Client => &self.encryption.client_to_server,
+            Role::Server => &self.encryption.server_to_client,
+        }
+    }
+
+    /// The MAC of what this role sends.
+    pub(crate) fn mac(&self, sender: Role) -> &str
+        ensures mac { result.now ≡ mac_of self.now sender }
+        ensures name { IsName (mac_of self.now sender) }
+    {
+        match sender {
+            Role::Client => &self.mac.client_to_server,
+            Role::Server => &self.mac.server_to_client,
+        }
+    }
+}
+
+fn ciphers_at(alloc: Global, client: &KexInit<'_>, chosen: &Chosen) -> Result<Directions, Memory>
+    requires { ArePlaced (offer_of client.now) chosen.now }
+    ensures to_server { IfOk result (λ d. slice_get client.now.encryption_client_to_server chosen.now.encryption_client_to_server ≡ Some (string_bytes d.client_to_server)) }
+    ensures to_client { IfOk result (λ d. slice_get client.now.encryption_server_to_client chosen.now.encryption_server_to_client ≡ Some (string_bytes d.server_to_client)) }
+    ensures names { IfOk result (λ d. IsName (string_bytes d.client_to_server) × IsName (string_bytes d.server_to_client)) }
+{
+    Ok(Directions {
+        client_to_server: name_at(
+            alloc,
+            &client.encryption_client_to_server,
+            chosen.encryption_client_to_server,
+        )?,
+        server_to_client: name_at(
+            alloc,
+            &client.encryption_server_to_client,
+            chosen.encryption_server_to_client,
+        )?,
+    })
+}
+
+fn macs_at(alloc: Global, client: &KexInit<'_>, chosen: &Chosen) -> Result<Directions, Memory>
+    requires { ArePlaced (offer_of client.now) chosen.now }
+    ensures to_server { IfOk result (λ d. slice_get client.now.mac_client_to_server chosen.now.mac_client_to_server ≡ Some (string_bytes d.client_to_server)) }
+    ensures to_client { IfOk result (λ d. slice_get client.now.mac_server_to_client chosen.now.mac_server_to_client ≡ Some (string_bytes d.server_to_client)) }
+    ensures names { IfOk result (λ d. IsName (string_bytes d.client_to_server) × IsName (string_bytes d.server_to_client)) }
+{
+    Ok(Directions {
+        client_to_server: name_at(
+            alloc,
+            &client.mac_client_to_server,
+            chosen.mac_client_to_server,
+        )?,
+        server_to_client: name_at(
+            alloc,
+            &client.mac_server_to_client,
+            chosen.mac_server_to_client,
+        )?,
+    })
+}
+
+fn compressions_at(
+    alloc: Global,
+    client: &KexInit<'_>,
+    chosen: &Chosen,
+) -> Result<Directions, Memory>
+    requires { ArePlaced (offer_of client.now) chosen.now }
+    ensures to_server { IfOk result (λ d. slice_get client.now.compression_client_to_server chosen.now.compression_client_to_server ≡ Some (string_bytes d.client_to_server)) }
+    ensures to_client { IfOk result (λ d. slice_get client.now.compression_server_to_client chosen.now.compression_server_to_client ≡ Some (string_bytes d.server_to_client)) }
+    ensures names { IfOk result (λ d. IsName (string_bytes d.client_to_server) × IsName (string_bytes d.server_to_client)) }
+{
+    Ok(Directions {
+        client_to_server: name_at(
+            alloc,
+            &client.compression_client_to_server,
+            chosen.compression_client_to_server,
+        )?,
+        server_to_client: name_at(
+            alloc,
+            &client.compression_server_to_client,
+            chosen.compression_server_to_client,
+        )?,
+    })
+}
+
+/// A copy of the name at a position of a list.
+fn name_at(alloc: Global, list: &NameList, position: usize) -> Result<String, Memory>
+    requires { position < length list.now }
+    ensures stands { IfOk result (λ name. slice_get list.now position ≡ Some (string_bytes name)) }
+    ensures name { IfOk result (λ name. IsName (string_bytes name)) }
+{
+    Ok(String::from_str(alloc, list.name_at(position).unwrap())?)
+}

@@ -1,0 +1,37 @@
+//! What whoever runs an endpoint decides.
+
+ghost use Rattle.std.specs.Prelude.{◌≡◌};
+ghost use Rattle.sshcore.specs.Party.{Policy};
+ghost use Rattle.sshcore.specs.PartyView.{proof_of};
+
+/// What a request proves of its user (RFC 4252).
+///
+/// It has no `Debug`: passwords are never printed.
+#[derive(Clone, Copy)]
+pub enum Proof<'a> {
+    /// Nothing: the method `none` (RFC 4252 section 5.2).
+    None,
+    /// That the user's side knows a password, any bytes (RFC 4252 section 8).
+    Password(&'a [u8]),
+    /// That the user's side has a private key: the signature was verified (RFC 4252 section 7).
+    Key {
+        /// The name of the key's algorithm.
+        algorithm: &'a str,
+        /// The public key.
+        blob: &'a [u8],
+    },
+}
+
+/// The decisions of whoever runs an endpoint. Each answer depends on its arguments alone.
+pub trait Decisions {
+    ghost policy: { Self → Policy };
+
+    /// Whether the public key of this algorithm is trusted as the server's host key (RFC 4253 section
+    /// 8).
+    fn host_key(&self, algorithm: &str, blob: &[u8]) -> bool
+        ensures { result ≡ (policy self.now).host_key algorithm.now blob.now };
+
+    /// Whether a request lets the user in, of requests counted from 1 (RFC 4252 section 5).
+    fn user(&self, request_number: u32, user: &str, service: &str, proof: &Proof<'_>) -> bool
+        ensures { result ≡ (policy self.now).user request_number user.now service.now (proof_of proof.now) };
+}

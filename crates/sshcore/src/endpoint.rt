@@ -1,0 +1,241 @@
+//! One endpoint, fed with bytes.
+
+ghost use Rattle.std.specs.Prelude.{◌≡◌, ◌≢◌, ◌<◌, ◌≤◌, ◌+◌, ◌*◌, ◌↔◌, ◌++◌, [], ℕ, IfOk, IsTrue, List, Ok, OnErr, OnOk, length, take};
+ghost use Rattle.sshneg.specs.declared.role.Role.TheVariants.{Client, Server};
+ghost use Rattle.sshpacket.specs.declared.limits.TheConstants.{PACKET_LIMIT};
+ghost use Rattle.sshcore.specs.declared.end.Fault.TheVariants as fault;
+ghost use Rattle.sshcore.specs.Ending.{Failed, Open, ending};
+ghost use Rattle.sshcore.specs.Party.{client_party, server_party};
+ghost use Rattle.sshcore.specs.Brings.{IsOngoing};
+ghost use Rattle.sshcore.specs.ConfigParty.{party_of, role_of};
+ghost use Rattle.sshcore.specs.Endpoints.{After, Breaks, Cuts, Fed, HasUnfinished, Made, buffered_of, ending_of, turns_of};
+ghost use Rattle.sshcore.specs.Inputs.{CanRead, Steps, turns_left};
+ghost use Rattle.sshcore.specs.Kept.{kept_of};
+
+use crate::client_config::ClientConfig;
+use crate::config::Config;
+use crate::decisions::Decisions;
+use crate::end::{End, Fault};
+use crate::greeting::say_lines;
+use crate::input::Input;
+use crate::server_config::ServerConfig;
+use crate::state::State;
+use sshpacket::Suite;
+use sshwire::Memory;
+use std::alloc::Global;
+use std::marker::Model;
+
+/// One endpoint of SSH, a client or a server, from the first byte of the version line to the accepted
+/// service of authentication (RFC 4253).
+#[derive(Drop)]
+pub struct Endpoint<'a, S: Suite, D: Decisions> {
+    config: Config<'a>,
+    suite: &'a S,
+    decisions: &'a D,
+    input: Input,
+    state: State,
+}
+
+impl<'a, S: Suite, D: Decisions> Model for Endpoint<'a, S, D> {
+    ghost use Rattle.sshcore.specs.Brings.{IsOngoing};
+    ghost use Rattle.sshcore.specs.ConfigParty.{party_of, role_of};
+    ghost use Rattle.sshcore.specs.Ending.{ending};
+    ghost use Rattle.sshcore.specs.EndpointData.{EndpointData};
+    ghost use Rattle.sshcore.specs.Inputs.{CanRead};
+
+    ghost Value = { EndpointData S D };
+
+    ghost view = { λ e. record {
+      role = role_of e.config;
+      party = party_of e.config;
+      suite = e.suite.now;
+      decisions = e.decisions.now;
+      input = e.input;
+      state = e.state;
+    } };
+
+    ghost invariant = { λ e. IsOngoing (ending e.state.end) → CanRead (S.meaning e.suite.now) e.input };
+}
+
+impl<'a, S: Suite, D: Decisions> Endpoint<'a, S, D> {
+    /// A client before any byte. Its version line, its KEXINIT and, where its config announces a guess, its
+    /// share are appended to `out` (RFC 4253 sections 4.2, 7.1 and 7). Answers `Memory` where a growth
+    /// was refused; `out` is then unchanged.
+    ///
+    /// The caller's condition, until authentication is built, is that the plan is empty.
+    pub fn client(
+        alloc: Global,
+        config: &'a ClientConfig,
+        suite: &'a S,
+        decisions: &'a D,
+        out: &mut Vec<u8>,
+    ) -> Result<Endpoint<'a, S, D>, Memory>
+        requires { config.now.plan ≡ [] }
+        ensures made { IfOk result (λ e. Made S.meaning D.policy Client (client_party config.now) suite.now decisions.now e out.old.items out.new.items) }
+        ensures memory { OnErr result (out.new.items ≡ out.old.items) }
+    {
+        Endpoint::begin(alloc, Config::Client(config), suite, decisions, out)
+    }
+
+    /// A server before any byte. Its notice lines, its version line and its KEXINIT are appended to `out`
+    /// (RFC 4253 sections 4.2 and 7.1). Answers `Memory` where a growth was refused; `out` is then
+    /// unchanged.
+    pub fn server(
+        alloc: Global,
+        config: &'a ServerConfig,
+        suite: &'a S,
+        decisions: &'a D,
+        out: &mut Vec<u8>,
+    ) -> Result<Endpoint<'a, S, D>, Memory>
+        ensures made { IfOk result (λ e. Made S.meaning D.policy Server (server_party config.now) suite.now decisions.now e out.old.items out.new.items) }
+        ensures memory { OnErr result (out.new.items ≡ out.old.items) }
+    {
+        Endpoint::begin(alloc, Config::Server(config), suite, decisions, out)
+    }
+
+    /// An endpoint before any byte.
+    fn begin(
+        alloc: Global,
+        config: Config<'a>,
+        suite: &'a S,
+        decisions: &'a D,
+        out: &mut Vec<u8>,
+    ) -> Result<Endpoint<'a, S, D>, Memory>
+        ensures made { IfOk result (λ e. Made S.meaning D.policy (role_of config.entry) (party_of config.entry) suite.now decisions.now e out.old.items out.new.items) }
+        ensures memory { OnErr result (out.new.items ≡ out.old.items) }
+    {
+        sshpacket::parser_law();
+        sshpacket::stream_law();
+        sshmsg::numbers_law();
+        sshneg::markers_law();
+        let mut state = State::new(alloc);
+        let mut said = Vec::new(alloc);
+        say_lines(&config, &mut said)?;
+        state.say_making(&config, suite, &mut said)?;
+        out.extend_from_slice(&said)?;
+        Ok(Endpoint {
+            config,
+            suite,
+            decisions,
+            input: Input::new(alloc, config.role()),
+            state,
+        })
+    }
+
+    /// Reads the next bytes that the peer sent, in any piece, and appends to `out` what is sent to them.
+    /// Answers how many bytes were used: all of them, unless the endpoint ends inside the piece; then
+    /// those up to the place of the refusal, or to the end of the packet that ended it.
+    ///
+    /// An endpoint that has ended uses and appends nothing. Answers `Memory` where a growth was refused:
+    /// the endpoint has then failed, and `out` has its old bytes followed by whole packets.
+    pub fn feed(&mut self, piece: &[u8], out: &mut Vec<u8>) -> Result<usize, Memory>
+        ensures fed { IfOk result (λ used. Fed S.meaning D.policy self.old self.new (take used piece.now) out.old.items out.new.items) }
+        ensures used { IfOk result (λ used. (used ≤ length piece.now) × (ending_of self.new ≡ Open → used ≡ length piece.now)) }
+        ensures memory { OnErr result ((ending_of self.new ≡ Failed fault.Memory) × Breaks S.meaning D.policy self.old self.new piece.now out.old.items out.new.items) }
+        // Want of memory is answered, and never found later.
+        ensures kept { OnOk result (ending_of self.new ≡ Failed fault.Memory → ending_of self.old ≡ Failed fault.Memory) }
+        ensures ended { ending_of self.old ≢ Open → (result ≡ Ok 0) × (self.new ≡ self.old) × (out.new ≡ out.old) }
+    {
+        let mut used = 0;
+        while used < piece.len() && self.is_open() {
+            used += self.take(&piece[used..], out)?;
+        }
+        Ok(used)
+    }
+
+    /// Reads on up to the end of one unit.
+    fn take(&mut self, piece: &[u8], out: &mut Vec<u8>) -> Result<usize, Memory>
+        requires open { ending_of self.old ≡ Open }
+        requires some { 0 < length piece.now }
+        ensures fed { IfOk result (λ used. Fed S.meaning D.policy self.old self.new (take used piece.now) out.old.items out.new.items) }
+        ensures used { IfOk result (λ used. used ≤ length piece.now) }
+        ensures turns { IfOk result (λ used. turns_of self.new < turns_of self.old + 3 * used) }
+        ensures memory { OnErr result ((ending_of self.new ≡ Failed fault.Memory) × Breaks S.meaning D.policy self.old self.new piece.now out.old.items out.new.items) }
+        ensures kept { OnOk result (ending_of self.new ≢ Failed fault.Memory) }
+    {
+        let heard = hear(
+            &mut self.input,
+            &mut self.state,
+            &self.config,
+            self.suite,
+            self.decisions,
+            piece,
+            out,
+        );
+        match heard {
+            Ok(used) => Ok(used),
+            Err(_) => {
+                self.state.end = End::Failed(Fault::Memory);
+                Err(Memory)
+            }
+        }
+    }
+
+    /// The input has ended: an open endpoint fails as `Cut`, another doesn't change. Takes no memory.
+    pub fn end_of_input(&mut self)
+        ensures cuts { ending_of self.old ≡ Open → Cuts S.meaning D.policy self.old self.new }
+        ensures ended { ending_of self.old ≢ Open → self.new ≡ self.old }
+    {
+        if self.is_open() {
+            self.state.end = End::Failed(Fault::Cut);
+        }
+    }
+
+    /// How the endpoint stands. Takes no memory.
+    pub fn end(&self) -> &End
+        ensures { result.now ≡ self.now.state.end }
+    {
+        &self.state.end
+    }
+
+    /// How many bytes of the unfinished line or packet are held, at most `PACKET_LIMIT`; 0 once the
+    /// endpoint has ended. Takes no memory.
+    pub fn buffered(&self) -> usize
+        ensures held { result ≡ buffered_of self.now }
+        ensures bound { result ≤ PACKET_LIMIT }
+        ensures unfinished { (h s : List ℕ) (a : After S.meaning D.policy self.now h s) → HasUnfinished self.now.role a.units a.rest (ending_of self.now) result }
+    {
+        if self.is_open() {
+            self.input.buffered()
+        } else {
+            0
+        }
+    }
+
+    /// Whether it is open.
+    fn is_open(&self) -> bool
+        ensures { IsTrue result ↔ (ending_of self.now ≡ Open) }
+    {
+        match self.state.end {
+            End::Open => true,
+            _ => false,
+        }
+    }
+}
+
+/// Reads on up to the end of one unit; for want of memory `out` is unchanged.
+fn hear<S: Suite, D: Decisions>(
+    input: &mut Input,
+    state: &mut State,
+    config: &Config<'_>,
+    suite: &S,
+    decisions: &D,
+    piece: &[u8],
+    out: &mut Vec<u8>,
+) -> Result<usize, Memory>
+    requires open { ending state.old.end ≡ Open }
+    requires some { 0 < length piece.now }
+    requires reads { CanRead (S.meaning suite.now) input.old }
+    ensures steps { IfOk result (λ used. (added : List ℕ) × (out.new.items ≡ out.old.items ++ added)
+        × Steps (S.meaning suite.now) (D.policy decisions.now) (role_of config.now) (party_of config.now) input.old (kept_of state.old) input.new (kept_of state.new) (take used piece.now) [] added) }
+    ensures used { IfOk result (λ used. used ≤ length piece.now) }
+    ensures turns { IfOk result (λ used. turns_left (ending state.new.end) input.new < turns_left (ending state.old.end) input.old + 3 * used) }
+    ensures reads { OnOk result (IsOngoing (ending state.new.end) → CanRead (S.meaning suite.now) input.new) }
+    ensures kept { OnOk result (ending state.new.end ≢ Failed fault.Memory) }
+    ensures memory { OnErr result (out.new.items ≡ out.old.items) }
+{
+    let mut said = Vec::new(state.alloc);
+    let used = input.hear(state, config, suite, decisions, piece, &mut said)?;
+    out.extend_from_slice(&said)?;
+    Ok(used)
+}

@@ -1,0 +1,36 @@
+//! What the layers above may rest on: what is true of each endpoint, however it was fed.
+
+ghost use Rattle.std.specs.Prelude.{◌≡◌, ◌≢◌, ◌++◌, [], ℕ, List};
+ghost use Rattle.sshcore.specs.declared.end.Fault.TheVariants as fault;
+ghost use Rattle.sshcore.specs.Ending.{Failed, Open};
+ghost use Rattle.sshcore.specs.Endpoints.{After, IsSameEndpoint, ending_of};
+ghost use Rattle.sshcore.specs.StrictClause.{KeepsStrict};
+
+use crate::decisions::Decisions;
+use crate::endpoint::Endpoint;
+use crate::law::{history_law, strict_law};
+use sshpacket::Suite;
+
+/// The law of endpoints: how an endpoint ends and what it has said depend on its joined input alone,
+/// whatever the pieces; and what a strict endpoint was given (OpenSSH PROTOCOL section 1.10). Takes no
+/// memory.
+pub fn endpoint_law<S: Suite, D: Decisions>(one: &Endpoint<'_, S, D>, other: &Endpoint<'_, S, D>)
+    // Two endpoints of one role, config and suite, and with the same decisions, each used a prefix of one input, all of it where it
+    // is open; and neither was cut off.
+    ensures joined { IsSameEndpoint one.now other.now → ending_of one.now ≢ Failed fault.Cut → ending_of other.now ≢ Failed fault.Cut
+        → (h g s t x y : List ℕ) → After S.meaning D.policy one.now h s → After S.meaning D.policy other.now g t
+        → h ++ x ≡ g ++ y → (ending_of one.now ≡ Open → x ≡ []) → (ending_of other.now ≡ Open → y ≡ [])
+        → (h ≡ g) × (s ≡ t) × (ending_of one.now ≡ ending_of other.now) }
+    // The same of what was heard before an end of input: endpoints that were cut off used the same bytes too, and said the same.
+    ensures joined_heard { IsSameEndpoint one.now other.now → (h g s t x y : List ℕ) (a : After S.meaning D.policy one.now h s) (b : After S.meaning D.policy other.now g t)
+        → h ++ x ≡ g ++ y → (a.heard_end ≡ Open → x ≡ []) → (b.heard_end ≡ Open → y ≡ [])
+        → (h ≡ g) × (s ≡ t) × (a.heard_end ≡ b.heard_end) }
+    // An endpoint stands as what it heard left it, or was cut off where that left it open.
+    ensures heard { (h s : List ℕ) (a : After S.meaning D.policy one.now h s) → ending_of one.now ≢ Failed fault.Cut → a.heard_end ≡ ending_of one.now }
+    ensures cut { (h s : List ℕ) (a : After S.meaning D.policy one.now h s) → ending_of one.now ≡ Failed fault.Cut → a.heard_end ≡ Open }
+    // What was heard keeps strictness, whoever sent it.
+    ensures strict { (h s : List ℕ) (a : After S.meaning D.policy one.now h s) → KeepsStrict one.now.role one.now.party a.units a.heard_end }
+{
+    history_law();
+    strict_law();
+}

@@ -1,0 +1,32 @@
+//! Phase newkeys: the peer's NEWKEYS (RFC 4253 section 7.3).
+
+ghost use Rattle.std.specs.Prelude.{◌≡◌};
+ghost use Rattle.sshcore.specs.declared.table.Phase.TheVariants as phase;
+ghost use Rattle.sshcore.specs.Brings.{heard_one};
+ghost use Rattle.sshcore.specs.Kept.{keys_due, keys_left, kept_of};
+
+use crate::state::State;
+use crate::table::Phase;
+use sshpacket::Keys;
+
+impl State {
+    /// Hears that the peer goes over to the new keys.
+    pub(crate) fn hear_new_keys(&mut self)
+        requires { self.old.phase ≡ phase.NewKeys }
+        ensures { kept_of self.new ≡ record (kept_of self.old) { phase = phase.Service; known = heard_one (kept_of self.old).known } }
+    {
+        self.phase = Phase::Service;
+        self.first = false;
+    }
+
+    /// The keys of what is heard from here on, right behind NEWKEYS.
+    pub(crate) fn take_keys(&mut self) -> Option<Keys>
+        ensures keys { result ≡ keys_due self.old.phase self.old.pending }
+        ensures left { kept_of self.new ≡ record (kept_of self.old) { pending = keys_left self.old.phase self.old.pending } }
+    {
+        match self.phase {
+            Phase::Service => self.pending.take(),
+            _ => None,
+        }
+    }
+}

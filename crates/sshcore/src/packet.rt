@@ -1,0 +1,265 @@
+//! What becomes of a packet, by the phase table.
+
+ghost use Rattle.std.specs.Prelude.{◌≡◌, ◌≢◌, ◌==◌, ◌≤◌, OnOk, false, length};
+ghost use Rattle.sshmsg.specs.Messages.{Spells, message_in};
+ghost use Rattle.sshmsg.specs.Numbers.{kind};
+ghost use Rattle.sshmsg.specs.View.{content_of};
+ghost use Rattle.sshpacket.specs.declared.limits.TheConstants.{PACKET_LIMIT};
+ghost use Rattle.sshcore.specs.declared.end.Fault.TheVariants as fault;
+ghost use Rattle.sshcore.specs.declared.table.Line.TheVariants as line;
+ghost use Rattle.sshcore.specs.Brings.{Brings, Works, heard_one};
+ghost use Rattle.sshcore.specs.ConfigParty.{party_of, role_of};
+ghost use Rattle.sshcore.specs.Ending.{Failed, Open, ending};
+ghost use Rattle.sshcore.specs.Exchanged.{HasForm};
+ghost use Rattle.sshcore.specs.Kept.{kept_of};
+ghost use Rattle.sshcore.specs.Phases.{leaving};
+ghost use Rattle.sshcore.specs.Replies.{read_reply};
+ghost use Rattle.sshcore.specs.Table.{is_ignored, is_of_method, is_ruled, is_unknown, line_by, takes_extensions};
+ghost use Rattle.sshcore.specs.Work.{work};
+
+use crate::config::Config;
+use crate::decisions::Decisions;
+use crate::end::{End, Fault};
+use crate::exchange::Reply;
+use crate::state::State;
+use crate::table::{Line, Phase};
+use sshmsg::{
+    Message, MsgFault, SSH_MSG_DISCONNECT, SSH_MSG_EXT_INFO, SSH_MSG_KEXDH_INIT,
+    SSH_MSG_KEXDH_REPLY, SSH_MSG_KEXINIT, SSH_MSG_NEWKEYS, SSH_MSG_SERVICE_ACCEPT,
+    SSH_MSG_SERVICE_REQUEST, read_exchange,
+};
+use sshneg::Role;
+use sshpacket::Suite;
+use sshwire::Memory;
+
+impl State {
+    /// Hears a packet with this number: its line of the phase table says what becomes of it.
+    pub(crate) fn hear<S: Suite, D: Decisions>(
+        &mut self,
+        config: &Config<'_>,
+        suite: &S,
+        decisions: &D,
+        payload: &[u8],
+        packet: u32,
+        said: &mut Vec<u8>,
+    ) -> Result<(), Memory>
+        requires open { ending self.old.end ≡ Open }
+        requires short { length payload.now ≤ PACKET_LIMIT }
+        ensures brings { OnOk result (HasForm (S.meaning suite.now) (kept_of self.old)
+            → Brings (S.meaning suite.now) (D.policy decisions.now) (role_of config.now) (party_of config.now) (kept_of self.old) (kept_of self.new) packet payload.now said.old.items said.new.items) }
+        ensures kept { OnOk result (ending self.new.end ≢ Failed fault.Memory) }
+    {
+        let number = kind(payload);
+        match line_of(config.role(), self.phase, self.strict, self.guess, number) {
+            Line::Reads => self.read(config, suite, decisions, payload, said),
+            Line::Drops => {
+                self.drop_guess();
+                Ok(())
+            }
+            Line::Deviates => self.fail(config, suite, Fault::Strict(number), said),
+            Line::Unknown => self.tell_unknown(config, suite, packet, said),
+            Line::Unexpected => self.fail(config, suite, Fault::Unexpected(number), said),
+        }
+    }
+
+    /// Drops the packet of a wrong guess unread (RFC 4253 section 7).
+    fn drop_guess(&mut self)
+        ensures { kept_of self.new ≡ record (kept_of self.old) { guess = false; known = heard_one (kept_of self.old).known } }
+    {
+        self.guess = false;
+        self.first = false;
+    }
+
+    /// Reads a packet that has a place, and answers it; fails as `Malformed` where it can't be read.
+    fn read<S: Suite, D: Decisions>(
+        &mut self,
+        config: &Config<'_>,
+        suite: &S,
+        decisions: &D,
+        payload: &[u8],
+        said: &mut Vec<u8>,
+    ) -> Result<(), Memory>
+        requires open { ending self.old.end ≡ Open }
+        requires short { length payload.now ≤ PACKET_LIMIT }
+        requires reads { line_by (role_of config.now) self.old.phase self.old.strict self.old.guess (kind payload.now) ≡ line.Reads }
+        ensures works { OnOk result (HasForm (S.meaning suite.now) (kept_of self.old)
+            → Works (S.meaning suite.now) (role_of config.now) (party_of config.now) (kept_of self.old) (kept_of self.new) payload.now said.old.items said.new.items
+            (read_reply (S.meaning suite.now) (D.policy decisions.now) (role_of config.now) (party_of config.now) (kept_of self.old).known (kind payload.now) (message_in self.old.shares payload.now))) }
+        ensures kept { OnOk result (ending self.new.end ≢ Failed fault.Memory) }
+    {
+        match read_exchange(self.alloc, payload, self.shares) {
+            Ok(message) => self.work(config, suite, decisions, payload, &message, said),
+            Err(MsgFault::Memory) => Err(Memory),
+            Err(_) => self.fail(config, suite, Fault::Malformed(kind(payload)), said),
+        }
+    }
+
+    /// Answers a message that has a place (RFC 4253 sections 7 to 11).
+    fn work<S: Suite, D: Decisions>(
+        &mut self,
+        config: &Config<'_>,
+        suite: &S,
+        decisions: &D,
+        payload: &[u8],
+        message: &Message<'_>,
+        said: &mut Vec<u8>,
+    ) -> Result<(), Memory>
+        requires open { ending self.old.end ≡ Open }
+        requires short { length payload.now ≤ PACKET_LIMIT }
+        requires reads { line_by (role_of config.now) self.old.phase self.old.strict self.old.guess (kind payload.now) ≡ line.Reads }
+        requires spelled { Spells self.old.shares (content_of message.now) payload.now }
+        ensures works { OnOk result (HasForm (S.meaning suite.now) (kept_of self.old)
+            → Works (S.meaning suite.now) (role_of config.now) (party_of config.now) (kept_of self.old) (kept_of self.new) payload.now said.old.items said.new.items
+            (work (S.meaning suite.now) (D.policy decisions.now) (role_of config.now) (party_of config.now) (kept_of self.old).known (content_of message.now))) }
+        ensures kept { OnOk result (ending self.new.end ≢ Failed fault.Memory) }
+    {
+        sshmsg::messages_law();
+        sshmsg::numbers_law();
+        sshmsg::lengths_law();
+        match message {
+            Message::Disconnect { reason, .. } => {
+                self.end = End::Closed(*reason);
+                Ok(())
+            }
+            Message::KexInit(peer) => self.hear_kexinit(config, suite, payload, peer, said),
+            Message::KexdhInit { e } => self.hear_init(config, suite, e.body(), said),
+            Message::KexEcdhInit { client_share } => {
+                self.hear_init(config, suite, client_share, said)
+            }
+            Message::KexdhReply {
+                host_key,
+                f,
+                signature,
+            } => {
+                let reply = Reply {
+                    host_key,
+                    share: f.body(),
+                    signature,
+                };
+                self.hear_reply(config, suite, decisions, &reply, said)
+            }
+            Message::KexEcdhReply {
+                host_key,
+                server_share,
+                signature,
+            } => {
+                let reply = Reply {
+                    host_key,
+                    share: server_share,
+                    signature,
+                };
+                self.hear_reply(config, suite, decisions, &reply, said)
+            }
+            Message::NewKeys => {
+                self.hear_new_keys();
+                Ok(())
+            }
+            Message::ServiceRequest { service } => {
+                self.hear_service_request(config, suite, service, said)
+            }
+            Message::ServiceAccept { service } => {
+                self.hear_service_accept(config, suite, service, said)
+            }
+            _ => {
+                self.first = false;
+                Ok(())
+            }
+        }
+    }
+}
+
+/// The number of the message in a payload; 0 for no bytes.
+fn kind(payload: &[u8]) -> u8
+    ensures { result ≡ kind payload.now }
+{
+    match payload.first() {
+        Some(number) => *number,
+        None => 0,
+    }
+}
+
+/// The line of the phase table that decides on a packet with this number, in the order of the table.
+/// `guess` says that the packet of a wrong guess is due.
+#[tactic(auto, unfolding(crate::specs::Table::line_by))]
+fn line_of(role: Role, phase: Phase, strict: bool, guess: bool, number: u8) -> Line
+    ensures { result ≡ line_by role phase strict guess number }
+{
+    let ruled = is_ruled(phase, strict);
+    let leaves = leaves(role, phase, number);
+    if number == SSH_MSG_DISCONNECT {
+        Line::Reads
+    } else if guess && !ruled {
+        Line::Drops
+    } else if guess && is_of_method(number) {
+        Line::Drops
+    } else if ruled && (guess || !leaves) {
+        Line::Deviates
+    } else if leaves || is_ignored(number) {
+        Line::Reads
+    } else if number == SSH_MSG_EXT_INFO && takes_extensions(phase) {
+        Line::Reads
+    } else if is_unknown(number) {
+        Line::Unknown
+    } else {
+        Line::Unexpected
+    }
+}
+
+/// Whether strictness rules the packets of this phase (OpenSSH PROTOCOL section 1.10).
+fn is_ruled(phase: Phase, strict: bool) -> bool
+    ensures { result ≡ is_ruled phase strict }
+{
+    match phase {
+        Phase::Exchange | Phase::NewKeys => strict,
+        _ => false,
+    }
+}
+
+/// Whether a message with this number leaves the phase.
+fn leaves(role: Role, phase: Phase, number: u8) -> bool
+    ensures { result ≡ (number == leaving role phase) }
+{
+    match (phase, role) {
+        (Phase::KexInit, _) => number == SSH_MSG_KEXINIT,
+        (Phase::Exchange, Role::Client) => number == SSH_MSG_KEXDH_REPLY,
+        (Phase::Exchange, Role::Server) => number == SSH_MSG_KEXDH_INIT,
+        (Phase::NewKeys, _) => number == SSH_MSG_NEWKEYS,
+        (Phase::Service, Role::Client) => number == SSH_MSG_SERVICE_ACCEPT,
+        (Phase::Service, Role::Server) => number == SSH_MSG_SERVICE_REQUEST,
+        (Phase::Auth, _) => false,
+    }
+}
+
+/// Whether the number is one of the key exchange method's own (RFC 4250 section 4.1.1).
+fn is_of_method(number: u8) -> bool
+    ensures { result ≡ is_of_method number }
+{
+    30 <= number && number <= 49
+}
+
+/// Whether the message may come at any time (RFC 4253 section 11).
+fn is_ignored(number: u8) -> bool
+    ensures { result ≡ is_ignored number }
+{
+    2 <= number && number <= 4
+}
+
+/// Whether EXT_INFO has a place (RFC 8308 section 2.4).
+fn takes_extensions(phase: Phase) -> bool
+    ensures { result ≡ takes_extensions phase }
+{
+    match phase {
+        Phase::Service | Phase::Auth => true,
+        _ => false,
+    }
+}
+
+/// Whether the number has no meaning here, up to the end of authentication (RFC 4253 section 11.4).
+fn is_unknown(number: u8) -> bool
+    ensures { result ≡ is_unknown number }
+{
+    match number {
+        8..=19 | 22..=29 | 32..=49 | 54..=79 => true,
+        _ => false,
+    }
+}

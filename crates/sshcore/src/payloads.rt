@@ -1,0 +1,116 @@
+//! The payloads that an endpoint says.
+
+ghost use Rattle.std.specs.Prelude.{◌≡◌, ◌<◌, ◌≤◌, ◌+◌, [], IfOk, length};
+ghost use Rattle.sshwire.specs.declared.limits.TheConstants.{PAYLOAD_LIMIT};
+ghost use Rattle.sshwire.specs.Types.{IsName};
+ghost use Rattle.sshmsg.specs.Content as content;
+ghost use Rattle.sshmsg.specs.View.{content_of};
+ghost use Rattle.sshmsg.specs.Written.{written_message};
+ghost use Rattle.sshpacket.specs.declared.limits.TheConstants.{BLOB_LIMIT, SHARE_LIMIT};
+ghost use Rattle.sshpacket.specs.Suite.{FitsShare};
+ghost use Rattle.sshcore.specs.ConfigParty.{party_of};
+ghost use Rattle.sshcore.specs.Exchange.{own_kexinit};
+ghost use Rattle.sshcore.specs.Made.{IsMade};
+ghost use Rattle.sshcore.specs.Work.{init_for, init_in, reply_in, userauth};
+
+use crate::config::Config;
+use crate::config_version::bytes_law;
+use sshmsg::{Message, write};
+use sshpacket::{ShareForm, Suite};
+use sshwire::{Memory, Mpint};
+use std::alloc::Global;
+
+/// The name of the service of authentication (RFC 4252 section 4).
+pub(crate) const USERAUTH: &[u8] = b"ssh-userauth";
+
+/// The payload of a message that fits one. Answers `Memory` for want of memory, as each function below.
+pub(crate) fn payload_of(alloc: Global, message: &Message<'_>) -> Result<Vec<u8>, Memory>
+    requires { length (written_message (content_of message.now)) ≤ PAYLOAD_LIMIT }
+    ensures { IfOk result (λ made. IsMade (written_message (content_of message.now)) made.items) }
+{
+    let mut payload = Vec::new(alloc);
+    write(message, &mut payload)?;
+    bytes_law(&payload);
+    Ok(payload)
+}
+
+/// The payload of the KEXINIT of a config (RFC 4253 section 7.1).
+pub(crate) fn kexinit_payload(alloc: Global, config: &Config<'_>) -> Result<Vec<u8>, Memory>
+    ensures { IfOk result (λ made. IsMade (own_kexinit (party_of config.now)) made.items) }
+{
+    let kexinit = config.kexinit()?;
+    payload_of(alloc, &Message::KexInit(Box::new(alloc, kexinit)?))
+}
+
+/// The payload of a client's first message of an exchange by this method (RFC 4253 section 8, RFC 5656
+/// section 4).
+pub(crate) fn init_payload<S: Suite>(
+    alloc: Global,
+    config: &Config<'_>,
+    suite: &S,
+    kex: &str,
+) -> Result<Vec<u8>, Memory>
+    requires { IsName kex.now }
+    ensures { IfOk result (λ made. IsMade (init_for (S.meaning suite.now) (party_of config.now) kex.now) made.items) }
+{
+    let share = suite.public(alloc, kex, &config.side().exchange_random)?;
+    share_payload(alloc, suite.share_form(kex), &share)
+}
+
+/// The payload that gives a client's share in this form.
+fn share_payload(alloc: Global, form: ShareForm, share: &[u8]) -> Result<Vec<u8>, Memory>
+    requires { FitsShare form share.now }
+    ensures { IfOk result (λ made. IsMade (written_message (init_in form share.now)) made.items) }
+{
+    sshwire::types_law();
+    sshmsg::lengths_law();
+    match form {
+        ShareForm::Mpint => payload_of(
+            alloc,
+            &Message::KexdhInit {
+                e: Mpint::new(share).unwrap(),
+            },
+        ),
+        ShareForm::OctetString | ShareForm::Hybrid => payload_of(
+            alloc,
+            &Message::KexEcdhInit {
+                client_share: share,
+            },
+        ),
+    }
+}
+
+/// The payload of a server's answer to the client's share, in this form.
+pub(crate) fn reply_payload(
+    alloc: Global,
+    form: ShareForm,
+    host_key: &[u8],
+    share: &[u8],
+    signature: &[u8],
+) -> Result<Vec<u8>, Memory>
+    requires share { FitsShare form share.now }
+    requires host_key { length host_key.now ≤ BLOB_LIMIT }
+    requires signature { length signature.now ≤ SHARE_LIMIT }
+    ensures { IfOk result (λ made. IsMade (written_message (reply_in form host_key.now share.now signature.now)) made.items) }
+{
+    sshwire::types_law();
+    sshmsg::lengths_law();
+    match form {
+        ShareForm::Mpint => payload_of(
+            alloc,
+            &Message::KexdhReply {
+                host_key,
+                f: Mpint::new(share).unwrap(),
+                signature,
+            },
+        ),
+        ShareForm::OctetString | ShareForm::Hybrid => payload_of(
+            alloc,
+            &Message::KexEcdhReply {
+                host_key,
+                server_share: share,
+                signature,
+            },
+        ),
+    }
+}

@@ -1,0 +1,110 @@
+//! Phase service: the request of the service of authentication, and its answer (RFC 4253 section 10).
+
+ghost use Rattle.std.specs.Prelude.{◌≡◌, ◌≢◌, ◌≤◌, Bool, OnOk, length};
+ghost use Rattle.sshpacket.specs.KeyData.{KeyData};
+ghost use Rattle.sshneg.specs.declared.role.Role.TheVariants.{Client, Server};
+ghost use Rattle.sshcore.specs.declared.end.Fault.TheVariants as fault;
+ghost use Rattle.sshcore.specs.declared.table.Phase.TheVariants as phase;
+ghost use Rattle.sshcore.specs.Brings.{Gives, IsOngoing, StandsAt, heard_one};
+ghost use Rattle.sshcore.specs.ConfigParty.{party_of, role_of};
+ghost use Rattle.sshcore.specs.Ending.{Failed, Open, ending, goes};
+ghost use Rattle.sshcore.specs.Kept.{kept_of};
+ghost use Rattle.sshcore.specs.Work.{accept_reply, banner_by, service_reply};
+
+use crate::config::Config;
+use crate::end::Fault;
+use crate::payloads::{USERAUTH, payload_of};
+use crate::state::State;
+use crate::table::Phase;
+use sshmsg::{Message, SSH_MSG_SERVICE_ACCEPT};
+use sshpacket::Suite;
+use sshwire::Memory;
+
+impl State {
+    /// A server hears the request: it accepts `ssh-userauth` and says its banner (RFC 4252 section 5.4);
+    /// else it fails as `Service`.
+    pub(crate) fn hear_service_request<S: Suite>(
+        &mut self,
+        config: &Config<'_>,
+        suite: &S,
+        service: &[u8],
+        said: &mut Vec<u8>,
+    ) -> Result<(), Memory>
+        requires open { ending self.old.end ≡ Open }
+        requires at { self.old.phase ≡ phase.Service }
+        ensures gives { OnOk result ((strict : Bool) (next : KeyData)
+            → Gives (S.meaning suite.now) (party_of config.now).seed strict next (kept_of self.old) (kept_of self.new) said.old.items said.new.items
+            (service_reply (party_of config.now) service.now)) }
+        ensures keys { OnOk result ((kept_of self.new).pending ≡ (kept_of self.old).pending) }
+        ensures stands { OnOk result (IsOngoing (kept_of self.new).end
+            → StandsAt (kept_of self.new) phase.Auth (kept_of self.old).guess (heard_one (kept_of self.old).known)) }
+        ensures kept { OnOk result (ending self.new.end ≢ Failed fault.Memory) }
+    {
+        if service != USERAUTH {
+            return self.fail(config, suite, Fault::Service, said);
+        }
+        sshmsg::lengths_law();
+        let accept = payload_of(self.alloc, &Message::ServiceAccept { service: USERAUTH })?;
+        self.say(config, suite, &accept, said)?;
+        self.say_banner(config, suite, said)?;
+        self.phase = Phase::Auth;
+        self.first = false;
+        Ok(())
+    }
+
+    /// Says a server's banner, if it has one.
+    fn say_banner<S: Suite>(
+        &mut self,
+        config: &Config<'_>,
+        suite: &S,
+        said: &mut Vec<u8>,
+    ) -> Result<(), Memory>
+        requires open { ending self.old.end ≡ Open }
+        ensures gives { OnOk result ((strict : Bool) (next : KeyData)
+            → Gives (S.meaning suite.now) (party_of config.now).seed strict next (kept_of self.old) (kept_of self.new) said.old.items said.new.items
+            (goes (banner_by (party_of config.now).banner))) }
+        ensures stays { OnOk result (kept_of self.new ≡ record (kept_of self.old) { sending = (kept_of self.new).sending }) }
+    {
+        sshmsg::lengths_law();
+        match config.banner() {
+            None => Ok(()),
+            Some(text) => {
+                let banner = payload_of(
+                    self.alloc,
+                    &Message::UserauthBanner {
+                        text,
+                        language: b"",
+                    },
+                )?;
+                self.say(config, suite, &banner, said)
+            }
+        }
+    }
+
+    /// A client hears that the service is accepted. No attempt is made until authentication is built, so
+    /// it fails as `NoMoreMethods`; where the service isn't `ssh-userauth` as `Unexpected(6)`.
+    pub(crate) fn hear_service_accept<S: Suite>(
+        &mut self,
+        config: &Config<'_>,
+        suite: &S,
+        service: &[u8],
+        said: &mut Vec<u8>,
+    ) -> Result<(), Memory>
+        ensures gives { OnOk result ((strict : Bool) (next : KeyData)
+            → Gives (S.meaning suite.now) (party_of config.now).seed strict next (kept_of self.old) (kept_of self.new) said.old.items said.new.items
+            (accept_reply service.now)) }
+        ensures ends { OnOk result (IsOngoing (kept_of self.new).end → ⊥) }
+        ensures kept { OnOk result (ending self.new.end ≢ Failed fault.Memory) }
+    {
+        if service == USERAUTH {
+            self.fail(config, suite, Fault::NoMoreMethods, said)
+        } else {
+            self.fail(
+                config,
+                suite,
+                Fault::Unexpected(SSH_MSG_SERVICE_ACCEPT),
+                said,
+            )
+        }
+    }
+}

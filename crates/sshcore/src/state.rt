@@ -1,0 +1,246 @@
+//! What an endpoint keeps between two packets, and what it says.
+
+ghost use Rattle.std.specs.Prelude.{◌≡◌, ◌<◌, ◌≤◌, ◌++◌, ◌==◌, ◌∷◌, [], ℕ, Bool, IfOk, None, OnOk, Some, false, is_some, length, true};
+ghost use Rattle.sshwire.specs.declared.limits.TheConstants.{LINE_LIMIT, PAYLOAD_LIMIT};
+ghost use Rattle.sshmsg.specs.Content as content;
+ghost use Rattle.sshmsg.specs.Written.{written_message};
+ghost use Rattle.sshpacket.specs.declared.limits.TheConstants.{PACKET_LIMIT};
+ghost use Rattle.sshpacket.specs.KeyData.{KeyData};
+ghost use Rattle.sshcore.specs.Made.{IsMade};
+ghost use Rattle.sshcore.specs.Phases.{past_kexinit};
+ghost use Rattle.sshcore.specs.Ending.{reason_of};
+
+use crate::algorithms::Algorithms;
+use crate::config::Config;
+use crate::end::{End, Fault};
+use crate::payloads::payload_of;
+use crate::table::Phase;
+use sshmsg::{
+    Message, SSH_DISCONNECT_HOST_KEY_NOT_VERIFIABLE, SSH_DISCONNECT_KEY_EXCHANGE_FAILED,
+    SSH_DISCONNECT_MAC_ERROR, SSH_DISCONNECT_NO_MORE_AUTH_METHODS_AVAILABLE,
+    SSH_DISCONNECT_PROTOCOL_ERROR, SSH_DISCONNECT_SERVICE_NOT_AVAILABLE,
+};
+use sshpacket::{Keys, ShareForm, Suite, write_clear, write_sealed};
+use sshwire::Memory;
+use std::alloc::Global;
+
+/// What an endpoint keeps between two packets, besides its reader.
+#[derive(Drop)]
+pub(crate) struct State {
+    pub(crate) alloc: Global,
+    pub(crate) end: End,
+    pub(crate) phase: Phase,
+    /// Whether the packet of a wrong guess is due.
+    pub(crate) guess: bool,
+    pub(crate) strict: bool,
+    /// Whether no payload was heard.
+    pub(crate) first: bool,
+    /// The text of the peer's version line.
+    pub(crate) version: Vec<u8>,
+    /// The payload of the peer's KEXINIT.
+    pub(crate) kexinit: Vec<u8>,
+    pub(crate) algorithms: Option<Algorithms>,
+    /// The form of shares in 30 and 31.
+    pub(crate) shares: ShareForm,
+    /// The session identifier.
+    pub(crate) session: Vec<u8>,
+    /// The keys of what is heard, from the exchange up to NEWKEYS.
+    pub(crate) pending: Option<Keys>,
+    /// The keys of what is said.
+    pub(crate) keys_out: Option<Keys>,
+    /// The number of the next packet that is said.
+    pub(crate) number_out: u32,
+    ghost version_short: { length version.items ≤ LINE_LIMIT },
+    ghost kexinit_short: { length kexinit.items ≤ PACKET_LIMIT },
+    ghost chosen: { is_some algorithms ≡ past_kexinit phase },
+}
+
+impl State {
+    ghost use Rattle.sshcore.specs.declared.end.Fault.TheVariants as fault;
+    ghost use Rattle.sshcore.specs.Brings.{Gives, heard_one};
+    ghost use Rattle.sshcore.specs.ConfigParty.{party_of};
+    ghost use Rattle.sshcore.specs.Directions.{spelled_by};
+    ghost use Rattle.sshcore.specs.Ending.{Failed, Open, disconnect, ending, fails, goes};
+    ghost use Rattle.sshcore.specs.Kept.{begun, kept_of};
+    ghost use Rattle.sshcore.specs.Output.{with_packet, with_newkeys};
+
+    /// Before any byte.
+    pub(crate) fn new(alloc: Global) -> State
+        ensures { kept_of result ≡ begun }
+    {
+        State {
+            alloc,
+            end: End::Open,
+            phase: Phase::KexInit,
+            guess: false,
+            strict: false,
+            first: true,
+            version: Vec::new(alloc),
+            kexinit: Vec::new(alloc),
+            algorithms: None,
+            shares: ShareForm::Mpint,
+            session: Vec::new(alloc),
+            pending: None,
+            keys_out: None,
+            number_out: 0,
+        }
+    }
+
+    /// Says a payload in a packet with the keys and the number at hand.
+    pub(crate) fn say<S: Suite>(
+        &mut self,
+        config: &Config<'_>,
+        suite: &S,
+        payload: &[u8],
+        said: &mut Vec<u8>,
+    ) -> Result<(), Memory>
+        requires some { 0 < length payload.now }
+        requires short { length payload.now ≤ PAYLOAD_LIMIT }
+        ensures spells { OnOk result (said.new.items ≡ said.old.items
+            ++ spelled_by (S.meaning suite.now) (kept_of self.old).sending.keys (party_of config.now).seed (kept_of self.old).sending.number payload.now) }
+        ensures counts { OnOk result (kept_of self.new ≡ record (kept_of self.old) { sending = with_packet (kept_of self.old).sending }) }
+    {
+        let seed = &config.side().padding_seed;
+        match &self.keys_out {
+            None => write_clear(self.alloc, suite, self.number_out, payload, seed, said)?,
+            Some(keys) => {
+                write_sealed(
+                    self.alloc,
+                    suite,
+                    keys,
+                    self.number_out,
+                    payload,
+                    seed,
+                    said,
+                )?
+            }
+        }
+        self.number_out = self.number_out.wrapping_add(1);
+        Ok(())
+    }
+
+    /// Says NEWKEYS; what follows is said with these keys (RFC 4253 section 7.3), from number 0 where the
+    /// endpoint is strict (OpenSSH PROTOCOL section 1.10).
+    pub(crate) fn say_new_keys<S: Suite>(
+        &mut self,
+        config: &Config<'_>,
+        suite: &S,
+        keys: Keys,
+        said: &mut Vec<u8>,
+    ) -> Result<(), Memory>
+        ensures spells { OnOk result (said.new.items ≡ said.old.items
+            ++ spelled_by (S.meaning suite.now) (kept_of self.old).sending.keys (party_of config.now).seed (kept_of self.old).sending.number (written_message content.NewKeys)) }
+        ensures switches { OnOk result (kept_of self.new ≡ record (kept_of self.old) { sending = with_newkeys (kept_of self.old).known.strict keys (kept_of self.old).sending }) }
+    {
+        sshmsg::lengths_law();
+        let payload = payload_of(self.alloc, &Message::NewKeys)?;
+        self.say(config, suite, &payload, said)?;
+        self.keys_out = Some(keys);
+        if self.strict {
+            self.number_out = 0;
+        }
+        Ok(())
+    }
+
+    /// Fails: what the peer is told of it is said (RFC 4253 section 11.1).
+    pub(crate) fn fail<S: Suite>(
+        &mut self,
+        config: &Config<'_>,
+        suite: &S,
+        fault: Fault,
+        said: &mut Vec<u8>,
+    ) -> Result<(), Memory>
+        ensures gives { OnOk result ((strict : Bool) (next : KeyData)
+            → Gives (S.meaning suite.now) (party_of config.now).seed strict next (kept_of self.old) (kept_of self.new) said.old.items said.new.items (fails fault)) }
+        ensures stays { OnOk result (kept_of self.new ≡ record (kept_of self.old) { end = Failed fault; sending = (kept_of self.new).sending }) }
+        ensures ends { OnOk result (ending self.new.end ≡ Failed fault) }
+    {
+        self.tell_fault(config, suite, fault, said)?;
+        self.end = End::Failed(fault);
+        Ok(())
+    }
+
+    /// Says the DISCONNECT of a failure, where the peer is told of it.
+    fn tell_fault<S: Suite>(
+        &mut self,
+        config: &Config<'_>,
+        suite: &S,
+        fault: Fault,
+        said: &mut Vec<u8>,
+    ) -> Result<(), Memory>
+        ensures gives { OnOk result ((strict : Bool) (next : KeyData)
+            → Gives (S.meaning suite.now) (party_of config.now).seed strict next (kept_of self.old) (kept_of self.new) said.old.items said.new.items
+            (record { answers = disconnect fault; end = (kept_of self.old).end })) }
+        ensures stays { OnOk result (kept_of self.new ≡ record (kept_of self.old) { sending = (kept_of self.new).sending }) }
+    {
+        match reason_of(fault) {
+            None => Ok(()),
+            Some(reason) => {
+                let payload = disconnect_payload(self.alloc, reason)?;
+                self.say(config, suite, &payload, said)
+            }
+        }
+    }
+
+    /// Tells the peer that a packet with this number wasn't understood (RFC 4253 section 11.4).
+    pub(crate) fn tell_unknown<S: Suite>(
+        &mut self,
+        config: &Config<'_>,
+        suite: &S,
+        packet: u32,
+        said: &mut Vec<u8>,
+    ) -> Result<(), Memory>
+        requires { ending self.old.end ≡ Open }
+        ensures gives { OnOk result ((strict : Bool) (next : KeyData)
+            → Gives (S.meaning suite.now) (party_of config.now).seed strict next (kept_of self.old) (kept_of self.new) said.old.items said.new.items
+            (goes (written_message (content.Unimplemented packet) ∷ []))) }
+        ensures stays { OnOk result (kept_of self.new ≡ record (kept_of self.old) { known = heard_one (kept_of self.old).known; sending = (kept_of self.new).sending }) }
+    {
+        sshmsg::lengths_law();
+        let message = Message::Unimplemented {
+            sequence_number: packet,
+        };
+        let payload = payload_of(self.alloc, &message)?;
+        self.say(config, suite, &payload, said)?;
+        self.first = false;
+        Ok(())
+    }
+}
+
+/// The payload of a DISCONNECT with this reason and empty texts.
+fn disconnect_payload(alloc: Global, reason: u32) -> Result<Vec<u8>, Memory>
+    ensures { IfOk result (λ made. IsMade (written_message (content.Disconnect reason [] [])) made.items) }
+{
+    sshmsg::lengths_law();
+    payload_of(
+        alloc,
+        &Message::Disconnect {
+            reason,
+            description: b"",
+            language: b"",
+        },
+    )
+}
+
+/// The reason of the DISCONNECT that a failure sends (RFC 4253 section 11.1), or none where nothing is
+/// sent.
+fn reason_of(fault: Fault) -> Option<u32>
+    ensures { result ≡ reason_of fault }
+{
+    match fault {
+        Fault::Version | Fault::Memory | Fault::Cut => None,
+        Fault::Length | Fault::Padding => Some(SSH_DISCONNECT_PROTOCOL_ERROR),
+        Fault::Malformed(_) | Fault::Unexpected(_) | Fault::Strict(_) => {
+            Some(SSH_DISCONNECT_PROTOCOL_ERROR)
+        }
+        Fault::Mac => Some(SSH_DISCONNECT_MAC_ERROR),
+        Fault::NoCommon(_) | Fault::Exchange | Fault::Signature => {
+            Some(SSH_DISCONNECT_KEY_EXCHANGE_FAILED)
+        }
+        Fault::HostKey => Some(SSH_DISCONNECT_HOST_KEY_NOT_VERIFIABLE),
+        Fault::Service => Some(SSH_DISCONNECT_SERVICE_NOT_AVAILABLE),
+        Fault::TooManyTries | Fault::NoMoreMethods => {
+            Some(SSH_DISCONNECT_NO_MORE_AUTH_METHODS_AVAILABLE)
+        }
+    }
+}

@@ -1,0 +1,38 @@
+-- What the lab endpoints are made of where nothing else is said.
+
+use Rattle.std.specs.Prelude.{ℕ, false, true, [], ◌∷◌, codes, None, replicate}
+use Rattle.sshcore.specs.ConfigData.{ClientData, HostKey, ServerData, SideData}
+
+-- one name for each list, and bytes that are all alike
+abbrev pub lab_side : ℕ → ℕ → ℕ → SideData
+lab_side cookie random seed = record {
+  softwareversion = codes "lab_1";
+  comments = None;
+  kex_algorithms = codes "a" ∷ [];
+  encryption_client_to_server = codes "c" ∷ [];
+  encryption_server_to_client = codes "c" ∷ [];
+  mac_client_to_server = codes "m" ∷ [];
+  mac_server_to_client = codes "m" ∷ [];
+  strict = true;
+  cookie = replicate 16 cookie;
+  random = replicate 32 random;
+  seed = replicate 32 seed;
+}
+
+-- a client that attempts nothing
+abbrev pub lab_client : ClientData
+lab_client = record { side = lab_side 0 17 34; host_key_algorithms = codes "h" ∷ []; guess = false; plan = [] }
+
+abbrev pub lab_host_key : HostKey
+lab_host_key = record { algorithm = codes "h"; secret = 0 ∷ [] }
+
+abbrev pub lab_server : ServerData
+lab_server = record {
+  side = lab_side 255 51 68;
+  host_keys = lab_host_key ∷ [];
+  services = codes "ssh-connection" ∷ [];
+  methods = codes "password" ∷ codes "publickey" ∷ [];
+  tries = 6;
+  banner = None;
+  notices = [];
+}
