@@ -1,7 +1,7 @@
 """The definitions of specs/ and the public clauses that cite them, as `check_documents` reads them."""
 import re, os, glob, sys
 
-CRATES = ['sshwire', 'sshpacket', 'sshmsg', 'sshneg', 'sshcore', 'sshlab']
+CRATES = ['sshwire', 'sshpacket', 'sshmsg', 'sshneg', 'sshcore', 'sshworld', 'sshlab']
 
 
 def definitions(root):
@@ -15,6 +15,7 @@ def definitions(root):
             for number, line in enumerate(open(path), 1):
                 head = re.match(r'(?:(?:foldable|irreducible|opaque)\s+)?(abbrev\s+|unfoldable\s+)?pub\s+(record\s+|data\s+|mod\s+|use\s+|abbrev\s+|unfoldable\s+)?([^\s:({.]+)', line)
                 head = head or re.match(r'\s+(abbrev\s+|unfoldable\s+)(pub\s+)([^\s:({.]+)', line)
+                head = head or re.match(r'\s+()pub\s+(record\s+|data\s+)([^\s:({.]+)', line)
                 if head and (head.group(2) or '').strip() not in ('mod', 'use'):
                     names.setdefault(head.group(3), (number, (head.group(1) or head.group(2) or '').strip()))
                     data = head.group(3) if (head.group(2) or '').strip() == 'data' else None

@@ -1,4 +1,4 @@
-//! The suite's calls of a negotiation alone, with the arguments that the endpoints give them.
+//! The suite's calls of a talk alone, with the arguments that the endpoints give them.
 //!
 //! Names, lengths and forms, which the suite answers without a hash, are left out.
 
@@ -54,7 +54,7 @@ struct Part {
     wanted: Vec<u8>,
 }
 
-/// What holds, or else the result isn't the one of the negotiation.
+/// What holds, or else the result isn't the one of the talk.
 pub(crate) fn holds(so: bool) -> Result<(), Fault> {
     if so { Ok(()) } else { Err(Fault::Otherwise) }
 }
@@ -83,7 +83,7 @@ fn sign(alloc: Global, hash: &[u8]) -> Result<Vec<u8>, Fault> {
 }
 
 impl Calls {
-    /// The calls of a negotiation in which both sides said this.
+    /// The calls of a talk in which both sides said this.
     pub(crate) fn new(alloc: Global, said: &Said) -> Result<Calls, Fault> {
         let blob = LabSuite.blob(alloc, "h", &SECRET)?;
         let input = input_of(alloc, said, &blob)?;

@@ -18,6 +18,7 @@ mod table;
 mod talk;
 
 use crate::fault::Fault;
+use crate::talk::Reach;
 use std::env;
 use std::io::Write;
 use std::process::ExitCode;
@@ -61,8 +62,10 @@ fn check(rt: &HostRuntime) -> Result<(), Fault> {
     writeln!(rt.stdout(), "packets ok")?;
     choices::check(alloc)?;
     writeln!(rt.stdout(), "choice ok")?;
-    talk::check(alloc)?;
+    talk::check(alloc, Reach::Service)?;
     writeln!(rt.stdout(), "negotiation ok")?;
+    talk::check(alloc, Reach::User)?;
+    writeln!(rt.stdout(), "session ok")?;
     Ok(())
 }
 

@@ -1,4 +1,4 @@
-//! The packets that one side sends in a negotiation, and the suite's calls for them.
+//! The packets that one side sends in a talk, and the suite's calls for them.
 
 use crate::calls::{HASH_LEN, LIMIT, LINE_LEN, body_of, holds};
 use crate::fault::Fault;

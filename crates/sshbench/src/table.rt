@@ -7,7 +7,7 @@ use crate::fault::Fault;
 use crate::kexinit::{copy, read_and_write};
 use crate::lent::{Kind, own, payload, read_only};
 use crate::packets::{Load, PIECE_LENS, Stream};
-use crate::talk::{Lab, WHOLE, negotiate};
+use crate::talk::{Lab, Reach, WHOLE, talk};
 use std::fmt;
 use std::io::Write;
 use std::time::{Duration, Instant};
@@ -30,8 +30,8 @@ const READS: u32 = 400;
 /// How often where the pieces are single bytes or the packets are sealed, which takes longer.
 const SLOW_READS: u32 = 20;
 
-/// How often is negotiated.
-const NEGOTIATIONS: u32 = 5_000;
+/// How often two endpoints talk.
+const TALKS: u32 = 5_000;
 
 /// What a row's work stands beside.
 #[derive(Clone, Copy, Debug)]
@@ -139,27 +139,33 @@ pub(crate) fn print(rt: &HostRuntime, payload: &[u8]) -> Result<(), Fault> {
         )?;
     }
     print_row(rt, "2 MB of clear packets by 1448", &time_ten_times(rt)?)?;
-    print_negotiations(rt)
+    print_all_talks(rt)
 }
 
-/// Times negotiations, and prints the rows.
-fn print_negotiations(rt: &HostRuntime) -> Result<(), Fault> {
-    let lab = Lab::new(rt.alloc())?;
-    let whole = time_negotiations(rt, &lab, WHOLE)?;
+/// Times negotiations and sessions, and prints their rows.
+fn print_all_talks(rt: &HostRuntime) -> Result<(), Fault> {
+    print_talks(rt, Reach::Service, "negotiation", "negotiation by 1")?;
+    print_talks(rt, Reach::User, "session", "session by 1")
+}
+
+/// Times talks that come so far, whole and by single bytes, and prints a row for each.
+fn print_talks(rt: &HostRuntime, reach: Reach, work: &str, by_bytes: &str) -> Result<(), Fault> {
+    let lab = Lab::new(rt.alloc(), reach)?;
+    let whole = time_talks(rt, &lab, WHOLE)?;
     let row = Row {
-        rounds: NEGOTIATIONS,
+        rounds: TALKS,
         work: whole,
         other: time_calls(rt, &lab)?,
         beside: Beside::Calls,
     };
-    print_row(rt, "negotiation", &row)?;
+    print_row(rt, work, &row)?;
     let bytes = Row {
-        rounds: NEGOTIATIONS,
-        work: time_negotiations(rt, &lab, 1)?,
+        rounds: TALKS,
+        work: time_talks(rt, &lab, 1)?,
         other: whole,
         beside: Beside::Whole,
     };
-    print_row(rt, "negotiation by 1", &bytes)
+    print_row(rt, by_bytes, &bytes)
 }
 
 /// Times reads of packets in clear, and prints the rows.
@@ -350,21 +356,21 @@ fn time_digests(rt: &HostRuntime, stream: &Stream, rounds: u32) -> Result<Durati
     Ok(start.elapsed(rt)?)
 }
 
-/// Times negotiations in pieces of so many bytes.
-fn time_negotiations(rt: &HostRuntime, lab: &Lab, piece_len: usize) -> Result<Duration, Fault> {
+/// Times talks in pieces of so many bytes.
+fn time_talks(rt: &HostRuntime, lab: &Lab, piece_len: usize) -> Result<Duration, Fault> {
     let start = Instant::now(rt)?;
-    for _ in 0..NEGOTIATIONS {
-        negotiate(rt.alloc(), lab, piece_len)?;
+    for _ in 0..TALKS {
+        talk(rt.alloc(), lab, piece_len)?;
     }
     Ok(start.elapsed(rt)?)
 }
 
-/// Times the suite's calls of as many negotiations.
+/// Times the suite's calls of as many talks.
 fn time_calls(rt: &HostRuntime, lab: &Lab) -> Result<Duration, Fault> {
     let alloc = rt.alloc();
-    let calls = Calls::new(alloc, &negotiate(alloc, lab, WHOLE)?)?;
+    let calls = Calls::new(alloc, &talk(alloc, lab, WHOLE)?)?;
     let start = Instant::now(rt)?;
-    for _ in 0..NEGOTIATIONS {
+    for _ in 0..TALKS {
         calls.make(alloc)?;
     }
     Ok(start.elapsed(rt)?)

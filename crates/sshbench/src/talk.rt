@@ -1,33 +1,82 @@
-//! Two endpoints of the lab that negotiate, from their making up to SERVICE_ACCEPT.
+//! Two endpoints of the lab that talk, from their making up to SERVICE_ACCEPT or to the authenticated user.
 
 use crate::calls::Calls;
 use crate::fault::Fault;
-use sshcore::{ClientConfig, End, Endpoint, Fault as Cause, ServerConfig};
+use sshcore::{
+    Attempt, ClientConfig, ClientParts, Credential, End, Endpoint, Fault as Cause, ServerConfig,
+};
 use sshlab::{LabDecisions, LabSuite, lab_client_parts, lab_server_parts};
 use std::alloc::Global;
-
-/// How often each side is given what the other has said, up to SERVICE_ACCEPT.
-const TURNS: u32 = 3;
 
 /// More bytes than either side says.
 pub(crate) const WHOLE: usize = 65536;
 
-/// What both endpoints are made of: the lab's default parts.
+/// How far both endpoints come.
+#[derive(Clone, Copy)]
+pub(crate) enum Reach {
+    /// The client hears SERVICE_ACCEPT. It has no attempt then, which is how it has to end; the server
+    /// waits.
+    Service,
+    /// The user is authenticated without a proof at both, which is how they have to end.
+    User,
+}
+
+impl Reach {
+    /// How often each side is given what the other has said.
+    fn turns(&self) -> u32 {
+        match self {
+            Reach::Service => 3,
+            Reach::User => 4,
+        }
+    }
+
+    /// Whether both ended as they have to.
+    fn is_reached(&self, client: &End, server: &End) -> bool {
+        match (self, client, server) {
+            (Reach::Service, End::Failed(Cause::NoMoreMethods), End::Open) => true,
+            (Reach::User, End::Authenticated(_), End::Authenticated(_)) => true,
+            _ => false,
+        }
+    }
+}
+
+/// What both endpoints are made of: the lab's default parts, and for a user one attempt, which the server
+/// lets in.
 #[derive(Drop)]
 pub(crate) struct Lab {
     client: ClientConfig,
     server: ServerConfig,
     decisions: LabDecisions,
+    reach: Reach,
+}
+
+/// The client's parts, with one attempt where it has a user.
+fn client_parts(alloc: Global, reach: Reach) -> Result<ClientParts, Fault> {
+    let mut parts = lab_client_parts(alloc)?;
+    if let Reach::User = reach {
+        let user = String::from_str(alloc, "al")?;
+        let service = String::from_str(alloc, "ssh-connection")?;
+        parts.plan.push(Attempt {
+            user,
+            service,
+            credential: Credential::None,
+        })?;
+    }
+    Ok(parts)
 }
 
 impl Lab {
-    pub(crate) fn new(alloc: Global) -> Result<Lab, Fault> {
-        let client = ClientConfig::new(alloc, lab_client_parts(alloc)?)?;
+    /// The lab whose endpoints come so far.
+    pub(crate) fn new(alloc: Global, reach: Reach) -> Result<Lab, Fault> {
+        let client = ClientConfig::new(alloc, client_parts(alloc, reach)?)?;
         let server = ServerConfig::new(alloc, lab_server_parts(alloc)?)?;
+        let mut decisions = LabDecisions::new(alloc);
+        decisions.allow("al", &Credential::None)?;
         Ok(Lab {
             client,
             server,
-            decisions: LabDecisions::new(alloc),
+            decisions,
+            reach,
         })
     }
 }
@@ -52,9 +101,6 @@ struct Talker<'a> {
 impl<'a> Talker<'a> {
     /// The client at its making.
     fn client(alloc: Global, lab: &'a Lab) -> Result<Talker<'a>, Fault> {
-        if lab.client.attempts() != 0 {
-            return Err(Fault::Otherwise);
-        }
         let mut said = Vec::new(alloc);
         let endpoint = Endpoint::client(alloc, &lab.client, &LabSuite, &lab.decisions, &mut said)?;
         Ok(Talker {
@@ -88,30 +134,33 @@ impl<'a> Talker<'a> {
     }
 }
 
-/// Makes both endpoints and lets them talk, in pieces of so many bytes, until the client has heard
-/// SERVICE_ACCEPT. It has no attempt then, which is how it has to end; the server waits.
-pub(crate) fn negotiate(alloc: Global, lab: &Lab, piece_len: usize) -> Result<Said, Fault> {
+/// Makes both endpoints and lets them talk, in pieces of so many bytes, as far as the lab has them come.
+pub(crate) fn talk(alloc: Global, lab: &Lab, piece_len: usize) -> Result<Said, Fault> {
     let mut client = Talker::client(alloc, lab)?;
     let mut server = Talker::server(alloc, lab)?;
-    for _ in 0..TURNS {
+    for _ in 0..lab.reach.turns() {
         server.hear(&client.said, piece_len)?;
         client.hear(&server.said, piece_len)?;
     }
-    match (client.endpoint.end(), server.endpoint.end()) {
-        (End::Failed(Cause::NoMoreMethods), End::Open) => Ok(Said {
+    if lab
+        .reach
+        .is_reached(client.endpoint.end(), server.endpoint.end())
+    {
+        Ok(Said {
             client: client.said,
             server: server.said,
             heard: server.given,
-        }),
-        _ => Err(Fault::Otherwise),
+        })
+    } else {
+        Err(Fault::Otherwise)
     }
 }
 
-/// Negotiates whole and by single bytes, which has to be the same, and makes the suite's calls alone.
-pub(crate) fn check(alloc: Global) -> Result<(), Fault> {
-    let lab = Lab::new(alloc)?;
-    let whole = negotiate(alloc, &lab, WHOLE)?;
-    let bytes = negotiate(alloc, &lab, 1)?;
+/// Talks whole and by single bytes, which has to be the same, and makes the suite's calls alone.
+pub(crate) fn check(alloc: Global, reach: Reach) -> Result<(), Fault> {
+    let lab = Lab::new(alloc, reach)?;
+    let whole = talk(alloc, &lab, WHOLE)?;
+    let bytes = talk(alloc, &lab, 1)?;
     if whole.client == bytes.client && whole.server == bytes.server {
         Calls::new(alloc, &whole)?.make(alloc)
     } else {

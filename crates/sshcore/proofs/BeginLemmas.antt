@@ -48,7 +48,7 @@ not_past : (p : Phase) → p ≡ phase.KexInit → past_kexinit p ≡ true → �
 not_past p e past = true≢false (sym past ∙ ap past_kexinit e)
 
 module _ (below : Below) (streams : Streams) (m : Meaning) (d : Policy) (role : Role) (party : Party) (new : Kept) (i : Input) (lines said : List ℕ) (strict : Bool) (next : KeyData) where
-  pub begins_stands : new ≡ record begun { sending = new.sending } → Gives m party.seed strict next begun new lines said (goes (making m role party)) → lines ≡ preamble_of party → Begins role i
+  pub begins_stands : new ≡ record (begun party) { sending = new.sending } → Gives m party.seed strict next (begun party) new lines said (goes (making m role party)) → lines ≡ preamble_of party → Begins role i
       → Stands m d role party new i [] said
   begins_stands is gives lines_are reads =
       let first = making m role party in

@@ -1,6 +1,8 @@
 -- What a packet brings by each line of the phase table.
 
-use Rattle.std.proofs.Common.{◌≡◌, ℕ, ◌==◌, Bool, true, false, List, [], ◌∷◌, sym, ap, ◌∙◌}
+use Rattle.std.proofs.Common.{◌≡◌, ◌≢◌, inl, inr, ℕ, ◌==◌, Bool, true, false, List, [], ◌∷◌, refl, sym, ap, ◌∙◌}
+use Rattle.std.specs.Prelude.{◌&&◌, ◌||◌, not}
+use Rattle.std.proofs.lemmas.Bool.{cases_Bool, true≢false}
 use Rattle.sshmsg.specs.Content.{Unimplemented}
 use Rattle.sshmsg.specs.Messages.{message_in}
 use Rattle.sshmsg.specs.Numbers.{kind}
@@ -17,9 +19,11 @@ use Rattle.sshcore.specs.Brings.{Brings, Drops, Gives, Stays, Works, heard_one}
 use Rattle.sshcore.specs.Ending.{Open, fails, goes}
 use Rattle.sshcore.specs.Kept.{Kept}
 use Rattle.sshcore.specs.Party.{Party, Policy}
+use Rattle.sshcore.specs.Phases.{leaving}
 use Rattle.sshcore.specs.Replies.{line_reply, read_reply}
 use Rattle.sshcore.specs.Standing.{LeavesNone}
-use Rattle.sshcore.specs.Table.{line_by}
+use Rattle.sshcore.specs.Table.{is_ignored, is_of_auth, is_of_method, is_ruled, is_unknown, line_by, takes_extensions}
+use Rattle.sshcore.proofs.BehindLemmas.{heard_behind}
 use Rattle.sshcore.proofs.TableLemmas.{Closing, Dropped, Leaving, OffGuess, OffPhase, Sees, Staying, Useless, sees}
 use Rattle.sshcore.proofs.WorksLemmas.{failed_ends, silent}
 
@@ -48,6 +52,42 @@ module _ (role : Role) (p : Phase) (strict guess : Bool) (n : ℕ) where
   unknown l (Leaving none here e) q = absurd cc
   unknown l (Staying none off h calm e) q = (none, calm.leaves)
   unknown l (Useless none off h e) q = absurd cc
+
+  -- an unknown number has no meaning here
+  meaningless : line_by role p strict guess n ≡ line.Unknown → is_unknown n ≡ true
+  unfolding line_by
+  meaningless = elim (cases_Bool (n == 1)) [
+    | inl a ↦ rw a (λ e. absurd cc)
+    | inr a ↦ rw a (elim (cases_Bool (guess && not (is_ruled p strict))) [
+      | inl b ↦ rw b (λ e. absurd cc)
+      | inr b ↦ rw b (elim (cases_Bool (guess && is_of_method n)) [
+        | inl c ↦ rw c (λ e. absurd cc)
+        | inr c ↦ rw c (elim (cases_Bool (is_ruled p strict && (guess || not (n == leaving role p)))) [
+          | inl h ↦ rw h (λ e. absurd cc)
+          | inr h ↦ rw h (elim (cases_Bool (n == leaving role p)) [
+            | inl i ↦ rw i (λ e. absurd cc)
+            | inr i ↦ rw i (elim (cases_Bool (is_of_auth role p n)) [
+              | inl j ↦ rw j (λ e. absurd cc)
+              | inr j ↦ rw j (elim (cases_Bool (is_ignored n)) [
+                | inl k ↦ rw k (λ e. absurd cc)
+                | inr k ↦ rw k (elim (cases_Bool ((n == 7) && takes_extensions p)) [
+                  | inl l ↦ rw l (λ e. absurd cc)
+                  | inr l ↦ rw l (elim (cases_Bool (is_unknown n)) [
+                    | inl o ↦ λ e. o
+                    | inr o ↦ rw o (λ e. absurd cc)
+                  ])
+                ])
+              ])
+            ])
+          ])
+        ])
+      ])
+    ])
+  ]
+
+-- no message of authentication is unknown
+not_unknown : (n : ℕ) → is_unknown n ≡ true → (n ≢ 50) × (n ≢ 51)
+not_unknown n e = (λ q. absurd (true≢false (sym e ∙ rw q refl)), λ q. absurd (true≢false (sym e ∙ rw q refl)))
 
 module _ (m : Meaning) (d : Policy) (role : Role) (party : Party) (old new : Kept) (packet : ℕ) (payload before after : List ℕ) where
   pub reads_brings : line_by role old.phase old.known.strict old.guess (kind payload) ≡ line.Reads
@@ -80,6 +120,7 @@ module _ (m : Meaning) (d : Policy) (role : Role) (party : Party) (old new : Kep
   unknown_brings is gives stays =
       let seen = unknown role old.phase old.known.strict old.guess (kind payload) _ (sees role old.phase old.known.strict (kind payload) old.guess) is in
       let none : old.guess ≡ false = seen.0 in
+      let other = not_unknown (kind payload) (meaningless role old.phase old.known.strict old.guess (kind payload) is) in
       let works : Works m role party old new payload before after (goes (written_message (Unimplemented packet) ∷ [])) = record {
         gives = gives _ _;
         moves = λ goes_on. Stays none seen.1
@@ -87,7 +128,7 @@ module _ (m : Meaning) (d : Policy) (role : Role) (party : Party) (old new : Kep
             (record {
               phase_is = ap (λ (k : Kept). k.phase) stays;
               guess_is = ap (λ (k : Kept). k.guess) stays ∙ none;
-              known_is = ap (λ (k : Kept). k.known) stays;
+              known_is = ap (λ (k : Kept). k.known) stays ∙ sym (heard_behind old.known payload other.0 other.1);
             });
       } in
       rw is works

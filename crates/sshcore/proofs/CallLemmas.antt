@@ -42,6 +42,7 @@ module _ {S D : Type 0} (meaning : S → Meaning) (policy : D → Policy) where
     added = [];
     appended = sym (append-nil out);
     follows = λ h s a. subst (λ (x : List ℕ). After meaning policy e x (s ++ [])) (sym (append-nil h)) (subst (λ (x : List ℕ). After meaning policy e h x) (sym (append-nil s)) a);
+    uncut = λ h s a cut. cut;
     same = same_none e;
   }
 
@@ -51,6 +52,7 @@ module _ {S D : Type 0} (meaning : S → Meaning) (policy : D → Policy) where
     appended = g.appended ∙ ap (λ (x : List ℕ). x ++ g.added) f.appended ∙ append_assoc o0 f.added g.added;
     follows = λ h s a. subst (λ (x : List ℕ). After meaning policy new x (s ++ (f.added ++ g.added))) (append_assoc h t u)
         (subst (λ (x : List ℕ). After meaning policy new ((h ++ t) ++ u) x) (append_assoc s f.added g.added) (g.follows (h ++ t) (s ++ f.added) (f.follows h s a)));
+    uncut = λ h s a cut. f.uncut h s a (g.uncut (h ++ t) (s ++ f.added) (f.follows h s a) cut);
     same = same_then old mid new f.same g.same;
   }
 
@@ -105,6 +107,7 @@ module _ {S D : Type 0} (meaning : S → Meaning) (policy : D → Policy) where
     appended = step.1;
     follows = λ h s a. let g = step.2 h s a in
         subst (λ (l : List ℕ). Stands (meaning suite) (policy decisions) role party (kept_of y) j (h ++ taken) (s ++ l)) (sym g.appended) g.stands;
+    uncut = λ h s a cut. absurd ((step.2 h s a).uncut cut);
     same = record { same_role = refl; same_party = refl; same_suite = refl; same_decisions = refl };
   }
 

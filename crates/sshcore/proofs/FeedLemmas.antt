@@ -40,6 +40,7 @@ use Rattle.sshcore.proofs.KeyedLemmas.{IsExchangePlace, still_fails, told_at}
 use Rattle.sshcore.proofs.MoveLemmas.{form_behind, keys_with, number_with, sits_behind, turned}
 use Rattle.sshcore.proofs.OutputLemmas.{said_is, said_quiet, speaks_heard}
 use Rattle.sshcore.proofs.StandingLemmas as standing
+use Rattle.sshcore.proofs.UncutLemmas.{refusal_stays, unit_stays}
 
 -- no NEWKEYS stands among these
 none_anywhere : (b c us : Units) → stands is_newkeys b us ≡ false → EachPlace (λ before a. (kind a == 21) ≡ false) c us
@@ -143,6 +144,7 @@ module _ (below : Below) (streams : Streams) (m : Meaning) (d : Policy) (role : 
           ends = AsHeard gives.ends;
           inside = λ o. absurd (failed_over (fault_of r) new.end gives.ends o);
         };
+        uncut = refusal_stays r new.end gives.ends;
       }
 
   -- a packet, with its answers
@@ -263,4 +265,5 @@ module _ (below : Below) (streams : Streams) (m : Meaning) (d : Policy) (role : 
         ends = AsHeard end_new;
         inside = inside_new;
       };
+      uncut = unit_stays m d role party a.units payload last.end end_new;
     }

@@ -15,6 +15,7 @@ use Rattle.sshcore.specs.Known.{Known}
 use Rattle.sshcore.specs.Party.{Party, Policy}
 use Rattle.sshcore.specs.Replies.{line_reply, read_reply}
 use Rattle.sshcore.specs.Table.{line_by}
+use Rattle.sshcore.specs.Requests.{request_reply}
 use Rattle.sshcore.specs.Work.{kexinit_reply, work}
 use Rattle.sshcore.proofs.Below.{Below}
 use Rattle.sshcore.proofs.StrictLemmas.{leaving_kexinit}
@@ -33,7 +34,7 @@ no_share role strict n (Useless none off out is) = absurd cc
 
 module _ (below : Below) (m : Meaning) (d : Policy) (role : Role) (party : Party) where
   alike_work : (known : Known) (form : ShareForm) (c : Content) → number_of c ≢ 30 → number_of c ≢ 31 → work m d role party (record known { shares = form }) c ≡ work m d role party known c
-  unfolding work kexinit_reply
+  unfolding work kexinit_reply request_reply
   alike_work known form (KexInit peer) a b = refl
   alike_work known form (KexdhInit e) a b = absurd (a refl)
   alike_work known form (KexEcdhInit share) a b = absurd (a refl)

@@ -108,3 +108,8 @@ module _ (m : Meaning) (seed : List ℕ) (strict : Bool) (next : KeyData) where
     sends = b ∙ g.sends ∙ ap (λ (p : Sending). sending_from strict next p answers) (sym a);
     fits = g.fits;
   }
+
+  -- the same reply, from whatever else was kept
+  pub gives_from : (old other_old new : Kept) (before after : List ℕ) (r : Reply) → other_old.sending ≡ old.sending
+      → Gives m seed strict next old new before after r → Gives m seed strict next other_old new before after r
+  gives_from old other_old new before after r a g = gives_moved old new other_old new before after r.answers r.end r.end a refl g.ends g

@@ -7,13 +7,14 @@ use Rattle.std.proofs.lemmas.Bool.{cases_Bool, eq-eqb, eqb-true, true≢false}
 use Rattle.sshwire.specs.declared.share_form.ShareForm.{ShareForm}
 use Rattle.sshwire.specs.declared.share_form.ShareForm.TheVariants.{Hybrid, Mpint, OctetString}
 use Rattle.sshmsg.specs.declared.fault.MsgFault.{MsgFault}
-use Rattle.sshmsg.specs.Content.{Content, KexEcdhInit, KexEcdhReply, KexInit, KexdhInit, KexdhReply, Offer, ServiceAccept, ServiceRequest}
+use Rattle.sshmsg.specs.Content.{Content, KexEcdhInit, KexEcdhReply, KexInit, KexdhInit, KexdhReply, Method, Offer, ServiceAccept, ServiceRequest, UserauthFailure, UserauthRequest, UserauthSuccess}
 use Rattle.sshmsg.specs.Messages.{message_in}
 use Rattle.sshmsg.specs.Numbers.{kind, number_of}
 use Rattle.sshmsg.specs.Written.{written_message}
 use Rattle.sshneg.specs.declared.choice.NoCommon.{NoCommon}
 use Rattle.sshneg.specs.declared.role.Role.{Role}
 use Rattle.sshneg.specs.declared.role.Role.TheVariants.{Client, Server}
+use Rattle.sshneg.specs.ChoiceReadings.{is_in}
 use Rattle.sshneg.specs.Fields.{Algorithms}
 use Rattle.sshneg.specs.Strictness.{is_right_guess}
 use Rattle.sshpacket.specs.Stream.{Units}
@@ -24,18 +25,22 @@ use Rattle.sshcore.specs.declared.table.Line.{Line}
 use Rattle.sshcore.specs.declared.table.Line.TheVariants as line
 use Rattle.sshcore.specs.declared.table.Phase.{Phase}
 use Rattle.sshcore.specs.declared.table.Phase.TheVariants as phase
+use Rattle.sshcore.specs.Attempts.{agreed_by, attempt_reply, success_by}
 use Rattle.sshcore.specs.Before.{expects_guess, kept, offered, stood, strict_at, strict_towards}
+use Rattle.sshcore.specs.ConfigData.{Attempt}
 use Rattle.sshcore.specs.Counting.{number_in, switched_out}
-use Rattle.sshcore.specs.Ending.{Reply, disconnect_by, fails, goes, reason_of}
+use Rattle.sshcore.specs.Ending.{AgreedData, Authenticated, Reply, disconnect_by, fails, goes, reason_of}
 use Rattle.sshcore.specs.Exchange.{choice_with, own_kexinit}
 use Rattle.sshcore.specs.History.{IsReady}
 use Rattle.sshcore.specs.Known.{Known, known_at}
 use Rattle.sshcore.specs.Party.{Party, Policy}
 use Rattle.sshcore.specs.Phases.{leaving}
+use Rattle.sshcore.specs.Plan.{next_behind}
 use Rattle.sshcore.specs.Replies.{answers_at, line_reply, read_reply}
+use Rattle.sshcore.specs.Requests.{is_good, is_last_try, request_reply}
 use Rattle.sshcore.specs.Standing.{Tied}
 use Rattle.sshcore.specs.Table.{line_by}
-use Rattle.sshcore.specs.Work.{banner_by, chosen_reply, guess_of, guessed_method, init_for, init_in, kexinit_reply, making, opening, service_reply, userauth, work}
+use Rattle.sshcore.specs.Work.{accept_reply, banner_by, chosen_reply, guess_of, guessed_method, init_for, init_in, kexinit_reply, making, opening, service_reply, userauth, work}
 use Rattle.sshcore.proofs.Below.{Below}
 use Rattle.sshcore.proofs.PhaseLemmas.{kept_free, offered_push, stood_push}
 use Rattle.sshcore.proofs.StreamLemmas.{newkeys_anywhere}
@@ -108,6 +113,35 @@ still_service : (party : Party) (service : List ℕ) → IsStill (service_reply 
 still_service party service =
     still_cond (bytes_eq service userauth) (goes (written_message (ServiceAccept userauth) ∷ banner_by party.banner)) (fails fault.Service) (still_banner party.banner) (still_fails fault.Service)
 
+-- requests and their answers
+still_attempt : (m : Meaning) (session : List ℕ) (left : List Attempt) → IsStill (attempt_reply m session left).answers
+unfolding switched_out written_message
+still_attempt m session [] = still_fails fault.NoMoreMethods
+still_attempt m session (a ∷ later) = refl
+
+still_accept : (m : Meaning) (known : Known) (service : List ℕ) → IsStill (accept_reply m known service).answers
+still_accept m known service =
+    still_cond (bytes_eq service userauth) (attempt_reply m known.session known.left) (fails (fault.Unexpected 6)) (still_attempt m known.session known.left) (still_fails (fault.Unexpected 6))
+
+still_success : (known : Known) (left : List Attempt) → IsStill (success_by known left).answers
+still_success known [] = still_fails (fault.Unexpected 52)
+still_success known (a ∷ later) = still_none
+
+-- the answer to a request, by whether the service is unknown, the request good, and the try the last
+still_answer : (party : Party) (agreed : AgreedData) (unknown good last : Bool) → IsStill (cond unknown (fails fault.Service)
+    (cond good (record { answers = written_message UserauthSuccess ∷ []; end = Authenticated agreed })
+    (cond last (fails fault.TooManyTries) (goes (written_message (UserauthFailure party.methods false) ∷ []))))).answers
+unfolding switched_out written_message
+still_answer party agreed true good last = still_fails fault.Service
+still_answer party agreed false true last = refl
+still_answer party agreed false false true = still_fails fault.TooManyTries
+still_answer party agreed false false false = refl
+
+still_request : (m : Meaning) (d : Policy) (party : Party) (known : Known) (user service : List ℕ) (method : Method) → IsStill (request_reply m d party known user service method).answers
+unfolding request_reply
+still_request m d party known user service method =
+    still_answer party (agreed_by known user service) (not (is_in party.services service)) (is_good m d party known user service method) (is_last_try party known)
+
 -- at this place the exchange message comes
 pub record IsExchangePlace (role : Role) (party : Party) (before : Units) (payload : List ℕ) (p : Phase) : Type 0 where
   pub at : p ≡ phase.Exchange
@@ -124,8 +158,10 @@ module _ (below : Below) (m : Meaning) (d : Policy) (role : Role) (party : Party
   still_work known (KexdhReply key f signature) a b = absurd (b refl)
   still_work known (KexEcdhReply key share signature) a b = absurd (b refl)
   still_work known (ServiceRequest service) a b = still_service party service
-  still_work known (ServiceAccept service) a b =
-      still_cond (bytes_eq service userauth) (fails fault.NoMoreMethods) (fails (fault.Unexpected 6)) (still_fails fault.NoMoreMethods) (still_fails (fault.Unexpected 6))
+  still_work known (ServiceAccept service) a b = still_accept m known service
+  still_work known (UserauthRequest user service method) a b = still_request m d party known user service method
+  still_work known (UserauthFailure listed partial) a b = still_attempt m known.session (next_behind listed known.left)
+  still_work known UserauthSuccess a b = still_success known known.left
   still_work known _ a b = still_none
 
   still_read : (known : Known) (packet : ℕ) (payload : List ℕ) → kind payload ≢ 30 → kind payload ≢ 31 → IsStill (line_reply m d role party known packet line.Reads payload).answers

@@ -1,6 +1,6 @@
 -- What is known, with one payload more.
 
-use Rattle.std.proofs.Common.{◌≡◌, ◌⊎◌, inl, inr, ℕ, ◌+◌, ◌==◌, Bool, true, false, cond, List, [], ◌∷◌, ◌++◌, length, length-append, Some, refl, sym, ap, ◌∙◌, arith}
+use Rattle.std.proofs.Common.{◌≡◌, ◌≢◌, ◌⊎◌, inl, inr, ℕ, ◌+◌, ◌==◌, Bool, true, false, cond, List, [], ◌∷◌, ◌++◌, length, length-append, Some, refl, sym, ap, ◌∙◌, arith}
 use Rattle.std.proofs.lemmas.Bool.{ne_eqb, true≢false}
 use Rattle.sshwire.specs.declared.share_form.ShareForm.{ShareForm}
 use Rattle.sshmsg.specs.Content.{Offer}
@@ -15,21 +15,24 @@ use Rattle.sshpacket.specs.Stream.{Units}
 use Rattle.sshpacket.specs.Suite.{Meaning}
 use Rattle.sshpacket.proofs.Places.{first-push}
 use Rattle.sshcore.specs.declared.table.Phase.TheVariants as phase
-use Rattle.sshcore.specs.Before.{first_kept, kept, kexinit, offered, stood, strict_towards}
+use Rattle.sshcore.specs.Before.{all_kept, count_kept, expects_guess, first_kept, kept, kexinit, offered, stood, strict_towards}
+use Rattle.sshcore.specs.ConfigData.{Attempt}
 use Rattle.sshcore.specs.Exchange.{algorithms_at, choice_with, chosen_or, exchange_message, exchange_with, keys_at, keys_by, session_at, shares_by}
 use Rattle.sshcore.specs.Known.{Known, known_at}
 use Rattle.sshcore.specs.Party.{Party}
 use Rattle.sshcore.specs.Phases.{leaving}
-use Rattle.sshcore.specs.Standing.{behind_exchange, behind_offer, exchange_heard, nothing_known}
+use Rattle.sshcore.specs.Plan.{left_after}
+use Rattle.sshcore.specs.Standing.{behind_exchange, behind_offer, behind_payload, exchange_heard, nothing_known}
 use Rattle.sshcore.proofs.GuessLemmas.{first_kexinit, none_stood}
 use Rattle.sshcore.proofs.PhaseLemmas.{kexinit_push, stood_push}
+use Rattle.sshcore.proofs.PlanLemmas.{kept_exchange, kept_kind, left_more, left_stays, requests_more, requests_stay}
 
-abbrev known_with : List ℕ → List ℕ → Algorithms → ShareForm → List ℕ → Bool → Bool → Known
-known_with v k a f s t i = record { version = v; kexinit = k; algorithms = a; shares = f; session = s; strict = t; first = i }
+abbrev known_with : List ℕ → List ℕ → Algorithms → ShareForm → List ℕ → ℕ → List Attempt → Bool → Bool → Known
+known_with v k a f s r l t i = record { version = v; kexinit = k; algorithms = a; shares = f; session = s; request = r; left = l; strict = t; first = i }
 
-known_same : (v k k' : List ℕ) (a a' : Algorithms) (f f' : ShareForm) (s s' : List ℕ) (t t' i i' : Bool)
-    → k ≡ k' → a ≡ a' → f ≡ f' → s ≡ s' → t ≡ t' → i ≡ i' → known_with v k a f s t i ≡ known_with v k' a' f' s' t' i'
-known_same v k k' a a' f f' s s' t t' i i' ek ea ef es et ei = cc
+known_same : (v k k' : List ℕ) (a a' : Algorithms) (f f' : ShareForm) (s s' : List ℕ) (r r' : ℕ) (l l' : List Attempt) (t t' i i' : Bool)
+    → k ≡ k' → a ≡ a' → f ≡ f' → s ≡ s' → r ≡ r' → l ≡ l' → t ≡ t' → i ≡ i' → known_with v k a f s r l t i ≡ known_with v k' a' f' s' r' l' t' i'
+known_same v k k' a a' f f' s s' r r' l l' t t' i i' ek ea ef es er el et ei = cc
 
 pub kexinit_stays : (before : Units) (payload : List ℕ) → offered before ≡ true → kexinit (before ++ payload ∷ []) ≡ kexinit before
 kexinit_stays before payload is = kexinit_push before payload ∙ rw is refl
@@ -105,7 +108,9 @@ module _ (m : Meaning) (role : Role) (party : Party) (version : List ℕ) where
     pub known_exchanged : known_at m role party version (before ++ payload ∷ []) ≡ behind_exchange m role party (known_at m role party version before) payload
     known_exchanged =
         let k : kexinit (before ++ payload ∷ []) ≡ kexinit before = kexinit_stays before payload is in
-        known_same version _ _ _ _ _ _ _ _ _ _ _ _ k (ap algorithms_of k) (ap shares_of k) (rw stood_on session_is)
+        known_same version _ _ _ _ _ _ _ _ _ _ _ _ _ _ _ _ k (ap algorithms_of k) (ap shares_of k) (rw stood_on session_is)
+        (ap (λ (n : ℕ). n + 1) (requests_stay role party.offer before payload (kept_exchange role party.offer before payload 50 (λ q. omega arith) (λ q. omega arith) here)))
+        (left_stays role party.offer before payload party.plan (kept_exchange role party.offer before payload 51 (λ q. omega arith) (λ q. omega arith) here))
         (ap (λ (x : List ℕ). strict_towards role party.strict (offer_in x)) k) (one_more before payload ∙ sym (some_stood before is))
 
   -- a payload that is neither the first KEXINIT nor the first exchange message
@@ -131,13 +136,25 @@ module _ (m : Meaning) (role : Role) (party : Party) (version : List ℕ) where
             let now : stood role party.offer (leaving role phase.Exchange) (before ++ payload ∷ []) ≡ false = stood_push role party.offer before payload (leaving role phase.Exchange) ∙ rw (off, not_kept) refl in
             rw (off, now) refl
 
-    pub known_kept : known_at m role party version (before ++ payload ∷ []) ≡ record (known_at m role party version before) { first = false }
-    known_kept =
-        known_same version _ _ _ _ _ _ _ _ _ _ _ _ same (ap algorithms_of same) (ap shares_of same) session_kept
+    pub known_kept : (request : ℕ) (left : List Attempt) → count_kept role party.offer 50 (before ++ payload ∷ []) + 1 ≡ request
+        → left_after party.plan (all_kept role party.offer 51 (before ++ payload ∷ [])) ≡ left
+        → known_at m role party version (before ++ payload ∷ []) ≡ record (known_at m role party version before) { request = request; left = left; first = false }
+    known_kept request left er el =
+        known_same version _ _ _ _ _ _ _ _ _ _ _ _ _ _ _ _ same (ap algorithms_of same) (ap shares_of same) session_kept er el
         (ap (λ (x : List ℕ). strict_towards role party.strict (offer_in x)) same) (one_more before payload)
 
-  pub known_none : known_at m role party version [] ≡ nothing_known version
-  unfolding kexinit stood message_in
+    -- one that is dropped, and one that isn't
+    pub known_dropped : ((k : ℕ) → kept role party.offer k before payload ≡ false)
+        → known_at m role party version (before ++ payload ∷ []) ≡ record (known_at m role party version before) { first = false }
+    known_dropped none =
+        known_kept _ _ (ap (λ (n : ℕ). n + 1) (requests_stay role party.offer before payload (none 50))) (left_stays role party.offer before payload party.plan (none 51))
+
+    pub known_behind : expects_guess role party.offer before ≡ false
+        → known_at m role party version (before ++ payload ∷ []) ≡ behind_payload (known_at m role party version before) payload
+    known_behind none = known_kept _ _ (requests_more role party.offer before payload none) (left_more role party.offer before payload party.plan none)
+
+  pub known_none : known_at m role party version [] ≡ nothing_known party version
+  unfolding kexinit stood message_in all_kept count_kept left_after
   known_none = refl
 
   -- the first KEXINIT
@@ -146,7 +163,10 @@ module _ (m : Meaning) (role : Role) (party : Party) (version : List ℕ) where
       → known_at m role party version (before ++ payload ∷ []) ≡ behind_offer m role party (known_at m role party version before) payload peer
   known_offered before payload peer none is offers off now =
       let k : kexinit (before ++ payload ∷ []) ≡ payload = first_kexinit before payload none is in
-      known_same version _ _ _ _ _ _ _ _ _ _ _ _ k
+      let not_kept : (n : ℕ) → 20 ≢ n → kept role party.offer n before payload ≡ false = λ n other. kept_kind role party.offer before payload 20 n other is in
+      known_same version _ _ _ _ _ _ _ _ _ _ _ _ _ _ _ _ k
       (ap algorithms_of k ∙ ap (λ o. chosen_or (choice_with m role party.offer o)) offers)
       (ap shares_of k ∙ ap (λ o. shares_by m (choice_with m role party.offer o)) offers) (rw (off, now) refl)
+      (ap (λ (n : ℕ). n + 1) (requests_stay role party.offer before payload (not_kept 50 (λ q. omega arith))))
+      (left_stays role party.offer before payload party.plan (not_kept 51 (λ q. omega arith)))
       (ap (λ (x : List ℕ). strict_towards role party.strict (offer_in x)) k ∙ ap (λ o. strict_towards role party.strict o) offers) (one_more before payload)

@@ -42,6 +42,7 @@ use Rattle.sshcore.proofs.HistoryLemmas.{Streams}
 use Rattle.sshcore.proofs.OutputLemmas.{speaks_heard}
 use Rattle.sshcore.proofs.PhaseLemmas.{tied_none, tied_phase}
 use Rattle.sshcore.proofs.StandingLemmas as standing
+use Rattle.sshcore.proofs.UncutLemmas.{open_stays}
 
 -- the laws of lines that the lemmas here rest on
 pub record LineLaws : Type 0 where
@@ -73,7 +74,7 @@ first_phase m role party p g k s = sym (tied_phase role party.offer [] p s.tied)
 first_guess : (m : Meaning) (role : Role) (party : Party) (p : Phase) (g : Bool) (k : Known) → Sits m role party [] [] p g k → g ≡ false
 first_guess m role party p g k s = sym s.due ∙ (standing.begins m role party []).due
 
-first_known : (m : Meaning) (role : Role) (party : Party) (p : Phase) (g : Bool) (k : Known) → Sits m role party [] [] p g k → k ≡ nothing_known []
+first_known : (m : Meaning) (role : Role) (party : Party) (p : Phase) (g : Bool) (k : Known) → Sits m role party [] [] p g k → k ≡ nothing_known party []
 first_known m role party p g k s = sym s.knows ∙ (standing.begins m role party []).knows
 
 -- a version line is answered by nothing
@@ -102,6 +103,7 @@ module _ (laws : LineLaws) (below : Below) (streams : Streams) (m : Meaning) (d 
         (subst (λ (t : List ℕ). Stands m d role party kept (input.Lines new) (h ++ piece) t) (sym (append-nil s))
         (stands_part below streams m d role party kept i h s is a (input.Lines new) piece
         (lines_are (a.rest ++ piece) ∙ open_unfinished laws (others_of role) (a.rest ++ piece) new.progress stands) (none, stands)));
+    uncut = open_stays kept.end is;
   }
 
   pub refused_goes : (next : KeyData) (j : Input) (piece before : List ℕ) (used place : ℕ) (code : WireFault) → used ≤ length piece → place + 1 ≡ length a.rest + used
@@ -160,6 +162,7 @@ module _ (laws : LineLaws) (below : Below) (streams : Streams) (m : Meaning) (d 
                 (subst (λ (us : Units). Speaks m role party a.units us kept.sending) (sym (append-nil a.answers)) w.speaks);
           };
         };
+        uncut = open_stays kept.end is;
       }
 
 module _ (laws : LineLaws) (below : Below) (streams : Streams) (m : Meaning) (d : Policy) (role : Role) (party : Party) (next : KeyData) (old : LineState) (kept : Kept) (piece before : List ℕ) (is : kept.end ≡ Open) where

@@ -25,7 +25,7 @@ use Rattle.sshcore.specs.Kept.{Kept, keys_due, keys_left}
 use Rattle.sshcore.specs.Known.{Known}
 use Rattle.sshcore.specs.Party.{Party}
 use Rattle.sshcore.specs.Phases.{behind, leaving, past_exchange, past_kexinit, past_newkeys}
-use Rattle.sshcore.specs.Standing.{Sits, behind_exchange, behind_offer}
+use Rattle.sshcore.specs.Standing.{Sits, behind_exchange, behind_offer, behind_payload}
 use Rattle.sshcore.proofs.Below.{Below}
 use Rattle.sshcore.proofs.GuessLemmas.{read_offer}
 use Rattle.sshcore.proofs.PhaseLemmas.{kept_dropped, kept_free}
@@ -77,10 +77,10 @@ module _ (below : Below) (m : Meaning) (role : Role) (party : Party) (version : 
         stands_new new phase.NewKeys false (behind_exchange m role party old.known payload) st
         (standing.exchanges m role party version before payload old.known (as_known before old.phase phase.Exchange old.guess false old.known old.known at none refl s) is)
     sits_behind (Leaves none past is same st) =
-        stands_new new (behind old.phase) false (heard_one old.known) st
+        stands_new new (behind old.phase) false (behind_payload old.known payload) st
         (standing.leaves m role party version before payload old.phase old.known (as_known before old.phase old.phase old.guess false old.known old.known refl none refl s) past is)
     sits_behind (Stays none calm same st) =
-        stands_new new old.phase false (heard_one old.known) st
+        stands_new new old.phase false (behind_payload old.known payload) st
         (standing.stays m role party version before payload old.phase old.known (as_known before old.phase old.phase old.guess false old.known old.known refl none refl s) calm)
 
   -- what is set behind a payload, and what is left
@@ -188,14 +188,14 @@ module _ (below : Below) (m : Meaning) (role : Role) (party : Party) (version : 
         })
     turned (Leaves none past is same st) =
         let s0 : Sits m role party version before old.phase false old.known = as_known before old.phase old.phase old.guess false old.known old.known refl none refl s in
-        let t0 : Sits m role party version (before ++ payload ∷ []) (behind old.phase) false (heard_one old.known) = standing.leaves m role party version before payload old.phase old.known s0 past is in
+        let t0 : Sits m role party version (before ++ payload ∷ []) (behind old.phase) false (behind_payload old.known payload) = standing.leaves m role party version before payload old.phase old.known s0 past is in
         turned_as (behind old.phase) new.phase (pending_at old.phase keys_so_far) new.pending old.known.strict new.known.strict st.phase_is (same ∙ pending) (ap (λ (k : Known). k.strict) st.known_is)
-        (leaving_turn old.phase false old.known (heard_one old.known) s0 t0 past is)
+        (leaving_turn old.phase false old.known (behind_payload old.known payload) s0 t0 past is)
     turned (Stays none calm same st) =
         let s0 : Sits m role party version before old.phase false old.known = as_known before old.phase old.phase old.guess false old.known old.known refl none refl s in
-        let t0 : Sits m role party version (before ++ payload ∷ []) old.phase false (heard_one old.known) = standing.stays m role party version before payload old.phase old.known s0 calm in
+        let t0 : Sits m role party version (before ++ payload ∷ []) old.phase false (behind_payload old.known payload) = standing.stays m role party version before payload old.phase old.known s0 calm in
         turned_as old.phase new.phase (pending_at old.phase keys_so_far) new.pending new.known.strict new.known.strict st.phase_is (same ∙ pending) refl
-        (calm_turn old.phase false false old.known (heard_one old.known) new.known.strict s0 t0 (kept_free role party.offer before payload 21 s0.due ∙ calm.newkeys))
+        (calm_turn old.phase false false old.known (behind_payload old.known payload) new.known.strict s0 t0 (kept_free role party.offer before payload 21 s0.due ∙ calm.newkeys))
 
     -- the form of shares stays that of the method
     pub form_behind : (past_kexinit old.phase ≡ true → old.known.shares ≡ m.share_form old.known.algorithms.kex) → Moves m role party payload old new
@@ -203,5 +203,5 @@ module _ (below : Below) (m : Meaning) (role : Role) (party : Party) (version : 
     form_behind form (Offers peer at none is same has st) past = has
     form_behind form (Drops due one same st) past = as_old old new (heard_one old.known) form st.known_is refl refl (ap past_kexinit (sym st.phase_is) ∙ past)
     form_behind form (Exchanges at none is same st) past = as_old old new (behind_exchange m role party old.known payload) form st.known_is refl refl (ap past_kexinit at)
-    form_behind form (Leaves none gone is same st) past = as_old old new (heard_one old.known) form st.known_is refl refl (standing.past_past old.phase gone)
-    form_behind form (Stays none calm same st) past = as_old old new (heard_one old.known) form st.known_is refl refl (ap past_kexinit (sym st.phase_is) ∙ past)
+    form_behind form (Leaves none gone is same st) past = as_old old new (behind_payload old.known payload) form st.known_is refl refl (standing.past_past old.phase gone)
+    form_behind form (Stays none calm same st) past = as_old old new (behind_payload old.known payload) form st.known_is refl refl (ap past_kexinit (sym st.phase_is) ∙ past)

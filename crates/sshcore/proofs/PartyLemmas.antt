@@ -1,22 +1,25 @@
 -- What is true of the parties of accepted configs.
 
-use Rattle.std.proofs.Common.{◌≡◌, Bor, ℕ, ◌+◌, ◌<◌, ◌≤◌, Bool, true, false, List, [], ◌∷◌, ◌++◌, find, get_or, inl, inr, length, map, Some, None, Option, IfSome, option_map, string_bytes, refl, sym, ap, subst, ◌∙◌, arith, length-append}
+use Rattle.std.proofs.Common.{◌≡◌, Bor, ℕ, ◌+◌, ◌<◌, ◌≤◌, Bool, true, false, List, [], ◌∷◌, ◌++◌, ◌||◌, if◌then◌else◌, find, get_or, inl, inr, length, map, Some, None, Option, IfSome, option_map, string_bytes, refl, sym, ap, subst, ◌∙◌, arith, length-append}
 use Rattle.std.specs.List.{AllByRecursion}
 use Rattle.std.specs.Str.{bytes_eq}
 use Rattle.std.proofs.lemmas.Bool.{cases_Bool}
+use Rattle.std.proofs.lemmas.Slice.Eq.{bytes_eq-Decides}
 use Rattle.sshwire.specs.Lines.{IsVersionText, version_line}
-use Rattle.sshwire.specs.Types.{AreNames, IsName}
+use Rattle.sshwire.specs.Types.{AreNames, IsName, names_body}
+use Rattle.sshneg.specs.ChoiceReadings.{is_in}
 use Rattle.sshneg.specs.declared.role.Role.{Role}
 use Rattle.sshneg.specs.declared.role.Role.TheVariants.{Client, Server}
 use Rattle.sshneg.specs.Markers.{first_name, methods}
 use Rattle.sshcore.specs.declared.config_fault.ConfigFault.TheVariants as fault
+use Rattle.sshcore.specs.declared.config_parts.Attempt as attempt_parts
 use Rattle.sshcore.specs.declared.config_parts.ClientParts.{ClientParts}
 use Rattle.sshcore.specs.declared.config_parts.HostKey as key_parts
 use Rattle.sshcore.specs.declared.config_parts.ServerParts.{ServerParts}
 use Rattle.sshcore.specs.declared.config_parts.SideParts.{SideParts}
-use Rattle.sshcore.specs.ConfigData.{ClientData, HostKey, ServerData, SideData, own_marker}
-use Rattle.sshcore.specs.ConfigRules.{IsClient, IsServer, IsUnmarked}
-use Rattle.sshcore.specs.ConfigView.{client_data, host_key_of, server_data, side_data}
+use Rattle.sshcore.specs.ConfigData.{Attempt, ClientData, HostKey, ServerData, SideData, own_marker}
+use Rattle.sshcore.specs.ConfigRules.{HasShortKey, HasShortPassword, IsAttempt, IsClient, IsNamed, IsServer, IsShortList, IsUnmarked, all_server_lists}
+use Rattle.sshcore.specs.ConfigView.{attempt_of, client_data, host_key_of, server_data, side_data}
 use Rattle.sshcore.specs.Exchange.{secret_of}
 use Rattle.sshcore.specs.Party.{client_party, server_party}
 use Rattle.sshcore.specs.Work.{name_or}
@@ -173,3 +176,78 @@ pub server_secret : (parts : ServerParts) (server : ServerData) (keys : List key
 server_secret parts server keys algorithm secret same is at e =
     let held : map host_key_of keys ≡ server.host_keys = ap (map host_key_of) at ∙ ap (λ (s : ServerData). s.host_keys) same in
     rw (e, held) (secret_short server.host_keys algorithm (is.keeps fault.Blob).0)
+
+-- the first of some names that these bytes are
+find_named : {X : Type 0} (view : X → List ℕ) (xs : List X) (name : List ℕ) → option_map view (find (λ (x : X). bytes_eq name (view x)) xs)
+    ≡ (if is_in (map view xs) name then Some name else None)
+find_named view [] name = refl
+find_named view (x ∷ xs) name = elim (cases_Bool (bytes_eq name (view x))) [
+  | inl here ↦ let same : name ≡ view x = (bytes_eq-Decides name (view x)).0 here in rw here (ap (λ (l : List ℕ). Some l) (sym same))
+  | inr off ↦ rw off (find_named view xs name)
+]
+
+pub name_found : {X : Type 0} (view : X → List ℕ) (xs : List X) (name : List ℕ) (found : Option (Bor X)) (own : Bor X)
+    → option_map (λ (x : Bor X). x.now) found ≡ find (λ (x : X). bytes_eq name (view x)) xs → found ≡ Some own
+    → Some (view own.now) ≡ (if is_in (map view xs) name then Some name else None)
+name_found {X} view xs name found own e is =
+    let here : find (λ (x : X). bytes_eq name (view x)) xs ≡ Some own.now = sym e ∙ ap (λ o. option_map (λ (x : Bor X). x.now) o) is in
+    ap (λ o. option_map view o) (sym here) ∙ find_named view xs name
+
+pub name_missed : {X : Type 0} (view : X → List ℕ) (xs : List X) (name : List ℕ) (found : Option (Bor X))
+    → option_map (λ (x : Bor X). x.now) found ≡ find (λ (x : X). bytes_eq name (view x)) xs → found ≡ None
+    → ◌≡◌ {A = Option (List ℕ)} None (if is_in (map view xs) name then Some name else None)
+name_missed {X} view xs name found e is =
+    let here : find (λ (x : X). bytes_eq name (view x)) xs ≡ None = sym e ∙ ap (λ o. option_map (λ (x : Bor X). x.now) o) is in
+    ap (λ o. option_map view o) (sym here) ∙ find_named view xs name
+
+-- bytes that are one of some names are a name
+in_names : (names : List (List ℕ)) (name : List ℕ) → AreNames names → is_in names name ≡ true → IsName name
+in_names [] name all is = absurd cc
+in_names (own ∷ names) name (first, more) is = elim (cases_Bool (bytes_eq name own)) [
+  | inl here ↦ subst IsName (sym ((bytes_eq-Decides name own).0 here)) first
+  | inr off ↦ in_names names name more (sym (ap (λ (b : Bool). b || is_in names name) off) ∙ is)
+]
+
+named_short : (b : Bool) (found : Option (Bor (List ℕ))) (name : List ℕ) → (b ≡ true → IsName name)
+    → option_map (λ (own : Bor (List ℕ)). own.now) found ≡ (if b then Some name else None) → IfSome found (λ own. length own.now ≤ 64)
+named_short b None name is e = tt
+named_short true (Some own) name is e =
+    let same : own.now ≡ name = ap (λ (o : Option (List ℕ)). elim o [ None ↦ name | Some x ↦ x ]) e in rw same (is refl).short
+named_short false (Some own) name is e = absurd cc
+
+-- the two lists that a server has besides those of algorithms
+last_lists : (P : List (List ℕ) → Type 0) (server : ServerData) → AllByRecursion P (all_server_lists server) → P server.services × P server.methods
+last_lists P server (_, (_, (_, (_, (_, (_, (services, (methods, _)))))))) = (services, methods)
+
+-- a service that a server has is short
+pub service_short : (parts : ServerParts) (server : ServerData) (names : List (List ℕ)) (name : List ℕ) (found : Option (Bor (List ℕ))) → server_data parts ≡ server → IsServer server
+    → names ≡ map string_bytes parts.services.items → option_map (λ (own : Bor (List ℕ)). own.now) found ≡ (if is_in names name then Some name else None)
+    → IfSome found (λ own. length own.now ≤ 64)
+service_short parts server names name found same is at e =
+    let held : names ≡ server.services = at ∙ ap (λ (s : ServerData). s.services) same in
+    named_short (is_in names name) found name (in_names names name (subst AreNames (sym held) (last_lists AreNames server (is.keeps fault.Name).0).0)) e
+
+-- the methods of a server are short, and names
+pub methods_named : (server : ServerData) → IsServer server → AreNames server.methods
+methods_named server is = (last_lists AreNames server (is.keeps fault.Name).0).1
+
+pub methods_short : (server : ServerData) → IsServer server → length (names_body server.methods) ≤ 1000
+methods_short server is = (last_lists IsShortList server (is.keeps fault.ListTooLong)).1
+
+-- and no server grants more tries than this
+pub tries_short : (parts : ServerParts) (server : ServerData) → server_data parts ≡ server → IsServer server → parts.tries ≤ 20
+tries_short parts server same is = subst (λ (n : ℕ). n ≤ 20) (sym (ap (λ (s : ServerData). s.tries) same)) (is.keeps fault.Tries).1
+
+-- each attempt of an accepted plan
+attempts_accepted : (plan : List Attempt) → AllByRecursion (λ (a : Attempt). length a.user ≤ 255) plan
+    → AllByRecursion (λ (a : Attempt). IsName a.service × IsNamed a.proving) plan → AllByRecursion (λ (a : Attempt). HasShortPassword a.proving) plan
+    → AllByRecursion (λ (a : Attempt). HasShortKey a.proving) plan → AllByRecursion IsAttempt plan
+attempts_accepted [] users names passwords keys = tt
+attempts_accepted (a ∷ plan) (user, users) (name, names) (password, passwords) (key, keys) =
+    (record { user = user; service = name.0; named = name.1; password = password; key = key }, attempts_accepted plan users names passwords keys)
+
+pub client_attempts : (parts : ClientParts) (client : ClientData) (plan : List attempt_parts.Attempt) → client_data parts ≡ client → IsClient client
+    → plan ≡ parts.plan.items → AllByRecursion IsAttempt (map attempt_of plan)
+client_attempts parts client plan same is at =
+    let held : map attempt_of plan ≡ client.plan = ap (map attempt_of) at ∙ ap (λ (c : ClientData). c.plan) same in
+    rw held (attempts_accepted client.plan (is.keeps fault.User) (is.keeps fault.Name).2 (is.keeps fault.Secret) (is.keeps fault.Blob))

@@ -26,6 +26,7 @@ use Rattle.sshcore.proofs.Below.{Below}
 use Rattle.sshcore.proofs.FeedLemmas.{stands_part, stands_refused, stands_unit, within}
 use Rattle.sshcore.proofs.HistoryLemmas.{Streams}
 use Rattle.sshcore.proofs.MoveLemmas.{keys_with, number_with}
+use Rattle.sshcore.proofs.UncutLemmas.{open_stays}
 
 -- the reader behind a packet, once the keys that are due are set
 abbrev pub reader_with : Option KeyData → Bool → ReaderState → ReaderState
@@ -66,6 +67,7 @@ module _ (below : Below) (streams : Streams) (m : Meaning) (d : Policy) (role : 
         stands = subst (λ (t : List ℕ). Stands m d role party kept (input.Packets q) (h ++ t) (s ++ [])) (sym (take-length piece))
             (subst (λ (t : List ℕ). Stands m d role party kept (input.Packets q) (h ++ piece) t) (sym (append-nil s))
             (stands_part below streams m d role party kept (input.Packets r) h s is a (input.Packets q) piece seen (x.0, x.1, x.2, held)));
+        uncut = open_stays kept.end is;
       }
 
   -- the packet is refused

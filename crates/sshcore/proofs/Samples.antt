@@ -1,13 +1,17 @@
 -- Sample sessions, evaluated: sizes, the phases and numbers that a session goes through, and what is answered at each place.
 
-use Rattle.std.proofs.Common.{◌≡◌, ℕ, Bool, true, false, List, [], ◌∷◌, ◌++◌, length, take, codes, None, Some, refl}
+use Rattle.std.proofs.Common.{◌≡◌, ℕ, ◌==◌, Bool, true, false, List, [], ◌∷◌, ◌++◌, length, take, codes, None, Some, refl}
+use Rattle.std.specs.Prelude.{◌&&◌}
+use Rattle.std.specs.Char.{encode_utf8}
+use Rattle.std.specs.Str.{bytes_eq, chars, is_utf8}
+use Rattle.sshmsg.specs.Form.{utf8_at}
 use Rattle.sshmsg.specs.Content.{Disconnect, ServiceAccept, ServiceRequest, UserauthBanner}
 use Rattle.sshmsg.specs.Messages as messages
 use Rattle.sshmsg.specs.Messages.{message_in}
 use Rattle.sshmsg.specs.Written.{written_message}
 use Rattle.sshwire.specs.TypeReadings as readings
 use Rattle.sshneg.specs.ChoiceReadings.{choice, choice_of_directions}
-use Rattle.sshneg.specs.Derivations.{derived, exchange_text, key}
+use Rattle.sshneg.specs.Derivations.{derived, exchange_text, key, signed_text}
 use Rattle.sshneg.specs.ExchangeEnd.{exchange_by}
 use Rattle.sshneg.specs.declared.choice.NoCommon.TheVariants as field
 use Rattle.sshneg.specs.declared.role.Role.TheVariants.{Client, Server}
@@ -16,13 +20,16 @@ use Rattle.sshcore.specs.Directions.{keys_in, keys_out}
 use Rattle.sshpacket.specs.Suite.{Meaning}
 use Rattle.sshcore.specs.declared.end.Fault.TheVariants as fault
 use Rattle.sshcore.specs.declared.table.Phase.TheVariants as phase
-use Rattle.sshcore.specs.Before.{expects_guess, first_kept, kexinit, offered, since, since_offer, stood}
+use Rattle.sshcore.specs.Before.{all_kept, count_kept, expects_guess, first_kept, kexinit, offered, since, since_offer, stood}
+use Rattle.sshcore.specs.ConfigData.{ByKey, ByNothing, ByPassword}
 use Rattle.sshcore.specs.Counting.{number_in, number_out, switched_out}
-use Rattle.sshcore.specs.Ending.{Closed, Failed, disconnect, fails, goes}
+use Rattle.sshcore.specs.Ending.{AgreedData, Authenticated, Closed, Failed, disconnect, fails, goes}
 use Rattle.sshcore.specs.Exchange.{exchange_with, secret_of, exchange_at, session_at}
-use Rattle.sshcore.specs.Party.{Party, Policy}
+use Rattle.sshcore.specs.Party.{KeyProof, NoProof, Party, PasswordProof, Policy, ProofData}
 use Rattle.sshcore.specs.Phases.{phase_at}
+use Rattle.sshcore.specs.Plan.{left_after, listed_in, next_listed}
 use Rattle.sshcore.specs.Replies.{answers_at, end_at, line_reply, unit_reply}
+use Rattle.sshcore.specs.Requests.{proof_in, request_reply}
 use Rattle.sshcore.specs.Table.{line_by}
 use Rattle.sshcore.specs.Work.{guessed_method, init_reply, kexinit_reply, making, reply_reply, userauth, work}
 use Rattle.sshcore.proofs.SampleParties.{a, ab, ba, kexinit_of, o, offer_of, party_of, toy, trusting, wary}
@@ -80,7 +87,7 @@ server_says d v = (refl, refl, refl, refl, refl, refl)
 
 -- what a client says, up to the end that an empty plan has
 client_says : (v : List ℕ) → (making toy Client client ≡ hello true ∷ []) × (unit_reply toy trusting Client client (v ∷ []) (welcome true) ≡ goes (init ∷ [])) × (unit_reply toy trusting Client client (v ∷ welcome true ∷ []) reply ≡ goes ((21 ∷ []) ∷ request ∷ [])) × (unit_reply toy trusting Client client (v ∷ welcome true ∷ reply ∷ []) (21 ∷ []) ≡ goes []) × (unit_reply toy trusting Client client (v ∷ welcome true ∷ reply ∷ (21 ∷ []) ∷ []) accept ≡ fails fault.NoMoreMethods) × (answers_at toy trusting Client client (v ∷ welcome true ∷ reply ∷ (21 ∷ []) ∷ []) accept ≡ (1 ∷ 0 ∷ 0 ∷ 0 ∷ 14 ∷ 0 ∷ 0 ∷ 0 ∷ 0 ∷ 0 ∷ 0 ∷ 0 ∷ 0 ∷ []) ∷ [])
-unfolding toy offer_of party_of kexinit_of a ab ba o trusting wary written_message offered kexinit since_offer expects_guess stood first_kept since line_by line_reply work kexinit_reply init_reply reply_reply secret_of choice choice_of_directions exchange_with exchange_by exchange_text number_out switched_out derived key message_in messages.form_of messages.disconnect messages.ignore messages.unimplemented messages.debug messages.service_request messages.service_accept messages.ext_info messages.extensions messages.kexinit messages.newkeys messages.kexdh_init messages.kexdh_reply messages.kex_ecdh_init messages.kex_ecdh_reply readings.string_at readings.uint32_at readings.names_at readings.names_in readings.mpint_at readings.mpint_in ignore server client hello init reply request accept welcome
+unfolding toy offer_of party_of kexinit_of a ab ba o trusting wary written_message offered kexinit since_offer expects_guess stood first_kept since line_by line_reply work kexinit_reply init_reply reply_reply secret_of choice choice_of_directions exchange_with exchange_by exchange_text number_out switched_out derived key message_in messages.form_of messages.disconnect messages.ignore messages.unimplemented messages.debug messages.service_request messages.service_accept messages.ext_info messages.extensions messages.kexinit messages.newkeys messages.kexdh_init messages.kexdh_reply messages.kex_ecdh_init messages.kex_ecdh_reply readings.string_at readings.uint32_at readings.names_at readings.names_in readings.mpint_at readings.mpint_in ignore server client hello init reply request accept welcome all_kept count_kept left_after next_listed listed_in proof_in request_reply signed_text messages.password messages.publickey messages.userauth_request messages.userauth_failure messages.userauth_success messages.userauth_banner utf8_at
 client_says v = (refl, refl, refl, refl, refl, refl)
 
 -- both sides hash the same: versions, KEXINITs, host key, shares and the shared number
@@ -144,14 +151,14 @@ unknown_numbers : (m : Meaning) (d : Policy) (v : List ℕ) → (unit_reply m d 
 unfolding toy offer_of party_of kexinit_of a ab ba o trusting wary written_message offered kexinit since_offer expects_guess stood first_kept since line_by line_reply work kexinit_reply init_reply reply_reply secret_of choice choice_of_directions exchange_with exchange_by exchange_text number_out switched_out derived key message_in messages.form_of messages.disconnect messages.ignore messages.unimplemented messages.debug messages.service_request messages.service_accept messages.ext_info messages.extensions messages.kexinit messages.newkeys messages.kexdh_init messages.kexdh_reply messages.kex_ecdh_init messages.kex_ecdh_reply readings.string_at readings.uint32_at readings.names_at readings.names_in readings.mpint_at readings.mpint_in ignore server client hello init reply request accept welcome to_server to_client guessing other_server guesser loose
 unknown_numbers m d v = (refl, refl, refl, refl, refl, refl)
 
--- in phase auth 50 to 53 have no use yet
-auth_numbers : (m : Meaning) (d : Policy) (v : List ℕ) → (unit_reply m d Server (party_of Server true a false) (v ∷ kexinit_of Client true a false ∷ init ∷ (21 ∷ []) ∷ request ∷ []) (50 ∷ []) ≡ fails (fault.Unexpected 50)) × (unit_reply m d Server (party_of Server true a false) (v ∷ kexinit_of Client true a false ∷ init ∷ (21 ∷ []) ∷ request ∷ []) (51 ∷ []) ≡ fails (fault.Unexpected 51)) × (unit_reply m d Server (party_of Server true a false) (v ∷ kexinit_of Client true a false ∷ init ∷ (21 ∷ []) ∷ request ∷ []) (52 ∷ []) ≡ fails (fault.Unexpected 52)) × (unit_reply m d Server (party_of Server true a false) (v ∷ kexinit_of Client true a false ∷ init ∷ (21 ∷ []) ∷ request ∷ []) (53 ∷ []) ≡ fails (fault.Unexpected 53)) × (unit_reply m d Client (party_of Client true a false) (v ∷ kexinit_of Server true a false ∷ reply ∷ (21 ∷ []) ∷ accept ∷ []) (50 ∷ []) ≡ fails (fault.Unexpected 50)) × (unit_reply m d Client (party_of Client true a false) (v ∷ kexinit_of Server true a false ∷ reply ∷ (21 ∷ []) ∷ accept ∷ []) (51 ∷ []) ≡ fails (fault.Unexpected 51)) × (unit_reply m d Client (party_of Client true a false) (v ∷ kexinit_of Server true a false ∷ reply ∷ (21 ∷ []) ∷ accept ∷ []) (52 ∷ []) ≡ fails (fault.Unexpected 52)) × (unit_reply m d Client (party_of Client true a false) (v ∷ kexinit_of Server true a false ∷ reply ∷ (21 ∷ []) ∷ accept ∷ []) (53 ∷ []) ≡ fails (fault.Unexpected 53))
-unfolding toy offer_of party_of kexinit_of a ab ba o trusting wary written_message offered kexinit since_offer expects_guess stood first_kept since line_by line_reply work kexinit_reply init_reply reply_reply secret_of choice choice_of_directions exchange_with exchange_by exchange_text number_out switched_out derived key message_in messages.form_of messages.disconnect messages.ignore messages.unimplemented messages.debug messages.service_request messages.service_accept messages.ext_info messages.extensions messages.kexinit messages.newkeys messages.kexdh_init messages.kexdh_reply messages.kex_ecdh_init messages.kex_ecdh_reply readings.string_at readings.uint32_at readings.names_at readings.names_in readings.mpint_at readings.mpint_in ignore server client hello init reply request accept welcome to_server to_client guessing other_server guesser loose
+-- in phase auth a server reads 50 and a client 51 to 53; a SUCCESS that answers no attempt has no use
+auth_numbers : (m : Meaning) (d : Policy) (v : List ℕ) → (unit_reply m d Server (party_of Server true a false) (v ∷ kexinit_of Client true a false ∷ init ∷ (21 ∷ []) ∷ request ∷ []) (50 ∷ []) ≡ fails (fault.Malformed 50)) × (unit_reply m d Server (party_of Server true a false) (v ∷ kexinit_of Client true a false ∷ init ∷ (21 ∷ []) ∷ request ∷ []) (51 ∷ []) ≡ fails (fault.Unexpected 51)) × (unit_reply m d Server (party_of Server true a false) (v ∷ kexinit_of Client true a false ∷ init ∷ (21 ∷ []) ∷ request ∷ []) (52 ∷ []) ≡ fails (fault.Unexpected 52)) × (unit_reply m d Server (party_of Server true a false) (v ∷ kexinit_of Client true a false ∷ init ∷ (21 ∷ []) ∷ request ∷ []) (53 ∷ []) ≡ fails (fault.Unexpected 53)) × (unit_reply m d Client (party_of Client true a false) (v ∷ kexinit_of Server true a false ∷ reply ∷ (21 ∷ []) ∷ accept ∷ []) (50 ∷ []) ≡ fails (fault.Unexpected 50)) × (unit_reply m d Client (party_of Client true a false) (v ∷ kexinit_of Server true a false ∷ reply ∷ (21 ∷ []) ∷ accept ∷ []) (51 ∷ []) ≡ fails (fault.Malformed 51)) × (unit_reply m d Client (party_of Client true a false) (v ∷ kexinit_of Server true a false ∷ reply ∷ (21 ∷ []) ∷ accept ∷ []) (52 ∷ []) ≡ fails (fault.Unexpected 52)) × (unit_reply m d Client (party_of Client true a false) (v ∷ kexinit_of Server true a false ∷ reply ∷ (21 ∷ []) ∷ accept ∷ []) (53 ∷ []) ≡ fails (fault.Malformed 53))
+unfolding toy offer_of party_of kexinit_of a ab ba o trusting wary written_message offered kexinit since_offer expects_guess stood first_kept since line_by line_reply work kexinit_reply init_reply reply_reply secret_of choice choice_of_directions exchange_with exchange_by exchange_text number_out switched_out derived key message_in messages.form_of messages.disconnect messages.ignore messages.unimplemented messages.debug messages.service_request messages.service_accept messages.ext_info messages.extensions messages.kexinit messages.newkeys messages.kexdh_init messages.kexdh_reply messages.kex_ecdh_init messages.kex_ecdh_reply readings.string_at readings.uint32_at readings.names_at readings.names_in readings.mpint_at readings.mpint_in ignore server client hello init reply request accept welcome to_server to_client guessing other_server guesser loose all_kept count_kept left_after next_listed listed_in proof_in request_reply signed_text messages.password messages.publickey messages.userauth_request messages.userauth_failure messages.userauth_success messages.userauth_banner utf8_at
 auth_numbers m d v = (refl, refl, refl, refl, refl, refl, refl, refl)
 
 -- behind NEWKEYS: EXT_INFO is ignored, and before it is not; IGNORE is; a service that is not there; an answer for another service
 behind_newkeys : (m : Meaning) (d : Policy) (v : List ℕ) → (unit_reply m d Server server (v ∷ hello true ∷ init ∷ (21 ∷ []) ∷ []) (7 ∷ 0 ∷ 0 ∷ 0 ∷ 0 ∷ []) ≡ goes []) × (unit_reply m d Server server (v ∷ hello false ∷ init ∷ []) (7 ∷ 0 ∷ 0 ∷ 0 ∷ 0 ∷ []) ≡ fails (fault.Unexpected 7)) × (unit_reply m d Server server (v ∷ hello true ∷ init ∷ []) ignore ≡ fails (fault.Strict 2)) × (unit_reply m d Server server (v ∷ hello true ∷ init ∷ (21 ∷ []) ∷ []) ignore ≡ goes []) × (unit_reply m d Server server (v ∷ hello true ∷ init ∷ (21 ∷ []) ∷ []) (2 ∷ []) ≡ fails (fault.Malformed 2)) × (unit_reply m d Server server (v ∷ hello true ∷ init ∷ (21 ∷ []) ∷ []) (hello true) ≡ fails (fault.Unexpected 20)) × (unit_reply m d Server server (v ∷ hello true ∷ init ∷ (21 ∷ []) ∷ []) (written_message (ServiceRequest (codes "ssh-connection"))) ≡ fails fault.Service) × (unit_reply m d Client client (v ∷ welcome true ∷ reply ∷ (21 ∷ []) ∷ []) (written_message (ServiceAccept (codes "ssh-connection"))) ≡ fails (fault.Unexpected 6))
-unfolding toy offer_of party_of kexinit_of a ab ba o trusting wary written_message offered kexinit since_offer expects_guess stood first_kept since line_by line_reply work kexinit_reply init_reply reply_reply secret_of choice choice_of_directions exchange_with exchange_by exchange_text number_out switched_out derived key message_in messages.form_of messages.disconnect messages.ignore messages.unimplemented messages.debug messages.service_request messages.service_accept messages.ext_info messages.extensions messages.kexinit messages.newkeys messages.kexdh_init messages.kexdh_reply messages.kex_ecdh_init messages.kex_ecdh_reply readings.string_at readings.uint32_at readings.names_at readings.names_in readings.mpint_at readings.mpint_in ignore server client hello init reply request accept welcome to_server to_client guessing other_server guesser loose
+unfolding toy offer_of party_of kexinit_of a ab ba o trusting wary written_message offered kexinit since_offer expects_guess stood first_kept since line_by line_reply work kexinit_reply init_reply reply_reply secret_of choice choice_of_directions exchange_with exchange_by exchange_text number_out switched_out derived key message_in messages.form_of messages.disconnect messages.ignore messages.unimplemented messages.debug messages.service_request messages.service_accept messages.ext_info messages.extensions messages.kexinit messages.newkeys messages.kexdh_init messages.kexdh_reply messages.kex_ecdh_init messages.kex_ecdh_reply readings.string_at readings.uint32_at readings.names_at readings.names_in readings.mpint_at readings.mpint_in ignore server client hello init reply request accept welcome to_server to_client guessing other_server guesser loose all_kept count_kept left_after next_listed listed_in proof_in request_reply signed_text messages.password messages.publickey messages.userauth_request messages.userauth_failure messages.userauth_success messages.userauth_banner utf8_at
 behind_newkeys m d v = (refl, refl, refl, refl, refl, refl, refl, refl)
 
 -- a server with a banner
@@ -203,6 +210,127 @@ failed_exchanges d v = (refl, refl, refl, refl)
 host_keys : secret_of (record { algorithm = codes "k"; secret = 1 ∷ [] } ∷ record { algorithm = codes "h"; secret = 2 ∷ [] } ∷ record { algorithm = codes "h"; secret = 3 ∷ [] } ∷ []) (codes "h") ≡ 2 ∷ []
 unfolding toy offer_of party_of kexinit_of a ab ba o trusting wary written_message offered kexinit since_offer expects_guess stood first_kept since line_by line_reply work kexinit_reply init_reply reply_reply secret_of choice choice_of_directions exchange_with exchange_by exchange_text number_out switched_out derived key message_in messages.form_of messages.disconnect messages.ignore messages.unimplemented messages.debug messages.service_request messages.service_accept messages.ext_info messages.extensions messages.kexinit messages.newkeys messages.kexdh_init messages.kexdh_reply messages.kex_ecdh_init messages.kex_ecdh_reply readings.string_at readings.uint32_at readings.names_at readings.names_in readings.mpint_at readings.mpint_in ignore server client hello init reply request accept welcome to_server to_client guessing other_server guesser loose banner_server octet_server octet_client octets octet_hello octet_welcome no_share no_answer forged
 host_keys = refl
+
+-- the fields of methods: none, a password, a change of it, a query, a signature by a key, and a method with no meaning here
+none_fields : List ℕ
+none_fields = 0 ∷ 0 ∷ 0 ∷ 4 ∷ codes "none"
+
+password_fields : List ℕ
+password_fields = 0 ∷ 0 ∷ 0 ∷ 8 ∷ (codes "password" ++ 0 ∷ 0 ∷ 0 ∷ 0 ∷ 2 ∷ codes "pw")
+
+change_fields : List ℕ
+change_fields = 0 ∷ 0 ∷ 0 ∷ 8 ∷ (codes "password" ++ 1 ∷ 0 ∷ 0 ∷ 0 ∷ 2 ∷ (codes "pw" ++ 0 ∷ 0 ∷ 0 ∷ 1 ∷ codes "n"))
+
+query_fields : List ℕ
+query_fields = 0 ∷ 0 ∷ 0 ∷ 9 ∷ (codes "publickey" ++ 0 ∷ 0 ∷ 0 ∷ 0 ∷ 1 ∷ (codes "k" ++ 0 ∷ 0 ∷ 0 ∷ 2 ∷ 66 ∷ 5 ∷ []))
+
+key_front : List ℕ
+key_front = 0 ∷ 0 ∷ 0 ∷ 9 ∷ (codes "publickey" ++ 1 ∷ 0 ∷ 0 ∷ 0 ∷ 1 ∷ (codes "k" ++ 0 ∷ 0 ∷ 0 ∷ 2 ∷ 66 ∷ 5 ∷ []))
+
+key_fields : List ℕ → List ℕ
+key_fields signature = key_front ++ 0 ∷ 0 ∷ 0 ∷ length signature ∷ signature
+
+other_fields : List ℕ
+other_fields = 0 ∷ 0 ∷ 0 ∷ 9 ∷ codes "hostbased"
+
+-- a request by a user of one letter for a service of one letter, and a FAILURE that lists these methods
+asks : List ℕ → List ℕ → List ℕ
+asks user fields = 50 ∷ 0 ∷ 0 ∷ 0 ∷ 1 ∷ (user ++ 0 ∷ 0 ∷ 0 ∷ 1 ∷ (codes "s" ++ fields))
+
+lists : List ℕ → List ℕ
+lists names = 51 ∷ 0 ∷ 0 ∷ 0 ∷ length names ∷ (names ++ 0 ∷ [])
+
+-- what is agreed with this user
+agreed : List ℕ → AgreedData
+agreed user = record {
+  algorithms = record {
+    kex = codes "a";
+    host_key = codes "h";
+    encryption_client_to_server = codes "c";
+    encryption_server_to_client = codes "d";
+    mac_client_to_server = codes "m";
+    mac_server_to_client = codes "n";
+    compression_client_to_server = codes "none";
+    compression_server_to_client = codes "none";
+  };
+  strict = true;
+  session = 1 ∷ [];
+  user = user;
+  service = codes "s";
+}
+
+-- a client with a plan of three attempts, each with its own user, and what it hears up to NEWKEYS
+planner : Party
+planner = record client {
+  plan = record { user = codes "u"; service = codes "s"; proving = ByNothing }
+      ∷ record { user = codes "k"; service = codes "s"; proving = ByKey (codes "k") (5 ∷ []) }
+      ∷ record { user = codes "p"; service = codes "s"; proving = ByPassword (codes "pw") } ∷ [];
+}
+
+seen : List (List ℕ)
+seen = welcome true ∷ reply ∷ (21 ∷ []) ∷ []
+
+-- a suite whose signature is what is signed
+mirror : Meaning
+mirror = record toy { sign = λ alg secret input. input }
+
+-- A client makes its attempts in order: the first behind SERVICE_ACCEPT, the next whose method is listed behind a FAILURE.
+-- An attempt that was skipped isn't made later, and without one it fails.
+attempts : (v : List ℕ) → (unit_reply toy trusting Client planner (v ∷ seen) accept ≡ goes (asks (codes "u") none_fields ∷ [])) × (unit_reply toy trusting Client planner (v ∷ (seen ++ accept ∷ [])) (lists (codes "publickey,password")) ≡ goes (asks (codes "k") (key_fields (83 ∷ 5 ∷ [])) ∷ [])) × (unit_reply toy trusting Client planner (v ∷ (seen ++ accept ∷ [])) (lists (codes "password")) ≡ goes (asks (codes "p") password_fields ∷ [])) × (unit_reply toy trusting Client planner (v ∷ (seen ++ accept ∷ lists (codes "password") ∷ [])) (lists (codes "publickey,password")) ≡ fails fault.NoMoreMethods) × (unit_reply toy trusting Client planner (v ∷ (seen ++ accept ∷ [])) (lists []) ≡ fails fault.NoMoreMethods) × (answers_at toy trusting Client planner (v ∷ (seen ++ accept ∷ [])) (lists []) ≡ (1 ∷ 0 ∷ 0 ∷ 0 ∷ 14 ∷ 0 ∷ 0 ∷ 0 ∷ 0 ∷ 0 ∷ 0 ∷ 0 ∷ 0 ∷ []) ∷ []) × (unit_reply toy trusting Client planner (v ∷ (seen ++ accept ∷ [])) (51 ∷ 0 ∷ 0 ∷ 0 ∷ 8 ∷ (codes "password" ++ 1 ∷ [])) ≡ goes (asks (codes "p") password_fields ∷ []))
+unfolding toy offer_of party_of kexinit_of a ab ba o trusting wary written_message offered kexinit since_offer expects_guess stood first_kept since line_by line_reply work kexinit_reply init_reply reply_reply secret_of choice choice_of_directions exchange_with exchange_by exchange_text number_out switched_out derived key message_in messages.form_of messages.disconnect messages.ignore messages.unimplemented messages.debug messages.service_request messages.service_accept messages.ext_info messages.extensions messages.kexinit messages.newkeys messages.kexdh_init messages.kexdh_reply messages.kex_ecdh_init messages.kex_ecdh_reply readings.string_at readings.uint32_at readings.names_at readings.names_in readings.mpint_at readings.mpint_in ignore server client hello init reply request accept welcome all_kept count_kept left_after next_listed listed_in proof_in request_reply signed_text messages.password messages.publickey messages.userauth_request messages.userauth_failure messages.userauth_success messages.userauth_banner utf8_at is_utf8 chars encode_utf8 none_fields password_fields change_fields query_fields key_front key_fields other_fields asks lists agreed planner seen mirror
+attempts v = (refl, refl, refl, refl, refl, refl, refl)
+
+-- what a publickey attempt signs: the session identifier and the request up to the signature
+signed_attempt : (unit_reply mirror trusting Client planner (server.version ∷ (seen ++ accept ∷ [])) (lists (codes "publickey,password")) ≡ goes (asks (codes "k") (key_fields (0 ∷ 0 ∷ 0 ∷ 1 ∷ 1 ∷ asks (codes "k") key_front)) ∷ []))
+unfolding toy offer_of party_of kexinit_of a ab ba o trusting wary written_message offered kexinit since_offer expects_guess stood first_kept since line_by line_reply work kexinit_reply init_reply reply_reply secret_of choice choice_of_directions exchange_with exchange_by exchange_text number_out switched_out derived key message_in messages.form_of messages.disconnect messages.ignore messages.unimplemented messages.debug messages.service_request messages.service_accept messages.ext_info messages.extensions messages.kexinit messages.newkeys messages.kexdh_init messages.kexdh_reply messages.kex_ecdh_init messages.kex_ecdh_reply readings.string_at readings.uint32_at readings.names_at readings.names_in readings.mpint_at readings.mpint_in ignore server client hello init reply request accept welcome all_kept count_kept left_after next_listed listed_in proof_in request_reply signed_text messages.password messages.publickey messages.userauth_request messages.userauth_failure messages.userauth_success messages.userauth_banner utf8_at is_utf8 chars encode_utf8 none_fields password_fields change_fields query_fields key_front key_fields other_fields asks lists agreed planner seen mirror
+signed_attempt = refl
+
+-- a SUCCESS authenticates the user of the attempt that was made last; a banner is ignored; before the service a SUCCESS has no use
+successes : (unit_reply toy trusting Client planner (server.version ∷ (seen ++ accept ∷ [])) (52 ∷ []) ≡ record { answers = []; end = Authenticated (agreed (codes "u")) }) × (unit_reply toy trusting Client planner (server.version ∷ (seen ++ accept ∷ lists (codes "password") ∷ [])) (52 ∷ []) ≡ record { answers = []; end = Authenticated (agreed (codes "p")) }) × (unit_reply toy trusting Client planner (server.version ∷ (seen ++ accept ∷ [])) (53 ∷ 0 ∷ 0 ∷ 0 ∷ 2 ∷ 104 ∷ 105 ∷ 0 ∷ 0 ∷ 0 ∷ 0 ∷ []) ≡ goes []) × (unit_reply toy trusting Client planner (server.version ∷ seen) (52 ∷ []) ≡ fails (fault.Unexpected 52))
+unfolding toy offer_of party_of kexinit_of a ab ba o trusting wary written_message offered kexinit since_offer expects_guess stood first_kept since line_by line_reply work kexinit_reply init_reply reply_reply secret_of choice choice_of_directions exchange_with exchange_by exchange_text number_out switched_out derived key message_in messages.form_of messages.disconnect messages.ignore messages.unimplemented messages.debug messages.service_request messages.service_accept messages.ext_info messages.extensions messages.kexinit messages.newkeys messages.kexdh_init messages.kexdh_reply messages.kex_ecdh_init messages.kex_ecdh_reply readings.string_at readings.uint32_at readings.names_at readings.names_in readings.mpint_at readings.mpint_in ignore server client hello init reply request accept welcome all_kept count_kept left_after next_listed listed_in proof_in request_reply signed_text messages.password messages.publickey messages.userauth_request messages.userauth_failure messages.userauth_success messages.userauth_banner utf8_at is_utf8 chars encode_utf8 none_fields password_fields change_fields query_fields key_front key_fields other_fields asks lists agreed planner seen mirror
+successes = (refl, refl, refl, refl)
+
+-- a server with one service and so many tries, and one with two methods
+keeper : ℕ → Party
+keeper tries = record server { services = codes "s" ∷ []; tries = tries }
+
+lister : Party
+lister = record server { services = codes "s" ∷ []; methods = codes "publickey" ∷ codes "password" ∷ [] }
+
+-- what it hears up to the request of the service
+entered : List (List ℕ)
+entered = hello true ∷ init ∷ (21 ∷ []) ∷ request ∷ []
+
+-- whoever says no to every request, yes to the second, and yes to one password and one key
+refusing : Policy
+refusing = record { host_key = λ alg blob. true; user = λ number user service proof. false }
+
+second : Policy
+second = record { host_key = λ alg blob. true; user = λ number user service proof. number == 2 }
+
+knows : ProofData → Bool
+knows NoProof = false
+knows (PasswordProof password) = bytes_eq password (codes "pw")
+knows (KeyProof algorithm key) = bytes_eq algorithm (codes "k") && bytes_eq key (66 ∷ 5 ∷ [])
+
+knowing : Policy
+knowing = record { host_key = λ alg blob. true; user = λ number user service proof. knows proof }
+
+-- a suite that verifies a signature which is what is signed
+checker : Meaning
+checker = record toy { verify = λ alg blob input signature. bytes_eq signature input }
+
+-- At a server: an unknown service; a request that is decided yes; one that is decided no, as the last try and before it.
+-- Requests are counted from 1.
+requests : (unit_reply toy trusting Server server (server.version ∷ entered) (asks (codes "u") none_fields) ≡ fails fault.Service) × (answers_at toy trusting Server server (server.version ∷ entered) (asks (codes "u") none_fields) ≡ (1 ∷ 0 ∷ 0 ∷ 0 ∷ 7 ∷ 0 ∷ 0 ∷ 0 ∷ 0 ∷ 0 ∷ 0 ∷ 0 ∷ 0 ∷ []) ∷ []) × (unit_reply toy trusting Server (keeper 1) (server.version ∷ entered) (asks (codes "u") none_fields) ≡ record { answers = (52 ∷ []) ∷ []; end = Authenticated (agreed (codes "u")) }) × (unit_reply toy refusing Server (keeper 1) (server.version ∷ entered) (asks (codes "u") none_fields) ≡ fails fault.TooManyTries) × (unit_reply toy refusing Server (keeper 2) (server.version ∷ entered) (asks (codes "u") none_fields) ≡ goes ((51 ∷ 0 ∷ 0 ∷ 0 ∷ 0 ∷ 0 ∷ []) ∷ [])) × (unit_reply toy refusing Server (keeper 2) (server.version ∷ (entered ++ asks (codes "u") none_fields ∷ [])) (asks (codes "u") none_fields) ≡ fails fault.TooManyTries) × (unit_reply toy second Server (keeper 2) (server.version ∷ entered) (asks (codes "u") none_fields) ≡ goes ((51 ∷ 0 ∷ 0 ∷ 0 ∷ 0 ∷ 0 ∷ []) ∷ [])) × (unit_reply toy second Server (keeper 2) (server.version ∷ (entered ++ asks (codes "u") none_fields ∷ [])) (asks (codes "u") none_fields) ≡ record { answers = (52 ∷ []) ∷ []; end = Authenticated (agreed (codes "u")) })
+unfolding toy offer_of party_of kexinit_of a ab ba o trusting wary written_message offered kexinit since_offer expects_guess stood first_kept since line_by line_reply work kexinit_reply init_reply reply_reply secret_of choice choice_of_directions exchange_with exchange_by exchange_text number_out switched_out derived key message_in messages.form_of messages.disconnect messages.ignore messages.unimplemented messages.debug messages.service_request messages.service_accept messages.ext_info messages.extensions messages.kexinit messages.newkeys messages.kexdh_init messages.kexdh_reply messages.kex_ecdh_init messages.kex_ecdh_reply readings.string_at readings.uint32_at readings.names_at readings.names_in readings.mpint_at readings.mpint_in ignore server client hello init reply request accept welcome all_kept count_kept left_after next_listed listed_in proof_in request_reply signed_text messages.password messages.publickey messages.userauth_request messages.userauth_failure messages.userauth_success messages.userauth_banner utf8_at is_utf8 chars encode_utf8 none_fields password_fields change_fields query_fields key_front key_fields other_fields asks lists agreed keeper lister entered refusing second knows knowing checker
+requests = (refl, refl, refl, refl, refl, refl, refl, refl)
+
+-- A query, a change of the password, a method with no meaning here and a method that isn't listed prove nothing. A password
+-- and a key are decided on; a signature is verified first.
+method_proofs : (unit_reply toy trusting Server lister (server.version ∷ entered) (asks (codes "u") query_fields) ≡ goes (lists (codes "publickey,password") ∷ [])) × (unit_reply toy trusting Server lister (server.version ∷ entered) (asks (codes "u") change_fields) ≡ goes (lists (codes "publickey,password") ∷ [])) × (unit_reply toy trusting Server lister (server.version ∷ entered) (asks (codes "u") other_fields) ≡ goes (lists (codes "publickey,password") ∷ [])) × (unit_reply toy trusting Server (keeper 6) (server.version ∷ entered) (asks (codes "u") password_fields) ≡ goes ((51 ∷ 0 ∷ 0 ∷ 0 ∷ 0 ∷ 0 ∷ []) ∷ [])) × (unit_reply toy trusting Server (keeper 6) (server.version ∷ entered) (asks (codes "u") (key_fields (83 ∷ 0 ∷ []))) ≡ goes ((51 ∷ 0 ∷ 0 ∷ 0 ∷ 0 ∷ 0 ∷ []) ∷ [])) × (unit_reply toy knowing Server lister (server.version ∷ entered) (asks (codes "u") password_fields) ≡ record { answers = (52 ∷ []) ∷ []; end = Authenticated (agreed (codes "u")) }) × (unit_reply toy knowing Server lister (server.version ∷ entered) (asks (codes "u") none_fields) ≡ goes (lists (codes "publickey,password") ∷ [])) × (unit_reply toy knowing Server lister (server.version ∷ entered) (asks (codes "u") (key_fields (83 ∷ 0 ∷ []))) ≡ record { answers = (52 ∷ []) ∷ []; end = Authenticated (agreed (codes "u")) }) × (unit_reply toy knowing Server lister (server.version ∷ entered) (asks (codes "u") (key_fields (83 ∷ 1 ∷ []))) ≡ goes (lists (codes "publickey,password") ∷ [])) × (unit_reply checker knowing Server lister (server.version ∷ entered) (asks (codes "u") (key_fields (0 ∷ 0 ∷ 0 ∷ 1 ∷ 1 ∷ asks (codes "u") key_front))) ≡ record { answers = (52 ∷ []) ∷ []; end = Authenticated (agreed (codes "u")) }) × (unit_reply checker knowing Server lister (server.version ∷ entered) (asks (codes "u") (key_fields (0 ∷ 0 ∷ 0 ∷ 1 ∷ 1 ∷ asks (codes "k") key_front))) ≡ goes (lists (codes "publickey,password") ∷ []))
+unfolding toy offer_of party_of kexinit_of a ab ba o trusting wary written_message offered kexinit since_offer expects_guess stood first_kept since line_by line_reply work kexinit_reply init_reply reply_reply secret_of choice choice_of_directions exchange_with exchange_by exchange_text number_out switched_out derived key message_in messages.form_of messages.disconnect messages.ignore messages.unimplemented messages.debug messages.service_request messages.service_accept messages.ext_info messages.extensions messages.kexinit messages.newkeys messages.kexdh_init messages.kexdh_reply messages.kex_ecdh_init messages.kex_ecdh_reply readings.string_at readings.uint32_at readings.names_at readings.names_in readings.mpint_at readings.mpint_in ignore server client hello init reply request accept welcome all_kept count_kept left_after next_listed listed_in proof_in request_reply signed_text messages.password messages.publickey messages.userauth_request messages.userauth_failure messages.userauth_success messages.userauth_banner utf8_at is_utf8 chars encode_utf8 none_fields password_fields change_fields query_fields key_front key_fields other_fields asks lists agreed keeper lister entered refusing second knows knowing checker
+method_proofs = (refl, refl, refl, refl, refl, refl, refl, refl, refl, refl, refl)
 
 -- the reasons of the DISCONNECTs that failures send, and the failures that send none
 reasons : (disconnect fault.Length ≡ (1 ∷ 0 ∷ 0 ∷ 0 ∷ 2 ∷ 0 ∷ 0 ∷ 0 ∷ 0 ∷ 0 ∷ 0 ∷ 0 ∷ 0 ∷ []) ∷ []) × (disconnect fault.Padding ≡ (1 ∷ 0 ∷ 0 ∷ 0 ∷ 2 ∷ 0 ∷ 0 ∷ 0 ∷ 0 ∷ 0 ∷ 0 ∷ 0 ∷ 0 ∷ []) ∷ []) × (disconnect fault.Mac ≡ (1 ∷ 0 ∷ 0 ∷ 0 ∷ 5 ∷ 0 ∷ 0 ∷ 0 ∷ 0 ∷ 0 ∷ 0 ∷ 0 ∷ 0 ∷ []) ∷ []) × (disconnect fault.Exchange ≡ (1 ∷ 0 ∷ 0 ∷ 0 ∷ 3 ∷ 0 ∷ 0 ∷ 0 ∷ 0 ∷ 0 ∷ 0 ∷ 0 ∷ 0 ∷ []) ∷ []) × (disconnect fault.HostKey ≡ (1 ∷ 0 ∷ 0 ∷ 0 ∷ 9 ∷ 0 ∷ 0 ∷ 0 ∷ 0 ∷ 0 ∷ 0 ∷ 0 ∷ 0 ∷ []) ∷ []) × (disconnect fault.Signature ≡ (1 ∷ 0 ∷ 0 ∷ 0 ∷ 3 ∷ 0 ∷ 0 ∷ 0 ∷ 0 ∷ 0 ∷ 0 ∷ 0 ∷ 0 ∷ []) ∷ []) × (disconnect fault.Service ≡ (1 ∷ 0 ∷ 0 ∷ 0 ∷ 7 ∷ 0 ∷ 0 ∷ 0 ∷ 0 ∷ 0 ∷ 0 ∷ 0 ∷ 0 ∷ []) ∷ []) × (disconnect fault.TooManyTries ≡ (1 ∷ 0 ∷ 0 ∷ 0 ∷ 14 ∷ 0 ∷ 0 ∷ 0 ∷ 0 ∷ 0 ∷ 0 ∷ 0 ∷ 0 ∷ []) ∷ []) × (disconnect fault.NoMoreMethods ≡ (1 ∷ 0 ∷ 0 ∷ 0 ∷ 14 ∷ 0 ∷ 0 ∷ 0 ∷ 0 ∷ 0 ∷ 0 ∷ 0 ∷ 0 ∷ []) ∷ []) × (disconnect (fault.Malformed 20) ≡ (1 ∷ 0 ∷ 0 ∷ 0 ∷ 2 ∷ 0 ∷ 0 ∷ 0 ∷ 0 ∷ 0 ∷ 0 ∷ 0 ∷ 0 ∷ []) ∷ []) × (disconnect (fault.Unexpected 80) ≡ (1 ∷ 0 ∷ 0 ∷ 0 ∷ 2 ∷ 0 ∷ 0 ∷ 0 ∷ 0 ∷ 0 ∷ 0 ∷ 0 ∷ 0 ∷ []) ∷ []) × (disconnect (fault.Strict 20) ≡ (1 ∷ 0 ∷ 0 ∷ 0 ∷ 2 ∷ 0 ∷ 0 ∷ 0 ∷ 0 ∷ 0 ∷ 0 ∷ 0 ∷ 0 ∷ []) ∷ []) × (disconnect (fault.NoCommon field.Kex) ≡ (1 ∷ 0 ∷ 0 ∷ 0 ∷ 3 ∷ 0 ∷ 0 ∷ 0 ∷ 0 ∷ 0 ∷ 0 ∷ 0 ∷ 0 ∷ []) ∷ []) × (disconnect fault.Version ≡ []) × (disconnect fault.Memory ≡ []) × (disconnect fault.Cut ≡ [])

@@ -19,12 +19,12 @@ use Rattle.sshcore.specs.Known.{Known}
 use Rattle.sshcore.specs.Party.{Party, Policy}
 use Rattle.sshcore.specs.Phases.{behind, leaving, past_exchange, past_kexinit, past_newkeys}
 use Rattle.sshcore.specs.Replies.{line_at, line_reply, reply_at}
-use Rattle.sshcore.specs.Standing.{LeavesNone, Sits, Tied, behind_exchange, behind_offer, exchange_heard, nothing_known}
+use Rattle.sshcore.specs.Standing.{LeavesNone, Sits, Tied, behind_exchange, behind_offer, behind_payload, exchange_heard, nothing_known}
 use Rattle.sshcore.specs.Table.{line_by}
 use Rattle.sshcore.proofs.Below.{Below}
 use Rattle.sshcore.proofs.CountingLemmas.{number_more, number_switched}
 use Rattle.sshcore.proofs.GuessLemmas.{first_guess, no_guess, none_due, read_offer}
-use Rattle.sshcore.proofs.KnownLemmas.{keys_are, keys_stay, kexinit_none, kexinit_stays, known_exchanged, known_kept, known_none, known_offered}
+use Rattle.sshcore.proofs.KnownLemmas.{keys_are, keys_stay, kexinit_none, kexinit_stays, known_behind, known_dropped, known_exchanged, known_none, known_offered}
 use Rattle.sshcore.proofs.PhaseLemmas.{guess_offered, kept_dropped, kept_free, tied_dropped, tied_leaves, tied_none, tied_phase, tied_stays}
 use Rattle.sshcore.proofs.StrictLemmas.{leaving_kexinit}
 
@@ -47,7 +47,7 @@ switched_past phase.Service e = refl
 switched_past phase.Auth e = refl
 
 module _ (m : Meaning) (role : Role) (party : Party) (version : List ℕ) where
-  pub begins : Sits m role party version [] phase.KexInit false (nothing_known version)
+  pub begins : Sits m role party version [] phase.KexInit false (nothing_known party version)
   begins = record {
     tied = tied_none role party.offer;
     due = none_due role party.offer [] nothing_offered;
@@ -87,7 +87,7 @@ module _ (m : Meaning) (role : Role) (party : Party) (version : List ℕ) where
         record {
           tied = tied_dropped role party.offer before payload p s.tied s.due one;
           due = no_guess role party.offer before payload is;
-          knows = known_kept m role party version before payload (kexinit_stays before payload is) (side p s.tied is (none (leaving role phase.Exchange)))
+          knows = known_dropped m role party version before payload (kexinit_stays before payload is) (side p s.tied is (none (leaving role phase.Exchange))) none
               ∙ ap (λ (k : Known). record k { first = false }) s.knows;
         }
       where
@@ -114,18 +114,18 @@ module _ (m : Meaning) (role : Role) (party : Party) (version : List ℕ) where
         }
 
     pub leaves : (p : Phase) (known : Known) → Sits m role party version before p false known → past_exchange p ≡ true → kind payload ≡ leaving role p
-        → Sits m role party version (before ++ payload ∷ []) (behind p) false (record known { first = false })
+        → Sits m role party version (before ++ payload ∷ []) (behind p) false (behind_payload known payload)
     leaves p known s past is =
         let begun : offered before ≡ true = s.tied.offer ∙ past_past p past in
         record {
           tied = tied_leaves role party.offer before payload p s.tied s.due is;
           due = no_guess role party.offer before payload begun;
-          knows = known_kept m role party version before payload (kexinit_stays before payload begun) (inl (begun, s.tied.exchange ∙ past))
-              ∙ ap (λ (k : Known). record k { first = false }) s.knows;
+          knows = known_behind m role party version before payload (kexinit_stays before payload begun) (inl (begun, s.tied.exchange ∙ past)) s.due
+              ∙ ap (λ (k : Known). behind_payload k payload) s.knows;
         }
 
     pub stays : (p : Phase) (known : Known) → Sits m role party version before p false known → LeavesNone role (kind payload)
-        → Sits m role party version (before ++ payload ∷ []) p false (record known { first = false })
+        → Sits m role party version (before ++ payload ∷ []) p false (behind_payload known payload)
     stays p known s l =
         let tied : Tied role party.offer (before ++ payload ∷ []) p = tied_stays role party.offer before payload p s.tied s.due l in
         let none : kept role party.offer (leaving role phase.Exchange) before payload ≡ false = kept_free role party.offer before payload (leaving role phase.Exchange) s.due ∙ l.exchange in
@@ -133,29 +133,29 @@ module _ (m : Meaning) (role : Role) (party : Party) (version : List ℕ) where
       where
         by : (p : Phase) → Sits m role party version before p false known → Tied role party.offer (before ++ payload ∷ []) p
             → kept role party.offer (leaving role phase.Exchange) before payload ≡ false → (b : Bool) → past_exchange p ≡ b
-            → Sits m role party version (before ++ payload ∷ []) p false (record known { first = false })
+            → Sits m role party version (before ++ payload ∷ []) p false (behind_payload known payload)
         by p s tied none true past =
             let begun : offered before ≡ true = s.tied.offer ∙ past_past p past in
             record {
               tied = tied;
               due = no_guess role party.offer before payload begun;
-              knows = known_kept m role party version before payload (kexinit_stays before payload begun) (inl (begun, s.tied.exchange ∙ past))
-                  ∙ ap (λ (k : Known). record k { first = false }) s.knows;
+              knows = known_behind m role party version before payload (kexinit_stays before payload begun) (inl (begun, s.tied.exchange ∙ past)) s.due
+                  ∙ ap (λ (k : Known). behind_payload k payload) s.knows;
             }
         by p s tied none false past = by_offer (past_kexinit p) refl
           where
-            by_offer : (b : Bool) → past_kexinit p ≡ b → Sits m role party version (before ++ payload ∷ []) p false (record known { first = false })
+            by_offer : (b : Bool) → past_kexinit p ≡ b → Sits m role party version (before ++ payload ∷ []) p false (behind_payload known payload)
             by_offer true begun = record {
               tied = tied;
               due = no_guess role party.offer before payload (s.tied.offer ∙ begun);
-              knows = known_kept m role party version before payload (kexinit_stays before payload (s.tied.offer ∙ begun)) (inr (s.tied.exchange ∙ past, none))
-                  ∙ ap (λ (k : Known). record k { first = false }) s.knows;
+              knows = known_behind m role party version before payload (kexinit_stays before payload (s.tied.offer ∙ begun)) (inr (s.tied.exchange ∙ past, none)) s.due
+                  ∙ ap (λ (k : Known). behind_payload k payload) s.knows;
             }
             by_offer false not_begun = record {
               tied = tied;
               due = none_due role party.offer (before ++ payload ∷ []) (tied.offer ∙ not_begun);
-              knows = known_kept m role party version before payload (kexinit_none before payload (s.tied.offer ∙ not_begun) l.kexinit) (inr (s.tied.exchange ∙ past, none))
-                  ∙ ap (λ (k : Known). record k { first = false }) s.knows;
+              knows = known_behind m role party version before payload (kexinit_none before payload (s.tied.offer ∙ not_begun) l.kexinit) (inr (s.tied.exchange ∙ past, none)) s.due
+                  ∙ ap (λ (k : Known). behind_payload k payload) s.knows;
             }
 
     -- keys

@@ -69,7 +69,7 @@ conforms role party us phase.Service s not = Begins s
 conforms role party us phase.Auth s not = Begins s
 
 -- an endpoint that is past phase newkeys: the three messages stood
-past_parts : (k e n s : Bool) → past_newkeys (phase_by k e n s) ≡ true → (e ≡ true) × (n ≡ true)
+pub past_parts : (k e n s : Bool) → past_newkeys (phase_by k e n s) ≡ true → (e ≡ true) × (n ≡ true)
 past_parts true true true s h = (refl, refl)
 past_parts true true false s h = absurd (true≢false (sym h))
 past_parts true false n s h = absurd (true≢false (sym h))

@@ -8,9 +8,10 @@ use Rattle.sshneg.specs.declared.role.Role.TheVariants.{Client, Server}
 use Rattle.sshcore.specs.declared.table.Line.{Line}
 use Rattle.sshcore.specs.declared.table.Line.TheVariants as line
 use Rattle.sshcore.specs.declared.table.Phase.{Phase}
+use Rattle.sshcore.specs.declared.table.Phase.TheVariants as phase
 use Rattle.sshcore.specs.Phases.{leaving}
 use Rattle.sshcore.specs.Standing.{LeavesNone}
-use Rattle.sshcore.specs.Table.{is_ignored, is_of_method, is_ruled, is_unknown, line_by, takes_extensions, within}
+use Rattle.sshcore.specs.Table.{is_ignored, is_of_auth, is_of_method, is_ruled, is_unknown, line_by, takes_extensions, within}
 
 -- a number that leaves no phase, and is no exchange message's
 pub record IsQuiet (role : Role) (n : ℕ) : Type 0 where
@@ -83,19 +84,42 @@ module _ (role : Role) (n : ℕ) where
     ]
   ]
 
+-- the messages of authentication leave no earlier phase
+auth_leaves : (role : Role) (p : Phase) (n : ℕ) → is_of_auth role p n ≡ true → IsQuiet role n
+auth_leaves Server phase.Auth n h =
+    let same : n ≡ 50 = eqb-true n 50 h in
+    none_from Server n (λ q. omega arith) (λ q. omega arith) (λ q. omega arith) (λ q. omega arith) (λ q. omega arith) (λ q. omega arith)
+auth_leaves Client phase.Auth n h = elim (or_cases _ _ h) [
+  | inl a ↦ let same : n ≡ 51 = eqb-true n 51 a in
+      none_from Client n (λ q. omega arith) (λ q. omega arith) (λ q. omega arith) (λ q. omega arith) (λ q. omega arith) (λ q. omega arith)
+  | inr b ↦ let same : n ≡ 53 = eqb-true n 53 b in
+      none_from Client n (λ q. omega arith) (λ q. omega arith) (λ q. omega arith) (λ q. omega arith) (λ q. omega arith) (λ q. omega arith)
+]
+auth_leaves Client phase.KexInit n h = absurd cc
+auth_leaves Server phase.KexInit n h = absurd cc
+auth_leaves Client phase.Exchange n h = absurd cc
+auth_leaves Server phase.Exchange n h = absurd cc
+auth_leaves Client phase.NewKeys n h = absurd cc
+auth_leaves Server phase.NewKeys n h = absurd cc
+auth_leaves Client phase.Service n h = absurd cc
+auth_leaves Server phase.Service n h = absurd cc
+
 module _ (role : Role) (p : Phase) (strict : Bool) (n : ℕ) where
   -- no guess is due, and strictness rules nothing
   free : (n == 1) ≡ false → is_ruled p strict ≡ false → Sees role p strict false n (line_by role p strict false n)
   unfolding line_by
   free one off = rw (one, off) (elim (cases_Bool (n == leaving role p)) [
     | inl h ↦ rw h (Leaving refl (eqb-true n (leaving role p) h) refl)
-    | inr h ↦ rw h (elim (cases_Bool (is_ignored n)) [
-      | inl b ↦ rw b (Staying refl off h (range role n 2 4 (inl (omega arith, omega arith)) b) (λ e. absurd cc))
-      | inr b ↦ rw b (elim (cases_Bool ((n == 7) && takes_extensions p)) [
-        | inl c ↦ rw c (Staying refl off h (extension role n (and_parts _ _ c).0) (λ e. absurd cc))
-        | inr c ↦ rw c (elim (cases_Bool (is_unknown n)) [
-          | inl d ↦ rw d (Staying refl off h (unknown_leaves role n d) (λ e. absurd cc))
-          | inr d ↦ rw d (Useless refl off h refl)
+    | inr h ↦ rw h (elim (cases_Bool (is_of_auth role p n)) [
+      | inl a ↦ rw a (Staying refl off h (auth_leaves role p n a) (λ e. absurd cc))
+      | inr a ↦ rw a (elim (cases_Bool (is_ignored n)) [
+        | inl b ↦ rw b (Staying refl off h (range role n 2 4 (inl (omega arith, omega arith)) b) (λ e. absurd cc))
+        | inr b ↦ rw b (elim (cases_Bool ((n == 7) && takes_extensions p)) [
+          | inl c ↦ rw c (Staying refl off h (extension role n (and_parts _ _ c).0) (λ e. absurd cc))
+          | inr c ↦ rw c (elim (cases_Bool (is_unknown n)) [
+            | inl d ↦ rw d (Staying refl off h (unknown_leaves role n d) (λ e. absurd cc))
+            | inr d ↦ rw d (Useless refl off h refl)
+          ])
         ])
       ])
     ])

@@ -37,7 +37,7 @@ unfolding line_by repeated runs lines_up_to all_lines
 service_lines strict = (refl, refl)
 
 -- phase auth, strict or not
-auth_lines : (strict : Bool) → (all_lines Server phase.Auth strict false ≡ runs ((1, line.Unexpected) ∷ (4, line.Reads) ∷ (2, line.Unexpected) ∷ (1, line.Reads) ∷ (12, line.Unknown) ∷ (2, line.Unexpected) ∷ (8, line.Unknown) ∷ (2, line.Unexpected) ∷ (18, line.Unknown) ∷ (4, line.Unexpected) ∷ (26, line.Unknown) ∷ (176, line.Unexpected) ∷ [])) × (all_lines Client phase.Auth strict false ≡ runs ((1, line.Unexpected) ∷ (4, line.Reads) ∷ (2, line.Unexpected) ∷ (1, line.Reads) ∷ (12, line.Unknown) ∷ (2, line.Unexpected) ∷ (8, line.Unknown) ∷ (2, line.Unexpected) ∷ (18, line.Unknown) ∷ (4, line.Unexpected) ∷ (26, line.Unknown) ∷ (176, line.Unexpected) ∷ []))
+auth_lines : (strict : Bool) → (all_lines Server phase.Auth strict false ≡ runs ((1, line.Unexpected) ∷ (4, line.Reads) ∷ (2, line.Unexpected) ∷ (1, line.Reads) ∷ (12, line.Unknown) ∷ (2, line.Unexpected) ∷ (8, line.Unknown) ∷ (2, line.Unexpected) ∷ (18, line.Unknown) ∷ (1, line.Reads) ∷ (3, line.Unexpected) ∷ (26, line.Unknown) ∷ (176, line.Unexpected) ∷ [])) × (all_lines Client phase.Auth strict false ≡ runs ((1, line.Unexpected) ∷ (4, line.Reads) ∷ (2, line.Unexpected) ∷ (1, line.Reads) ∷ (12, line.Unknown) ∷ (2, line.Unexpected) ∷ (8, line.Unknown) ∷ (2, line.Unexpected) ∷ (18, line.Unknown) ∷ (1, line.Unexpected) ∷ (3, line.Reads) ∷ (26, line.Unknown) ∷ (176, line.Unexpected) ∷ []))
 unfolding line_by repeated runs lines_up_to all_lines
 auth_lines strict = (refl, refl)
 

@@ -1,15 +1,17 @@
 -- What each message that has a place brings.
 
-use Rattle.std.proofs.Common.{◌≡◌, ◌≢◌, inl, inr, ℕ, Bool, false, List, [], Bor, Box, Global, Some, Result, Ok, Err, OnOk, refl, sym, ap, ◌∙◌, subst, arith}
+use Rattle.std.proofs.Common.{◌≡◌, ◌≢◌, inl, inr, ℕ, ◌+◌, ◌≤◌, Bool, true, false, List, [], length, Bor, Box, Global, Some, Result, Ok, Err, OnOk, refl, sym, ap, ◌∙◌, subst, arith}
 use Rattle.std.proofs.lemmas.List.{append-nil}
 use Rattle.sshwire.specs.declared.mpint.Mpint as mpint
 use Rattle.sshwire.specs.declared.share_form.ShareForm.{ShareForm}
 use Rattle.sshwire.specs.declared.share_form.ShareForm.TheVariants.{Mpint}
-use Rattle.sshmsg.specs.Content.{Content, Disconnect, KexEcdhInit, KexEcdhReply, KexInit, KexdhInit, KexdhReply, NewKeys, Offer, ServiceAccept, ServiceRequest}
+use Rattle.sshmsg.specs.Content.{Content, Disconnect, KexEcdhInit, KexEcdhReply, KexInit, KexdhInit, KexdhReply, Method, NewKeys, NoMethod, Offer, OtherMethod, Password, PasswordChange, PublicKey, PublicKeyQuery, ServiceAccept, ServiceRequest, UserauthFailure, UserauthRequest, UserauthSuccess}
+use Rattle.sshmsg.specs.Lengths.{method_length}
 use Rattle.sshmsg.specs.Messages.{Spells, message_in}
 use Rattle.sshmsg.specs.Numbers.{kind, number_of}
 use Rattle.sshmsg.specs.declared.message.KexInit as kexinit
 use Rattle.sshmsg.specs.declared.message.Message.{Message}
+use Rattle.sshmsg.specs.declared.message.Method as method
 use Rattle.sshmsg.specs.declared.message.Message.TheVariants as message
 use Rattle.sshmsg.specs.View.{content_of}
 use Rattle.sshneg.specs.declared.role.Role.{Role}
@@ -17,9 +19,13 @@ use Rattle.sshneg.specs.declared.role.Role.TheVariants.{Client, Server}
 use Rattle.sshneg.specs.ExchangeEnd.{offer_by, offer_in}
 use Rattle.sshpacket.specs.KeyData.{KeyData}
 use Rattle.sshpacket.specs.Suite.{Meaning}
+use Rattle.sshpacket.specs.declared.limits.TheConstants.{PACKET_LIMIT}
 use Rattle.sshcore.specs.declared.end.Fault.{Fault}
 use Rattle.sshcore.specs.declared.table.Line.TheVariants as line
+use Rattle.sshcore.specs.declared.table.Phase.{Phase}
 use Rattle.sshcore.specs.declared.table.Phase.TheVariants as phase
+use Rattle.sshcore.specs.Attempts.{failure_reply, success_reply}
+use Rattle.sshcore.specs.Authenticating.{FitsMethod, counted_request, failed_attempt}
 use Rattle.sshcore.specs.Before.{wrong_guess}
 use Rattle.sshcore.specs.Brings.{Exchanges, Gives, IsOngoing, Leaves, Offers, StandsAt, Stays, Works, heard_one}
 use Rattle.sshcore.specs.Ending.{Authenticated, Closed, Ending, Failed, Open, Reply, goes}
@@ -29,9 +35,12 @@ use Rattle.sshcore.specs.Known.{Known}
 use Rattle.sshcore.specs.Output.{said_from, sending_from}
 use Rattle.sshcore.specs.Party.{Party, Policy}
 use Rattle.sshcore.specs.Phases.{behind, leaving, past_exchange}
-use Rattle.sshcore.specs.Standing.{LeavesNone, behind_offer}
+use Rattle.sshcore.specs.Plan.{listed_by, listed_in}
+use Rattle.sshcore.specs.Requests.{request_reply}
+use Rattle.sshcore.specs.Standing.{LeavesNone, behind_offer, behind_payload}
 use Rattle.sshcore.specs.Table.{line_by}
 use Rattle.sshcore.specs.Work.{accept_reply, init_reply, kexinit_reply, reply_reply, service_reply, work}
+use Rattle.sshcore.proofs.BehindLemmas.{failure_behind, heard_number, request_behind}
 use Rattle.sshcore.proofs.ReadsLemmas as table
 use Rattle.sshcore.proofs.ReadsLemmas.{IsAt, IsPlain, Reads, plain_calm, plain_other, reads}
 
@@ -54,12 +63,14 @@ pub record HasPlace (role : Role) (old : Kept) (payload : List ℕ) (c : Content
   pub read_is : message_in old.known.shares payload ≡ Ok c
   pub kind_is : kind payload ≡ number_of c
   pub offers : (peer : Offer) → c ≡ KexInit peer → offer_in payload ≡ Some peer
+  pub lists : (listed : List (List ℕ)) (partial : Bool) → c ≡ UserauthFailure listed partial → listed_in payload ≡ listed
 
 pub has_place : ((form : ShareForm) (payload : List ℕ) (c : Content) → Spells form c payload → message_in form payload ≡ Ok c)
     → ((form : ShareForm) (payload : List ℕ) (c : Content) → message_in form payload ≡ Ok c → kind payload ≡ number_of c)
     → ((form other : ShareForm) (payload : List ℕ) → kind payload ≢ 30 → kind payload ≢ 31 → message_in form payload ≡ message_in other payload)
     → (role : Role) (old : Kept) (payload : List ℕ) (c : Content) → line_by role old.phase old.known.strict old.guess (kind payload) ≡ line.Reads → Spells old.known.shares c payload
     → HasPlace role old payload c
+unfolding listed_in
 has_place complete number alike role old payload c line_is spelled =
     let read : message_in old.known.shares payload ≡ Ok c = complete old.known.shares payload c spelled in
     let same : kind payload ≡ number_of c = number old.known.shares payload c read in
@@ -70,6 +81,9 @@ has_place complete number alike role old payload c line_is spelled =
       offers = λ peer is.
           let twenty : kind payload ≡ 20 = same ∙ ap number_of is in
           ap offer_by (alike Mpint old.known.shares payload (λ q. omega arith) (λ q. omega arith) ∙ (read ∙ ap (λ (x : Content). Ok x) is));
+      lists = λ listed partial is.
+          let failure : kind payload ≡ 51 = same ∙ ap number_of is in
+          ap listed_by (alike Mpint old.known.shares payload (λ q. omega arith) (λ q. omega arith) ∙ (read ∙ ap (λ (x : Content). Ok x) is));
     }
 
 -- a session that is closed or has failed doesn't go on
@@ -106,6 +120,18 @@ module _ (role : Role) (old : Kept) (payload : List ℕ) (c : Content) (has : Ha
 
   pub at_request : number_of c ≡ 5 → IsAt role Server old.phase phase.Service old.guess
   at_request is = table.request_read role old.phase old.guess (at_number 5 is)
+
+  pub at_accept : number_of c ≡ 6 → IsAt role Client old.phase phase.Service old.guess
+  at_accept is = table.accept_read role old.phase old.guess (at_number 6 is)
+
+  pub at_user_request : number_of c ≡ 50 → IsAt role Server old.phase phase.Auth old.guess
+  at_user_request is = table.user_request_read role old.phase old.guess (at_number 50 is)
+
+  pub at_failure : number_of c ≡ 51 → IsAt role Client old.phase phase.Auth old.guess
+  at_failure is = table.failure_read role old.phase old.guess (at_number 51 is)
+
+  pub at_success : number_of c ≡ 52 → IsAt role Client old.phase phase.Auth old.guess
+  at_success is = table.success_read role old.phase old.guess (at_number 52 is)
 
 module _ (m : Meaning) (d : Policy) (role : Role) (party : Party) (old new : Kept) (payload before after : List ℕ) (c : Content) (has : HasPlace role old payload c) where
   -- a message that is worked on so
@@ -157,6 +183,29 @@ module _ (m : Meaning) (d : Policy) (role : Role) (party : Party) (old new : Kep
       by_reply (reply_reply m d Client party old.known c signature) (is ∙ ap (λ (x : Role). reply_reply m d x party old.known c signature) at.side_is)
       (exchange_works Client 31 (reply_reply m d Client party old.known c signature) number refl at h)
 
+  -- a message that leaves a phase behind the exchange
+  leaves_works : (side : Role) (p q : Phase) (n : ℕ) (k : Known) (r : Reply) → number_of c ≡ n → leaving side p ≡ n → past_exchange p ≡ true → behind p ≡ q
+      → IsAt role side old.phase p old.guess → behind_payload old.known payload ≡ k
+      → ((strict : Bool) (next : KeyData) → Gives m party.seed strict next old new before after r)
+      → (IsOngoing new.end → new.pending ≡ old.pending)
+      → (IsOngoing new.end → StandsAt new q old.guess k)
+      → Works m role party old new payload before after r
+  leaves_works side p q n k r number leaves past next at known gives keys stands =
+      let none : old.guess ≡ false = at.none_due in
+      let here : kind payload ≡ leaving role old.phase = has.kind_is ∙ (number ∙ sym leaves ∙ sym (rw (at.phase_is, at.side_is) refl)) in
+      record {
+        gives = gives _ _;
+        moves = λ goes_on. Leaves none (ap past_exchange at.phase_is ∙ past) here (keys goes_on) (record {
+          phase_is = (stands goes_on).phase_is ∙ sym (ap behind at.phase_is ∙ next);
+          guess_is = (stands goes_on).guess_is ∙ none;
+          known_is = (stands goes_on).known_is ∙ sym known;
+        });
+      }
+
+  -- what is known behind a message with another number than those of requests and FAILURE
+  heard_as : (n : ℕ) → number_of c ≡ n → n ≢ 50 → n ≢ 51 → behind_payload old.known payload ≡ heard_one old.known
+  heard_as n number request failure = heard_number old.known payload n (has.kind_is ∙ number) request failure
+
   pub request_works : (service : List ℕ) → c ≡ ServiceRequest service
       → ((strict : Bool) (next : KeyData) → Gives m party.seed strict next old new before after (service_reply party service))
       → new.pending ≡ old.pending
@@ -164,27 +213,78 @@ module _ (m : Meaning) (d : Policy) (role : Role) (party : Party) (old new : Kep
       → Works m role party old new payload before after (work m d role party old.known c)
   unfolding work
   request_works service is gives keys stands =
-      let at = at_request role old payload c has (ap number_of is) in
+      by_reply (service_reply party service) (ap (work m d role party old.known) is)
+      (leaves_works Server phase.Service phase.Auth 5 (heard_one old.known) (service_reply party service) (ap number_of is) refl refl refl
+      (at_request role old payload c has (ap number_of is)) (heard_as 5 (ap number_of is) (λ q. omega arith) (λ q. omega arith)) gives (λ _. keys) stands)
+
+  pub accept_works : (service : List ℕ) → c ≡ ServiceAccept service
+      → ((strict : Bool) (next : KeyData) → Gives m party.seed strict next old new before after (accept_reply m old.known service))
+      → new.pending ≡ old.pending
+      → (IsOngoing new.end → StandsAt new phase.Auth old.guess (heard_one old.known))
+      → Works m role party old new payload before after (work m d role party old.known c)
+  unfolding work
+  accept_works service is gives keys stands =
+      by_reply (accept_reply m old.known service) (ap (work m d role party old.known) is)
+      (leaves_works Client phase.Service phase.Auth 6 (heard_one old.known) (accept_reply m old.known service) (ap number_of is) refl refl refl
+      (at_accept role old payload c has (ap number_of is)) (heard_as 6 (ap number_of is) (λ q. omega arith) (λ q. omega arith)) gives (λ _. keys) stands)
+
+  pub user_request_works : (user service : List ℕ) (method : Method) → c ≡ UserauthRequest user service method
+      → ((strict : Bool) (next : KeyData) → Gives m party.seed strict next old new before after (request_reply m d party old.known user service method))
+      → new.pending ≡ old.pending
+      → (IsOngoing new.end → StandsAt new phase.Auth old.guess (counted_request old.known))
+      → Works m role party old new payload before after (work m d role party old.known c)
+  unfolding work
+  user_request_works user service method is gives keys stands =
+      by_reply (request_reply m d party old.known user service method) (ap (work m d role party old.known) is)
+      (leaves_works Server phase.Auth phase.Auth 50 (counted_request old.known) (request_reply m d party old.known user service method) (ap number_of is) refl refl refl
+      (at_user_request role old payload c has (ap number_of is)) (request_behind old.known payload (has.kind_is ∙ ap number_of is)) gives (λ _. keys) stands)
+
+  pub success_works : c ≡ UserauthSuccess
+      → ((strict : Bool) (next : KeyData) → Gives m party.seed strict next old new before after (success_reply old.known))
+      → (IsOngoing new.end → new ≡ record old { end = new.end; known = heard_one old.known })
+      → Works m role party old new payload before after (work m d role party old.known c)
+  unfolding work
+  success_works is gives stays =
+      let at = at_success role old payload c has (ap number_of is) in
+      by_reply (success_reply old.known) (ap (work m d role party old.known) is)
+      (leaves_works Client phase.Auth phase.Auth 52 (heard_one old.known) (success_reply old.known) (ap number_of is) refl refl refl
+      at (heard_as 52 (ap number_of is) (λ q. omega arith) (λ q. omega arith)) gives (λ goes_on. ap (λ (k : Kept). k.pending) (stays goes_on))
+      (λ goes_on. record {
+        phase_is = ap (λ (k : Kept). k.phase) (stays goes_on) ∙ at.phase_is;
+        guess_is = ap (λ (k : Kept). k.guess) (stays goes_on);
+        known_is = ap (λ (k : Kept). k.known) (stays goes_on);
+      }))
+
+  pub failure_works : (listed : List (List ℕ)) (partial : Bool) → c ≡ UserauthFailure listed partial
+      → ((strict : Bool) (next : KeyData) → Gives m party.seed strict next old new before after (failure_reply m old.known listed))
+      → new ≡ record old { end = new.end; known = failed_attempt old.known listed; sending = new.sending }
+      → Works m role party old new payload before after (work m d role party old.known c)
+  unfolding work
+  failure_works listed partial is gives stays =
+      let at = at_failure role old payload c has (ap number_of is) in
       let none : old.guess ≡ false = at.none_due in
-      by_reply (service_reply party service) (ap (work m d role party old.known) is) (record {
+      let number : kind payload ≡ 51 = has.kind_is ∙ ap number_of is in
+      by_reply (failure_reply m old.known listed) (ap (work m d role party old.known) is) (record {
         gives = gives _ _;
-        moves = λ goes_on. Leaves none (ap past_exchange at.phase_is)
-            (has.kind_is ∙ ap number_of is ∙ sym (rw (at.phase_is, at.side_is) refl))
-            keys
+        moves = λ goes_on. Stays none (subst (λ (n : ℕ). LeavesNone role n) (sym number) (table.late_leaves role 51 (omega arith)))
+            (ap (λ (k : Kept). k.pending) stays)
             (record {
-              phase_is = (stands goes_on).phase_is ∙ sym (ap behind at.phase_is);
-              guess_is = (stands goes_on).guess_is ∙ none;
-              known_is = (stands goes_on).known_is;
+              phase_is = ap (λ (k : Kept). k.phase) stays;
+              guess_is = ap (λ (k : Kept). k.guess) stays ∙ none;
+              known_is = ap (λ (k : Kept). k.known) stays ∙ sym (failure_behind old.known payload listed number (has.lists listed partial is));
             });
       })
 
-  pub accept_works : (service : List ℕ) → c ≡ ServiceAccept service
-      → ((strict : Bool) (next : KeyData) → Gives m party.seed strict next old new before after (accept_reply service))
-      → (IsOngoing new.end → ⊥)
-      → Works m role party old new payload before after (work m d role party old.known c)
-  unfolding work
-  accept_works service is gives ends =
-      by_reply (accept_reply service) (ap (work m d role party old.known) is) (record { gives = gives _ _; moves = λ goes_on. absurd (ends goes_on) })
+-- the fields of a method that is no longer than a packet are no longer
+pub fits_method : (x : Method) → method_length x ≤ PACKET_LIMIT → FitsMethod x
+fits_method NoMethod short = tt
+fits_method (Password password) short = tt
+fits_method (PasswordChange password next) short = tt
+fits_method (PublicKey algorithm key signature) short =
+    let parts : length algorithm + length key + length signature + 13 ≤ PACKET_LIMIT = short in
+    (omega arith, omega arith)
+fits_method (PublicKeyQuery algorithm key) short = tt
+fits_method (OtherMethod name fields) short = tt
 
 -- messages to which nothing is said
 module _ (m : Meaning) (d : Policy) (role : Role) (party : Party) (old new : Kept) (payload before : List ℕ) (c : Content) (has : HasPlace role old payload c) where
@@ -211,7 +311,7 @@ module _ (m : Meaning) (d : Policy) (role : Role) (party : Party) (old new : Kep
             (record {
               phase_is = ap (λ (k : Kept). k.phase) next ∙ sym (ap behind at.phase_is);
               guess_is = ap (λ (k : Kept). k.guess) next ∙ none;
-              known_is = ap (λ (k : Kept). k.known) next;
+              known_is = ap (λ (k : Kept). k.known) next ∙ sym (heard_number old.known payload 21 (has.kind_is ∙ ap number_of is) (λ q. omega arith) (λ q. omega arith));
             });
       })
 
@@ -227,7 +327,7 @@ module _ (m : Meaning) (d : Policy) (role : Role) (party : Party) (old new : Kep
             (record {
               phase_is = ap (λ (k : Kept). k.phase) next;
               guess_is = ap (λ (k : Kept). k.guess) next ∙ none;
-              known_is = ap (λ (k : Kept). k.known) next;
+              known_is = ap (λ (k : Kept). k.known) next ∙ sym (heard_number old.known payload (number_of c) has.kind_is plain.user_request plain.failure);
             });
       })
 
@@ -265,6 +365,9 @@ pub record IsNone (x : Message) : Type 0 where
   pub kexdh_reply : (host_key : Bor (List ℕ)) (f : mpint.Mpint) (signature : Bor (List ℕ)) → x ≡ message.KexdhReply host_key f signature → ⊥
   pub kex_ecdh_init : (share : Bor (List ℕ)) → x ≡ message.KexEcdhInit share → ⊥
   pub kex_ecdh_reply : (host_key share signature : Bor (List ℕ)) → x ≡ message.KexEcdhReply host_key share signature → ⊥
+  pub user_request : (user service : Bor (List ℕ)) (request : method.Method) → x ≡ message.UserauthRequest user service request → ⊥
+  pub failure : (listed : List (List ℕ)) (partial : Bool) → x ≡ message.UserauthFailure listed partial → ⊥
+  pub success : x ≡ message.UserauthSuccess → ⊥
 
 module _ (m : Meaning) (d : Policy) (role : Role) (party : Party) (known : Known) where
   pub ignores : (x : Message) → IsNone x → IsIgnored m d role party known (content_of x)
@@ -282,7 +385,7 @@ module _ (m : Meaning) (d : Policy) (role : Role) (party : Party) (known : Known
   ignores (message.KexdhReply host_key f signature) h = absurd (h.kexdh_reply host_key f signature refl)
   ignores (message.KexEcdhInit share) h = absurd (h.kex_ecdh_init share refl)
   ignores (message.KexEcdhReply host_key share signature) h = absurd (h.kex_ecdh_reply host_key share signature refl)
-  ignores (message.UserauthRequest user service request) h = record { plain = plain_other 50 (inr (omega arith, omega arith)); work_is = refl }
-  ignores (message.UserauthFailure methods partial) h = record { plain = plain_other 51 (inr (omega arith, omega arith)); work_is = refl }
-  ignores message.UserauthSuccess h = record { plain = plain_other 52 (inr (omega arith, omega arith)); work_is = refl }
-  ignores (message.UserauthBanner text language) h = record { plain = plain_other 53 (inr (omega arith, omega arith)); work_is = refl }
+  ignores (message.UserauthRequest user service request) h = absurd (h.user_request user service request refl)
+  ignores (message.UserauthFailure listed partial) h = absurd (h.failure listed partial refl)
+  ignores message.UserauthSuccess h = absurd (h.success refl)
+  ignores (message.UserauthBanner text language) h = record { plain = plain_other 53 (inr refl); work_is = refl }

@@ -1,14 +1,14 @@
 -- What stood before a place of the payloads that an endpoint heard: the peer's KEXINIT, the packet of a wrong guess, and the
 -- messages that were kept. `before` are the payloads before the place; the text of the peer's version line isn't among them.
 
-use Rattle.std.specs.Prelude.{ℕ, ◌==◌, ◌&&◌, Bool, false, not, List, [], length, Option, None, Some}
+use Rattle.std.specs.Prelude.{ℕ, ◌==◌, ◌&&◌, Bool, false, not, if◌then◌else◌, List, [], ◌∷◌, length, Option, None, Some}
 use Rattle.sshmsg.specs.declared.numbers.TheConstants.{SSH_MSG_DISCONNECT, SSH_MSG_KEXINIT}
 use Rattle.sshmsg.specs.Content.{Offer}
 use Rattle.sshmsg.specs.Numbers.{kind}
 use Rattle.sshneg.specs.declared.role.Role.{Role}
 use Rattle.sshneg.specs.ExchangeEnd.{client_of, offer_in, server_of}
 use Rattle.sshneg.specs.Strictness.{is_right_guess, is_strict}
-use Rattle.sshpacket.specs.Places.{after_first, first_where, stands}
+use Rattle.sshpacket.specs.Places.{after_first, count_places, first_where, flat_places, stands}
 use Rattle.sshpacket.specs.Stream.{Units}
 use Rattle.sshcore.specs.Party.{Party}
 
@@ -57,7 +57,14 @@ stood role own n before = stands (kept role own n) [] before
 unfoldable pub first_kept : Role → Offer → ℕ → Units → List ℕ
 first_kept role own n before = first_where [] (kept role own n) [] before
 
--- how many payloads stood behind it
+-- all that stood, in order, and how many
+unfoldable pub all_kept : Role → Offer → ℕ → Units → Units
+all_kept role own n before = flat_places (λ b payload. if kept role own n b payload then payload ∷ [] else []) [] before
+
+unfoldable pub count_kept : Role → Offer → ℕ → Units → ℕ
+count_kept role own n before = count_places (kept role own n) [] before
+
+-- how many payloads stood behind the first
 unfoldable pub since : Role → Offer → ℕ → Units → ℕ
 since role own n before = length (after_first (kept role own n) [] before)
 

@@ -21,14 +21,14 @@ use Rattle.sshcore.specs.Output.{said_from, sending_from}
 use Rattle.sshcore.specs.Party.{Party, Policy}
 use Rattle.sshcore.specs.Phases.{behind, leaving, past_exchange}
 use Rattle.sshcore.specs.Replies.{line_reply}
-use Rattle.sshcore.specs.Standing.{LeavesNone, behind_exchange, behind_offer, exchange_heard}
+use Rattle.sshcore.specs.Standing.{LeavesNone, behind_exchange, behind_offer, behind_payload, exchange_heard}
 use Rattle.sshcore.specs.Table.{line_by}
 
 -- the session goes on: the endpoint is open, or the user is authenticated
 abbrev pub IsOngoing : Ending → Type 0
 IsOngoing end = (end ≡ Open) ⊎ ((a : AgreedData) × (end ≡ Authenticated a))
 
--- the same, with one payload more heard
+-- the same with one payload more, which changes nothing else
 abbrev pub heard_one : Known → Known
 heard_one known = record known { first = false }
 
@@ -58,9 +58,9 @@ pub data Moves (m : Meaning) (role : Role) (party : Party) (payload : List ℕ) 
       → new.pending ≡ Some (keys_by m old.known.algorithms (exchange_heard m role party old.known payload) (other role))
       → StandsAt new phase.NewKeys false (behind_exchange m role party old.known payload) → Moves m role party payload old new
   Leaves : old.guess ≡ false → past_exchange old.phase ≡ true → kind payload ≡ leaving role old.phase → new.pending ≡ old.pending
-      → StandsAt new (behind old.phase) false (heard_one old.known) → Moves m role party payload old new
+      → StandsAt new (behind old.phase) false (behind_payload old.known payload) → Moves m role party payload old new
   Stays : old.guess ≡ false → LeavesNone role (kind payload) → new.pending ≡ old.pending
-      → StandsAt new old.phase false (heard_one old.known) → Moves m role party payload old new
+      → StandsAt new old.phase false (behind_payload old.known payload) → Moves m role party payload old new
 
 -- What a packet brings: this reply, and where the session goes on the endpoint stands behind the packet.
 pub record Works (m : Meaning) (role : Role) (party : Party) (old new : Kept) (payload before after : List ℕ) (r : Reply) : Type 0 where

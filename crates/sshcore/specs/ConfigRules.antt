@@ -75,6 +75,14 @@ HasShortKey ByNothing = Unit {0}
 HasShortKey (ByPassword password) = Unit {0}
 HasShortKey (ByKey algorithm secret) = length secret ≤ PRIVATE_KEY_LIMIT
 
+-- what is true of each attempt of an accepted plan
+pub record IsAttempt (a : Attempt) : Type 0 where
+  pub user : length a.user ≤ USER_LIMIT
+  pub service : IsName a.service
+  pub named : IsNamed a.proving
+  pub password : HasShortPassword a.proving
+  pub key : HasShortKey a.proving
+
 -- a byte of a notice line
 pub record IsNoticeByte (b : ℕ) : Type 0 where
   pub from_space : 32 ≤ b

@@ -28,11 +28,12 @@ pub record IsSameEndpoint {S D : Type 0} (old new : EndpointData S D) : Type 0 w
   pub same_suite : new.suite ≡ old.suite
   pub same_decisions : new.decisions ≡ old.decisions
 
--- what a call did that used these bytes
+-- What a call did that used these bytes. Only the end of input cuts an endpoint off.
 pub record Fed {S D : Type 0} (meaning : S → Meaning) (policy : D → Policy) (old new : EndpointData S D) (taken before after : List ℕ) : Type 0 where
   pub added : List ℕ
   pub appended : after ≡ before ++ added
   pub follows : (h s : List ℕ) → After meaning policy old h s → After meaning policy new (h ++ taken) (s ++ added)
+  pub uncut : (h s : List ℕ) → After meaning policy old h s → ending_of new ≡ Failed fault.Cut → ending_of old ≡ Failed fault.Cut
   pub same : IsSameEndpoint old new
 
 -- What a call did that wanted memory: it used some of the piece, and said whole packets, a prefix of those that it would have

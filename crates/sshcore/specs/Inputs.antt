@@ -82,11 +82,12 @@ pub record Stands (m : Meaning) (d : Policy) (role : Role) (party : Party) (kept
   pub ends : StandsSo heard_end kept.end
   pub inside : IsOngoing kept.end → IsInside m role party units answers rest kept i
 
--- an endpoint that goes on from here has heard these bytes more, and said what was appended
+-- An endpoint that goes on from here has heard these bytes more, and said what was appended; its input wasn't cut off.
 pub record GoesOn (m : Meaning) (d : Policy) (role : Role) (party : Party) (new : Kept) (j : Input) (h s taken before after : List ℕ) : Type 0 where
   pub added : List ℕ
   pub appended : after ≡ before ++ added
   pub stands : Stands m d role party new j (h ++ taken) (s ++ added)
+  pub uncut : new.end ≢ Failed fault.Cut
 
 -- what a step did that used these bytes, whatever was heard and said before
 abbrev pub Steps : Meaning → Policy → Role → Party → Input → Kept → Input → Kept → List ℕ → List ℕ → List ℕ → Type 0

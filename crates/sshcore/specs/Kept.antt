@@ -1,15 +1,17 @@
 -- What an endpoint keeps between two packets, besides its reader.
 
-use Rattle.std.specs.Prelude.{Bool, false, [], Option, None, Some}
+use Rattle.std.specs.Prelude.{Bool, false, [], map, Option, None, Some}
 use Rattle.sshneg.specs.Fields.{Algorithms}
 use Rattle.sshpacket.specs.KeyData.{KeyData}
 use Rattle.sshcore.specs.declared.state.State.{State}
 use Rattle.sshcore.specs.declared.table.Phase.{Phase}
 use Rattle.sshcore.specs.declared.table.Phase.TheVariants as phase
+use Rattle.sshcore.specs.ConfigView.{attempt_of}
 use Rattle.sshcore.specs.Ending.{Ending, Open, ending}
 use Rattle.sshcore.specs.Exchange.{no_algorithms}
 use Rattle.sshcore.specs.Known.{Known}
 use Rattle.sshcore.specs.Output.{Sending}
+use Rattle.sshcore.specs.Party.{Party}
 use Rattle.sshcore.specs.Standing.{nothing_known}
 
 -- How it stands; its phase; whether the packet of a wrong guess is due; what it knows; the keys of what is heard, from the
@@ -38,6 +40,8 @@ kept_of s = record {
     algorithms = algorithms_or s.algorithms;
     shares = s.shares;
     session = s.session.items;
+    request = s.request;
+    left = map attempt_of s.left.now;
     strict = s.strict;
     first = s.first;
   };
@@ -46,12 +50,12 @@ kept_of s = record {
 }
 
 -- before any byte
-abbrev pub begun : Kept
-begun = record {
+abbrev pub begun : Party → Kept
+begun party = record {
   end = Open;
   phase = phase.KexInit;
   guess = false;
-  known = nothing_known [];
+  known = nothing_known party [];
   pending = None;
   sending = record { keys = None; number = 0 };
 }

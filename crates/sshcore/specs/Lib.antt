@@ -4,9 +4,12 @@ pub mod Before
 pub mod Phases
 pub mod Counting
 pub mod Exchange
+pub mod Plan
 pub mod Known
 pub mod Table
 pub mod Ending
+pub mod Attempts
+pub mod Requests
 pub mod Work
 pub mod Replies
 pub mod Directions
@@ -18,11 +21,13 @@ pub mod Output
 pub mod ConfigData
 pub mod ConfigView
 pub mod ConfigRules
+pub mod AttemptProps
 pub mod ConfigTests
 pub mod ConfigParty
 pub mod Chosen
 pub mod ChosenView
 pub mod Made
+pub mod Authenticating
 pub mod Kept
 pub mod Brings
 pub mod Negotiated
@@ -32,3 +37,5 @@ pub mod Inputs
 pub mod HearsLines
 pub mod EndpointData
 pub mod Endpoints
+pub mod Authenticated
+pub mod Sessions

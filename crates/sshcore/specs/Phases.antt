@@ -1,7 +1,7 @@
 -- What an endpoint waits for, by the payloads that stood before.
 
 use Rattle.std.specs.Prelude.{ℕ, Bool, true, false, not, if◌then◌else◌}
-use Rattle.sshmsg.specs.declared.numbers.TheConstants.{SSH_MSG_KEXDH_INIT, SSH_MSG_KEXDH_REPLY, SSH_MSG_KEXINIT, SSH_MSG_NEWKEYS, SSH_MSG_SERVICE_ACCEPT, SSH_MSG_SERVICE_REQUEST}
+use Rattle.sshmsg.specs.declared.numbers.TheConstants.{SSH_MSG_KEXDH_INIT, SSH_MSG_KEXDH_REPLY, SSH_MSG_KEXINIT, SSH_MSG_NEWKEYS, SSH_MSG_SERVICE_ACCEPT, SSH_MSG_SERVICE_REQUEST, SSH_MSG_USERAUTH_REQUEST, SSH_MSG_USERAUTH_SUCCESS}
 use Rattle.sshmsg.specs.Content.{Offer}
 use Rattle.sshneg.specs.declared.role.Role.{Role}
 use Rattle.sshneg.specs.declared.role.Role.TheVariants.{Client, Server}
@@ -10,8 +10,8 @@ use Rattle.sshcore.specs.declared.table.Phase.{Phase}
 use Rattle.sshcore.specs.declared.table.Phase.TheVariants as phase
 use Rattle.sshcore.specs.Before.{stood}
 
--- The number of the message that leaves a phase: RFC 4253 sections 7.1, 8, 7.3 and 10. Nothing leaves phase auth, so a number
--- stands there that no message has.
+-- The number of the message that leaves a phase: RFC 4253 sections 7.1, 8, 7.3 and 10, RFC 4252 sections 5 and 5.1. A request
+-- leaves phase auth where it is good, and the endpoint has then ended.
 abbrev pub leaving : Role → Phase → ℕ
 leaving role phase.KexInit = SSH_MSG_KEXINIT
 leaving Client phase.Exchange = SSH_MSG_KEXDH_REPLY
@@ -19,7 +19,8 @@ leaving Server phase.Exchange = SSH_MSG_KEXDH_INIT
 leaving role phase.NewKeys = SSH_MSG_NEWKEYS
 leaving Client phase.Service = SSH_MSG_SERVICE_ACCEPT
 leaving Server phase.Service = SSH_MSG_SERVICE_REQUEST
-leaving role phase.Auth = 256
+leaving Client phase.Auth = SSH_MSG_USERAUTH_SUCCESS
+leaving Server phase.Auth = SSH_MSG_USERAUTH_REQUEST
 
 -- the first phase whose leaving message hasn't stood, of whether those of kexinit, exchange, newkeys and service have
 abbrev pub phase_by : Bool → Bool → Bool → Bool → Phase

@@ -1,10 +1,11 @@
 -- Where an endpoint stands between two payloads: its phase, whether the packet of a wrong guess is due, and what it knows.
 
-use Rattle.std.specs.Prelude.{◌≡◌, ℕ, ◌==◌, Bool, true, false, List, [], Some}
+use Rattle.std.specs.Prelude.{◌≡◌, ℕ, ◌+◌, ◌==◌, Bool, true, false, if◌then◌else◌, List, [], Some}
 use Rattle.sshwire.specs.declared.share_form.ShareForm.TheVariants.{Mpint}
-use Rattle.sshmsg.specs.declared.numbers.TheConstants.{SSH_MSG_KEXINIT, SSH_MSG_NEWKEYS}
+use Rattle.sshmsg.specs.declared.numbers.TheConstants.{SSH_MSG_KEXINIT, SSH_MSG_NEWKEYS, SSH_MSG_USERAUTH_FAILURE, SSH_MSG_USERAUTH_REQUEST}
 use Rattle.sshmsg.specs.Content.{Offer}
 use Rattle.sshmsg.specs.Messages.{message_in}
+use Rattle.sshmsg.specs.Numbers.{kind}
 use Rattle.sshneg.specs.declared.role.Role.{Role}
 use Rattle.sshneg.specs.Derivations.{ExchangeData}
 use Rattle.sshneg.specs.ExchangeEnd.{exchange_hash}
@@ -17,6 +18,7 @@ use Rattle.sshcore.specs.Exchange.{choice_with, chosen_or, exchange_with, no_alg
 use Rattle.sshcore.specs.Known.{Known, known_at}
 use Rattle.sshcore.specs.Party.{Party}
 use Rattle.sshcore.specs.Phases.{leaving, past_exchange, past_kexinit, past_newkeys, past_service}
+use Rattle.sshcore.specs.Plan.{left_behind}
 
 -- of the messages that leave phases, those stood that the phase has behind it
 pub record Tied (role : Role) (own : Offer) (before : Units) (p : Phase) : Type 0 where
@@ -34,13 +36,15 @@ pub record LeavesNone (role : Role) (n : ℕ) : Type 0 where
   pub service : (n == leaving role phase.Service) ≡ false
 
 -- what is known before the peer's KEXINIT
-abbrev pub nothing_known : List ℕ → Known
-nothing_known version = record {
+abbrev pub nothing_known : Party → List ℕ → Known
+nothing_known party version = record {
   version = version;
   kexinit = [];
   algorithms = no_algorithms;
   shares = Mpint;
   session = [];
+  request = 1;
+  left = party.plan;
   strict = false;
   first = true;
 }
@@ -53,7 +57,18 @@ behind_offer m role party known payload peer = record {
   algorithms = chosen_or (choice_with m role party.offer (Some peer));
   shares = shares_by m (choice_with m role party.offer (Some peer));
   session = known.session;
+  request = known.request;
+  left = known.left;
   strict = strict_towards role party.strict (Some peer);
+  first = false;
+}
+
+-- What is known behind a payload that is neither dropped nor the first KEXINIT nor the exchange message: a request counts, and
+-- behind a FAILURE the next attempt is made.
+abbrev pub behind_payload : Known → List ℕ → Known
+behind_payload known payload = record known {
+  request = if kind payload == SSH_MSG_USERAUTH_REQUEST then known.request + 1 else known.request;
+  left = if kind payload == SSH_MSG_USERAUTH_FAILURE then left_behind known.left payload else known.left;
   first = false;
 }
 

@@ -2,8 +2,9 @@
 -- order in which they are tried, and the first that applies decides.
 
 use Rattle.std.specs.Prelude.{ℕ, ◌==◌, ◌&&◌, ◌||◌, Bool, true, false, not, nat_le, if◌then◌else◌}
-use Rattle.sshmsg.specs.declared.numbers.TheConstants.{SSH_MSG_DISCONNECT, SSH_MSG_EXT_INFO}
+use Rattle.sshmsg.specs.declared.numbers.TheConstants.{SSH_MSG_DISCONNECT, SSH_MSG_EXT_INFO, SSH_MSG_USERAUTH_BANNER, SSH_MSG_USERAUTH_FAILURE, SSH_MSG_USERAUTH_REQUEST}
 use Rattle.sshneg.specs.declared.role.Role.{Role}
+use Rattle.sshneg.specs.declared.role.Role.TheVariants.{Client, Server}
 use Rattle.sshcore.specs.declared.table.Line.{Line}
 use Rattle.sshcore.specs.declared.table.Line.TheVariants as line
 use Rattle.sshcore.specs.declared.table.Phase.{Phase}
@@ -23,9 +24,12 @@ is_ruled _ strict = false
 abbrev pub is_of_method : ℕ → Bool
 is_of_method n = within 30 49 n
 
--- the requests and answers of authentication (RFC 4252 section 5): none is taken yet
+-- The messages of authentication: a server hears requests, a client FAILUREs and banners (RFC 4252 sections 5, 5.1 and 5.4). A
+-- SUCCESS leaves the phase.
 abbrev pub is_of_auth : Role → Phase → ℕ → Bool
-is_of_auth role p n = false
+is_of_auth Server phase.Auth n = n == SSH_MSG_USERAUTH_REQUEST
+is_of_auth Client phase.Auth n = n == SSH_MSG_USERAUTH_FAILURE || n == SSH_MSG_USERAUTH_BANNER
+is_of_auth role _ n = false
 
 -- IGNORE, UNIMPLEMENTED and DEBUG may come at any time (RFC 4253 section 11)
 abbrev pub is_ignored : ℕ → Bool

@@ -1,11 +1,12 @@
--- What an endpoint answers to a message that has a place: RFC 4253 sections 7 to 11. The order of the checks is profile.
+-- What an endpoint answers to a message that has a place: RFC 4253 sections 7 to 11, RFC 4252. The order of the checks is
+-- profile.
 
 use Rattle.std.specs.Prelude.{ℕ, ◌&&◌, not, if◌then◌else◌, List, [], ◌∷◌, codes, Option, None, Some, Result, Ok, Err}
 use Rattle.std.specs.Str.{bytes_eq}
 use Rattle.sshwire.specs.declared.share_form.ShareForm.{ShareForm}
 use Rattle.sshwire.specs.declared.share_form.ShareForm.TheVariants.{Hybrid, Mpint, OctetString}
 use Rattle.sshmsg.specs.declared.numbers.TheConstants.{SSH_MSG_KEXINIT, SSH_MSG_SERVICE_ACCEPT}
-use Rattle.sshmsg.specs.Content.{Content, Disconnect, KexEcdhInit, KexEcdhReply, KexInit, KexdhInit, KexdhReply, NewKeys, Offer, ServiceAccept, ServiceRequest, UserauthBanner}
+use Rattle.sshmsg.specs.Content.{Content, Disconnect, KexEcdhInit, KexEcdhReply, KexInit, KexdhInit, KexdhReply, NewKeys, Offer, ServiceAccept, ServiceRequest, UserauthBanner, UserauthFailure, UserauthRequest, UserauthSuccess}
 use Rattle.sshmsg.specs.Written.{written_message}
 use Rattle.sshneg.specs.declared.choice.NoCommon.{NoCommon}
 use Rattle.sshneg.specs.declared.role.Role.{Role}
@@ -18,11 +19,13 @@ use Rattle.sshneg.specs.Strictness.{is_right_guess}
 use Rattle.sshpacket.specs.Stream.{Units}
 use Rattle.sshpacket.specs.Suite.{Meaning, ResponseData}
 use Rattle.sshcore.specs.declared.end.Fault.TheVariants as fault
+use Rattle.sshcore.specs.Attempts.{attempt_reply, failure_reply, success_reply}
 use Rattle.sshcore.specs.Before.{strict_towards}
 use Rattle.sshcore.specs.Ending.{Closed, Reply, fails, goes}
 use Rattle.sshcore.specs.Exchange.{answer_with, choice_with, exchange_with, own_kexinit, secret_of}
 use Rattle.sshcore.specs.Known.{Known}
 use Rattle.sshcore.specs.Party.{Party, Policy}
+use Rattle.sshcore.specs.Requests.{request_reply}
 
 -- the messages of an exchange in a form of shares: RFC 4253 section 8, RFC 5656 section 4
 abbrev pub init_in : ShareForm → List ℕ → Content
@@ -118,9 +121,10 @@ service_reply party service =
     if bytes_eq service userauth then goes (written_message (ServiceAccept userauth) ∷ banner_by party.banner)
     else fails fault.Service
 
--- SERVICE_ACCEPT at a client: no attempt is made until authentication is built, so none is left
-abbrev pub accept_reply : List ℕ → Reply
-accept_reply service = if bytes_eq service userauth then fails fault.NoMoreMethods else fails (fault.Unexpected SSH_MSG_SERVICE_ACCEPT)
+-- SERVICE_ACCEPT at a client: the first attempt of its plan is made (RFC 4252 section 5)
+abbrev pub accept_reply : Meaning → Known → List ℕ → Reply
+accept_reply m known service =
+    if bytes_eq service userauth then attempt_reply m known.session known.left else fails (fault.Unexpected SSH_MSG_SERVICE_ACCEPT)
 
 -- what a message is answered; every other is read and ignored
 unfoldable pub work : Meaning → Policy → Role → Party → Known → Content → Reply
@@ -132,5 +136,8 @@ work m d role party known (KexdhReply host_key f signature) = reply_reply m d ro
 work m d role party known (KexEcdhReply host_key server_share signature) =
     reply_reply m d role party known (KexEcdhReply host_key server_share signature) signature
 work m d role party known (ServiceRequest service) = service_reply party service
-work m d role party known (ServiceAccept service) = accept_reply service
+work m d role party known (ServiceAccept service) = accept_reply m known service
+work m d role party known (UserauthRequest user service method) = request_reply m d party known user service method
+work m d role party known (UserauthFailure listed partial) = failure_reply m known listed
+work m d role party known UserauthSuccess = success_reply known
 work m d role party known _ = goes []

@@ -6,7 +6,9 @@ ghost use Rattle.sshwire.specs.Types.{IsName};
 ghost use Rattle.sshmsg.specs.View.{offer_of};
 ghost use Rattle.sshneg.specs.Fields as fields;
 ghost use Rattle.sshcore.specs.Chosen.{AreAt, ArePlaced, cipher_of, mac_of};
+ghost use Rattle.sshcore.specs.Ending.{agreed_of};
 
+use crate::end::Agreed;
 use sshmsg::KexInit;
 use sshneg::{Chosen, Role};
 use sshwire::{Memory, NameList};
@@ -18,6 +20,19 @@ use std::marker::Model;
 pub(crate) struct Directions {
     client_to_server: String,
     server_to_client: String,
+}
+
+impl Directions {
+    /// The same names once more.
+    fn copy(&self, alloc: Global) -> Result<Directions, Memory>
+        ensures to_server { IfOk result (λ d. string_bytes d.client_to_server ≡ string_bytes self.now.client_to_server) }
+        ensures to_client { IfOk result (λ d. string_bytes d.server_to_client ≡ string_bytes self.now.server_to_client) }
+    {
+        Ok(Directions {
+            client_to_server: String::from_str(alloc, &self.client_to_server)?,
+            server_to_client: String::from_str(alloc, &self.server_to_client)?,
+        })
+    }
 }
 
 /// The algorithms of a choice (RFC 4253 section 7.1), by their names.
@@ -65,6 +80,50 @@ impl Algorithms {
             mac,
             compression,
         })
+    }
+
+    /// The same names once more.
+    pub(crate) fn copy(&self, alloc: Global) -> Result<Algorithms, Memory>
+        ensures { IfOk result (λ names. names ≡ self.now) }
+    {
+        let kex = String::from_str(alloc, &self.kex)?;
+        let host_key = String::from_str(alloc, &self.host_key)?;
+        let encryption = self.encryption.copy(alloc)?;
+        let mac = self.mac.copy(alloc)?;
+        let compression = self.compression.copy(alloc)?;
+        Ok(Algorithms {
+            kex,
+            host_key,
+            encryption,
+            mac,
+            compression,
+        })
+    }
+
+    /// What is agreed with these algorithms.
+    pub(crate) fn agreed(
+        self,
+        strict: bool,
+        session: Vec<u8>,
+        user: String,
+        service: String,
+    ) -> Agreed
+        ensures { agreed_of result ≡ record { algorithms = self; strict = strict; session = session.items; user = string_bytes user; service = string_bytes service } }
+    {
+        Agreed {
+            kex: self.kex,
+            host_key: self.host_key,
+            encryption_client_to_server: self.encryption.client_to_server,
+            encryption_server_to_client: self.encryption.server_to_client,
+            mac_client_to_server: self.mac.client_to_server,
+            mac_server_to_client: self.mac.server_to_client,
+            compression_client_to_server: self.compression.client_to_server,
+            compression_server_to_client: self.compression.server_to_client,
+            strict,
+            session,
+            user,
+            service,
+        }
     }
 
     /// The key exchange method.

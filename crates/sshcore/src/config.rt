@@ -1,21 +1,24 @@
 //! The config of an endpoint of either role.
 
-ghost use Rattle.std.specs.Prelude.{◌≡◌, ◌<◌, ◌≤◌, ◌^◌, IfOk, IfSome, length, map, option_map, string_bytes};
-ghost use Rattle.sshwire.specs.declared.limits.TheConstants.{LINE_LIMIT, PAYLOAD_LIMIT};
+ghost use Rattle.std.specs.Prelude.{◌≡◌, ◌<◌, ◌≤◌, ◌^◌, if◌then◌else◌, IfOk, IfSome, None, Some, length, map, option_map, string_bytes};
+ghost use Rattle.std.specs.List.{AllByRecursion};
+ghost use Rattle.sshwire.specs.declared.limits.TheConstants.{LINE_LIMIT, NAME_LIMIT, PAYLOAD_LIMIT};
 ghost use Rattle.sshwire.specs.Lines.{version_line};
-ghost use Rattle.sshcore.specs.declared.config_parts.TheConstants.{BANNER_LIMIT, PRIVATE_KEY_LIMIT};
+ghost use Rattle.sshcore.specs.declared.config_parts.TheConstants.{BANNER_LIMIT, LIST_LIMIT, PRIVATE_KEY_LIMIT, TRIES_LIMIT};
 ghost use Rattle.sshmsg.specs.Content as content;
 ghost use Rattle.sshmsg.specs.View.{offer_of};
 ghost use Rattle.sshmsg.specs.Written.{written_message};
 ghost use Rattle.sshcore.specs.ConfigParty.{party_of, role_of};
-ghost use Rattle.sshcore.specs.ConfigView.{host_key_of};
+ghost use Rattle.sshcore.specs.ConfigRules.{IsAttempt};
+ghost use Rattle.sshcore.specs.ConfigView.{attempt_of, host_key_of};
 ghost use Rattle.sshcore.specs.Exchange.{secret_of};
 ghost use Rattle.sshcore.specs.Work.{guessed_method};
-ghost use Rattle.sshwire.specs.Types.{AreNames, IsName};
+ghost use Rattle.sshwire.specs.Types.{AreNames, IsName, names_body};
+ghost use Rattle.sshneg.specs.ChoiceReadings.{is_in};
 ghost use Rattle.sshneg.specs.Markers.{methods};
 
 use crate::client_config::ClientConfig;
-use crate::config_parts::{HostKey, SideParts};
+use crate::config_parts::{Attempt, HostKey, SideParts};
 use crate::server_config::ServerConfig;
 use sshmsg::KexInit;
 use sshneg::Role;
@@ -117,6 +120,61 @@ impl<'a> Config<'a> {
         }
     }
 
+    /// The attempts of a client's plan; a server has none.
+    pub(crate) fn plan(&self) -> &'a [Attempt]
+        ensures plan { map attempt_of result.now ≡ (party_of self.now).plan }
+        ensures accepted { AllByRecursion IsAttempt (map attempt_of result.now) }
+    {
+        match self {
+            Config::Client(client) => &client.parts().plan,
+            Config::Server(_) => &[],
+        }
+    }
+
+    /// The service of a server that has this name; a client has none.
+    pub(crate) fn service(&self, name: &[u8]) -> Option<&'a str>
+        ensures service { option_map (λ service. service.now) result ≡ (if is_in (party_of self.now).services name.now then Some name.now else None) }
+        ensures short { IfSome result (λ service. length service.now ≤ NAME_LIMIT) }
+    {
+        match self {
+            Config::Client(_) => None,
+            Config::Server(server) => name_in(&server.parts().services, name),
+        }
+    }
+
+    /// Whether a server lists this method in a FAILURE; a client lists none.
+    pub(crate) fn lists(&self, method: &str) -> bool
+        ensures { result ≡ is_in (party_of self.now).methods method.now }
+    {
+        match self {
+            Config::Client(_) => false,
+            Config::Server(server) => name_in(&server.parts().methods, method.as_bytes()).is_some(),
+        }
+    }
+
+    /// The methods that a server's FAILURE lists; a client lists none.
+    pub(crate) fn methods(&self) -> &'a [String]
+        ensures methods { map string_bytes result.now ≡ (party_of self.now).methods }
+        ensures names { AreNames (party_of self.now).methods }
+        ensures short { length (names_body (party_of self.now).methods) ≤ LIST_LIMIT }
+    {
+        match self {
+            Config::Client(_) => &[],
+            Config::Server(server) => &server.parts().methods,
+        }
+    }
+
+    /// How many requests a server grants; a client none.
+    pub(crate) fn tries(&self) -> u32
+        ensures tries { result ≡ (party_of self.now).tries }
+        ensures bound { result ≤ TRIES_LIMIT }
+    {
+        match self {
+            Config::Client(_) => 0,
+            Config::Server(server) => server.parts().tries,
+        }
+    }
+
     /// The text of a server's banner.
     pub(crate) fn banner(&self) -> Option<&'a [u8]>
         ensures banner { option_map (λ text. text.now) result ≡ (party_of self.now).banner }
@@ -126,6 +184,16 @@ impl<'a> Config<'a> {
             Config::Client(_) => None,
             Config::Server(server) => server.parts().banner.as_deref(),
         }
+    }
+}
+
+/// The first of these names that these bytes are.
+fn name_in<'a>(names: &'a [String], name: &[u8]) -> Option<&'a str>
+    ensures { option_map (λ own. own.now) result ≡ (if is_in (map string_bytes names.now) name.now then Some name.now else None) }
+{
+    match names.iter().find(|own| name == own.as_bytes()) {
+        Some(own) => Some(own.as_str()),
+        None => None,
     }
 }
 

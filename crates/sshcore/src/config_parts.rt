@@ -2,6 +2,8 @@
 //!
 //! None of these types has a `Debug`: passwords and private keys are never printed.
 
+ghost use Rattle.std.specs.Prelude.{◌≡◌};
+
 /// The most bytes of the text of a list, markers left out (profile).
 pub const LIST_LIMIT: usize = 1000;
 
@@ -43,6 +45,22 @@ pub enum Credential {
         /// The private key as the suite has it, at most 8192 bytes.
         private_key: Vec<u8>,
     },
+}
+
+impl Credential {
+    ghost use Rattle.sshcore.specs.ConfigView.{proving_of};
+    ghost use Rattle.sshcore.specs.Plan.{proving_name};
+
+    /// The name of the method of the request. Takes no memory.
+    pub fn method(&self) -> &'static str
+        ensures { result.now ≡ proving_name (proving_of self.now) }
+    {
+        match self {
+            Credential::None => "none",
+            Credential::Password(_) => "password",
+            Credential::PublicKey { .. } => "publickey",
+        }
+    }
 }
 
 /// One attempt of a client's plan (RFC 4252 section 5).

@@ -1,16 +1,17 @@
 //! One endpoint, fed with bytes.
 
-ghost use Rattle.std.specs.Prelude.{◌≡◌, ◌≢◌, ◌<◌, ◌≤◌, ◌+◌, ◌*◌, ◌↔◌, ◌++◌, [], ℕ, IfOk, IsTrue, List, Ok, OnErr, OnOk, length, take};
+ghost use Rattle.std.specs.Prelude.{◌≡◌, ◌≢◌, None, Some, ◌<◌, ◌≤◌, ◌+◌, ◌*◌, ◌↔◌, ◌++◌, [], ℕ, IfOk, IsTrue, List, Ok, OnErr, OnOk, length, take};
 ghost use Rattle.sshneg.specs.declared.role.Role.TheVariants.{Client, Server};
 ghost use Rattle.sshpacket.specs.declared.limits.TheConstants.{PACKET_LIMIT};
 ghost use Rattle.sshcore.specs.declared.end.Fault.TheVariants as fault;
-ghost use Rattle.sshcore.specs.Ending.{Failed, Open, ending};
+ghost use Rattle.sshcore.specs.Ending.{AgreedData, Authenticated, Failed, Open, ending};
 ghost use Rattle.sshcore.specs.Party.{client_party, server_party};
 ghost use Rattle.sshcore.specs.Brings.{IsOngoing};
 ghost use Rattle.sshcore.specs.ConfigParty.{party_of, role_of};
 ghost use Rattle.sshcore.specs.Endpoints.{After, Breaks, Cuts, Fed, HasUnfinished, Made, buffered_of, ending_of, turns_of};
 ghost use Rattle.sshcore.specs.Inputs.{CanRead, Steps, turns_left};
 ghost use Rattle.sshcore.specs.Kept.{kept_of};
+ghost use Rattle.sshcore.specs.Sessions.{IsSession};
 
 use crate::client_config::ClientConfig;
 use crate::config::Config;
@@ -19,21 +20,22 @@ use crate::end::{End, Fault};
 use crate::greeting::say_lines;
 use crate::input::Input;
 use crate::server_config::ServerConfig;
+use crate::session::{Session, session_of};
 use crate::state::State;
 use sshpacket::Suite;
 use sshwire::Memory;
 use std::alloc::Global;
 use std::marker::Model;
 
-/// One endpoint of SSH, a client or a server, from the first byte of the version line to the accepted
-/// service of authentication (RFC 4253).
+/// One endpoint of SSH, a client or a server, from the first byte of the version line to the
+/// authenticated user (RFC 4253, RFC 4252).
 #[derive(Drop)]
 pub struct Endpoint<'a, S: Suite, D: Decisions> {
     config: Config<'a>,
     suite: &'a S,
     decisions: &'a D,
     input: Input,
-    state: State,
+    state: State<'a>,
 }
 
 impl<'a, S: Suite, D: Decisions> Model for Endpoint<'a, S, D> {
@@ -42,8 +44,14 @@ impl<'a, S: Suite, D: Decisions> Model for Endpoint<'a, S, D> {
     ghost use Rattle.sshcore.specs.Ending.{ending};
     ghost use Rattle.sshcore.specs.EndpointData.{EndpointData};
     ghost use Rattle.sshcore.specs.Inputs.{CanRead};
+    ghost use Rattle.sshcore.specs.AttemptProps.{IsAttempt-prop};
+    ghost use Rattle.sshcore.specs.ConfigRules.{IsAttempt};
+    ghost use Rattle.std.specs.Coded.{codes};
+    ghost use Rattle.std.specs.List.{AllByRecursion-prop};
 
     ghost Value = { EndpointData S D };
+
+    ghost coded = { Prim.hlevel (codes, AllByRecursion-prop IsAttempt IsAttempt-prop) };
 
     ghost view = { λ e. record {
       role = role_of e.config;
@@ -58,11 +66,9 @@ impl<'a, S: Suite, D: Decisions> Model for Endpoint<'a, S, D> {
 }
 
 impl<'a, S: Suite, D: Decisions> Endpoint<'a, S, D> {
-    /// A client before any byte. Its version line, its KEXINIT and, where its config announces a guess, its
-    /// share are appended to `out` (RFC 4253 sections 4.2, 7.1 and 7). Answers `Memory` where a growth
-    /// was refused; `out` is then unchanged.
-    ///
-    /// The caller's condition, until authentication is built, is that the plan is empty.
+    /// A client that has heard nothing yet. Its version line, its KEXINIT and, where its config
+    /// announces a guess, its share are appended to `out` (RFC 4253 sections 4.2, 7.1 and 7). Answers
+    /// `Memory` where a growth was refused; `out` is then unchanged.
     pub fn client(
         alloc: Global,
         config: &'a ClientConfig,
@@ -70,16 +76,15 @@ impl<'a, S: Suite, D: Decisions> Endpoint<'a, S, D> {
         decisions: &'a D,
         out: &mut Vec<u8>,
     ) -> Result<Endpoint<'a, S, D>, Memory>
-        requires { config.now.plan ≡ [] }
         ensures made { IfOk result (λ e. Made S.meaning D.policy Client (client_party config.now) suite.now decisions.now e out.old.items out.new.items) }
         ensures memory { OnErr result (out.new.items ≡ out.old.items) }
     {
         Endpoint::begin(alloc, Config::Client(config), suite, decisions, out)
     }
 
-    /// A server before any byte. Its notice lines, its version line and its KEXINIT are appended to `out`
-    /// (RFC 4253 sections 4.2 and 7.1). Answers `Memory` where a growth was refused; `out` is then
-    /// unchanged.
+    /// A server that has heard nothing yet. Its notice lines, its version line and its KEXINIT are
+    /// appended to `out` (RFC 4253 sections 4.2 and 7.1). Answers `Memory` where a growth was refused;
+    /// `out` is then unchanged.
     pub fn server(
         alloc: Global,
         config: &'a ServerConfig,
@@ -93,7 +98,7 @@ impl<'a, S: Suite, D: Decisions> Endpoint<'a, S, D> {
         Endpoint::begin(alloc, Config::Server(config), suite, decisions, out)
     }
 
-    /// An endpoint before any byte.
+    /// An endpoint that has heard nothing yet.
     fn begin(
         alloc: Global,
         config: Config<'a>,
@@ -108,7 +113,7 @@ impl<'a, S: Suite, D: Decisions> Endpoint<'a, S, D> {
         sshpacket::stream_law();
         sshmsg::numbers_law();
         sshneg::markers_law();
-        let mut state = State::new(alloc);
+        let mut state = State::new(alloc, &config);
         let mut said = Vec::new(alloc);
         say_lines(&config, &mut said)?;
         state.say_making(&config, suite, &mut said)?;
@@ -202,6 +207,25 @@ impl<'a, S: Suite, D: Decisions> Endpoint<'a, S, D> {
         }
     }
 
+    /// What goes on behind authentication, where the endpoint ended authenticated; None otherwise. The
+    /// session's first byte is the one behind those that `feed` has used. Takes no memory.
+    pub fn into_session(self) -> Option<Session>
+        ensures session { (h s : List ℕ) (p : After S.meaning D.policy self.entry h s) (a : AgreedData) → ending_of self.entry ≡ Authenticated a
+            → (session : Session) × (result ≡ Some session) × IsSession (S.meaning self.entry.suite) self.entry.role self.entry.party p.units p.answers a session × (p.rest ≡ []) }
+        ensures none { ((a : AgreedData) → ending_of self.entry ≢ Authenticated a) → result ≡ None }
+    {
+        sshmsg::numbers_law();
+        sshneg::markers_law();
+        let state = self.state;
+        let outgoing = (state.keys_out, state.number_out);
+        match (state.end, self.input) {
+            (End::Authenticated(agreed), Input::Packets(reader)) => {
+                session_of(agreed, reader.into_keys(), outgoing)
+            }
+            _ => None,
+        }
+    }
+
     /// Whether it is open.
     fn is_open(&self) -> bool
         ensures { IsTrue result ↔ (ending_of self.now ≡ Open) }
@@ -216,7 +240,7 @@ impl<'a, S: Suite, D: Decisions> Endpoint<'a, S, D> {
 /// Reads on up to the end of one unit; for want of memory `out` is unchanged.
 fn hear<S: Suite, D: Decisions>(
     input: &mut Input,
-    state: &mut State,
+    state: &mut State<'_>,
     config: &Config<'_>,
     suite: &S,
     decisions: &D,

@@ -1,19 +1,23 @@
 //! What the layers above may rest on: what is true of each endpoint, however it was fed.
 
-ghost use Rattle.std.specs.Prelude.{◌≡◌, ◌≢◌, ◌++◌, [], ℕ, List};
+ghost use Rattle.std.specs.Prelude.{◌≡◌, ◌≢◌, ◌++◌, [], true, ℕ, List};
 ghost use Rattle.sshcore.specs.declared.end.Fault.TheVariants as fault;
-ghost use Rattle.sshcore.specs.Ending.{Failed, Open};
+ghost use Rattle.sshcore.specs.Authenticated.{IsAuthenticated};
+ghost use Rattle.sshcore.specs.Before.{strict_at};
+ghost use Rattle.sshcore.specs.Directions.{payloads_in};
+ghost use Rattle.sshcore.specs.Ending.{AgreedData, Authenticated, Failed, Open};
 ghost use Rattle.sshcore.specs.Endpoints.{After, IsSameEndpoint, ending_of};
 ghost use Rattle.sshcore.specs.StrictClause.{KeepsStrict};
+ghost use Rattle.sshcore.specs.StrictSequence.{BeginsStrictly};
 
 use crate::decisions::Decisions;
 use crate::endpoint::Endpoint;
-use crate::law::{history_law, strict_law};
+use crate::law::{authentication_law, history_law, strict_law};
 use sshpacket::Suite;
 
 /// The law of endpoints: how an endpoint ends and what it has said depend on its joined input alone,
-/// whatever the pieces; and what a strict endpoint was given (OpenSSH PROTOCOL section 1.10). Takes no
-/// memory.
+/// whatever the pieces; what a strict endpoint was given (OpenSSH PROTOCOL section 1.10); and what one
+/// that ended authenticated has heard (RFC 4252 section 5.1). Takes no memory.
 pub fn endpoint_law<S: Suite, D: Decisions>(one: &Endpoint<'_, S, D>, other: &Endpoint<'_, S, D>)
     // Two endpoints of one role, config and suite, and with the same decisions, each used a prefix of one input, all of it where it
     // is open; and neither was cut off.
@@ -30,7 +34,12 @@ pub fn endpoint_law<S: Suite, D: Decisions>(one: &Endpoint<'_, S, D>, other: &En
     ensures cut { (h s : List ℕ) (a : After S.meaning D.policy one.now h s) → ending_of one.now ≡ Failed fault.Cut → a.heard_end ≡ Open }
     // What was heard keeps strictness, whoever sent it.
     ensures strict { (h s : List ℕ) (a : After S.meaning D.policy one.now h s) → KeepsStrict one.now.role one.now.party a.units a.heard_end }
+    // What was heard let the user in, where an endpoint ended authenticated; and one that is strict was given a strict sequence first.
+    ensures authenticated { (h s : List ℕ) (a : After S.meaning D.policy one.now h s) (g : AgreedData) → ending_of one.now ≡ Authenticated g
+        → IsAuthenticated (S.meaning one.now.suite) (D.policy one.now.decisions) one.now.role one.now.party a.units g
+        × (strict_at one.now.role one.now.party (payloads_in a.units) ≡ true → BeginsStrictly one.now.role one.now.party.offer (payloads_in a.units)) }
 {
     history_law();
     strict_law();
+    authentication_law();
 }

@@ -66,7 +66,7 @@ pub(crate) struct BothKeys {
     outgoing: Keys,
 }
 
-impl State {
+impl State<'_> {
     ghost use Rattle.sshmsg.specs.Content.{Content};
     ghost use Rattle.sshcore.specs.Directions.{spelled_by};
 
@@ -354,7 +354,8 @@ impl State {
 
     /// Goes on to phase newkeys, with the session identifier and the keys of what is heard.
     fn stand_behind_exchange(&mut self, hash: Vec<u8>, incoming: Keys)
-        requires { self.old.phase ≡ phase.Exchange }
+        requires at { self.old.phase ≡ phase.Exchange }
+        requires short { length hash.items ≤ DIGEST_LIMIT }
         ensures { kept_of self.new ≡ record (kept_of self.old) {
           phase = phase.NewKeys;
           pending = Some incoming;

@@ -16,7 +16,7 @@ use crate::state::State;
 use sshpacket::Suite;
 use sshwire::Memory;
 
-impl State {
+impl State<'_> {
     /// Says KEXINIT, and a client's share where its config announces a guess (RFC 4253 section 7).
     pub(crate) fn say_making<S: Suite>(
         &mut self,

@@ -62,7 +62,7 @@ impl Input {
     /// piece were used; what is said to it is appended to `said`.
     pub(crate) fn hear<S: Suite, D: Decisions>(
         &mut self,
-        state: &mut State,
+        state: &mut State<'_>,
         config: &Config<'_>,
         suite: &S,
         decisions: &D,
@@ -110,7 +110,7 @@ pub(crate) enum Heard {
 }
 
 /// Reads on up to the end of the version line; fails as `Version` where a line is refused.
-fn hear_lines(reader: &mut LineReader, state: &mut State, piece: &[u8]) -> Result<Heard, Memory>
+fn hear_lines(reader: &mut LineReader, state: &mut State<'_>, piece: &[u8]) -> Result<Heard, Memory>
     requires open { ending state.old.end ≡ Open }
     requires some { 0 < length piece.now }
     requires reads { reader.old.progress ≢ Finished }
@@ -134,7 +134,7 @@ fn hear_lines(reader: &mut LineReader, state: &mut State, piece: &[u8]) -> Resul
 }
 
 /// Fails as a refused line asks for; nothing is said (profile), and want of memory is answered.
-fn fail_line(state: &mut State, fault: WireFault) -> Result<(), Memory>
+fn fail_line(state: &mut State<'_>, fault: WireFault) -> Result<(), Memory>
     ensures fails { OnOk result (kept_of state.new ≡ record (kept_of state.old) { end = Failed failed.Version }) }
     ensures refused { OnOk result (fault ≢ wire.Memory) }
 {
@@ -150,7 +150,7 @@ fn fail_line(state: &mut State, fault: WireFault) -> Result<(), Memory>
 /// Reads on up to the end of one packet; fails where it is refused.
 fn hear_packets<S: Suite, D: Decisions>(
     reader: &mut PacketReader,
-    state: &mut State,
+    state: &mut State<'_>,
     config: &Config<'_>,
     suite: &S,
     decisions: &D,
@@ -189,7 +189,7 @@ fn hear_packets<S: Suite, D: Decisions>(
 
 /// Fails as a refused packet asks for; want of memory is answered.
 fn fail_packet<S: Suite>(
-    state: &mut State,
+    state: &mut State<'_>,
     config: &Config<'_>,
     suite: &S,
     fault: PacketFault,

@@ -39,7 +39,7 @@ pub(crate) struct Negotiated {
     right: bool,
 }
 
-impl State {
+impl State<'_> {
     /// Hears the peer's KEXINIT: judges strictness, then chooses, then judges guesses; a client sends its
     /// share unless a right guess has it (RFC 4253 section 7).
     pub(crate) fn hear_kexinit<S: Suite>(

@@ -1,8 +1,8 @@
 //! What the layers above may rest on.
 
-ghost use Rattle.std.specs.Prelude.{◌≡◌, ◌⊎◌, ℕ, ◌+◌, ◌≤◌, ◌%◌, ◌^◌, ◌==◌, Bool, true, false, if◌then◌else◌, List, [], ◌∷◌, ◌++◌, length, take, Option, None, Some};
+ghost use Rattle.std.specs.Prelude.{◌≡◌, ◌⊎◌, ℕ, ◌+◌, ◌<◌, ◌≤◌, ◌%◌, ◌^◌, ◌==◌, Bool, true, false, if◌then◌else◌, List, [], ◌∷◌, ◌++◌, length, take, Option, None, Some};
 ghost use Rattle.sshwire.specs.declared.share_form.ShareForm.{ShareForm};
-ghost use Rattle.sshmsg.specs.declared.numbers.TheConstants.{SSH_MSG_DISCONNECT, SSH_MSG_NEWKEYS};
+ghost use Rattle.sshmsg.specs.declared.numbers.TheConstants.{SSH_MSG_DISCONNECT, SSH_MSG_NEWKEYS, SSH_MSG_USERAUTH_REQUEST};
 ghost use Rattle.sshmsg.specs.Content.{Offer};
 ghost use Rattle.sshmsg.specs.Numbers.{kind};
 ghost use Rattle.sshpacket.specs.Parse.{Refusal, refused, unfinished, whole};
@@ -10,21 +10,23 @@ ghost use Rattle.sshpacket.specs.Places.{IsPrefix, flat_places};
 ghost use Rattle.sshpacket.specs.Stream.{IsIncremental, Said, Units};
 ghost use Rattle.sshpacket.specs.Suite.{Meaning};
 ghost use Rattle.sshneg.specs.declared.role.Role.{Role};
+ghost use Rattle.sshneg.specs.declared.role.Role.TheVariants.{Server};
 ghost use Rattle.sshneg.specs.ExchangeEnd.{offer_in};
 ghost use Rattle.sshcore.specs.declared.table.Line.TheVariants as line;
 ghost use Rattle.sshcore.specs.declared.table.Phase.{Phase};
 ghost use Rattle.sshcore.specs.declared.table.Phase.TheVariants as phase;
-ghost use Rattle.sshcore.specs.Before.{kept, wrong_guess};
+ghost use Rattle.sshcore.specs.Authenticated.{IsAuthenticated};
+ghost use Rattle.sshcore.specs.Before.{count_kept, kept, wrong_guess};
 ghost use Rattle.sshcore.specs.Counting.{number_in, number_out, switched_out};
 ghost use Rattle.sshcore.specs.Directions.{parsers, payloads_in, spells};
-ghost use Rattle.sshcore.specs.Ending.{Ending, Failed, Open, disconnect};
+ghost use Rattle.sshcore.specs.Ending.{AgreedData, Authenticated, Ending, Failed, Open, disconnect};
 ghost use Rattle.sshcore.specs.Exchange.{keys_at, keys_by};
 ghost use Rattle.sshcore.specs.History.{AllFit, BrokenOff, History, IsOneHistory, IsReady};
 ghost use Rattle.sshcore.specs.Known.{Known};
 ghost use Rattle.sshcore.specs.Party.{Party, Policy};
 ghost use Rattle.sshcore.specs.Phases.{behind, leaving, past_exchange, past_newkeys};
-ghost use Rattle.sshcore.specs.Replies.{Ends, answers_at, end_at, fault_of, line_reply, reply_at};
-ghost use Rattle.sshcore.specs.Standing.{LeavesNone, Sits, behind_exchange, behind_offer, exchange_heard, nothing_known};
+ghost use Rattle.sshcore.specs.Replies.{Ends, StaysOpen, answers_at, end_at, fault_of, line_reply, reply_at};
+ghost use Rattle.sshcore.specs.Standing.{LeavesNone, Sits, behind_exchange, behind_offer, behind_payload, exchange_heard, nothing_known};
 ghost use Rattle.sshcore.specs.StrictClause.{KeepsStrict};
 ghost use Rattle.sshcore.specs.Table.{line_by};
 ghost use Rattle.sshcore.specs.Work.{making};
@@ -39,11 +41,25 @@ pub fn strict_law()
     sshneg::markers_law();
 }
 
+/// The law of authentication: an endpoint that ends authenticated has heard its last payload in phase
+/// auth, and agreed on what the payloads before have given. At a server that was a request for a
+/// service that it has, and good; at a client the answer to the attempt that it made last.
+pub fn authentication_law()
+    ensures authenticated { (m : Meaning) (d : Policy) (role : Role) (party : Party) (units : Units) (refusal : Option Refusal) (a : AgreedData)
+        → Ends m d role party units refusal (Authenticated a) → IsAuthenticated m d role party units a }
+    // While a server stays open, fewer requests stood than it grants, so the number of the next one is among those that it grants.
+    ensures granted { (m : Meaning) (d : Policy) (party : Party) (version : List ℕ) (before : Units) → 1 ≤ party.tries
+        → StaysOpen m d Server party (version ∷ before) → count_kept Server party.offer SSH_MSG_USERAUTH_REQUEST before < party.tries }
+{
+    sshmsg::numbers_law();
+    sshneg::markers_law();
+}
+
 /// The law of standing: where an endpoint stands between two payloads, what the next one brings there,
 /// and where it stands behind it.
 pub fn standing_law()
     // Before anything but the peer's version line was heard.
-    ensures begins { (m : Meaning) (role : Role) (party : Party) (version : List ℕ) → Sits m role party version [] phase.KexInit false (nothing_known version) }
+    ensures begins { (m : Meaning) (role : Role) (party : Party) (version : List ℕ) → Sits m role party version [] phase.KexInit false (nothing_known party version) }
     // What a payload brings is what its line of the phase table says.
     ensures replies { (m : Meaning) (d : Policy) (role : Role) (party : Party) (version : List ℕ) (before : Units) (payload : List ℕ) (p : Phase) (guess : Bool) (known : Known)
         → Sits m role party version before p guess known → reply_at m d role party version before payload
@@ -62,10 +78,10 @@ pub fn standing_law()
         → Sits m role party version (before ++ payload ∷ []) phase.NewKeys false (behind_exchange m role party known payload) }
     ensures leaves { (m : Meaning) (role : Role) (party : Party) (version : List ℕ) (before : Units) (payload : List ℕ) (p : Phase) (known : Known)
         → Sits m role party version before p false known → past_exchange p ≡ true → kind payload ≡ leaving role p
-        → Sits m role party version (before ++ payload ∷ []) (behind p) false (record known { first = false }) }
+        → Sits m role party version (before ++ payload ∷ []) (behind p) false (behind_payload known payload) }
     ensures stays { (m : Meaning) (role : Role) (party : Party) (version : List ℕ) (before : Units) (payload : List ℕ) (p : Phase) (known : Known)
         → Sits m role party version before p false known → LeavesNone role (kind payload)
-        → Sits m role party version (before ++ payload ∷ []) p false (record known { first = false }) }
+        → Sits m role party version (before ++ payload ∷ []) p false (behind_payload known payload) }
 
     // A number that is read or unknown where no guess is due, and neither closes nor leaves the phase, leaves none.
     ensures quiet { (role : Role) (p : Phase) (strict : Bool) (n : ℕ) → (n == SSH_MSG_DISCONNECT) ≡ false → (n == leaving role p) ≡ false

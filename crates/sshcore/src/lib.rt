@@ -1,8 +1,10 @@
 //! One endpoint of SSH, a client or a server, which is fed with bytes: from the first byte of the version
-//! line to the accepted service of authentication (RFC 4253).
+//! line to the authenticated user (RFC 4253, RFC 4252).
 #![tactic(auto)]
 
+mod agreement;
 mod algorithms;
+mod attempts;
 mod client_config;
 mod config;
 mod config_fault;
@@ -23,8 +25,10 @@ mod law;
 mod newkeys;
 mod packet;
 mod payloads;
+mod requests;
 mod server_config;
 mod service;
+mod session;
 mod state;
 mod table;
 
@@ -40,6 +44,7 @@ pub use decisions::{Decisions, Proof};
 pub use end::{Agreed, End, Fault};
 pub use endpoint::Endpoint;
 pub use endpoint_laws::endpoint_law;
-pub use law::{history_law, saying_law, standing_law, strict_law};
+pub use law::{authentication_law, history_law, saying_law, standing_law, strict_law};
 pub use server_config::ServerConfig;
+pub use session::{Direction, Session};
 pub use table::{Line, Phase};

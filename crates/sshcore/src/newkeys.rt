@@ -9,7 +9,7 @@ use crate::state::State;
 use crate::table::Phase;
 use sshpacket::Keys;
 
-impl State {
+impl State<'_> {
     /// Hears that the peer goes over to the new keys.
     pub(crate) fn hear_new_keys(&mut self)
         requires { self.old.phase ≡ phase.NewKeys }

@@ -1,8 +1,9 @@
 //! What becomes of a packet, by the phase table.
 
-ghost use Rattle.std.specs.Prelude.{◌≡◌, ◌≢◌, ◌==◌, ◌≤◌, OnOk, false, length};
+ghost use Rattle.std.specs.Prelude.{◌≡◌, ◌≢◌, ◌==◌, ◌≤◌, OnOk, false, length, true};
 ghost use Rattle.sshmsg.specs.Messages.{Spells, message_in};
-ghost use Rattle.sshmsg.specs.Numbers.{kind};
+ghost use Rattle.sshmsg.specs.Numbers.{kind, number_of};
+ghost use Rattle.sshmsg.specs.declared.numbers.TheConstants.{SSH_MSG_USERAUTH_REQUEST, SSH_MSG_USERAUTH_SUCCESS};
 ghost use Rattle.sshmsg.specs.View.{content_of};
 ghost use Rattle.sshpacket.specs.declared.limits.TheConstants.{PACKET_LIMIT};
 ghost use Rattle.sshcore.specs.declared.end.Fault.TheVariants as fault;
@@ -14,7 +15,7 @@ ghost use Rattle.sshcore.specs.Exchanged.{HasForm};
 ghost use Rattle.sshcore.specs.Kept.{kept_of};
 ghost use Rattle.sshcore.specs.Phases.{leaving};
 ghost use Rattle.sshcore.specs.Replies.{read_reply};
-ghost use Rattle.sshcore.specs.Table.{is_ignored, is_of_method, is_ruled, is_unknown, line_by, takes_extensions};
+ghost use Rattle.sshcore.specs.Table.{is_ignored, is_of_auth, is_of_method, is_ruled, is_unknown, line_by, takes_extensions, within};
 ghost use Rattle.sshcore.specs.Work.{work};
 
 use crate::config::Config;
@@ -26,13 +27,14 @@ use crate::table::{Line, Phase};
 use sshmsg::{
     Message, MsgFault, SSH_MSG_DISCONNECT, SSH_MSG_EXT_INFO, SSH_MSG_KEXDH_INIT,
     SSH_MSG_KEXDH_REPLY, SSH_MSG_KEXINIT, SSH_MSG_NEWKEYS, SSH_MSG_SERVICE_ACCEPT,
-    SSH_MSG_SERVICE_REQUEST, read_exchange,
+    SSH_MSG_SERVICE_REQUEST, SSH_MSG_USERAUTH_BANNER, SSH_MSG_USERAUTH_FAILURE,
+    SSH_MSG_USERAUTH_REQUEST, SSH_MSG_USERAUTH_SUCCESS, read_exchange,
 };
 use sshneg::Role;
 use sshpacket::Suite;
 use sshwire::Memory;
 
-impl State {
+impl State<'_> {
     /// Hears a packet with this number: its line of the phase table says what becomes of it.
     pub(crate) fn hear<S: Suite, D: Decisions>(
         &mut self,
@@ -94,7 +96,7 @@ impl State {
         }
     }
 
-    /// Answers a message that has a place (RFC 4253 sections 7 to 11).
+    /// Answers a message that has a place (RFC 4253 sections 7 to 11, RFC 4252).
     fn work<S: Suite, D: Decisions>(
         &mut self,
         config: &Config<'_>,
@@ -115,13 +117,64 @@ impl State {
     {
         sshmsg::messages_law();
         sshmsg::numbers_law();
-        sshmsg::lengths_law();
         match message {
             Message::Disconnect { reason, .. } => {
                 self.end = End::Closed(*reason);
                 Ok(())
             }
             Message::KexInit(peer) => self.hear_kexinit(config, suite, payload, peer, said),
+            Message::KexdhInit { .. }
+            | Message::KexdhReply { .. }
+            | Message::KexEcdhInit { .. }
+            | Message::KexEcdhReply { .. } => {
+                self.work_exchange(config, suite, decisions, payload, message, said)
+            }
+            Message::NewKeys => {
+                self.hear_new_keys();
+                Ok(())
+            }
+            Message::ServiceRequest { service } => {
+                self.hear_service_request(config, suite, service, said)
+            }
+            Message::ServiceAccept { service } => {
+                self.hear_service_accept(config, suite, service, said)
+            }
+            Message::UserauthRequest { .. }
+            | Message::UserauthFailure { .. }
+            | Message::UserauthSuccess => {
+                self.work_auth(config, suite, decisions, payload, message, said)
+            }
+            _ => {
+                self.first = false;
+                Ok(())
+            }
+        }
+    }
+
+    /// Answers an exchange message, in either form of shares (RFC 4253 section 8, RFC 5656 section 4).
+    fn work_exchange<S: Suite, D: Decisions>(
+        &mut self,
+        config: &Config<'_>,
+        suite: &S,
+        decisions: &D,
+        payload: &[u8],
+        message: &Message<'_>,
+        said: &mut Vec<u8>,
+    ) -> Result<(), Memory>
+        requires open { ending self.old.end ≡ Open }
+        requires short { length payload.now ≤ PACKET_LIMIT }
+        requires reads { line_by (role_of config.now) self.old.phase self.old.strict self.old.guess (kind payload.now) ≡ line.Reads }
+        requires spelled { Spells self.old.shares (content_of message.now) payload.now }
+        requires exchange { is_of_method (number_of (content_of message.now)) ≡ true }
+        ensures works { OnOk result (HasForm (S.meaning suite.now) (kept_of self.old)
+            → Works (S.meaning suite.now) (role_of config.now) (party_of config.now) (kept_of self.old) (kept_of self.new) payload.now said.old.items said.new.items
+            (work (S.meaning suite.now) (D.policy decisions.now) (role_of config.now) (party_of config.now) (kept_of self.old).known (content_of message.now))) }
+        ensures kept { OnOk result (ending self.new.end ≢ Failed fault.Memory) }
+    {
+        sshmsg::messages_law();
+        sshmsg::numbers_law();
+        sshmsg::lengths_law();
+        match message {
             Message::KexdhInit { e } => self.hear_init(config, suite, e.body(), said),
             Message::KexEcdhInit { client_share } => {
                 self.hear_init(config, suite, client_share, said)
@@ -150,20 +203,44 @@ impl State {
                 };
                 self.hear_reply(config, suite, decisions, &reply, said)
             }
-            Message::NewKeys => {
-                self.hear_new_keys();
-                Ok(())
+            _ => unreachable!(),
+        }
+    }
+
+    /// Answers a message of authentication (RFC 4252 sections 5 and 5.1).
+    fn work_auth<S: Suite, D: Decisions>(
+        &mut self,
+        config: &Config<'_>,
+        suite: &S,
+        decisions: &D,
+        payload: &[u8],
+        message: &Message<'_>,
+        said: &mut Vec<u8>,
+    ) -> Result<(), Memory>
+        requires open { ending self.old.end ≡ Open }
+        requires short { length payload.now ≤ PACKET_LIMIT }
+        requires reads { line_by (role_of config.now) self.old.phase self.old.strict self.old.guess (kind payload.now) ≡ line.Reads }
+        requires spelled { Spells self.old.shares (content_of message.now) payload.now }
+        requires auth { within SSH_MSG_USERAUTH_REQUEST SSH_MSG_USERAUTH_SUCCESS (number_of (content_of message.now)) ≡ true }
+        ensures works { OnOk result (HasForm (S.meaning suite.now) (kept_of self.old)
+            → Works (S.meaning suite.now) (role_of config.now) (party_of config.now) (kept_of self.old) (kept_of self.new) payload.now said.old.items said.new.items
+            (work (S.meaning suite.now) (D.policy decisions.now) (role_of config.now) (party_of config.now) (kept_of self.old).known (content_of message.now))) }
+        ensures kept { OnOk result (ending self.new.end ≢ Failed fault.Memory) }
+    {
+        sshmsg::messages_law();
+        sshmsg::numbers_law();
+        sshmsg::lengths_law();
+        match message {
+            Message::UserauthRequest {
+                user,
+                service,
+                method,
+            } => self.hear_request(config, suite, decisions, user, service, method, said),
+            Message::UserauthFailure { methods, .. } => {
+                self.hear_failure(config, suite, methods, said)
             }
-            Message::ServiceRequest { service } => {
-                self.hear_service_request(config, suite, service, said)
-            }
-            Message::ServiceAccept { service } => {
-                self.hear_service_accept(config, suite, service, said)
-            }
-            _ => {
-                self.first = false;
-                Ok(())
-            }
+            Message::UserauthSuccess => self.hear_success(config, suite, said),
+            _ => unreachable!(),
         }
     }
 }
@@ -194,7 +271,7 @@ fn line_of(role: Role, phase: Phase, strict: bool, guess: bool, number: u8) -> L
         Line::Drops
     } else if ruled && (guess || !leaves) {
         Line::Deviates
-    } else if leaves || is_ignored(number) {
+    } else if leaves || is_of_auth(role, phase, number) || is_ignored(number) {
         Line::Reads
     } else if number == SSH_MSG_EXT_INFO && takes_extensions(phase) {
         Line::Reads
@@ -226,7 +303,22 @@ fn leaves(role: Role, phase: Phase, number: u8) -> bool
         (Phase::NewKeys, _) => number == SSH_MSG_NEWKEYS,
         (Phase::Service, Role::Client) => number == SSH_MSG_SERVICE_ACCEPT,
         (Phase::Service, Role::Server) => number == SSH_MSG_SERVICE_REQUEST,
-        (Phase::Auth, _) => false,
+        (Phase::Auth, Role::Client) => number == SSH_MSG_USERAUTH_SUCCESS,
+        (Phase::Auth, Role::Server) => number == SSH_MSG_USERAUTH_REQUEST,
+    }
+}
+
+/// Whether the message is one of authentication: a server hears requests, a client FAILUREs and banners
+/// (RFC 4252); a SUCCESS leaves the phase.
+fn is_of_auth(role: Role, phase: Phase, number: u8) -> bool
+    ensures { result ≡ is_of_auth role phase number }
+{
+    match (phase, role) {
+        (Phase::Auth, Role::Client) => {
+            number == SSH_MSG_USERAUTH_FAILURE || number == SSH_MSG_USERAUTH_BANNER
+        }
+        (Phase::Auth, Role::Server) => number == SSH_MSG_USERAUTH_REQUEST,
+        _ => false,
     }
 }
 

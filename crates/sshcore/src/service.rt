@@ -20,7 +20,7 @@ use sshmsg::{Message, SSH_MSG_SERVICE_ACCEPT};
 use sshpacket::Suite;
 use sshwire::Memory;
 
-impl State {
+impl State<'_> {
     /// A server hears the request: it accepts `ssh-userauth` and says its banner (RFC 4252 section 5.4);
     /// else it fails as `Service`.
     pub(crate) fn hear_service_request<S: Suite>(
@@ -81,8 +81,8 @@ impl State {
         }
     }
 
-    /// A client hears that the service is accepted. No attempt is made until authentication is built, so
-    /// it fails as `NoMoreMethods`; where the service isn't `ssh-userauth` as `Unexpected(6)`.
+    /// A client hears that the service is accepted: it makes the first attempt of its plan; where the
+    /// service isn't `ssh-userauth` it fails as `Unexpected(6)`.
     pub(crate) fn hear_service_accept<S: Suite>(
         &mut self,
         config: &Config<'_>,
@@ -90,21 +90,22 @@ impl State {
         service: &[u8],
         said: &mut Vec<u8>,
     ) -> Result<(), Memory>
+        requires open { ending self.old.end ≡ Open }
+        requires at { self.old.phase ≡ phase.Service }
         ensures gives { OnOk result ((strict : Bool) (next : KeyData)
             → Gives (S.meaning suite.now) (party_of config.now).seed strict next (kept_of self.old) (kept_of self.new) said.old.items said.new.items
-            (accept_reply service.now)) }
-        ensures ends { OnOk result (IsOngoing (kept_of self.new).end → ⊥) }
+            (accept_reply (S.meaning suite.now) (kept_of self.old).known service.now)) }
+        ensures keys { OnOk result ((kept_of self.new).pending ≡ (kept_of self.old).pending) }
+        ensures stands { OnOk result (IsOngoing (kept_of self.new).end
+            → StandsAt (kept_of self.new) phase.Auth (kept_of self.old).guess (heard_one (kept_of self.old).known)) }
         ensures kept { OnOk result (ending self.new.end ≢ Failed fault.Memory) }
     {
-        if service == USERAUTH {
-            self.fail(config, suite, Fault::NoMoreMethods, said)
-        } else {
-            self.fail(
-                config,
-                suite,
-                Fault::Unexpected(SSH_MSG_SERVICE_ACCEPT),
-                said,
-            )
+        if service != USERAUTH {
+            let fault = Fault::Unexpected(SSH_MSG_SERVICE_ACCEPT);
+            return self.fail(config, suite, fault, said);
         }
+        self.phase = Phase::Auth;
+        self.first = false;
+        self.make_attempt(config, suite, said)
     }
 }

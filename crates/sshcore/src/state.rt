@@ -1,17 +1,23 @@
 //! What an endpoint keeps between two packets, and what it says.
 
-ghost use Rattle.std.specs.Prelude.{◌≡◌, ◌<◌, ◌≤◌, ◌++◌, ◌==◌, ◌∷◌, [], ℕ, Bool, IfOk, None, OnOk, Some, false, is_some, length, true};
+ghost use Rattle.std.specs.Prelude.{◌≡◌, ◌<◌, ◌≤◌, ◌++◌, ◌==◌, ◌∷◌, [], ℕ, Bool, IfOk, None, OnOk, Some, false, is_some, length, map, true};
+ghost use Rattle.std.specs.List.{AllByRecursion, AllByRecursion-prop};
 ghost use Rattle.sshwire.specs.declared.limits.TheConstants.{LINE_LIMIT, PAYLOAD_LIMIT};
 ghost use Rattle.sshmsg.specs.Content as content;
 ghost use Rattle.sshmsg.specs.Written.{written_message};
-ghost use Rattle.sshpacket.specs.declared.limits.TheConstants.{PACKET_LIMIT};
+ghost use Rattle.sshpacket.specs.declared.limits.TheConstants.{DIGEST_LIMIT, PACKET_LIMIT};
 ghost use Rattle.sshpacket.specs.KeyData.{KeyData};
 ghost use Rattle.sshcore.specs.Made.{IsMade};
+ghost use Rattle.sshcore.specs.declared.config_parts.TheConstants.{TRIES_LIMIT};
+ghost use Rattle.sshcore.specs.AttemptProps.{IsAttempt-prop};
+ghost use Rattle.sshcore.specs.ConfigRules.{IsAttempt};
+ghost use Rattle.sshcore.specs.ConfigView.{attempt_of};
 ghost use Rattle.sshcore.specs.Phases.{past_kexinit};
-ghost use Rattle.sshcore.specs.Ending.{reason_of};
+ghost use Rattle.sshcore.specs.Ending.{Open, ending, reason_of};
 
 use crate::algorithms::Algorithms;
 use crate::config::Config;
+use crate::config_parts::Attempt;
 use crate::end::{End, Fault};
 use crate::payloads::payload_of;
 use crate::table::Phase;
@@ -26,7 +32,7 @@ use std::alloc::Global;
 
 /// What an endpoint keeps between two packets, besides its reader.
 #[derive(Drop)]
-pub(crate) struct State {
+pub(crate) struct State<'a> {
     pub(crate) alloc: Global,
     pub(crate) end: End,
     pub(crate) phase: Phase,
@@ -44,6 +50,10 @@ pub(crate) struct State {
     pub(crate) shares: ShareForm,
     /// The session identifier.
     pub(crate) session: Vec<u8>,
+    /// The number of the next request of authentication, from 1 (RFC 4252 section 5).
+    pub(crate) request: u32,
+    /// What is left of a client's plan, from the attempt on that was made last, or is made first.
+    pub(crate) left: &'a [Attempt],
     /// The keys of what is heard, from the exchange up to NEWKEYS.
     pub(crate) pending: Option<Keys>,
     /// The keys of what is said.
@@ -53,20 +63,23 @@ pub(crate) struct State {
     ghost version_short: { length version.items ≤ LINE_LIMIT },
     ghost kexinit_short: { length kexinit.items ≤ PACKET_LIMIT },
     ghost chosen: { is_some algorithms ≡ past_kexinit phase },
+    ghost session_short: { length session.items ≤ DIGEST_LIMIT },
+    ghost granted: { ending end ≡ Open → request ≤ TRIES_LIMIT },
+    ghost accepted: { AllByRecursion IsAttempt (map attempt_of left.now) } by { AllByRecursion-prop IsAttempt IsAttempt-prop (map attempt_of left.now) },
 }
 
-impl State {
+impl<'a> State<'a> {
     ghost use Rattle.sshcore.specs.declared.end.Fault.TheVariants as fault;
     ghost use Rattle.sshcore.specs.Brings.{Gives, heard_one};
     ghost use Rattle.sshcore.specs.ConfigParty.{party_of};
     ghost use Rattle.sshcore.specs.Directions.{spelled_by};
-    ghost use Rattle.sshcore.specs.Ending.{Failed, Open, disconnect, ending, fails, goes};
+    ghost use Rattle.sshcore.specs.Ending.{Failed, disconnect, fails, goes};
     ghost use Rattle.sshcore.specs.Kept.{begun, kept_of};
     ghost use Rattle.sshcore.specs.Output.{with_packet, with_newkeys};
 
     /// Before any byte.
-    pub(crate) fn new(alloc: Global) -> State
-        ensures { kept_of result ≡ begun }
+    pub(crate) fn new(alloc: Global, config: &Config<'a>) -> State<'a>
+        ensures { kept_of result ≡ begun (party_of config.now) }
     {
         State {
             alloc,
@@ -80,6 +93,8 @@ impl State {
             algorithms: None,
             shares: ShareForm::Mpint,
             session: Vec::new(alloc),
+            request: 1,
+            left: config.plan(),
             pending: None,
             keys_out: None,
             number_out: 0,

@@ -10,3 +10,6 @@ pub mod LabLaws
 pub mod LabRules
 pub mod LabRulesView
 pub mod LabParties
+pub mod ScenarioFields
+pub mod Scenarios
+pub mod ScenarioView

@@ -3,11 +3,17 @@
 
 mod delivery;
 mod greetings;
+mod input;
 mod kem_suite;
 mod lab_decisions;
 mod lab_parts;
 mod lab_suite;
 mod program;
+mod report;
+mod scenario;
+mod scenario_draft;
+mod scenario_fields;
+mod scenario_line;
 mod schedule;
 mod streams;
 mod words;
@@ -19,4 +25,6 @@ pub use lab_decisions::{LabDecisions, lab_decisions_law};
 pub use lab_parts::{lab_client_parts, lab_server_parts};
 pub use lab_suite::{LabSuite, lab_law};
 pub use program::{refuse_words, tool};
+pub use scenario::{Scenario, ScenarioFault, TEXT_LIMIT};
+pub use scenario_line::Step;
 pub use streams::{Broken, Sink, Source, StreamSink, StreamSource};

@@ -1,14 +1,20 @@
 //! All that the program does with its words and streams.
 
-ghost use Rattle.std.specs.Prelude.{◌≡◌, ◌≤◌, ◌↔◌, ◌||◌, ℕ, IfOk, false, string_bytes, take, true};
+ghost use Rattle.std.specs.Prelude.{◌≡◌, ◌≢◌, ◌≤◌, ◌↔◌, ◌||◌, ℕ, Err, IfErr, IfOk, codes, false, length, string_bytes, take, true};
 ghost use Rattle.std.specs.Io.KnownBytes.{Appends, Keeps};
 ghost use Rattle.std.specs.IoError.{error_kind};
-ghost use Rattle.sshlab.specs.Statuses.{status_of, words_status};
+ghost use Rattle.sshlab.specs.Statuses.{IsFirstWord, status_of, words_status};
+ghost use Rattle.sshlab.specs.declared.program.CommandFault.TheVariants as command;
+ghost use Rattle.sshlab.specs.declared.scenario.TheConstants.{TEXT_LIMIT};
 
 use crate::greetings::greet;
+use crate::input::read_all;
+use crate::report::Report;
+use crate::scenario::{Scenario, ScenarioFault};
 use crate::schedule::schedule_of;
 use crate::streams::{Broken, Sink, Source, write_all};
 use crate::words::{Request, request_of};
+use sshcore::End;
 use sshwire::{VersionLine, WireFault};
 use std::alloc::Global;
 use std::fmt::Write;
@@ -42,6 +48,15 @@ pub(crate) enum CommandFault {
     /// Not deliveries with commas between.
     #[error("bad schedule")]
     Schedule,
+    /// The input is no scenario.
+    #[error("{0}")]
+    Scenario(ScenarioFault),
+    /// The input is longer than any that is judged.
+    #[error("input too long")]
+    TooLong,
+    /// A read failed.
+    #[error("read failed")]
+    Read,
     /// A growth was refused.
     #[error("out of memory")]
     Memory,
@@ -60,17 +75,18 @@ impl CommandFault {
         ensures { result ≡ status_of self }
     {
         match self {
-            CommandFault::Words | CommandFault::Version | CommandFault::Schedule => BAD_INPUT,
-            CommandFault::Memory => NO_MEMORY,
+            CommandFault::Scenario(ScenarioFault::Memory) | CommandFault::Memory => NO_MEMORY,
+            CommandFault::Read => BROKEN,
+            _ => BAD_INPUT,
         }
     }
 }
 
 /// Does all that the program does with its words, its name left out, and answers the exit status.
 ///
-/// 0 is done, 1 not complete, 2 bad words, version or schedule, 3 want of memory, 4 a failed write.
-/// A refusal is told on `faults` in one line; where that can't be written the status stays. No form
-/// of the words reads `input` yet.
+/// 0 is done, 1 not complete, 2 bad words or input, 3 want of memory, 4 a failed read or write. A
+/// refusal is told on `faults` in one line; where that can't be written the status stays. The whole
+/// input is read before it is judged, and the whole output is built before any of it is written.
 pub fn tool<I: Source, O: Sink, E: Sink>(
     alloc: Global,
     words: &[String],
@@ -85,11 +101,12 @@ pub fn tool<I: Source, O: Sink, E: Sink>(
     // Bad words, bad input and want of memory leave the output as it was.
     ensures kept { 2 ≤ result → result ≤ 3 → Keeps (O.contents output.old) (O.contents output.new) }
     ensures broken { (result ≡ 4) ↔ ((I.has_failed input.new || O.has_failed output.new) ≡ true) }
-    // No byte of the input is read, since no form of the words asks for it yet.
-    ensures unread { input.new ≡ input.old }
+    // Where a read failed, nothing is written.
+    ensures unwritten { I.has_failed input.new ≡ true → output.new ≡ output.old }
+    // No byte of the input is read unless the first word asks for a scenario.
+    ensures unread { (IsFirstWord (codes "predict") words.now → ⊥) → input.new ≡ input.old }
 {
-    let _ = input;
-    match answer_of(alloc, words) {
+    match answer_of(alloc, words, input) {
         Ok(answer) => print(&answer, output, faults),
         Err(fault) => refuse(fault, faults),
     }
@@ -110,8 +127,15 @@ pub fn refuse_words<E: Sink>(error: io::Error, faults: &mut E) -> u8
 }
 
 /// The answer to the words, of which nothing is written yet.
-fn answer_of(alloc: Global, words: &[String]) -> Result<Answer, CommandFault>
-    ensures { IfOk result (λ answer. answer.status ≤ 1) }
+fn answer_of<I: Source>(
+    alloc: Global,
+    words: &[String],
+    input: &mut I,
+) -> Result<Answer, CommandFault>
+    requires { I.has_failed input.old ≡ false }
+    ensures status { IfOk result (λ answer. answer.status ≤ 1) }
+    ensures failed { (result ≡ Err command.Read) ↔ (I.has_failed input.new ≡ true) }
+    ensures unread { (IsFirstWord (codes "predict") words.now → ⊥) → input.new ≡ input.old }
 {
     match request_of(alloc, words)? {
         Request::Greet {
@@ -119,6 +143,51 @@ fn answer_of(alloc: Global, words: &[String]) -> Result<Answer, CommandFault>
             server,
             schedule,
         } => greeting_of(alloc, client, server, schedule),
+        Request::Predict { session } => {
+            let text = read_all(alloc, input)?;
+            prediction_of(alloc, &text, session)
+        }
+    }
+}
+
+/// How the sides of a scenario with this text end, without its deliveries.
+fn prediction_of(alloc: Global, text: &[u8], session: bool) -> Result<Answer, CommandFault>
+    requires { length text.now ≤ TEXT_LIMIT }
+    ensures status { IfOk result (λ answer. answer.status ≤ 1) }
+    ensures fault { IfErr result (λ fault. fault ≢ command.Read) }
+{
+    let (client, server) = ends_of(alloc, text)?;
+    let report = Report {
+        client: &client,
+        server: &server,
+        complete: None,
+        session,
+    };
+    printed(alloc, &report, DONE)
+}
+
+/// The ends of the sides of a scenario with this text.
+fn ends_of(alloc: Global, text: &[u8]) -> Result<(End, End), CommandFault>
+    requires { length text.now ≤ TEXT_LIMIT }
+    ensures { IfErr result (λ fault. fault ≢ command.Read) }
+{
+    match Scenario::parse(alloc, text) {
+        Ok(scenario) => match scenario.predict(alloc) {
+            Ok(ends) => Ok(ends),
+            Err(_) => Err(CommandFault::Memory),
+        },
+        Err(fault) => Err(CommandFault::Scenario(fault)),
+    }
+}
+
+/// The report as text, with the status once it is written.
+fn printed(alloc: Global, report: &Report<'_>, status: u8) -> Result<Answer, CommandFault>
+    ensures status { IfOk result (λ answer. answer.status ≡ status) }
+    ensures fault { IfErr result (λ fault. fault ≢ command.Read) }
+{
+    match report.to_string(alloc) {
+        Ok(text) => Ok(Answer { text, status }),
+        Err(_) => Err(CommandFault::Memory),
     }
 }
 
@@ -129,7 +198,8 @@ fn greeting_of(
     server: &str,
     schedule: &str,
 ) -> Result<Answer, CommandFault>
-    ensures { IfOk result (λ answer. answer.status ≤ 1) }
+    ensures status { IfOk result (λ answer. answer.status ≤ 1) }
+    ensures fault { IfErr result (λ fault. fault ≢ command.Read) }
 {
     let client = line_of(alloc, client)?;
     let server = line_of(alloc, server)?;
@@ -145,7 +215,9 @@ fn greeting_of(
 }
 
 /// The written version line of a softwareversion, which has no comments.
-fn line_of(alloc: Global, software: &str) -> Result<Vec<u8>, CommandFault> {
+fn line_of(alloc: Global, software: &str) -> Result<Vec<u8>, CommandFault>
+    ensures { IfErr result (λ fault. fault ≢ command.Read) }
+{
     if software.contains(' ') {
         return Err(CommandFault::Version);
     }

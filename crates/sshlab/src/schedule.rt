@@ -1,5 +1,9 @@
 //! The schedule of `sshlab greet`: deliveries with commas between, as `s5,c99`.
 
+ghost use Rattle.std.specs.Prelude.{◌≡◌, ◌≢◌, IfErr};
+ghost use Rattle.sshlab.specs.ScenarioFields.{number_of, with_digit};
+ghost use Rattle.sshlab.specs.declared.program.CommandFault.TheVariants as command;
+
 use crate::delivery::{Delivery, Side};
 use crate::program::CommandFault;
 use std::alloc::Global;
@@ -9,7 +13,9 @@ const MOST_DIGITS: usize = 10;
 
 /// Reads a schedule: items with commas between, each `c` or `s` for the receiver and a count of
 /// one to ten digits, at most 4294967295.
-pub(crate) fn schedule_of(alloc: Global, text: &str) -> Result<Vec<Delivery>, CommandFault> {
+pub(crate) fn schedule_of(alloc: Global, text: &str) -> Result<Vec<Delivery>, CommandFault>
+    ensures { IfErr result (λ fault. fault ≢ command.Read) }
+{
     let mut schedule = Vec::new(alloc);
     for item in text.split(',') {
         let delivery = delivery_of(item).ok_or(CommandFault::Schedule)?;
@@ -30,18 +36,27 @@ fn delivery_of(item: &str) -> Option<Delivery> {
 }
 
 /// A count in decimal digits.
-fn count_of(digits: &[u8]) -> Option<u32> {
+pub(crate) fn count_of(digits: &[u8]) -> Option<u32>
+    ensures { result ≡ number_of digits.now }
+{
     if digits.is_empty() || digits.len() > MOST_DIGITS {
         return None;
     }
     let mut count = 0u32;
     for digit in digits {
-        if !digit.is_ascii_digit() {
-            return None;
-        }
-        count = count
-            .checked_mul(10)?
-            .checked_add(u32::from(*digit - b'0'))?;
+        count = with_digit(count, *digit)?;
     }
     Some(count)
+}
+
+/// The number that a digit makes of those before it.
+#[tactic(auto, unfolding(crate::specs::ScenarioFields::with_digit))]
+fn with_digit(count: u32, digit: u8) -> Option<u32>
+    ensures { result ≡ with_digit count digit }
+{
+    if !digit.is_ascii_digit() {
+        return None;
+    }
+    let next = u64::from(count) * 10 + u64::from(digit - b'0');
+    u32::try_from(next).ok()
 }

@@ -1,12 +1,20 @@
 //! The words of the program, read with `clap`.
 
+ghost use Rattle.std.specs.Prelude.{◌≡◌, ◌≢◌, IfErr, IfOk, IsTrue, Bool, codes};
+ghost use Rattle.sshlab.specs.declared.program.CommandFault.TheVariants as command;
+ghost use Rattle.sshlab.specs.declared.words.Request.TheVariants as asks;
+ghost use Rattle.sshlab.specs.Statuses.{IsFirstWord};
+
 use crate::program::CommandFault;
 use clap::error::ErrorKind;
-use clap::{Arg, Command, Error};
+use clap::{Arg, ArgAction, ArgMatches, Command, Error};
 use std::alloc::{AllocError, Global};
 
-/// The one option that there will be, of words that no form takes yet.
+/// The one option that there is.
 const SESSION: &str = "--session";
+
+/// The name of that option.
+const SESSION_NAME: &str = "session";
 
 /// What the words ask for.
 pub(crate) enum Request<'a> {
@@ -16,12 +24,20 @@ pub(crate) enum Request<'a> {
         server: &'a str,
         schedule: &'a str,
     },
+    /// The ends of a scenario's sides are predicted.
+    Predict {
+        /// Whether the session identifier is printed too.
+        session: bool,
+    },
 }
 
 /// Reads the words, the program's name left out.
 ///
 /// A word that begins with `-`, other than `--session`, is refused before anything else is judged.
-pub(crate) fn request_of(alloc: Global, words: &[String]) -> Result<Request<'_>, CommandFault> {
+pub(crate) fn request_of(alloc: Global, words: &[String]) -> Result<Request<'_>, CommandFault>
+    ensures first { IfOk result (λ found. (session : Bool) → found ≡ asks.Predict session → IsFirstWord (codes "predict") words.now) }
+    ensures fault { IfErr result (λ fault. fault ≢ command.Read) }
+{
     if words.iter().any(|word| is_foreign_option(word)) {
         return Err(CommandFault::Words);
     }
@@ -33,9 +49,30 @@ pub(crate) fn request_of(alloc: Global, words: &[String]) -> Result<Request<'_>,
         Err(error) if error.kind() == ErrorKind::OutOfMemory => return Err(CommandFault::Memory),
         Err(_) => return Err(CommandFault::Words),
     };
-    let Some(("greet", greet)) = matches.subcommand() else {
-        return Err(CommandFault::Words);
-    };
+    match matches.subcommand() {
+        Some(("greet", greet)) => greet_of(greet),
+        Some(("predict", predict)) if is_first(words, "predict") => Ok(Request::Predict {
+            session: predict.get_flag(SESSION_NAME),
+        }),
+        _ => Err(CommandFault::Words),
+    }
+}
+
+/// Whether this is the first of the words.
+fn is_first(words: &[String], name: &str) -> bool
+    ensures { IsTrue result → IsFirstWord name.now words.now }
+{
+    match words.first() {
+        Some(word) => word.as_str() == name,
+        None => false,
+    }
+}
+
+/// The words of `greet`.
+fn greet_of<'a>(greet: &ArgMatches<'a>) -> Result<Request<'a>, CommandFault>
+    ensures first { IfOk result (λ found. (session : Bool) → found ≢ asks.Predict session) }
+    ensures fault { IfErr result (λ fault. fault ≢ command.Read) }
+{
     match (
         greet.get_str("CLIENT"),
         greet.get_str("SERVER"),
@@ -61,11 +98,18 @@ fn command<'a>(alloc: Global) -> Result<Command<'a>, AllocError> {
         .arg(Arg::new(alloc, "CLIENT").required(true))?
         .arg(Arg::new(alloc, "SERVER").required(true))?
         .arg(Arg::new(alloc, "SCHEDULE").required(true))?;
+    let session = Arg::new(alloc, SESSION_NAME)
+        .long(SESSION_NAME)
+        .action(ArgAction::SetTrue);
+    let predict = Command::new(alloc, "predict")
+        .disable_help_flag(true)
+        .arg(session)?;
     Command::new(alloc, "sshlab")
         .no_binary_name(true)
         .disable_help_subcommand(true)
         .disable_help_flag(true)
         .disable_version_flag(true)
         .subcommand_required(true)
-        .subcommand(greet)
+        .subcommand(greet)?
+        .subcommand(predict)
 }

@@ -198,6 +198,16 @@ impl PacketReader {
         }
     }
 
+    /// The keys and the number of the next packet, with which another reader goes on; what is held of an
+    /// unfinished packet is dropped. It takes no memory.
+    #[tactic(auto, unfolding(crate::specs::ReaderState::state))]
+    pub fn into_keys(self) -> (Option<Keys>, u32)
+        ensures keys { result.0 ≡ (state self).keys }
+        ensures number { result.1 ≡ (state self).seq }
+    {
+        (self.keys, self.seq)
+    }
+
     /// How many bytes of the piece the last call of `next` used; at a refusal up to the byte that
     /// decided it, 0 where a fault was found before. It takes no memory.
     #[tactic(auto, unfolding(crate::specs::ReaderState::last_used))]

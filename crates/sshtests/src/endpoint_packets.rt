@@ -17,8 +17,18 @@ pub(crate) const LINE: &[u8] = b"SSH-2.0-lab_1\r\n";
 const VERSION: &[u8] = b"SSH-2.0-lab_1";
 
 /// The blob of the server's host key: the name `h`, and the SHA-256 of the private key 00.
-const BLOB: &[u8] =
+pub(crate) const BLOB: &[u8] =
     b"\x00\x00\x00\x01h\x00\x00\x00\x20\x6e\x34\x0b\x9c\xff\xb3\x7a\x98\x9c\xa5\x44\xe6\xbb\x78\x0a\x2c\x78\x90\x1d\x3f\xb3\x37\x38\x76\x85\x11\xa3\x06\x17\xaf\xa0\x1d";
+
+/// The request of `al` for `ssh-connection` without a proof.
+pub(crate) const NONE_OF_AL: &[u8] =
+    b"\x32\x00\x00\x00\x02al\x00\x00\x00\x0essh-connection\x00\x00\x00\x04none";
+
+/// The FAILURE of a server that lists `password` and `publickey`.
+pub(crate) const FAILURE: &[u8] = b"\x33\x00\x00\x00\x12password,publickey\x00";
+
+/// SUCCESS.
+pub(crate) const SUCCESS: &[u8] = b"\x34";
 
 /// What the sender of a packet has: keys, once there are some, and the packet's number.
 #[derive(Drop)]

@@ -30,7 +30,7 @@ const TO_THE_END: [Delivery; 8] = [
 fn counts_bytes_to_the_end(rt: HostRuntime) -> Result<(), Fail> {
     let alloc = rt.alloc();
     let lab = lab_on(alloc, DEFAULTS)?;
-    let mut talk = talk_of(&rt, alloc, &lab)?;
+    let mut talk = talk_of(alloc, &lab)?;
     same_count(&rt, talk.client.said().len(), 135);
     same_count(&rt, talk.server.said().len(), 135);
     run(&rt, &mut talk, &TO_THE_END)?;
@@ -47,7 +47,7 @@ fn begins(
     payload: usize,
 ) -> Result<(), Fail> {
     let lab = lab_on(alloc, terms)?;
-    let client = client(rt, alloc, &lab)?;
+    let client = client(alloc, &lab)?;
     same_count(rt, client.said().len(), said);
     same(rt, prefix_of(client.said(), 15), LINE);
     same_count(rt, kexinit_of(alloc, &client)?.len(), payload);
@@ -99,7 +99,7 @@ const IGNORE: &[u8] = b"\x00\x00\x00\x0c\x06\x02\x00\x00\x00\x00\x00\x00\x00\x00
 fn punishes_what_stood_before_kexinit(rt: HostRuntime) -> Result<(), Fail> {
     let alloc = rt.alloc();
     let lab = lab_on(alloc, DEFAULTS)?;
-    let Talk { client, mut server } = talk_of(&rt, alloc, &lab)?;
+    let Talk { client, mut server } = talk_of(alloc, &lab)?;
     takes(&rt, &mut server, LINE, 15, 0)?;
     takes(&rt, &mut server, IGNORE, 16, 0)?;
     has_end(&rt, alloc, &server, "open")?;
@@ -112,7 +112,7 @@ fn punishes_what_stood_before_kexinit(rt: HostRuntime) -> Result<(), Fail> {
 fn ignores_what_stood_before_kexinit(rt: HostRuntime) -> Result<(), Fail> {
     let alloc = rt.alloc();
     let lab = lab_on(alloc, LOOSE)?;
-    let Talk { client, mut server } = talk_of(&rt, alloc, &lab)?;
+    let Talk { client, mut server } = talk_of(alloc, &lab)?;
     takes(&rt, &mut server, LINE, 15, 0)?;
     takes(&rt, &mut server, IGNORE, 16, 0)?;
     takes(&rt, &mut server, behind(client.said(), 15), 88, 0)?;
@@ -139,7 +139,7 @@ fn requests_service_by(
     seq: u32,
 ) -> Result<(), Fail> {
     let lab = lab_on(alloc, terms)?;
-    let mut talk = talk_of(rt, alloc, &lab)?;
+    let mut talk = talk_of(alloc, &lab)?;
     let hash = hash_in(rt, alloc, &talk)?;
     run(rt, &mut talk, &deliveries(first))?;
     let way = sealed_way(rt, alloc, &hash, Role::Client, seq)?;
@@ -162,7 +162,7 @@ fn numbers_the_first_sealed_packet(rt: HostRuntime) -> Result<(), Fail> {
 fn sends_the_share_again_behind_a_wrong_guess(rt: HostRuntime) -> Result<(), Fail> {
     let alloc = rt.alloc();
     let lab = lab_on(alloc, GUESSED)?;
-    let mut talk = talk_of(&rt, alloc, &lab)?;
+    let mut talk = talk_of(alloc, &lab)?;
     run(&rt, &mut talk, &deliveries(183))?;
     let wanted = packet(&rt, alloc, &clear_way(Role::Client, 2), &init(alloc)?)?;
     same(&rt, prefix_of(behind(talk.client.said(), 183), 48), &wanted);
@@ -174,7 +174,7 @@ fn sends_the_share_again_behind_a_wrong_guess(rt: HostRuntime) -> Result<(), Fai
 fn uses_a_right_guess(rt: HostRuntime) -> Result<(), Fail> {
     let alloc = rt.alloc();
     let lab = lab_on(alloc, GUESSING)?;
-    let mut talk = talk_of(&rt, alloc, &lab)?;
+    let mut talk = talk_of(alloc, &lab)?;
     run(
         &rt,
         &mut talk,
@@ -188,8 +188,8 @@ fn uses_a_right_guess(rt: HostRuntime) -> Result<(), Fail> {
 }
 
 /// A server on these terms, which was given the client's first output.
-fn behind_kexinit<'a>(rt: &impl Abort, alloc: Global, lab: &'a Lab) -> Result<Talker<'a>, Fail> {
-    let Talk { client, mut server } = talk_of(rt, alloc, lab)?;
+fn behind_kexinit<'a>(alloc: Global, lab: &'a Lab) -> Result<Talker<'a>, Fail> {
+    let Talk { client, mut server } = talk_of(alloc, lab)?;
     server.feed(client.said())?;
     Ok(server)
 }
@@ -198,7 +198,7 @@ fn behind_kexinit<'a>(rt: &impl Abort, alloc: Global, lab: &'a Lab) -> Result<Ta
 fn tells_of_a_number_without_meaning(rt: HostRuntime) -> Result<(), Fail> {
     let alloc = rt.alloc();
     let lab = lab_on(alloc, LOOSE)?;
-    let mut server = behind_kexinit(&rt, alloc, &lab)?;
+    let mut server = behind_kexinit(alloc, &lab)?;
     let piece = packet(&rt, alloc, &clear_way(Role::Client, 1), b"\x28")?;
     takes(&rt, &mut server, &piece, 16, 16)?;
     let told = payload_of(alloc, behind(server.said(), 135))?;
@@ -210,7 +210,7 @@ fn tells_of_a_number_without_meaning(rt: HostRuntime) -> Result<(), Fail> {
 fn punishes_a_number_without_meaning(rt: HostRuntime) -> Result<(), Fail> {
     let alloc = rt.alloc();
     let lab = lab_on(alloc, DEFAULTS)?;
-    let mut server = behind_kexinit(&rt, alloc, &lab)?;
+    let mut server = behind_kexinit(alloc, &lab)?;
     let piece = packet(&rt, alloc, &clear_way(Role::Client, 1), b"\x28")?;
     takes(&rt, &mut server, &piece, 16, 24)?;
     has_end(&rt, alloc, &server, "failed F7 40")?;
@@ -231,7 +231,7 @@ fn told_of_a_guess<'a>(
     lab: &'a Lab,
     follows: u8,
 ) -> Result<Talker<'a>, Fail> {
-    let Talk { client, mut server } = talk_of(rt, alloc, lab)?;
+    let Talk { client, mut server } = talk_of(alloc, lab)?;
     let payload = kexinit_with(rt, alloc, &client, follows)?;
     server.feed(LINE)?;
     server.feed(&packet(rt, alloc, &clear_way(Role::Client, 0), &payload)?)?;
@@ -246,7 +246,7 @@ fn signs_boolean(
     server: &Talker<'_>,
     follows: u8,
 ) -> Result<(), Fail> {
-    let client = client(rt, alloc, lab)?;
+    let client = client(alloc, lab)?;
     let client_kexinit = kexinit_with(rt, alloc, &client, follows)?;
     let server_kexinit = kexinit_of(alloc, server)?;
     let hash = hash_of(rt, alloc, &client_kexinit, &server_kexinit)?;
@@ -295,7 +295,7 @@ fn holds_an_unfinished_line(rt: HostRuntime) -> Result<(), Fail> {
 fn holds_an_unfinished_packet(rt: HostRuntime) -> Result<(), Fail> {
     let alloc = rt.alloc();
     let lab = lab_on(alloc, LOOSE)?;
-    let mut server = behind_kexinit(&rt, alloc, &lab)?;
+    let mut server = behind_kexinit(alloc, &lab)?;
     holds(&rt, &server, 0);
     let share = packet(&rt, alloc, &clear_way(Role::Client, 1), &init(alloc)?)?;
     takes(&rt, &mut server, prefix_of(&share, 47), 47, 0)?;
@@ -309,7 +309,7 @@ fn holds_an_unfinished_packet(rt: HostRuntime) -> Result<(), Fail> {
 fn holds_the_longest_unfinished_packet(rt: HostRuntime) -> Result<(), Fail> {
     let alloc = rt.alloc();
     let lab = lab_on(alloc, LOOSE)?;
-    let mut server = behind_kexinit(&rt, alloc, &lab)?;
+    let mut server = behind_kexinit(alloc, &lab)?;
     let piece = filled(alloc, b"\x00\x00\x88\xb4", 0, 34995)?;
     takes(&rt, &mut server, &piece, 34999, 0)?;
     holds(&rt, &server, 34999);
@@ -320,7 +320,7 @@ fn holds_the_longest_unfinished_packet(rt: HostRuntime) -> Result<(), Fail> {
 fn refuses_a_longer_packet_at_its_length(rt: HostRuntime) -> Result<(), Fail> {
     let alloc = rt.alloc();
     let lab = lab_on(alloc, LOOSE)?;
-    let mut server = behind_kexinit(&rt, alloc, &lab)?;
+    let mut server = behind_kexinit(alloc, &lab)?;
     takes(&rt, &mut server, b"\x00\x00\x88\xbc\x06\x02\x00\x00", 4, 24)?;
     holds(&rt, &server, 0);
     has_end(&rt, alloc, &server, "failed F2")?;
@@ -341,7 +341,7 @@ fn says_for_each_cut(
     wanted: &[u8],
 ) -> Result<(), Fail> {
     for place in 0..=stream.len() {
-        let mut talker = talker_of(rt, alloc, lab, role)?;
+        let mut talker = talker_of(alloc, lab, role)?;
         talker.feed(prefix_of(stream, place))?;
         talker.feed(behind(stream, place))?;
         has_end(rt, alloc, &talker, "open")?;
@@ -354,7 +354,7 @@ fn says_for_each_cut(
 fn hears_the_same_in_any_cut(rt: HostRuntime) -> Result<(), Fail> {
     let alloc = rt.alloc();
     let lab = lab_on(alloc, DEFAULTS)?;
-    let mut talk = talk_of(&rt, alloc, &lab)?;
+    let mut talk = talk_of(alloc, &lab)?;
     let first = Vec::from_slice(alloc, talk.server.said())?;
     run(&rt, &mut talk, prefix_rows(3))?;
     let client = talk.client.said();
@@ -377,7 +377,7 @@ fn is_cut(
     stream: &[u8],
     count: usize,
 ) -> Result<(), Fail> {
-    let mut talker = talker_of(rt, alloc, lab, role)?;
+    let mut talker = talker_of(alloc, lab, role)?;
     talker.feed(prefix_of(stream, count))?;
     has_end(rt, alloc, &talker, "open")?;
     let said = talker.said().len();
@@ -401,7 +401,7 @@ const CUTS_OF_SERVER: [usize; 8] = [0, 5, 15, 135, 140, 183, 199, 263];
 fn ends_where_the_input_ends(rt: HostRuntime) -> Result<(), Fail> {
     let alloc = rt.alloc();
     let lab = lab_on(alloc, DEFAULTS)?;
-    let mut talk = talk_of(&rt, alloc, &lab)?;
+    let mut talk = talk_of(alloc, &lab)?;
     run(&rt, &mut talk, prefix_rows(6))?;
     for count in CUTS_OF_CLIENT {
         is_cut(&rt, alloc, &lab, Role::Client, talk.server.said(), count)?;
@@ -418,7 +418,7 @@ fn awaiting_service<'a>(
     alloc: Global,
     lab: &'a Lab,
 ) -> Result<(Talker<'a>, Vec<u8>), Fail> {
-    let mut talk = talk_of(rt, alloc, lab)?;
+    let mut talk = talk_of(alloc, lab)?;
     let hash = hash_in(rt, alloc, &talk)?;
     run(rt, &mut talk, prefix_rows(5))?;
     let Talk { client, mut server } = talk;
@@ -447,7 +447,7 @@ fn has_no_other_service(rt: HostRuntime) -> Result<(), Fail> {
 fn refuses_a_changed_tag(rt: HostRuntime) -> Result<(), Fail> {
     let alloc = rt.alloc();
     let lab = lab_on(alloc, DEFAULTS)?;
-    let mut talk = talk_of(&rt, alloc, &lab)?;
+    let mut talk = talk_of(alloc, &lab)?;
     run(&rt, &mut talk, prefix_rows(5))?;
     let mut stream = Vec::from_slice(alloc, talk.client.said())?;
     assert!(rt; stream.len() == 263);
@@ -502,7 +502,7 @@ fn gives_reasons(rt: HostRuntime) -> Result<(), Fail> {
     let alloc = rt.alloc();
     let lab = lab_on(alloc, DEFAULTS)?;
     for (piece, end, reason) in REFUSALS {
-        let mut server = behind_kexinit(&rt, alloc, &lab)?;
+        let mut server = behind_kexinit(alloc, &lab)?;
         takes(&rt, &mut server, piece, 16, 24)?;
         has_end(&rt, alloc, &server, end)?;
         says_disconnect(&rt, alloc, &server, 135, reason)?;
@@ -515,7 +515,7 @@ fn gives_reasons(rt: HostRuntime) -> Result<(), Fail> {
 fn refuses_a_share(rt: HostRuntime) -> Result<(), Fail> {
     let alloc = rt.alloc();
     let lab = lab_on(alloc, DEFAULTS)?;
-    let mut server = behind_kexinit(&rt, alloc, &lab)?;
+    let mut server = behind_kexinit(alloc, &lab)?;
     let share = packet(
         &rt,
         alloc,
@@ -532,7 +532,7 @@ fn refuses_a_share(rt: HostRuntime) -> Result<(), Fail> {
 fn refuses_lists_without_a_common_method(rt: HostRuntime) -> Result<(), Fail> {
     let alloc = rt.alloc();
     let lab = lab_on(alloc, DEFAULTS)?;
-    let Talk { client, mut server } = talk_of(&rt, alloc, &lab)?;
+    let Talk { client, mut server } = talk_of(alloc, &lab)?;
     let mut payload = kexinit_of(alloc, &client)?;
     assert!(rt; payload.len() == 105);
     payload[21] = b'b';
@@ -547,7 +547,7 @@ fn refuses_lists_without_a_common_method(rt: HostRuntime) -> Result<(), Fail> {
 fn refuses_a_distrusted_host_key(rt: HostRuntime) -> Result<(), Fail> {
     let alloc = rt.alloc();
     let lab = distrusting_lab(alloc)?;
-    let mut talk = talk_of(&rt, alloc, &lab)?;
+    let mut talk = talk_of(alloc, &lab)?;
     run(&rt, &mut talk, prefix_rows(3))?;
     run(&rt, &mut talk, &[(Role::Client, 128, 24)])?;
     has_end(&rt, alloc, &talk.client, "failed F10")?;
@@ -561,7 +561,7 @@ fn refuses_a_distrusted_host_key(rt: HostRuntime) -> Result<(), Fail> {
 fn refuses_a_wrong_signature(rt: HostRuntime) -> Result<(), Fail> {
     let alloc = rt.alloc();
     let lab = lab_on(alloc, DEFAULTS)?;
-    let mut talk = talk_of(&rt, alloc, &lab)?;
+    let mut talk = talk_of(alloc, &lab)?;
     run(&rt, &mut talk, prefix_rows(1))?;
     let payload = reply(&rt, alloc, &[0; 32])?;
     let piece = packet(&rt, alloc, &clear_way(Role::Server, 1), &payload)?;
@@ -576,7 +576,7 @@ fn awaiting_acceptance<'a>(
     alloc: Global,
     lab: &'a Lab,
 ) -> Result<(Talker<'a>, Vec<u8>), Fail> {
-    let mut talk = talk_of(rt, alloc, lab)?;
+    let mut talk = talk_of(alloc, lab)?;
     let hash = hash_in(rt, alloc, &talk)?;
     run(rt, &mut talk, prefix_rows(5))?;
     let Talk { client, .. } = talk;

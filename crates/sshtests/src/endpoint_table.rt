@@ -1,9 +1,12 @@
 //! What each of the 256 numbers is to an endpoint in each place, in each role, strict or not.
 
-use crate::endpoint_lab::{Lab, Talk, Talker, Terms, has_end, lab_on, run, talk_of, talker_of};
+use crate::endpoint_lab::{
+    CONNECTION, Lab, NOBODY, Proving, Talk, Talker, Terms, Users, has_end, lab_of, lab_on, run,
+    talk_of, talker_of,
+};
 use crate::endpoint_packets::{
-    LINE, Way, clear_way, disconnect, hash_in, init, kexinit_of, kexinit_with, packet, reply,
-    sealed_way, service,
+    FAILURE, LINE, NONE_OF_AL, Way, clear_way, disconnect, hash_in, init, kexinit_of, kexinit_with,
+    packet, reply, sealed_way, service,
 };
 use crate::helpers::{behind, prefix_of, same, same_count};
 use sshcore::Phase;
@@ -19,8 +22,12 @@ enum Line {
     Closes,
     /// What leaves the place.
     Leaves,
-    /// What leaves the place at a client whose plan is empty: no attempt is left.
+    /// What brings a client to its next attempt, where none is left.
     LeavesForNothing,
+    /// A request that isn't good: FAILURE is said.
+    Fails,
+    /// SUCCESS: the endpoint is authenticated.
+    Authenticates,
     /// It is read and ignored.
     Ignores,
     /// It is dropped unread.
@@ -195,7 +202,28 @@ const SERVER_AUTH: &[Range] = &[
     (22, 29, Line::Unknown),
     (30, 31, Line::Unexpected),
     (32, 49, Line::Unknown),
-    (50, 53, Line::Unexpected),
+    (50, 50, Line::Fails),
+    (51, 53, Line::Unexpected),
+    (54, 79, Line::Unknown),
+    (80, 255, Line::Unexpected),
+];
+
+/// A client behind the accepted service, which has made its one attempt.
+const CLIENT_AUTH: &[Range] = &[
+    (0, 0, Line::Unexpected),
+    (1, 1, Line::Closes),
+    (2, 4, Line::Ignores),
+    (5, 6, Line::Unexpected),
+    (7, 7, Line::Ignores),
+    (8, 19, Line::Unknown),
+    (20, 21, Line::Unexpected),
+    (22, 29, Line::Unknown),
+    (30, 31, Line::Unexpected),
+    (32, 49, Line::Unknown),
+    (50, 50, Line::Unexpected),
+    (51, 51, Line::LeavesForNothing),
+    (52, 52, Line::Authenticates),
+    (53, 53, Line::Ignores),
     (54, 79, Line::Unknown),
     (80, 255, Line::Unexpected),
 ];
@@ -243,13 +271,14 @@ fn heard_by_server(phase: Phase, strict: bool) -> usize {
     }
 }
 
-/// How many of the server's bytes bring a client to this phase. There is no authentication yet.
+/// How many of the server's bytes bring a client to this phase.
 fn heard_by_client(phase: Phase) -> usize {
     match phase {
         Phase::KexInit => 15,
         Phase::Exchange => 135,
         Phase::NewKeys => 263,
-        Phase::Service | Phase::Auth => 279,
+        Phase::Service => 279,
+        Phase::Auth => 343,
     }
 }
 
@@ -268,14 +297,15 @@ fn numbers_at_server(phase: Phase, strict: bool) -> Numbers {
     }
 }
 
-/// At a client, whose packets are KEXINIT, KEXDH_INIT, NEWKEYS and SERVICE_REQUEST.
+/// At a client, whose packets are KEXINIT, KEXDH_INIT, NEWKEYS, SERVICE_REQUEST and its one attempt.
 fn numbers_at_client(phase: Phase, strict: bool) -> Numbers {
     let first = if strict { 0 } else { 3 };
     match phase {
         Phase::KexInit => ((0, false), (1, false)),
         Phase::Exchange => ((1, false), (2, false)),
         Phase::NewKeys => ((2, false), (first + 1, true)),
-        Phase::Service | Phase::Auth => ((first, true), (first + 1, true)),
+        Phase::Service => ((first, true), (first + 1, true)),
+        Phase::Auth => ((first + 1, true), (first + 2, true)),
     }
 }
 
@@ -325,17 +355,24 @@ fn peer_in<'t, 'a>(talk: &'t Talk<'a>, role: Role) -> &'t Talker<'a> {
     }
 }
 
-/// The lab for a place.
+/// The lab for a place: nobody is let in, and for authentication the client has one attempt.
 fn lab_for(alloc: Global, spot: Spot) -> Result<Box<Lab>, Fail> {
-    lab_on(
-        alloc,
-        Terms {
-            strict: spot.strict,
-            guess: false,
-            crossed: spot.guess,
-        },
-    )
+    let terms = Terms {
+        strict: spot.strict,
+        guess: false,
+        crossed: spot.guess,
+    };
+    match spot.phase {
+        Phase::Auth => lab_of(alloc, terms, &ONE_ATTEMPT),
+        _ => lab_on(alloc, terms),
+    }
 }
+
+/// The client tries `al` without a proof, and nobody is let in.
+const ONE_ATTEMPT: Users<'static> = Users {
+    plan: &[("al", CONNECTION, Proving::Nothing)],
+    ..NOBODY
+};
 
 /// All bytes of both, up to the accepted service.
 fn run_whole(rt: &impl Abort, talk: &mut Talk<'_>, strict: bool) -> Result<(), Fail> {
@@ -368,7 +405,7 @@ fn before(
 
 /// The place of the spot.
 fn place_at(rt: &impl Abort, alloc: Global, lab: &Lab, spot: Spot) -> Result<Place, Fail> {
-    let mut talk = talk_of(rt, alloc, lab)?;
+    let mut talk = talk_of(alloc, lab)?;
     let hash = hash_in(rt, alloc, &talk)?;
     let kexinit = kexinit_of(alloc, peer_in(&talk, spot.role))?;
     let before = before(rt, alloc, &mut talk, spot)?;
@@ -398,6 +435,9 @@ fn message(rt: &impl Abort, alloc: Global, place: &Place, number: u8) -> Result<
         20 => Ok(Vec::from_slice(alloc, &place.kexinit)?),
         30 => init(alloc),
         31 => reply(rt, alloc, &place.hash),
+        50 => Ok(Vec::from_slice(alloc, NONE_OF_AL)?),
+        51 => Ok(Vec::from_slice(alloc, FAILURE)?),
+        53 => Ok(Vec::from_slice(alloc, &[53, 0, 0, 0, 0, 0, 0, 0, 0])?),
         _ => Ok(Vec::from_slice(alloc, &[number])?),
     }
 }
@@ -448,12 +488,22 @@ fn closes(alloc: Global) -> Result<Outcome, Fail> {
     })
 }
 
+/// It is authenticated, and says nothing.
+fn authenticates(alloc: Global) -> Result<Outcome, Fail> {
+    Ok(Outcome {
+        end: String::from_str(alloc, "authenticated al ssh-connection")?,
+        said: Some(Vec::new(alloc)),
+    })
+}
+
 /// What a well-formed message with this number comes to.
 fn outcome_of(alloc: Global, place: &Place, number: u8, line: Line) -> Result<Outcome, Fail> {
     match line {
         Line::Closes => closes(alloc),
         Line::Leaves => goes_on(alloc),
         Line::LeavesForNothing => ends(alloc, String::from_str(alloc, "failed F14")?, 14),
+        Line::Fails => stays(alloc, FAILURE),
+        Line::Authenticates => authenticates(alloc),
         Line::Ignores | Line::Drops => stays(alloc, b""),
         Line::Unknown => unimplemented(alloc, place),
         Line::Deviates => ends(alloc, format!(in alloc; "failed F7 {number}")?, 2),
@@ -461,13 +511,26 @@ fn outcome_of(alloc: Global, place: &Place, number: u8, line: Line) -> Result<Ou
     }
 }
 
-/// What the number alone comes to: it is malformed where it is read, except NEWKEYS.
-fn bare_outcome(alloc: Global, place: &Place, number: u8, line: Line) -> Result<Outcome, Fail> {
+/// Whether a message with this number has no fields, as NEWKEYS and SUCCESS.
+fn has_no_fields(number: u8) -> bool {
+    number == 21 || number == 52
+}
+
+/// Whether the packet is read.
+fn is_read(line: Line) -> bool {
     match line {
-        Line::Closes | Line::Leaves | Line::LeavesForNothing | Line::Ignores if number != 21 => {
-            ends(alloc, format!(in alloc; "failed F5 {number}")?, 2)
-        }
-        _ => outcome_of(alloc, place, number, line),
+        Line::Closes | Line::Leaves | Line::LeavesForNothing | Line::Ignores => true,
+        Line::Fails | Line::Authenticates => true,
+        Line::Drops | Line::Unknown | Line::Deviates | Line::Unexpected => false,
+    }
+}
+
+/// What the number alone comes to: it is malformed where it is read, unless its message has no fields.
+fn bare_outcome(alloc: Global, place: &Place, number: u8, line: Line) -> Result<Outcome, Fail> {
+    if is_read(line) && !has_no_fields(number) {
+        ends(alloc, format!(in alloc; "failed F5 {number}")?, 2)
+    } else {
+        outcome_of(alloc, place, number, line)
     }
 }
 
@@ -480,7 +543,7 @@ fn comes_to(
     payload: &[u8],
     outcome: &Outcome,
 ) -> Result<(), Fail> {
-    let mut talker = talker_of(rt, alloc, lab, place.role)?;
+    let mut talker = talker_of(alloc, lab, place.role)?;
     talker.feed(&place.before)?;
     let said = talker.said().len();
     let piece = packet(rt, alloc, &place.hears, payload)?;
@@ -644,5 +707,7 @@ fn judges_before_the_service(rt: HostRuntime) -> Result<(), Fail> {
 fn judges_in_authentication(rt: HostRuntime) -> Result<(), Fail> {
     let alloc = rt.alloc();
     judges_all(&rt, alloc, server_in(Phase::Auth, true), SERVER_AUTH)?;
-    judges_all(&rt, alloc, server_in(Phase::Auth, false), SERVER_AUTH)
+    judges_all(&rt, alloc, server_in(Phase::Auth, false), SERVER_AUTH)?;
+    judges_all(&rt, alloc, client_in(Phase::Auth, true), CLIENT_AUTH)?;
+    judges_all(&rt, alloc, client_in(Phase::Auth, false), CLIENT_AUTH)
 }

@@ -1,6 +1,6 @@
 //! Whom the lab's decisions trust and let in, and the configs of the lab's parts.
 
-use crate::helpers::same_count;
+use crate::helpers::{same_count, same_text};
 use sshcore::{ClientConfig, Credential, Decisions, Proof, ServerConfig};
 use sshlab::{LabDecisions, lab_client_parts, lab_decisions_law, lab_server_parts};
 use std::alloc::Global;
@@ -133,6 +133,21 @@ fn refuses_other_users_and_proofs(rt: HostRuntime) -> Result<(), Fail> {
         (1, "cy", signed("g", BLOB), false),
     ];
     decides_all(&rt, &decisions, &rows);
+    Ok(())
+}
+
+/// The requests of credentials name their methods so.
+#[test]
+fn credentials_have_methods(rt: HostRuntime) -> Result<(), Fail> {
+    let alloc = rt.alloc();
+    same_text(&rt, Credential::None.method(), "none");
+    let password = Credential::Password(Vec::new(alloc));
+    same_text(&rt, password.method(), "password");
+    let key = Credential::PublicKey {
+        algorithm: String::new(alloc),
+        private_key: Vec::new(alloc),
+    };
+    same_text(&rt, key.method(), "publickey");
     Ok(())
 }
 

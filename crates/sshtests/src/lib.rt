@@ -11,11 +11,21 @@ mod data_types;
 #[cfg(test)]
 mod derivations;
 #[cfg(test)]
+mod endpoint_answers;
+#[cfg(test)]
+mod endpoint_auth;
+#[cfg(test)]
+mod endpoint_by_hand;
+#[cfg(test)]
 mod endpoint_lab;
 #[cfg(test)]
 mod endpoint_packets;
 #[cfg(test)]
+mod endpoint_requests;
+#[cfg(test)]
 mod endpoint_rows;
+#[cfg(test)]
+mod endpoint_session;
 #[cfg(test)]
 mod endpoint_table;
 #[cfg(test)]
@@ -37,8 +47,14 @@ mod packets;
 #[cfg(test)]
 mod padding;
 #[cfg(test)]
+mod prediction;
+#[cfg(test)]
 mod program;
+#[cfg(test)]
+mod scenarios;
 #[cfg(test)]
 mod streams;
 #[cfg(test)]
 mod version_lines;
+#[cfg(test)]
+mod worlds;

@@ -251,6 +251,41 @@ fn goes_on_with_given_keys_and_number(rt: HostRuntime) -> Result<(), Fail> {
     Ok(())
 }
 
+/// What a reader gives up has to be these keys, or none, and this number.
+fn gives_up(rt: &impl Abort, reader: PacketReader, wanted: Option<&Keys>, number: u32) {
+    let (keys, found) = reader.into_keys();
+    assert_eq!(rt; found, number);
+    match (&keys, wanted) {
+        (Some(keys), Some(wanted)) => {
+            same(rt, keys.iv(), wanted.iv());
+            same(rt, keys.enc(), wanted.enc());
+            same(rt, keys.mac_key(), wanted.mac_key());
+        }
+        _ => assert_eq!(rt; keys.is_some(), wanted.is_some()),
+    }
+}
+
+/// The number is that of the next packet, also where a part of it is held.
+#[test]
+fn gives_its_keys_and_number_up(rt: HostRuntime) -> Result<(), Fail> {
+    let alloc = rt.alloc();
+    let keys = narrow_keys(alloc, &TEXTS)?;
+    gives_up(&rt, PacketReader::new(alloc), None, 0);
+    let mut reader = PacketReader::new(alloc);
+    let clear = newkeys(alloc, &LabSuite)?;
+    brings(&rt, &LabSuite, &mut reader, &clear, Came::Payload(b"\x15"));
+    gives_up(&rt, reader, None, 1);
+    let packets = two_packets(&rt, alloc, &keys)?;
+    let own = narrow_keys(alloc, &TEXTS)?;
+    let mut reader = PacketReader::with_keys(alloc, own, 4294967295);
+    let first = Came::Payload(b"payload");
+    brings(&rt, &LabSuite, &mut reader, &packets, first);
+    let part = prefix_of(behind(&packets, 48), 20);
+    brings(&rt, &LabSuite, &mut reader, part, Came::More);
+    gives_up(&rt, reader, Some(&keys), 0);
+    Ok(())
+}
+
 /// How many bytes each of twelve payloads has: six in clear, then six sealed.
 const TWELVE: [usize; 12] = [1, 17, 32768, 25, 33, 1, 1, 32768, 100, 1000, 32768, 9];
 

@@ -73,12 +73,27 @@ impl Sink for LimitedSink {
 }
 
 /// Words with bars between, as text.
-fn words_of(alloc: Global, text: &str) -> Result<Vec<String>, AllocError> {
+pub(crate) fn words_of(alloc: Global, text: &str) -> Result<Vec<String>, AllocError> {
     let mut words = Vec::new(alloc);
     for word in text.split('|') {
         words.push(String::from_str(alloc, word)?)?;
     }
     Ok(words)
+}
+
+/// What `tool` answers to the words, with this text to read.
+fn status_at(
+    alloc: Global,
+    words: &[String],
+    text: &[u8],
+    output: &mut LimitedSink,
+    faults: &mut LimitedSink,
+) -> u8
+    requires output { output.old.failed ≡ false }
+    requires faults { faults.old.failed ≡ false }
+{
+    let mut input = StreamSource::new(text);
+    tool(alloc, words, &mut input, output, faults)
 }
 
 /// What `tool` answers to the words, with nothing to read.
@@ -91,23 +106,33 @@ fn status_of(
     requires output { output.old.failed ≡ false }
     requires faults { faults.old.failed ≡ false }
 {
-    let mut input = StreamSource::new(b"".as_slice());
-    tool(alloc, words, &mut input, output, faults)
+    status_at(alloc, words, b"", output, faults)
 }
 
 /// What is written to the output and to the faults, and the status.
 #[derive(Clone, Copy)]
-struct Said<'a> {
-    output: &'a str,
-    faults: &'a str,
-    status: usize,
+pub(crate) struct Said<'a> {
+    pub(crate) output: &'a str,
+    pub(crate) faults: &'a str,
+    pub(crate) status: usize,
 }
 
-/// The words have to be answered so, where there is ample room.
+/// The words have to be answered so, with nothing to read and where there is ample room.
 fn say(rt: &impl Abort, alloc: Global, words: &[String], wanted: Said<'_>) {
+    say_at(rt, alloc, words, b"", wanted);
+}
+
+/// The words have to be answered so, with this text to read and where there is ample room.
+pub(crate) fn say_at(
+    rt: &impl Abort,
+    alloc: Global,
+    words: &[String],
+    text: &[u8],
+    wanted: Said<'_>,
+) {
     let mut output = LimitedSink::ample(alloc);
     let mut faults = LimitedSink::ample(alloc);
-    let status = status_of(alloc, words, &mut output, &mut faults);
+    let status = status_at(alloc, words, text, &mut output, &mut faults);
     same(rt, &faults.bytes, wanted.faults.as_bytes());
     same(rt, &output.bytes, wanted.output.as_bytes());
     same_count(rt, usize::from(status), wanted.status);
@@ -209,7 +234,13 @@ const REFUSED: &[(&str, &str)] = &[
     ("run", "bad words\n"),
     ("run|--session|--session", "bad words\n"),
     ("--session|run", "bad words\n"),
-    ("predict|--session", "bad words\n"),
+    ("predict|--session|--session", "bad words\n"),
+    ("predict|a", "bad words\n"),
+    ("predict|help", "bad words\n"),
+    ("predict|--help", "bad words\n"),
+    ("predict|-", "bad words\n"),
+    ("--session|predict", "bad words\n"),
+    ("greet|predict", "bad words\n"),
     ("show", "bad words\n"),
     ("check", "bad words\n"),
 ];

@@ -1,5 +1,9 @@
+use Rattle.std.proofs.Common.{subst}
+use Rattle.sshcore.specs.Ending.{Authenticated}
 use Rattle.sshcore.specs.Endpoints.{ending_of}
-use Rattle.sshcore.proofs.EndpointLemmas.{as_heard, cut_open, joined_ends, joined_heard}
+use Rattle.sshcore.specs.Replies.{Ends}
+use Rattle.sshcore.proofs.EndpointLemmas.{as_heard, authenticated_strictly, cut_open, joined_ends, joined_heard}
+use Rattle.sshcore.proofs.SessionLemmas.{uncut_end}
 use Rattle.sshcore.proofs.endpoint_laws.endpoint_law.Goals as goal
 
 pub returns-clause-joined : goal.returns-clause-joined
@@ -20,3 +24,13 @@ pub returns-clause-cut : goal.returns-clause-cut
 returns-clause-cut g c = λ h s a.
     cut_open (g.S.Suite.meaning c.args.one.now.suite) (g.D.Decisions.policy c.args.one.now.decisions) c.args.one.now.role c.args.one.now.party a.units a.refusal a.heard_end
     (ending_of c.args.one.now) a.history.replies.ends a.ends
+
+pub returns-clause-authenticated : goal.returns-clause-authenticated
+returns-clause-authenticated g c = λ h s a agreed is.
+    let m = g.S.Suite.meaning c.args.one.now.suite in
+    let d = g.D.Decisions.policy c.args.one.now.decisions in
+    let role = c.args.one.now.role in
+    let party = c.args.one.now.party in
+    let ends = subst (Ends m d role party a.units a.refusal) (uncut_end a.heard_end (ending_of c.args.one.now) agreed a.ends is) a.history.replies.ends in
+    let authenticated = c.authentication_law.ensures.authenticated m d role party a.units a.refusal agreed ends in
+    (authenticated, authenticated_strictly m d role party a.units agreed (Authenticated agreed) (c.strict_law.ensures.keeps m d role party a.units a.refusal (Authenticated agreed) ends) authenticated)

@@ -36,7 +36,7 @@ returns-clause-made g c =
     let first = c.new-state.ensures in
     let next : KeyData = record { cipher = []; mac = []; iv = []; enc = []; mac_key = [] } in
     let gives = subst (λ (k : Kept). Gives m party.seed true next k new c.say_lines.new.said.items c.say_making.new.said.items (goes (making m role party))) first (c.in_ok-say_making.ensures.gives true next) in
-    let stays : new ≡ record begun { sending = new.sending } = c.in_ok-say_making.ensures.stays ∙ ap (λ (k : Kept). record k { sending = new.sending }) first in
+    let stays : new ≡ record (begun party) { sending = new.sending } = c.in_ok-say_making.ensures.stays ∙ ap (λ (k : Kept). record k { sending = new.sending }) first in
     let lines = c.in_ok-say_lines.ensures in
     record {
       added = c.say_making.new.said.items;

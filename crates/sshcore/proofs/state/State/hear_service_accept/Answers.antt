@@ -1,20 +1,38 @@
-use Rattle.std.proofs.Common.{◌≡◌, ℕ, Bool, true, false, List, ap, cond}
+use Rattle.std.proofs.Common.{◌≡◌, ℕ, Bool, true, false, List, refl, cond}
+use Rattle.std.specs.Prelude.{not}
 use Rattle.std.specs.Str.{bytes_eq}
 use Rattle.std.proofs.lemmas.Result.{on_ok_weaker}
+use Rattle.sshpacket.specs.Suite.{Meaning}
 use Rattle.sshcore.specs.declared.end.Fault.TheVariants as fault
-use Rattle.sshcore.specs.Ending.{fails}
+use Rattle.sshcore.specs.Attempts.{attempt_reply}
+use Rattle.sshcore.specs.Ending.{Reply, fails}
+use Rattle.sshcore.specs.Kept.{kept_of}
+use Rattle.sshcore.specs.Known.{Known}
 use Rattle.sshcore.specs.Work.{accept_reply, userauth}
-use Rattle.sshcore.proofs.GivesLemmas.{gives_by}
+use Rattle.sshcore.proofs.GivesLemmas.{gives_by, gives_from}
 use Rattle.sshcore.proofs.state.State.hear_service_accept.Goals as goal
 
--- whether the service is the one of authentication
-by_service : (service : List ℕ) (b : Bool) → b ≡ bytes_eq service userauth → cond b (fails fault.NoMoreMethods) (fails (fault.Unexpected 6)) ≡ accept_reply service
-by_service service b e = ap (λ (x : Bool). cond x (fails fault.NoMoreMethods) (fails (fault.Unexpected 6))) e
+-- the reply where the service isn't the one of authentication, and where it is
+off : (b : Bool) (x y : Reply) → true ≡ not b → y ≡ cond b x y
+off true x y e = absurd cc
+off false x y e = refl
 
-pub returns-then-eq-clause-gives : goal.returns-then-eq-clause-gives
-returns-then-eq-clause-gives g c = on_ok_weaker c.fail.result (λ given strict next.
-    gives_by _ _ strict next _ _ _ _ (fails fault.NoMoreMethods) _ (by_service c.args.service.now true c.if-eq.ensures) (given strict next)) c.fail.ensures.gives
+on : (b : Bool) (x y : Reply) → false ≡ not b → x ≡ cond b x y
+on true x y e = refl
+on false x y e = absurd cc
 
-pub returns-else-eq-clause-gives : goal.returns-else-eq-clause-gives
-returns-else-eq-clause-gives g c = on_ok_weaker c.fail-else-eq.result (λ given strict next.
-    gives_by _ _ strict next _ _ _ _ (fails (fault.Unexpected 6)) _ (by_service c.args.service.now false c.if-eq.ensures) (given strict next)) c.fail-else-eq.ensures.gives
+refuses : (m : Meaning) (known : Known) (service : List ℕ) → true ≡ not (bytes_eq service userauth) → fails (fault.Unexpected 6) ≡ accept_reply m known service
+refuses m known service e = off (bytes_eq service userauth) (attempt_reply m known.session known.left) (fails (fault.Unexpected 6)) e
+
+accepts : (m : Meaning) (known : Known) (service : List ℕ) → false ≡ not (bytes_eq service userauth) → attempt_reply m known.session known.left ≡ accept_reply m known service
+accepts m known service e = on (bytes_eq service userauth) (attempt_reply m known.session known.left) (fails (fault.Unexpected 6)) e
+
+pub returns-then-ne-clause-gives : goal.returns-then-ne-clause-gives
+returns-then-ne-clause-gives g c = on_ok_weaker c.fail.result (λ given strict next.
+    gives_by _ _ strict next _ _ _ _ _ _ (refuses (g.S.Suite.meaning c.args.suite.now) (kept_of c.args.self.now).known c.args.service.now c.if-ne.ensures) (given strict next))
+    c.fail.ensures.gives
+
+pub returns-clause-gives : goal.returns-clause-gives
+returns-clause-gives g c = on_ok_weaker c.make_attempt.result (λ given strict next.
+    gives_by _ _ strict next _ _ _ _ _ _ (accepts (g.S.Suite.meaning c.args.suite.now) (kept_of c.args.self.now).known c.args.service.now c.if-ne.ensures)
+    (gives_from _ _ strict next _ (kept_of c.args.self.now) _ _ _ _ refl (given strict next))) c.make_attempt.ensures.gives

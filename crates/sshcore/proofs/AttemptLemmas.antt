@@ -1,0 +1,111 @@
+-- The attempts of a client's plan: which is made next, and that those that are left are accepted ones.
+
+use Rattle.std.proofs.Common.{◌≡◌, Bor, ℕ, suc, ◌+◌, ◌≤◌, Bool, true, false, cond, ltb, ◌-◌, ◌==◌, List, [], ◌∷◌, drop, take, length, map, Option, None, Some, inl, inr, refl, sym, ap, ◌∙◌, arith}
+use Rattle.std.specs.List.{AllByRecursion, position_or_len, slice_get}
+use Rattle.std.specs.Option.{option_copied}
+use Rattle.std.proofs.lemmas.Bool.{cases_Bool, ltb-false}
+use Rattle.std.proofs.lemmas.List.{take_rest}
+use Rattle.sshmsg.specs.Numbers.{kind}
+use Rattle.sshmsg.specs.Written.{written_message}
+use Rattle.sshneg.specs.ChoiceReadings.{is_in}
+use Rattle.sshpacket.specs.Suite.{Meaning}
+use Rattle.sshcore.specs.declared.config_parts.Attempt as attempt_parts
+use Rattle.sshcore.specs.Attempts.{request_of}
+use Rattle.sshcore.specs.ConfigData.{Attempt}
+use Rattle.sshcore.specs.ConfigRules.{IsAttempt}
+use Rattle.sshcore.specs.ConfigView.{attempt_of, proving_of}
+use Rattle.sshcore.specs.Plan.{next_listed, proving_name}
+
+-- whether the method of an attempt is listed
+abbrev pub is_listed : List (List ℕ) → attempt_parts.Attempt → Bool
+is_listed listed a = is_in listed (proving_name (proving_of a.credential))
+
+-- a number more, as the next one
+one_more : (n : ℕ) → 1 + n ≡ suc n
+one_more n = omega arith
+
+-- the attempts from the first one on whose method is listed
+listed_from : (listed : List (List ℕ)) (attempts : List attempt_parts.Attempt)
+    → map attempt_of (drop (position_or_len (is_listed listed) attempts) attempts) ≡ next_listed listed (map attempt_of attempts)
+unfolding next_listed
+listed_from listed [] = refl
+listed_from listed (a ∷ later) = elim (cases_Bool (is_listed listed a)) [
+  | inl here ↦ rw here refl
+  | inr off ↦ rw (off, one_more (position_or_len (is_listed listed) later)) (listed_from listed later)
+]
+
+-- none is listed
+listed_none : (listed : List (List ℕ)) (attempts : List attempt_parts.Attempt) → length attempts ≤ position_or_len (is_listed listed) attempts
+    → ◌≡◌ {A = List Attempt} [] (next_listed listed (map attempt_of attempts))
+unfolding next_listed
+listed_none listed [] far = refl
+listed_none listed (a ∷ later) far = elim (cases_Bool (is_listed listed a)) [
+  | inl here ↦ let none : suc (length later) ≤ 0 = rw here at far in absurd (omega arith)
+  | inr off ↦
+      let more : suc (length later) ≤ 1 + position_or_len (is_listed listed) later = rw off at far in
+      rw off (listed_none listed later (omega (arith, more)))
+]
+
+-- what an answer tells of the place that it was made of
+some_place : (b : Bool) (p place : ℕ) → cond b (Some p) None ≡ Some place → p ≡ place
+some_place true p place e = cc
+some_place false p place e = absurd cc
+
+no_place : (b : Bool) (p : ℕ) → cond b (Some p) None ≡ None → b ≡ false
+no_place true p e = absurd cc
+no_place false p e = refl
+
+module _ (listed : List (List ℕ)) (attempts : List attempt_parts.Attempt) (found : Option ℕ)
+    (finds : found ≡ cond (ltb (position_or_len (is_listed listed) attempts) (length attempts)) (Some (position_or_len (is_listed listed) attempts)) None) where
+  -- the attempts from the first one on whose method is listed
+  pub listed_at : (place : ℕ) → found ≡ Some place → map attempt_of (take (length attempts - place) (drop place attempts)) ≡ next_listed listed (map attempt_of attempts)
+  listed_at place is =
+      let at : position_or_len (is_listed listed) attempts ≡ place = some_place _ _ place (sym finds ∙ is) in
+      ap (map attempt_of) (take_rest attempts place) ∙ ap (λ (k : ℕ). map attempt_of (drop k attempts)) (sym at) ∙ listed_from listed attempts
+
+  -- none is
+  pub listed_nowhere : found ≡ None → ◌≡◌ {A = List Attempt} [] (next_listed listed (map attempt_of attempts))
+  listed_nowhere is = listed_none listed attempts (ltb-false _ _ (no_place _ (position_or_len (is_listed listed) attempts) (sym finds ∙ is)))
+
+-- nothing stands behind no attempts
+pub none_behind : (listed : List (List ℕ)) (attempts : List attempt_parts.Attempt) → length attempts ≡ 0
+    → map attempt_of attempts ≡ next_listed listed (drop 1 (map attempt_of attempts))
+unfolding next_listed
+none_behind listed [] e = refl
+none_behind listed (a ∷ later) e = absurd cc
+
+-- the attempts that are left are accepted ones
+left_accepted : (listed : List (List ℕ)) (attempts : List Attempt) → AllByRecursion IsAttempt attempts → AllByRecursion IsAttempt (next_listed listed attempts)
+unfolding next_listed
+left_accepted listed [] all = tt
+left_accepted listed (a ∷ later) (is, all) = elim (cases_Bool (is_in listed (proving_name a.proving))) [
+  | inl here ↦ rw here (is, all)
+  | inr off ↦ rw off (left_accepted listed later all)
+]
+
+behind_accepted : (attempts : List Attempt) → AllByRecursion IsAttempt attempts → AllByRecursion IsAttempt (drop 1 attempts)
+behind_accepted [] all = tt
+behind_accepted (a ∷ later) (is, all) = all
+
+pub next_accepted : (listed : List (List ℕ)) (attempts left : List Attempt) → AllByRecursion IsAttempt attempts → left ≡ next_listed listed (drop 1 attempts)
+    → AllByRecursion IsAttempt left
+next_accepted listed attempts left all is = rw is (left_accepted listed (drop 1 attempts) (behind_accepted attempts all))
+
+-- none is left, and one is
+pub first_none : (attempts : List attempt_parts.Attempt) (first : Option (Bor attempt_parts.Attempt)) → option_copied first ≡ slice_get attempts 0 → first ≡ None
+    → map attempt_of attempts ≡ []
+first_none [] first at is = refl
+first_none (a ∷ later) first at is = let bad : None ≡ Some a = ap option_copied (sym is) ∙ at in absurd cc
+
+pub first_some : (attempts : List attempt_parts.Attempt) (first : Option (Bor attempt_parts.Attempt)) (a : Bor attempt_parts.Attempt)
+    → option_copied first ≡ slice_get attempts 0 → first ≡ Some a → map attempt_of attempts ≡ attempt_of a.now ∷ map attempt_of (drop 1 attempts)
+first_some [] first a at is = let bad : Some a.now ≡ None = ap option_copied (sym is) ∙ at in absurd cc
+first_some (x ∷ later) first a at is =
+    let same : Some a.now ≡ Some x = ap option_copied (sym is) ∙ at in
+    let here : a.now ≡ x = cc in
+    ap (λ (y : attempt_parts.Attempt). attempt_of y ∷ map attempt_of later) (sym here)
+
+-- a request is no NEWKEYS
+pub quiet_request : (m : Meaning) (session : List ℕ) (a : Attempt) → (kind (request_of m session a) == 21) ≡ false
+unfolding written_message
+quiet_request m session a = refl

@@ -1,0 +1,278 @@
+-- How the reply to a message ends, and what an endpoint has heard that ended authenticated.
+
+use Rattle.std.proofs.Common.{◌≡◌, ℕ, Bool, true, false, cond, if◌then◌else◌, List, [], ◌∷◌, ◌++◌, Option, None, Some, Result, Ok, Err, refl, sym, ap, ◌∙◌, subst}
+use Rattle.std.specs.Prelude.{◌&&◌, not}
+use Rattle.std.specs.Str.{bytes_eq}
+use Rattle.std.proofs.lemmas.Bool.{not-true, true≢false}
+use Rattle.sshmsg.specs.declared.fault.MsgFault.{MsgFault}
+use Rattle.sshmsg.specs.Content.{Content, Disconnect, KexEcdhInit, KexEcdhReply, KexInit, KexdhInit, KexdhReply, Method, NewKeys, Offer, ServiceAccept, ServiceRequest, UserauthFailure, UserauthRequest, UserauthSuccess}
+use Rattle.sshmsg.specs.Messages.{message_in}
+use Rattle.sshmsg.specs.Numbers.{kind}
+use Rattle.sshmsg.specs.Written.{written_message}
+use Rattle.sshneg.specs.declared.choice.NoCommon.{NoCommon}
+use Rattle.sshneg.specs.declared.role.Role.{Role}
+use Rattle.sshneg.specs.ChoiceReadings.{is_in}
+use Rattle.sshneg.specs.Derivations.{ExchangeData}
+use Rattle.sshneg.specs.ExchangeEnd.{exchange_hash}
+use Rattle.sshneg.specs.Fields.{Algorithms}
+use Rattle.sshpacket.specs.Parse.{Refusal}
+use Rattle.sshpacket.specs.Stream.{Units}
+use Rattle.sshpacket.specs.Suite.{Meaning, ResponseData}
+use Rattle.sshcore.specs.declared.end.Fault.TheVariants as fault
+use Rattle.sshcore.specs.declared.table.Line.{Line}
+use Rattle.sshcore.specs.declared.table.Line.TheVariants as line
+use Rattle.sshcore.specs.declared.table.Phase.{Phase}
+use Rattle.sshcore.specs.declared.table.Phase.TheVariants as phase
+use Rattle.sshcore.specs.Attempts.{agreed_by, attempt_reply, success_by}
+use Rattle.sshcore.specs.Authenticated.{IsAuthenticated, IsLetIn, LetsIn, WasLetIn}
+use Rattle.sshcore.specs.Before.{expects_guess, stood, strict_at, strict_towards}
+use Rattle.sshcore.specs.ConfigData.{Attempt}
+use Rattle.sshcore.specs.Counting.{number_in}
+use Rattle.sshcore.specs.Directions.{payloads_in}
+use Rattle.sshcore.specs.Ending.{AgreedData, Authenticated, Closed, Ending, Failed, Open, Reply, fails, goes}
+use Rattle.sshcore.specs.Exchange.{answer_with, choice_with, exchange_with}
+use Rattle.sshcore.specs.Known.{Known, known_at}
+use Rattle.sshcore.specs.Party.{Party, Policy}
+use Rattle.sshcore.specs.Phases.{leaving, past_newkeys, phase_at}
+use Rattle.sshcore.specs.Plan.{next_behind}
+use Rattle.sshcore.specs.Replies.{Ends, end_at, ended, goes_on, line_reply, read_reply, refusal_reply}
+use Rattle.sshcore.specs.Requests.{is_good, is_last_try, request_reply}
+use Rattle.sshcore.specs.Standing.{Tied}
+use Rattle.sshcore.specs.Table.{line_by}
+use Rattle.sshcore.specs.Work.{answered_by, banner_by, chosen_reply, init_reply, kexinit_reply, reply_reply, signed_by, userauth, work}
+use Rattle.sshcore.proofs.Below.{Below}
+use Rattle.sshcore.proofs.PhaseLemmas.{tied_leaves, tied_phase}
+use Rattle.sshcore.proofs.ReadsLemmas.{Reads, reads, success_read, user_request_read}
+use Rattle.sshcore.proofs.StrictLaws.{begun_none, past_parts, stands}
+use Rattle.sshcore.proofs.StrictSteps.{line_is}
+
+-- the end of input cut it off
+abbrev pub is_cut : Ending → Bool
+is_cut (Failed fault.Cut) = true
+is_cut _ = false
+
+-- neither authenticated nor cut off
+abbrev is_early : Ending → Bool
+is_early (Authenticated a) = false
+is_early end = not (is_cut end)
+
+abbrev pub IsEarly : Ending → Type 0
+IsEarly end = is_early end ≡ true
+
+-- an early end isn't cut off
+pub early_uncut : (end : Ending) → IsEarly end → is_cut end ≡ false
+early_uncut Open h = refl
+early_uncut (Authenticated a) h = refl
+early_uncut (Failed f) h = not-true (is_cut (Failed f)) h
+early_uncut (Closed reason) h = refl
+
+early_cond : (b : Bool) (r o : Reply) → IsEarly r.end → IsEarly o.end → IsEarly (if b then r else o).end
+early_cond true r o x y = x
+early_cond false r o x y = y
+
+-- How the reply to a message ends: early; or authenticated, by a good request for a service that the server has, or by a SUCCESS
+-- where an attempt was made.
+pub data WorkEnds (m : Meaning) (d : Policy) (party : Party) (known : Known) (c : Content) (end : Ending) : Type 0 where
+  Early : IsEarly end → WorkEnds m d party known c end
+  Requested : (user service : List ℕ) (method : Method) → c ≡ UserauthRequest user service method → is_in party.services service ≡ true
+      → is_good m d party known user service method ≡ true → end ≡ Authenticated (agreed_by known user service) → WorkEnds m d party known c end
+  Succeeded : (made : Attempt) (later : List Attempt) → c ≡ UserauthSuccess → known.left ≡ made ∷ later
+      → end ≡ Authenticated (agreed_by known made.user made.service) → WorkEnds m d party known c end
+
+module _ (m : Meaning) (d : Policy) (role : Role) (party : Party) where
+  early_chosen : (peer : Offer) (r : Result Algorithms NoCommon) → IsEarly (chosen_reply m role party peer r).end
+  early_chosen peer (Ok a) = refl
+  early_chosen peer (Err f) = refl
+
+  early_kexinit : (known : Known) (peer : Offer) → IsEarly (kexinit_reply m role party known peer).end
+  unfolding kexinit_reply
+  early_kexinit known peer =
+      early_cond (strict_towards role party.strict (Some peer) && not known.first) (fails (fault.Strict 20)) (chosen_reply m role party peer (choice_with m role party.offer (Some peer)))
+      refl (early_chosen peer (choice_with m role party.offer (Some peer)))
+
+  early_answered : (known : Known) (x : ExchangeData) (r : Option ResponseData) → IsEarly (answered_by m party known x r).end
+  early_answered known x None = refl
+  early_answered known x (Some answer) = refl
+
+  early_init : (known : Known) (c : Content) → IsEarly (init_reply m role party known c).end
+  unfolding init_reply
+  early_init known c = early_answered known (exchange_with m role party known.algorithms known.version known.kexinit (Ok c)) (answer_with m role party known.algorithms (Ok c))
+
+  early_signed : (known : Known) (x : ExchangeData) (signature : List ℕ) (r : Option ResponseData) → IsEarly (signed_by m known x signature r).end
+  early_signed known x signature None = refl
+  early_signed known x signature (Some answer) =
+      early_cond (m.verify known.algorithms.host_key x.host_key (exchange_hash m known.algorithms.kex x) signature)
+      (goes (written_message NewKeys ∷ written_message (ServiceRequest userauth) ∷ [])) (fails fault.Signature) refl refl
+
+  early_reply : (known : Known) (c : Content) (signature : List ℕ) → IsEarly (reply_reply m d role party known c signature).end
+  unfolding reply_reply
+  early_reply known c signature =
+      let x = exchange_with m role party known.algorithms known.version known.kexinit (Ok c) in
+      let answer = answer_with m role party known.algorithms (Ok c) in
+      early_cond (d.host_key known.algorithms.host_key x.host_key) (signed_by m known x signature answer) (fails fault.HostKey) (early_signed known x signature answer) refl
+
+  early_attempt : (session : List ℕ) (left : List Attempt) → IsEarly (attempt_reply m session left).end
+  early_attempt session [] = refl
+  early_attempt session (a ∷ later) = refl
+
+  -- a request is answered by whether the service is unknown, the request good, and the try the last
+  request_ends : (known : Known) (user service : List ℕ) (method : Method)
+      → WorkEnds m d party known (UserauthRequest user service method) (request_reply m d party known user service method).end
+  unfolding request_reply
+  request_ends known user service method =
+      by (is_in party.services service) (is_good m d party known user service method) (is_last_try party known) refl refl
+    where
+      by : (has good last : Bool) → is_in party.services service ≡ has → is_good m d party known user service method ≡ good
+          → WorkEnds m d party known (UserauthRequest user service method) (cond (not has) (fails fault.Service)
+          (cond good (record { answers = written_message UserauthSuccess ∷ []; end = Authenticated (agreed_by known user service) })
+          (cond last (fails fault.TooManyTries) (goes (written_message (UserauthFailure party.methods false) ∷ []))))).end
+      by false good last has_is good_is = Early refl
+      by true true last has_is good_is = Requested user service method refl has_is good_is refl
+      by true false true has_is good_is = Early refl
+      by true false false has_is good_is = Early refl
+
+  success_ends : (known : Known) (left : List Attempt) → known.left ≡ left → WorkEnds m d party known UserauthSuccess (success_by known left).end
+  success_ends known [] e = Early refl
+  success_ends known (a ∷ later) e = Succeeded a later refl e refl
+
+  pub work_ends : (known : Known) (c : Content) → WorkEnds m d party known c (work m d role party known c).end
+  unfolding work
+  work_ends known (Disconnect reason description language) = Early refl
+  work_ends known (KexInit peer) = Early (early_kexinit known peer)
+  work_ends known (KexdhInit e) = Early (early_init known (KexdhInit e))
+  work_ends known (KexEcdhInit share) = Early (early_init known (KexEcdhInit share))
+  work_ends known (KexdhReply key f signature) = Early (early_reply known (KexdhReply key f signature) signature)
+  work_ends known (KexEcdhReply key share signature) = Early (early_reply known (KexEcdhReply key share signature) signature)
+  work_ends known (ServiceRequest service) =
+      Early (early_cond (bytes_eq service userauth) (goes (written_message (ServiceAccept userauth) ∷ banner_by party.banner)) (fails fault.Service) refl refl)
+  work_ends known (ServiceAccept service) =
+      Early (early_cond (bytes_eq service userauth) (attempt_reply m known.session known.left) (fails (fault.Unexpected 6)) (early_attempt known.session known.left) refl)
+  work_ends known (UserauthRequest user service method) = request_ends known user service method
+  work_ends known (UserauthFailure listed partial) = Early (early_attempt known.session (next_behind listed known.left))
+  work_ends known UserauthSuccess = success_ends known known.left refl
+  work_ends known _ = Early refl
+
+-- what is agreed has the user and the service that it was made with
+agrees_by : (known : Known) (user service : List ℕ) (a : AgreedData) → agreed_by known user service ≡ a → a ≡ agreed_by known a.user a.service
+agrees_by known user service a e = subst (λ (x : AgreedData). x ≡ agreed_by known x.user x.service) e refl
+
+same_agreed : (x y : AgreedData) → Authenticated x ≡ Authenticated y → x ≡ y
+same_agreed x y e = cc
+
+-- what lets in the user that is agreed on
+lets_in : (m : Meaning) (d : Policy) (party : Party) (known : Known) (payload user service : List ℕ) (method : Method) (a : AgreedData) → agreed_by known user service ≡ a
+    → message_in known.shares payload ≡ Ok (UserauthRequest user service method) → is_in party.services service ≡ true
+    → is_good m d party known user service method ≡ true → LetsIn m d party known payload a
+lets_in m d party known payload user service method a e requests has good =
+    subst (LetsIn m d party known payload) e (record { method = method; requests = requests; has_service = has; good = good })
+
+was_let_in : (known : Known) (payload : List ℕ) (made : Attempt) (later : List Attempt) (a : AgreedData) → agreed_by known made.user made.service ≡ a
+    → message_in known.shares payload ≡ Ok UserauthSuccess → known.left ≡ made ∷ later → WasLetIn known payload a
+was_let_in known payload made later a e succeeds left =
+    subst (WasLetIn known payload) e (record { succeeds = succeeds; made = made; later = later; left_are = left; user_is = refl; service_is = refl })
+
+-- an endpoint that agreed on this at a payload in this phase
+record Agrees (m : Meaning) (d : Policy) (role : Role) (party : Party) (p : Phase) (guess : Bool) (known : Known) (payload : List ℕ) (a : AgreedData) : Type 0 where
+  at : p ≡ phase.Auth
+  none_due : guess ≡ false
+  leaves : kind payload ≡ leaving role phase.Auth
+  agreed_is : a ≡ agreed_by known a.user a.service
+  let_in : IsLetIn m d role party known payload a
+
+pub none_refused : (r : Option Refusal) (a : AgreedData) → Authenticated a ≡ (refusal_reply r).end → ⊥
+none_refused None a e = cc
+none_refused (Some r) a e = cc
+
+module _ (below : Below) (m : Meaning) (d : Policy) (role : Role) (party : Party) where
+  -- a good request is read at a server, and a SUCCESS at a client
+  requested : (p : Phase) (guess : Bool) (known : Known) (payload user service : List ℕ) (method : Method) (a : AgreedData) → Reads role p guess (kind payload)
+      → message_in known.shares payload ≡ Ok (UserauthRequest user service method) → is_in party.services service ≡ true → is_good m d party known user service method ≡ true
+      → agreed_by known user service ≡ a → Agrees m d role party p guess known payload a
+  requested p guess known payload user service method a r requests has good e =
+      let is : kind payload ≡ 50 = below.numbers known.shares payload (UserauthRequest user service method) requests in
+      let at = user_request_read role p guess (subst (Reads role p guess) is r) in
+      record {
+        at = at.phase_is;
+        none_due = at.none_due;
+        leaves = is ∙ ap (λ side. leaving side phase.Auth) (sym at.side_is);
+        agreed_is = agrees_by known user service a e;
+        let_in = subst (λ (side : Role). IsLetIn m d side party known payload a) (sym at.side_is) (lets_in m d party known payload user service method a e requests has good);
+      }
+
+  succeeded : (p : Phase) (guess : Bool) (known : Known) (payload : List ℕ) (made : Attempt) (later : List Attempt) (a : AgreedData) → Reads role p guess (kind payload)
+      → message_in known.shares payload ≡ Ok UserauthSuccess → known.left ≡ made ∷ later → agreed_by known made.user made.service ≡ a → Agrees m d role party p guess known payload a
+  succeeded p guess known payload made later a r succeeds left e =
+      let is : kind payload ≡ 52 = below.numbers known.shares payload UserauthSuccess succeeds in
+      let at = success_read role p guess (subst (Reads role p guess) is r) in
+      record {
+        at = at.phase_is;
+        none_due = at.none_due;
+        leaves = is ∙ ap (λ side. leaving side phase.Auth) (sym at.side_is);
+        agreed_is = agrees_by known made.user made.service a e;
+        let_in = subst (λ (side : Role). IsLetIn m d side party known payload a) (sym at.side_is) (was_let_in known payload made later a e succeeds left);
+      }
+
+  -- a message that is read
+  by_read : (p : Phase) (strict guess : Bool) (known : Known) (payload : List ℕ) → line_by role p strict guess (kind payload) ≡ line.Reads → (a : AgreedData)
+      → (r : Result Content MsgFault) → message_in known.shares payload ≡ r → (read_reply m d role party known (kind payload) r).end ≡ Authenticated a
+      → Agrees m d role party p guess known payload a
+  by_read p strict guess known payload reads_it a (Err f) e end = absurd cc
+  by_read p strict guess known payload reads_it a (Ok c) e end = by (work_ends m d role party known c)
+    where
+      by : WorkEnds m d party known c (work m d role party known c).end → Agrees m d role party p guess known payload a
+      by (Early h) = absurd (true≢false (sym h ∙ ap is_early end))
+      by (Requested user service method same has good is) = requested p guess known payload user service method a (reads role p strict (kind payload) guess reads_it)
+          (e ∙ ap Ok same) has good (same_agreed (agreed_by known user service) a (sym is ∙ end))
+      by (Succeeded made later same left is) = succeeded p guess known payload made later a (reads role p strict (kind payload) guess reads_it)
+          (e ∙ ap Ok same) left (same_agreed (agreed_by known made.user made.service) a (sym is ∙ end))
+
+  by_line : (p : Phase) (strict guess : Bool) (known : Known) (packet : ℕ) (payload : List ℕ) (l : Line) → line_by role p strict guess (kind payload) ≡ l → (a : AgreedData)
+      → (line_reply m d role party known packet l payload).end ≡ Authenticated a → Agrees m d role party p guess known payload a
+  unfolding line_reply
+  by_line p strict guess known packet payload line.Reads is a end = by_read p strict guess known payload is a (message_in known.shares payload) refl end
+  by_line p strict guess known packet payload line.Drops is a end = absurd cc
+  by_line p strict guess known packet payload line.Deviates is a end = absurd cc
+  by_line p strict guess known packet payload line.Unknown is a end = absurd cc
+  by_line p strict guess known packet payload line.Unexpected is a end = absurd cc
+
+  -- at an endpoint that stood open before
+  at_last : (version : List ℕ) (before : Units) (payload : List ℕ) (p : Phase) → Tied role party.offer before p → (a : AgreedData)
+      → end_at m d role party (version ∷ before) payload ≡ Authenticated a
+      → Agrees m d role party p (expects_guess role party.offer before) (known_at m role party version before) payload a
+  at_last version before payload p t a end =
+      let l = line_by role p (strict_at role party before) (expects_guess role party.offer before) (kind payload) in
+      by_line p (strict_at role party before) (expects_guess role party.offer before) (known_at m role party version before) (number_in role party before) payload l refl a
+      (ap (λ (l : Line). (line_reply m d role party (known_at m role party version before) (number_in role party before) l payload).end) (line_is below m d role party version before payload p t) ∙ end)
+
+  pub last_tied : (version : List ℕ) (before : Units) (last : List ℕ) (p : Phase) → Tied role party.offer before p → (a : AgreedData)
+      → end_at m d role party (version ∷ before) last ≡ Authenticated a → Tied role party.offer before phase.Auth
+  last_tied version before last p t a end = subst (Tied role party.offer before) (at_last version before last p t a end).at t
+
+  -- the phase stays behind the payload
+  stays_tied : (version : List ℕ) (before : Units) (last : List ℕ) (p : Phase) → Tied role party.offer before p → (a : AgreedData)
+      → end_at m d role party (version ∷ before) last ≡ Authenticated a → Tied role party.offer (before ++ last ∷ []) phase.Auth
+  stays_tied version before last p t a end =
+      let at = at_last version before last p t a end in
+      tied_leaves role party.offer before last phase.Auth (last_tied version before last p t a end) at.none_due at.leaves
+
+  pub authenticated : (units : Units) (refusal : Option Refusal) (a : AgreedData) → Ends m d role party units refusal (Authenticated a) → IsAuthenticated m d role party units a
+  authenticated units refusal a (goes_on stays is) = absurd (none_refused refusal a is)
+  authenticated units refusal a (ended [] last units_are stays is shut none) = absurd cc
+  authenticated units refusal a (ended (version ∷ before) last units_are stays is shut none) =
+      let f = stands below m d role party version [] before phase.KexInit (begun_none below m d role party) stays.1 in
+      let at = at_last version before last f.0 f.1.tied a (sym is) in
+      record {
+        version = version;
+        before = before;
+        last = last;
+        units_are = units_are;
+        in_auth = tied_phase role party.offer before phase.Auth (last_tied version before last f.0 f.1.tied a (sym is));
+        stays_in_auth = ap (λ (l : Units). phase_at role party.offer (payloads_in l)) units_are
+            ∙ tied_phase role party.offer (before ++ last ∷ []) phase.Auth (stays_tied version before last f.0 f.1.tied a (sym is));
+        agrees = at.agreed_is;
+        let_in = at.let_in;
+      }
+
+-- an endpoint in phase auth has heard NEWKEYS
+pub auth_switched : (role : Role) (own : Offer) (payloads : Units) → phase_at role own payloads ≡ phase.Auth → stood role own 21 payloads ≡ true
+auth_switched role own payloads at = (past_parts _ _ _ _ (ap past_newkeys at)).1

@@ -1,0 +1,314 @@
+-- What an endpoint hands over that ended authenticated: both directions have keys.
+
+use Rattle.std.proofs.Common.{◌≡◌, ◌≢◌, ◌⊎◌, inl, inr, ℕ, Bool, true, false, cond, List, [], ◌∷◌, ◌++◌, Option, None, Some, Result, Ok, Err, refl, sym, ap, ◌∙◌, subst, append_assoc, arith}
+use Rattle.std.proofs.lemmas.Bool.{and_parts, cases_Bool, eq-eqb, eqb-true, true≢false}
+use Rattle.std.proofs.lemmas.List.{append-nil}
+use Rattle.sshwire.specs.declared.share_form.ShareForm.{ShareForm}
+use Rattle.sshwire.specs.declared.share_form.ShareForm.TheVariants.{Hybrid, Mpint, OctetString}
+use Rattle.sshwire.specs.LineState.{LineState}
+use Rattle.sshmsg.specs.declared.fault.MsgFault.{MsgFault}
+use Rattle.sshmsg.specs.Content.{Content, KexEcdhInit, KexEcdhReply, KexdhInit, KexdhReply, NewKeys, ServiceRequest}
+use Rattle.sshmsg.specs.Messages.{message_in}
+use Rattle.sshmsg.specs.Numbers.{kind, number_of}
+use Rattle.sshmsg.specs.Written.{written_message}
+use Rattle.sshneg.specs.declared.role.Role.{Role}
+use Rattle.sshneg.specs.declared.role.Role.TheVariants.{Client, Server}
+use Rattle.sshneg.specs.Derivations.{ExchangeData}
+use Rattle.sshneg.specs.ExchangeEnd.{exchange_hash}
+use Rattle.sshneg.specs.Markers.{other}
+use Rattle.sshpacket.specs.KeyData.{KeyData}
+use Rattle.sshpacket.specs.declared.reader.PacketReader.{PacketReader}
+use Rattle.sshpacket.specs.Parse.{Refusal}
+use Rattle.sshpacket.specs.Places.{EachPlace, flat_places}
+use Rattle.sshpacket.specs.ReaderState.{ReaderState, state}
+use Rattle.sshpacket.specs.Stream.{Units}
+use Rattle.sshpacket.specs.Suite.{Meaning, ResponseData}
+use Rattle.sshpacket.proofs.Places.{flat-push}
+use Rattle.sshcore.specs.declared.end.Agreed.{Agreed}
+use Rattle.sshcore.specs.declared.end.End.{End}
+use Rattle.sshcore.specs.declared.end.End.TheVariants as end
+use Rattle.sshcore.specs.declared.end.Fault.{Fault}
+use Rattle.sshcore.specs.declared.end.Fault.TheVariants as fault
+use Rattle.sshcore.specs.declared.input.Input.{Input}
+use Rattle.sshcore.specs.declared.input.Input.TheVariants as input
+use Rattle.sshcore.specs.declared.session.Session.{Session}
+use Rattle.sshcore.specs.declared.table.Line.{Line}
+use Rattle.sshcore.specs.declared.table.Phase.{Phase}
+use Rattle.sshcore.specs.declared.table.Phase.TheVariants as phase
+use Rattle.sshcore.specs.Authenticated.{IsAuthenticated}
+use Rattle.sshcore.specs.Before.{expects_guess, kept, stood, strict_at}
+use Rattle.sshcore.specs.Counting.{number_in, number_out, switched_out}
+use Rattle.sshcore.specs.Directions.{keys_in, keys_out, payloads_in, version_in}
+use Rattle.sshcore.specs.Ending.{AgreedData, Authenticated, Ending, Failed, Open, agreed_of, ending, fails, goes}
+use Rattle.sshcore.specs.Exchange.{answer_with, exchange_with, keys_at, secret_of}
+use Rattle.sshcore.specs.Inputs.{AsHeard, CutOff, IsInside, Stands, StandsSo}
+use Rattle.sshcore.specs.Kept.{Kept}
+use Rattle.sshcore.specs.Known.{Known, known_at}
+use Rattle.sshcore.specs.Output.{Sending}
+use Rattle.sshcore.specs.Party.{Party, Policy}
+use Rattle.sshcore.specs.Phases.{leaving}
+use Rattle.sshcore.specs.Replies.{Ends, Replies, answers_at, end_at, ended, goes_on, line_reply, read_reply, refusal_reply}
+use Rattle.sshcore.specs.Sessions.{IsSession}
+use Rattle.sshcore.specs.Standing.{Tied}
+use Rattle.sshcore.specs.Table.{line_by}
+use Rattle.sshcore.specs.Work.{answered_by, init_reply, making, reply_in, reply_reply, signed_by, trusted_by, userauth, work}
+use Rattle.sshcore.proofs.AuthenticatedLemmas.{auth_switched, authenticated, last_tied, none_refused}
+use Rattle.sshcore.proofs.Below.{Below}
+use Rattle.sshcore.proofs.PhaseLemmas.{kept_dropped, stood_push}
+use Rattle.sshcore.proofs.StreamLemmas.{switched_append}
+use Rattle.sshcore.proofs.StrictLaws.{begun_none, not_open, stands}
+use Rattle.sshcore.proofs.StrictStages.{Follows}
+use Rattle.sshcore.proofs.StrictSteps.{Fails, Goes, Off, Step, line_is, step}
+use Rattle.sshcore.proofs.TableLemmas.{Closing, Dropped, Leaving, OffGuess, OffPhase, Sees, Staying, Useless, sees}
+
+-- NEWKEYS is said
+abbrev Switches : Units → Type 0
+Switches answers = switched_out answers ≡ true
+
+switches_first : (answers more : Units) → Switches answers → Switches (answers ++ more)
+switches_first answers more on = switched_append answers more ∙ rw on refl
+
+switches_last : (answers more : Units) → Switches more → Switches (answers ++ more)
+switches_last answers more on = switched_append answers more ∙ rw on (by (switched_out answers))
+  where
+    by : (b : Bool) → cond b true true ≡ true
+    by true = refl
+    by false = refl
+
+module _ (m : Meaning) (d : Policy) (party : Party) (known : Known) (x : ExchangeData) where
+  -- an exchange message that leaves the endpoint open is answered by NEWKEYS
+  answered_switches : (r : Option ResponseData) → (answered_by m party known x r).end ≡ Open → Switches (answered_by m party known x r).answers
+  unfolding switched_out written_message
+  answered_switches None is_open = absurd cc
+  answered_switches (Some answer) is_open = by known.shares (m.sign known.algorithms.host_key (secret_of party.host_keys known.algorithms.host_key) (exchange_hash m known.algorithms.kex x))
+    where
+      by : (form : ShareForm) (signature : List ℕ) → Switches (written_message (reply_in form x.host_key x.server_share signature) ∷ written_message NewKeys ∷ [])
+      by Mpint signature = refl
+      by OctetString signature = refl
+      by Hybrid signature = refl
+
+  signed_switches : (signature : List ℕ) (r : Option ResponseData) → (signed_by m known x signature r).end ≡ Open → Switches (signed_by m known x signature r).answers
+  unfolding switched_out written_message
+  signed_switches signature None is_open = absurd cc
+  signed_switches signature (Some answer) is_open = by (m.verify known.algorithms.host_key x.host_key (exchange_hash m known.algorithms.kex x) signature) is_open
+    where
+      by : (b : Bool) → (cond b (goes (written_message NewKeys ∷ written_message (ServiceRequest userauth) ∷ [])) (fails fault.Signature)).end ≡ Open
+          → Switches (cond b (goes (written_message NewKeys ∷ written_message (ServiceRequest userauth) ∷ [])) (fails fault.Signature)).answers
+      by true o = refl
+      by false o = absurd cc
+
+  trusted_switches : (signature : List ℕ) (r : Option ResponseData) → (trusted_by m d known x signature r).end ≡ Open → Switches (trusted_by m d known x signature r).answers
+  trusted_switches signature r is_open = by (d.host_key known.algorithms.host_key x.host_key) is_open
+    where
+      by : (b : Bool) → (cond b (signed_by m known x signature r) (fails fault.HostKey)).end ≡ Open → Switches (cond b (signed_by m known x signature r) (fails fault.HostKey)).answers
+      by true o = signed_switches signature r o
+      by false o = absurd cc
+
+failed_open : (f : Fault) → Failed f ≡ Open → ⊥
+failed_open f e = cc
+
+module _ (below : Below) (m : Meaning) (d : Policy) (role : Role) (party : Party) where
+  exchange_switches : (known : Known) (c : Content) → (number_of c ≡ 30) ⊎ (number_of c ≡ 31) → (work m d role party known c).end ≡ Open → Switches (work m d role party known c).answers
+  unfolding work init_reply reply_reply
+  exchange_switches known (KexdhInit e) two is_open = answered_switches m d party known (exchange_with m role party known.algorithms known.version known.kexinit (Ok (KexdhInit e)))
+      (answer_with m role party known.algorithms (Ok (KexdhInit e))) is_open
+  exchange_switches known (KexEcdhInit share) two is_open = answered_switches m d party known (exchange_with m role party known.algorithms known.version known.kexinit (Ok (KexEcdhInit share)))
+      (answer_with m role party known.algorithms (Ok (KexEcdhInit share))) is_open
+  exchange_switches known (KexdhReply key f signature) two is_open = trusted_switches m d party known (exchange_with m role party known.algorithms known.version known.kexinit (Ok (KexdhReply key f signature))) signature
+      (answer_with m role party known.algorithms (Ok (KexdhReply key f signature))) is_open
+  exchange_switches known (KexEcdhReply key share signature) two is_open = trusted_switches m d party known (exchange_with m role party known.algorithms known.version known.kexinit (Ok (KexEcdhReply key share signature))) signature
+      (answer_with m role party known.algorithms (Ok (KexEcdhReply key share signature))) is_open
+  exchange_switches known _ (inl e) is_open = absurd (omega (arith, e))
+  exchange_switches known _ (inr e) is_open = absurd (omega (arith, e))
+
+  read_switches : (known : Known) (payload : List ℕ) (r : Result Content MsgFault) → message_in known.shares payload ≡ r → (kind payload ≡ 30) ⊎ (kind payload ≡ 31)
+      → (read_reply m d role party known (kind payload) r).end ≡ Open → Switches (read_reply m d role party known (kind payload) r).answers
+  read_switches known payload (Ok c) e two is_open = exchange_switches known c (numbered two) is_open
+    where
+      numbered : (kind payload ≡ 30) ⊎ (kind payload ≡ 31) → (number_of c ≡ 30) ⊎ (number_of c ≡ 31)
+      numbered (inl n) = inl (sym (below.numbers known.shares payload c e) ∙ n)
+      numbered (inr n) = inr (sym (below.numbers known.shares payload c e) ∙ n)
+  read_switches known payload (Err f) e two is_open = absurd cc
+
+  exchange_number : (r : Role) (n : ℕ) → n ≡ leaving r phase.Exchange → (n ≡ 30) ⊎ (n ≡ 31)
+  exchange_number Client n e = inr e
+  exchange_number Server n e = inl e
+
+  not_closing : (r : Role) (n : ℕ) → n ≡ leaving r phase.Exchange → n ≡ 1 → ⊥
+  not_closing Client n e one = omega arith
+  not_closing Server n e one = omega arith
+
+  module _ (version : List ℕ) (before : Units) (payload : List ℕ) where
+    by_line : (known : Known) (packet : ℕ) (p : Phase) (l : Line) → Sees role p (strict_at role party before) (expects_guess role party.offer before) (kind payload) l
+        → kept role party.offer (leaving role phase.Exchange) before payload ≡ true → kind payload ≡ leaving role phase.Exchange
+        → (line_reply m d role party known packet l payload).end ≡ Open → Switches (line_reply m d role party known packet l payload).answers
+    unfolding line_reply
+    by_line known packet p l (Closing one is) here number is_open = absurd (not_closing role (kind payload) number one)
+    by_line known packet p l (Dropped one due r is) here number is_open = absurd (true≢false (sym here ∙ kept_dropped role party.offer before payload (leaving role phase.Exchange) due one))
+    by_line known packet p l (OffGuess one due r out is) here number is_open = absurd (failed_open (fault.Strict (kind payload)) (rw is at is_open))
+    by_line known packet p l (OffPhase one none r out is) here number is_open = absurd (failed_open (fault.Strict (kind payload)) (rw is at is_open))
+    by_line known packet p l (Useless none off out is) here number is_open = absurd (failed_open (fault.Unexpected (kind payload)) (rw is at is_open))
+    by_line known packet p l (Staying none off out quiet e) here number is_open =
+        absurd (true≢false (sym (eq-eqb (kind payload) (leaving role phase.Exchange) number) ∙ quiet.leaves.exchange))
+    by_line known packet p l (Leaving none at is) here number is_open =
+        rw is (read_switches known payload (message_in known.shares payload) refl (exchange_number role (kind payload) number) (rw is at is_open))
+
+    -- where the exchange message is heard, and the endpoint stays open, NEWKEYS is said
+    heard_switches : (p : Phase) → Tied role party.offer before p → end_at m d role party (version ∷ before) payload ≡ Open
+        → stood role party.offer (leaving role phase.Exchange) before ≡ false → stood role party.offer (leaving role phase.Exchange) (before ++ payload ∷ []) ≡ true
+        → Switches (answers_at m d role party (version ∷ before) payload)
+    heard_switches p t is_open off on =
+        let k = leaving role phase.Exchange in
+        let here : kept role party.offer k before payload ≡ true = sym (stood_push role party.offer before payload k ∙ rw off refl) ∙ on in
+        let l = line_by role p (strict_at role party before) (expects_guess role party.offer before) (kind payload) in
+        let same = line_is below m d role party version before payload p t in
+        let known = known_at m role party version before in
+        ap (λ (l : Line). switched_out (line_reply m d role party known (number_in role party before) l payload).answers) (sym same)
+        ∙ by_line known (number_in role party before) p l (sees role p (strict_at role party before) (kind payload) (expects_guess role party.offer before)) here
+        (eqb-true (kind payload) k (and_parts _ _ here).0)
+        (ap (λ (l : Line). (line_reply m d role party known (number_in role party before) l payload).end) same ∙ is_open)
+
+  -- an endpoint that stays open while the exchange message is heard has said NEWKEYS
+  open_switches : (version : List ℕ) (before us : Units) (p : Phase) → Follows role party before p → EachPlace (λ b u. end_at m d role party b u ≡ Open) (version ∷ before) us
+      → stood role party.offer (leaving role phase.Exchange) before ≡ false → stood role party.offer (leaving role phase.Exchange) (before ++ us) ≡ true
+      → Switches (flat_places (answers_at m d role party) (version ∷ before) us)
+  open_switches version before [] p f each off on = absurd (true≢false (sym (ap (stood role party.offer (leaving role phase.Exchange)) (sym (append-nil before)) ∙ on) ∙ off))
+  open_switches version before (u ∷ us) p f each off on = elim (cases_Bool (stood role party.offer (leaving role phase.Exchange) (before ++ u ∷ []))) [
+    | inl now ↦ switches_first (answers_at m d role party (version ∷ before) u) (flat_places (answers_at m d role party) (version ∷ (before ++ u ∷ [])) us)
+        (heard_switches version before u p f.tied each.0 off now)
+    | inr still ↦ switches_last (answers_at m d role party (version ∷ before) u) (flat_places (answers_at m d role party) (version ∷ (before ++ u ∷ [])) us)
+        (later (step below m d role party version before u p f) (λ q g. open_switches version (before ++ u ∷ []) us q g each.1 still
+        (ap (stood role party.offer (leaving role phase.Exchange)) (append_assoc before (u ∷ []) us) ∙ on)))
+  ]
+    where
+      later : Step role party before u (end_at m d role party (version ∷ before) u) → ((q : Phase) → Follows role party (before ++ u ∷ []) q → Switches (flat_places (answers_at m d role party) (version ∷ (before ++ u ∷ [])) us))
+          → Switches (flat_places (answers_at m d role party) (version ∷ (before ++ u ∷ [])) us)
+      later (Goes q g) next = next q g
+      later (Off e) next = absurd (not_open (kind u) _ e each.0)
+      later (Fails shut c) next = absurd (shut each.0)
+
+  none_stood : stood role party.offer (leaving role phase.Exchange) [] ≡ false
+  unfolding stood
+  none_stood = refl
+
+  -- so has one that ended authenticated
+  authenticated_switches : (units : Units) (refusal : Option Refusal) (answers : Units) (a : AgreedData) → Replies m d role party units refusal answers (Authenticated a) → Switches answers
+  authenticated_switches units refusal answers a r = by r.ends
+    where
+      whole : Switches (flat_places (answers_at m d role party) [] units) → Switches answers
+      whole on = ap switched_out r.in_order ∙ switches_last (making m role party) (flat_places (answers_at m d role party) [] units ++ (refusal_reply refusal).answers)
+          (switches_first (flat_places (answers_at m d role party) [] units) (refusal_reply refusal).answers on)
+
+      by : Ends m d role party units refusal (Authenticated a) → Switches answers
+      by (goes_on stays is) = absurd (none_refused refusal a is)
+      by (ended [] last units_are stays is shut none) = absurd cc
+      by (ended (version ∷ before) last units_are stays is shut none) =
+          let f = stands below m d role party version [] before phase.KexInit (begun_none below m d role party) stays.1 in
+          let tied : Tied role party.offer before phase.Auth = last_tied below m d role party version before last f.0 f.1.tied a (sym is) in
+          whole (ap (λ (l : Units). switched_out (flat_places (answers_at m d role party) [] l)) units_are
+          ∙ ap switched_out (flat-push (answers_at m d role party) [] (version ∷ before) last)
+          ∙ switches_first (flat_places (answers_at m d role party) [] (version ∷ before)) (answers_at m d role party (version ∷ before) last)
+          (open_switches version [] before phase.KexInit (begun_none below m d role party) stays.1 none_stood tied.exchange))
+
+-- What an endpoint keeps that ended authenticated: the keys of both directions, and the numbers of the next packets.
+pub record HandsOver (m : Meaning) (role : Role) (party : Party) (units answers : Units) (reading : ReaderState) (sending : Sending) : Type 0 where
+  pub incoming : KeyData
+  pub outgoing : KeyData
+  pub reads_with : reading.keys ≡ Some incoming
+  pub says_with : sending.keys ≡ Some outgoing
+  pub incoming_keys : keys_in m role party (version_in units) (payloads_in units) ≡ Some incoming
+  pub incoming_number : reading.seq ≡ number_in role party (payloads_in units)
+  pub outgoing_keys : keys_out m role party units answers ≡ Some outgoing
+  pub outgoing_number : sending.number ≡ number_out (strict_at role party (payloads_in units)) answers
+
+-- an endpoint that ended authenticated was refused nothing, and isn't open
+none_refused_at : (m : Meaning) (d : Policy) (role : Role) (party : Party) (units : Units) (refusal : Option Refusal) (a : AgreedData) → Ends m d role party units refusal (Authenticated a) → refusal ≡ None
+none_refused_at m d role party units refusal a (goes_on stays is) = absurd (none_refused refusal a is)
+none_refused_at m d role party units refusal a (ended before last units_are stays is shut none) = none
+
+authenticated_shut : (end : Ending) (a : AgreedData) → end ≡ Authenticated a → end ≢ Open
+authenticated_shut end a is is_open = cc
+
+pub uncut_end : (heard_end end : Ending) (a : AgreedData) → StandsSo heard_end end → end ≡ Authenticated a → heard_end ≡ Authenticated a
+uncut_end heard_end end a (AsHeard same) is = sym same ∙ is
+uncut_end heard_end end a (CutOff was_open cut) is = absurd cc
+
+module _ (below : Below) (m : Meaning) (d : Policy) (role : Role) (party : Party) where
+  module _ (kept : Kept) (i : Input) (h s : List ℕ) (p : Stands m d role party kept i h s) (a : AgreedData) (is : kept.end ≡ Authenticated a) where
+    replies : Replies m d role party p.units p.refusal p.answers (Authenticated a)
+    replies = subst (Replies m d role party p.units p.refusal p.answers) (uncut_end p.heard_end kept.end a p.ends is) p.history.replies
+
+    ended_so : IsAuthenticated m d role party p.units a
+    ended_so = authenticated below m d role party p.units p.refusal a replies.ends
+
+    inside : IsInside m role party p.units p.answers p.rest kept i
+    inside = p.inside (inr (a, is))
+
+    -- nothing stands behind the bytes that it used
+    pub none_left : p.rest ≡ []
+    none_left = p.history.last (authenticated_shut p.heard_end a (uncut_end p.heard_end kept.end a p.ends is)) (none_refused_at m d role party p.units p.refusal a replies.ends)
+
+  by_packets : (kept : Kept) (reader : PacketReader) (h s : List ℕ) (p : Stands m d role party kept (input.Packets reader) h s) (a : AgreedData) → kept.end ≡ Authenticated a
+      → HandsOver m role party p.units p.answers (state reader) kept.sending
+  by_packets kept reader h s p a is =
+      let e = ended_so kept (input.Packets reader) h s p a is in
+      let inner = inside kept (input.Packets reader) h s p a is in
+      let on = authenticated_switches below m d role party p.units p.refusal p.answers a (replies kept (input.Packets reader) h s p a is) in
+      let version = inner.reads.0 in
+      let before = inner.reads.1 in
+      let units_are : p.units ≡ version ∷ before = inner.reads.2 in
+      let reading : state reader ≡ record { keys = keys_in m role party version before; seq = number_in role party before; held = p.rest; fault = None } = inner.reads.3 in
+      let in_keys : keys_in m role party (version_in p.units) (payloads_in p.units) ≡ Some (keys_at m role party (version_in p.units) (payloads_in p.units) (other role)) =
+      rw (auth_switched role party.offer (payloads_in p.units) e.stays_in_auth) refl in
+      let out_keys : keys_out m role party p.units p.answers ≡ Some (keys_at m role party (version_in p.units) (payloads_in p.units) role) = rw on refl in
+      record {
+        incoming = keys_at m role party (version_in p.units) (payloads_in p.units) (other role);
+        outgoing = keys_at m role party (version_in p.units) (payloads_in p.units) role;
+        reads_with = ap (λ (r : ReaderState). r.keys) reading ∙ ap (λ (l : Units). keys_in m role party (version_in l) (payloads_in l)) (sym units_are) ∙ in_keys;
+        says_with = inner.speaks.keys ∙ out_keys;
+        incoming_keys = in_keys;
+        incoming_number = ap (λ (r : ReaderState). r.seq) reading ∙ ap (λ (l : Units). number_in role party (payloads_in l)) (sym units_are);
+        outgoing_keys = out_keys;
+        outgoing_number = inner.speaks.number;
+      }
+
+  -- an endpoint that ended authenticated reads packets
+  pub none_by_lines : (kept : Kept) (i : Input) (reader : LineState) → i ≡ input.Lines reader → (h s : List ℕ) (p : Stands m d role party kept i h s) (a : AgreedData) → kept.end ≡ Authenticated a → ⊥
+  none_by_lines kept (input.Lines r) reader same h s p a is =
+      let e = ended_so kept (input.Lines r) h s p a is in
+      let none : p.units ≡ [] = (inside kept (input.Lines r) h s p a is).reads.0 in
+      let some = e.units_are in
+      cc
+  none_by_lines kept (input.Packets r) reader same h s p a is = cc
+
+  pub hands_over : (kept : Kept) (i : Input) (reader : PacketReader) → i ≡ input.Packets reader → (h s : List ℕ) (p : Stands m d role party kept i h s) (a : AgreedData) → kept.end ≡ Authenticated a
+      → HandsOver m role party p.units p.answers (state reader) kept.sending
+  hands_over kept (input.Lines r) reader same h s p a is = absurd cc
+  hands_over kept (input.Packets r) reader same h s p a is =
+      let e : r ≡ reader = cc in
+      subst (λ (x : PacketReader). HandsOver m role party p.units p.answers (state x) kept.sending) e (by_packets kept r h s p a is)
+
+-- an end that isn't authenticated
+pub none_authenticated : (e : End) → ((x : Agreed) → e ≢ end.Authenticated x) → (a : AgreedData) → ending e ≢ Authenticated a
+none_authenticated end.Open not a is = cc
+none_authenticated (end.Authenticated x) not a is = not x refl
+none_authenticated (end.Failed f) not a is = cc
+none_authenticated (end.Closed reason) not a is = cc
+
+-- what is made of what is handed over is the session
+pub session_is : (m : Meaning) (role : Role) (party : Party) (units answers : Units) (rest : List ℕ) (reading : ReaderState) (sending : Sending) → HandsOver m role party units answers reading sending → rest ≡ []
+    → (agreed : Agreed) (a : AgreedData) → Authenticated (agreed_of agreed) ≡ Authenticated a → (keys : Option KeyData) (number : ℕ) → keys ≡ reading.keys → number ≡ reading.seq → (result : Option Session)
+    → ((x y : KeyData) → keys ≡ Some x → sending.keys ≡ Some y → result ≡ Some (record { agreed = agreed; incoming = record { keys = x; sequence_number = number }; outgoing = record { keys = y; sequence_number = sending.number } }))
+    → (session : Session) × (result ≡ Some session) × IsSession m role party units answers a session × (rest ≡ [])
+session_is m role party units answers rest reading sending over none agreed a same keys number keys_are number_is result whole = (
+  record { agreed = agreed; incoming = record { keys = over.incoming; sequence_number = number }; outgoing = record { keys = over.outgoing; sequence_number = sending.number } },
+  whole over.incoming over.outgoing (keys_are ∙ over.reads_with) over.says_with,
+  record {
+    agreed_is = cc;
+    incoming_keys = over.incoming_keys;
+    incoming_number = number_is ∙ over.incoming_number;
+    outgoing_keys = over.outgoing_keys;
+    outgoing_number = over.outgoing_number;
+  },
+  none,
+)

@@ -1,0 +1,79 @@
+-- What is heard never ends an endpoint as the end of input does.
+
+use Rattle.std.proofs.Common.{◌≡◌, ◌≢◌, ℕ, false, List, [], ◌∷◌, Option, None, Some, Result, Ok, Err, refl, sym, ap, ◌∙◌}
+use Rattle.std.proofs.lemmas.Bool.{true≢false}
+use Rattle.sshmsg.specs.declared.fault.MsgFault.{MsgFault}
+use Rattle.sshmsg.specs.Content.{Content}
+use Rattle.sshmsg.specs.Messages.{message_in}
+use Rattle.sshmsg.specs.Numbers.{kind}
+use Rattle.sshneg.specs.declared.role.Role.{Role}
+use Rattle.sshpacket.specs.declared.fault.PacketFault.TheVariants as packet
+use Rattle.sshpacket.specs.Parse.{OfLine, OfPacket, Refusal}
+use Rattle.sshpacket.specs.Stream.{Units}
+use Rattle.sshpacket.specs.Suite.{Meaning}
+use Rattle.sshcore.specs.declared.end.Fault.TheVariants as fault
+use Rattle.sshcore.specs.declared.table.Line.{Line}
+use Rattle.sshcore.specs.declared.table.Line.TheVariants as line
+use Rattle.sshcore.specs.Counting.{number_in}
+use Rattle.sshcore.specs.Ending.{Ending, Failed, Open}
+use Rattle.sshcore.specs.Known.{Known, known_at}
+use Rattle.sshcore.specs.Party.{Party, Policy}
+use Rattle.sshcore.specs.Replies.{Ends, end_at, ended, fault_of, goes_on, line_at, line_reply, read_reply, refusal_reply}
+use Rattle.sshcore.specs.Work.{work}
+use Rattle.sshcore.proofs.AuthenticatedLemmas.{Early, Requested, Succeeded, WorkEnds, early_uncut, is_cut, work_ends}
+
+-- what is heard never ends as the end of input does
+abbrev pub IsUncut : Ending → Type 0
+IsUncut end = is_cut end ≡ false
+
+uncut_refusal : (r : Option Refusal) → IsUncut (refusal_reply r).end
+uncut_refusal None = refl
+uncut_refusal (Some (OfLine f)) = refl
+uncut_refusal (Some (OfPacket packet.Length)) = refl
+uncut_refusal (Some (OfPacket packet.Padding)) = refl
+uncut_refusal (Some (OfPacket packet.Empty)) = refl
+uncut_refusal (Some (OfPacket packet.Mac)) = refl
+uncut_refusal (Some (OfPacket packet.Memory)) = refl
+
+module _ (m : Meaning) (d : Policy) (role : Role) (party : Party) where
+  uncut_work : (known : Known) (c : Content) → IsUncut (work m d role party known c).end
+  uncut_work known c = by (work_ends m d role party known c)
+    where
+      by : WorkEnds m d party known c (work m d role party known c).end → IsUncut (work m d role party known c).end
+      by (Early h) = early_uncut (work m d role party known c).end h
+      by (Requested _ _ _ same has good is) = ap is_cut is
+      by (Succeeded _ _ same left is) = ap is_cut is
+
+  uncut_read : (known : Known) (n : ℕ) (r : Result Content MsgFault) → IsUncut (read_reply m d role party known n r).end
+  uncut_read known n (Ok c) = uncut_work known c
+  uncut_read known n (Err f) = refl
+
+  uncut_line : (known : Known) (packet : ℕ) (l : Line) (payload : List ℕ) → IsUncut (line_reply m d role party known packet l payload).end
+  unfolding line_reply
+  uncut_line known packet line.Reads payload = uncut_read known (kind payload) (message_in known.shares payload)
+  uncut_line known packet line.Drops payload = refl
+  uncut_line known packet line.Deviates payload = refl
+  uncut_line known packet line.Unknown payload = refl
+  uncut_line known packet line.Unexpected payload = refl
+
+  pub uncut_unit : (before : Units) (unit : List ℕ) → IsUncut (end_at m d role party before unit)
+  uncut_unit [] unit = refl
+  uncut_unit (version ∷ before) unit = uncut_line (known_at m role party version before) (number_in role party before) (line_at role party before unit) unit
+
+  pub uncut_heard : (units : Units) (r : Option Refusal) (end : Ending) → Ends m d role party units r end → IsUncut end
+  uncut_heard units r end (goes_on stays e) = ap is_cut e ∙ uncut_refusal r
+  uncut_heard units r end (ended before last is stays e shut none) = ap is_cut e ∙ uncut_unit before last
+
+-- so an endpoint that stands open, that was refused something, or that replied to a unit isn't cut off
+pub open_stays : (end : Ending) → end ≡ Open → end ≢ Failed fault.Cut
+open_stays end is cut = let same : Open ≡ Failed fault.Cut = sym is ∙ cut in absurd cc
+
+not_cut : (end wanted : Ending) → end ≡ wanted → is_cut wanted ≡ false → end ≢ Failed fault.Cut
+not_cut end wanted is uncut cut = absurd (true≢false (sym (ap is_cut (sym is ∙ cut)) ∙ uncut))
+
+pub refusal_stays : (r : Refusal) (end : Ending) → end ≡ Failed (fault_of r) → end ≢ Failed fault.Cut
+refusal_stays r end is = not_cut end (Failed (fault_of r)) is (uncut_refusal (Some r))
+
+pub unit_stays : (m : Meaning) (d : Policy) (role : Role) (party : Party) (before : Units) (unit : List ℕ) (end : Ending)
+    → end ≡ end_at m d role party before unit → end ≢ Failed fault.Cut
+unit_stays m d role party before unit end is = not_cut end (end_at m d role party before unit) is (uncut_unit m d role party before unit)

@@ -1,0 +1,5 @@
+use Rattle.sshcore.proofs.PartyLemmas.{tries_short}
+use Rattle.sshcore.proofs.config.Config.tries.Goals as goal
+
+pub returns-in-Server-clause-bound : goal.returns-in-Server-clause-bound
+returns-in-Server-clause-bound c = tries_short c.parts.result.now c.in-Server.server.now c.parts.ensures.same c.parts.ensures.accepted

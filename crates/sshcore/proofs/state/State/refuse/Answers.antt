@@ -1,0 +1,23 @@
+use Rattle.std.proofs.Common.{◌≤◌, [], ◌∷◌, List, ℕ, arith, length, refl, ap, false, string_bytes, ◌∙◌}
+use Rattle.sshmsg.specs.Content.{UserauthFailure}
+use Rattle.sshmsg.specs.Written.{written_message}
+use Rattle.sshcore.specs.ConfigParty.{party_of}
+use Rattle.sshcore.specs.Ending.{Open}
+use Rattle.sshcore.specs.Kept.{Kept, kept_of}
+use Rattle.sshcore.proofs.GivesLemmas.{gives_as, gives_moved, gives_one}
+use Rattle.sshcore.proofs.RequestLemmas.{few_texts}
+use Rattle.sshcore.proofs.state.State.refuse.Goals as goal
+
+pub list_of-requires : goal.list_of-requires
+list_of-requires g c =
+    let few : length c.methods.result.now ≤ 1001 =
+    few_texts c.names_law.ensures.body string_bytes c.methods.result.now (party_of c.args.config.now).methods c.methods.ensures.methods c.methods.ensures.short in
+    omega arith
+
+pub returns-clause-gives : goal.returns-clause-gives
+unfolding written_message
+returns-clause-gives g c = λ strict next.
+    gives_moved _ _ strict next (kept_of c.args.self.now) (kept_of c.say.new.self) _ _ _ _ _ Open _ refl refl (ap (λ (k : Kept). k.end) c.in_ok-say.ensures.counts ∙ c.requires.open)
+    (gives_as _ _ strict next _ _ _ _ (written_message (UserauthFailure c.in_ok-methods.methods false) ∷ []) _ _
+    (ap (λ (l : List (List ℕ)). written_message (UserauthFailure l false) ∷ []) (c.in_ok-methods.ensures ∙ c.methods.ensures.methods))
+    (gives_one _ _ strict next _ _ _ _ _ _ _ _ refl c.in_ok-failure.ensures c.deref.ensures.value c.requires.open c.in_ok-say.ensures.spells c.in_ok-say.ensures.counts))

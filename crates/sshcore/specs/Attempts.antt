@@ -1,0 +1,48 @@
+-- What a client says to be authenticated, and how that ends: RFC 4252 sections 5 to 8.
+
+use Rattle.std.specs.Prelude.{ℕ, List, [], ◌∷◌}
+use Rattle.sshmsg.specs.declared.numbers.TheConstants.{SSH_MSG_USERAUTH_SUCCESS}
+use Rattle.sshmsg.specs.Content.{Method, NoMethod, Password, PublicKey, UserauthRequest}
+use Rattle.sshmsg.specs.Written.{written_message}
+use Rattle.sshneg.specs.Derivations.{signed_text}
+use Rattle.sshpacket.specs.Suite.{Meaning}
+use Rattle.sshcore.specs.declared.end.Fault.TheVariants as fault
+use Rattle.sshcore.specs.ConfigData.{Attempt, ByKey, ByNothing, ByPassword, Proving}
+use Rattle.sshcore.specs.Ending.{AgreedData, Authenticated, Reply, fails, goes}
+use Rattle.sshcore.specs.Known.{Known}
+use Rattle.sshcore.specs.Plan.{next_behind}
+
+-- The method of a request with its fields: `none`, a password, or a key with the signature of the session identifier and the
+-- request (RFC 4252 sections 5.2, 8 and 7).
+abbrev pub method_by : Meaning → List ℕ → List ℕ → List ℕ → Proving → Method
+method_by m session user service ByNothing = NoMethod
+method_by m session user service (ByPassword password) = Password password
+method_by m session user service (ByKey algorithm secret) =
+    PublicKey algorithm (m.blob algorithm secret) (m.sign algorithm secret (signed_text session user service algorithm (m.blob algorithm secret)))
+
+-- the request of an attempt in this session (RFC 4252 section 5)
+abbrev pub request_of : Meaning → List ℕ → Attempt → List ℕ
+request_of m session a = written_message (UserauthRequest a.user a.service (method_by m session a.user a.service a.proving))
+
+-- the first of the attempts that are left is made
+abbrev pub attempt_reply : Meaning → List ℕ → List Attempt → Reply
+attempt_reply m session [] = fails fault.NoMoreMethods
+attempt_reply m session (a ∷ later) = goes (request_of m session a ∷ [])
+
+-- FAILURE: the next attempt whose method it lists; whether the request succeeded as one of several is ignored (profile)
+abbrev pub failure_reply : Meaning → Known → List (List ℕ) → Reply
+failure_reply m known listed = attempt_reply m known.session (next_behind listed known.left)
+
+-- what is agreed once this user is authenticated for this service
+abbrev pub agreed_by : Known → List ℕ → List ℕ → AgreedData
+agreed_by known user service =
+    record { algorithms = known.algorithms; strict = known.strict; session = known.session; user = user; service = service }
+
+-- SUCCESS: by the attempts that are left, of which the first is the one that was made; where none was, it answers no request and
+-- is unexpected
+abbrev pub success_by : Known → List Attempt → Reply
+success_by known [] = fails (fault.Unexpected SSH_MSG_USERAUTH_SUCCESS)
+success_by known (a ∷ later) = record { answers = []; end = Authenticated (agreed_by known a.user a.service) }
+
+abbrev pub success_reply : Known → Reply
+success_reply known = success_by known known.left

@@ -1,0 +1,196 @@
+//! Phase auth at a client: the attempts of its plan and what the server answers (RFC 4252).
+
+ghost use Rattle.std.specs.Prelude.{◌≡◌, ◌≢◌, ◌≤◌, Bool, IfOk, OnOk, length, map};
+ghost use Rattle.sshmsg.specs.Content as content;
+ghost use Rattle.sshmsg.specs.View.{method_of};
+ghost use Rattle.sshmsg.specs.Written.{written_message};
+ghost use Rattle.sshneg.specs.ChoiceReadings.{is_in};
+ghost use Rattle.sshpacket.specs.KeyData.{KeyData};
+ghost use Rattle.sshpacket.specs.declared.limits.TheConstants.{DIGEST_LIMIT};
+ghost use Rattle.sshcore.specs.declared.end.Fault.TheVariants as fault;
+ghost use Rattle.sshcore.specs.declared.table.Phase.TheVariants as phase;
+ghost use Rattle.sshcore.specs.Attempts.{attempt_reply, failure_reply, request_of, success_reply};
+ghost use Rattle.sshcore.specs.Authenticating.{FitsRequest, failed_attempt};
+ghost use Rattle.sshcore.specs.Brings.{Gives, IsOngoing, StandsAt, heard_one};
+ghost use Rattle.sshcore.specs.ConfigParty.{party_of};
+ghost use Rattle.sshcore.specs.ConfigRules.{IsAttempt};
+ghost use Rattle.sshcore.specs.ConfigView.{attempt_of, proving_of};
+ghost use Rattle.sshcore.specs.Ending.{Failed, Open, ending};
+ghost use Rattle.sshcore.specs.Kept.{kept_of};
+ghost use Rattle.sshcore.specs.Made.{IsMade};
+ghost use Rattle.sshcore.specs.Plan.{next_behind, next_listed, proving_name};
+
+use crate::config::Config;
+use crate::config_parts::{Attempt, Credential};
+use crate::end::{End, Fault};
+use crate::payloads::payload_of;
+use crate::state::State;
+use sshmsg::{Message, Method, SSH_MSG_USERAUTH_SUCCESS};
+use sshneg::signed_request;
+use sshpacket::Suite;
+use sshwire::{Memory, NameList};
+use std::alloc::Global;
+
+impl State<'_> {
+    /// Makes the first of the attempts that are left (RFC 4252 section 5); fails as `NoMoreMethods`
+    /// where there is none.
+    pub(crate) fn make_attempt<S: Suite>(
+        &mut self,
+        config: &Config<'_>,
+        suite: &S,
+        said: &mut Vec<u8>,
+    ) -> Result<(), Memory>
+        requires open { ending self.old.end ≡ Open }
+        ensures gives { OnOk result ((strict : Bool) (next : KeyData)
+            → Gives (S.meaning suite.now) (party_of config.now).seed strict next (kept_of self.old) (kept_of self.new) said.old.items said.new.items
+            (attempt_reply (S.meaning suite.now) (kept_of self.old).known.session (kept_of self.old).known.left)) }
+        ensures stays { OnOk result (kept_of self.new ≡ record (kept_of self.old) { end = (kept_of self.new).end; sending = (kept_of self.new).sending }) }
+        ensures kept { OnOk result (ending self.new.end ≢ Failed fault.Memory) }
+    {
+        match self.left.first() {
+            None => self.fail(config, suite, Fault::NoMoreMethods, said),
+            Some(attempt) => {
+                let request = request_payload(self.alloc, suite, &self.session, attempt)?;
+                self.say(config, suite, &request, said)
+            }
+        }
+    }
+
+    /// A client hears FAILURE: it makes the next attempt whose method is listed; those that it skips
+    /// aren't made later (RFC 4252 section 5.1). Fails as `NoMoreMethods` where none is left.
+    pub(crate) fn hear_failure<S: Suite>(
+        &mut self,
+        config: &Config<'_>,
+        suite: &S,
+        methods: &NameList,
+        said: &mut Vec<u8>,
+    ) -> Result<(), Memory>
+        requires open { ending self.old.end ≡ Open }
+        ensures gives { OnOk result ((strict : Bool) (next : KeyData)
+            → Gives (S.meaning suite.now) (party_of config.now).seed strict next (kept_of self.old) (kept_of self.new) said.old.items said.new.items
+            (failure_reply (S.meaning suite.now) (kept_of self.old).known methods.now)) }
+        ensures stays { OnOk result (kept_of self.new ≡ record (kept_of self.old) {
+          end = (kept_of self.new).end;
+          known = failed_attempt (kept_of self.old).known methods.now;
+          sending = (kept_of self.new).sending;
+        }) }
+        ensures kept { OnOk result (ending self.new.end ≢ Failed fault.Memory) }
+    {
+        self.left = next_attempts(self.left, methods);
+        self.first = false;
+        self.make_attempt(config, suite, said)
+    }
+
+    /// A client hears SUCCESS: the user of the attempt that was made last is authenticated (RFC 4252
+    /// section 5.1). Fails as `Unexpected(52)` where none was made.
+    pub(crate) fn hear_success<S: Suite>(
+        &mut self,
+        config: &Config<'_>,
+        suite: &S,
+        said: &mut Vec<u8>,
+    ) -> Result<(), Memory>
+        requires open { ending self.old.end ≡ Open }
+        requires at { self.old.phase ≡ phase.Auth }
+        ensures gives { OnOk result ((strict : Bool) (next : KeyData)
+            → Gives (S.meaning suite.now) (party_of config.now).seed strict next (kept_of self.old) (kept_of self.new) said.old.items said.new.items
+            (success_reply (kept_of self.old).known)) }
+        ensures stays { OnOk result (IsOngoing (kept_of self.new).end
+            → kept_of self.new ≡ record (kept_of self.old) { end = (kept_of self.new).end; known = heard_one (kept_of self.old).known }) }
+        ensures kept { OnOk result (ending self.new.end ≢ Failed fault.Memory) }
+    {
+        match self.left.first() {
+            None => {
+                let fault = Fault::Unexpected(SSH_MSG_USERAUTH_SUCCESS);
+                self.fail(config, suite, fault, said)
+            }
+            Some(attempt) => {
+                let agreed = self.agreed(&attempt.user, &attempt.service)?;
+                self.first = false;
+                self.end = End::Authenticated(agreed);
+                Ok(())
+            }
+        }
+    }
+}
+
+/// The attempts behind the first, from the next one on whose method is listed.
+fn next_attempts<'a>(attempts: &'a [Attempt], listed: &NameList) -> &'a [Attempt]
+    ensures { map attempt_of result.now ≡ next_behind listed.now (map attempt_of attempts.now) }
+{
+    match attempts.split_first() {
+        None => attempts,
+        Some((_, later)) => from_listed(later, listed),
+    }
+}
+
+/// These attempts from the first one on whose method is listed.
+fn from_listed<'a>(attempts: &'a [Attempt], listed: &NameList) -> &'a [Attempt]
+    ensures { map attempt_of result.now ≡ next_listed listed.now (map attempt_of attempts.now) }
+{
+    let found = attempts
+        .iter()
+        .position(|attempt| is_listed(attempt, listed));
+    match found {
+        None => &[],
+        Some(place) => &attempts[place..],
+    }
+}
+
+/// Whether the method of an attempt is listed.
+fn is_listed(attempt: &Attempt, listed: &NameList) -> bool
+    ensures { result ≡ is_in listed.now (proving_name (proving_of attempt.now.credential)) }
+{
+    listed.contains(attempt.credential.method())
+}
+
+/// The payload of the request of an attempt (RFC 4252 section 5), in the session of this identifier.
+fn request_payload<S: Suite>(
+    alloc: Global,
+    suite: &S,
+    session: &[u8],
+    attempt: &Attempt,
+) -> Result<Vec<u8>, Memory>
+    requires attempt { IsAttempt (attempt_of attempt.now) }
+    requires session { length session.now ≤ DIGEST_LIMIT }
+    ensures { IfOk result (λ made. IsMade (request_of (S.meaning suite.now) session.now (attempt_of attempt.now)) made.items) }
+{
+    sshneg::exchange_law();
+    match &attempt.credential {
+        Credential::None => method_payload(alloc, attempt, Method::None),
+        Credential::Password(password) => method_payload(
+            alloc,
+            attempt,
+            Method::Password { password },
+        ),
+        Credential::PublicKey {
+            algorithm,
+            private_key,
+        } => {
+            let key = suite.blob(alloc, algorithm, private_key)?;
+            let service = attempt.service.as_bytes();
+            let input = signed_request(alloc, session, &attempt.user, service, algorithm, &key)?;
+            let signature = suite.sign(alloc, algorithm, private_key, &input)?;
+            let method = Method::PublicKey {
+                algorithm: algorithm.as_bytes(),
+                key: &key,
+                signature: &signature,
+            };
+            method_payload(alloc, attempt, method)
+        }
+    }
+}
+
+/// The payload of the request of an attempt by this method.
+fn method_payload(alloc: Global, attempt: &Attempt, method: Method<'_>) -> Result<Vec<u8>, Memory>
+    requires attempt { IsAttempt (attempt_of attempt.now) }
+    requires fits { FitsRequest (method_of method) }
+    ensures { IfOk result (λ made. IsMade (written_message (content.UserauthRequest (attempt_of attempt.now).user (attempt_of attempt.now).service (method_of method.entry))) made.items) }
+{
+    sshmsg::lengths_law();
+    let message = Message::UserauthRequest {
+        user: &attempt.user,
+        service: attempt.service.as_bytes(),
+        method,
+    };
+    payload_of(alloc, &message)
+}

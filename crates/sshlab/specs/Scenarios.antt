@@ -1,0 +1,114 @@
+-- What the lines of a scenario say.
+
+use Rattle.std.specs.Prelude.{ℕ, ◌==◌, ◌&&◌, nat_le, Bool, if◌then◌else◌, List, [], length, codes, Option, Some, None, option_map, slice_index_or}
+use Rattle.std.specs.Borrow.{Bor}
+use Rattle.std.specs.Str.{bytes_eq}
+use Rattle.sshcore.specs.ConfigData.{Attempt, ByKey, ByNothing, ByPassword, HostKey, Proving}
+use Rattle.sshlab.specs.declared.delivery.Side.{Side}
+use Rattle.sshlab.specs.declared.delivery.Side.TheVariants.{Client, Server}
+use Rattle.sshlab.specs.declared.scenario_line.Step.{Step}
+use Rattle.sshlab.specs.declared.scenario_line.Step.TheVariants.{Deliver, Settle}
+use Rattle.sshlab.specs.ScenarioFields.{bytes_of, flag_of, list_of, number_of, side_of}
+
+-- a setting that either side has
+pub data SideValue : Type 0 where
+  SetVersion : List ℕ → SideValue
+  SetKex : List (List ℕ) → SideValue
+  SetCipherToServer : List (List ℕ) → SideValue
+  SetCipherToClient : List (List ℕ) → SideValue
+  SetMacToServer : List (List ℕ) → SideValue
+  SetMacToClient : List (List ℕ) → SideValue
+  SetStrict : Bool → SideValue
+  SetCookie : List ℕ → SideValue
+  SetRandom : List ℕ → SideValue
+  SetSeed : List ℕ → SideValue
+
+-- a setting of the client alone
+pub data ClientValue : Type 0 where
+  SetHostKeys : List (List ℕ) → ClientValue
+  SetGuess : Bool → ClientValue
+
+-- a setting of the server alone
+pub data ServerValue : Type 0 where
+  SetServices : List (List ℕ) → ServerValue
+  SetMethods : List (List ℕ) → ServerValue
+  SetTries : ℕ → ServerValue
+  SetBanner : List ℕ → ServerValue
+
+-- what a line says that is neither empty nor a comment
+pub data Saying : Type 0 where
+  OfSide : Side → SideValue → Saying
+  OfClient : ClientValue → Saying
+  OfServer : ServerValue → Saying
+  Tries : Attempt → Saying
+  Holds : HostKey → Saying
+  Notes : List ℕ → Saying
+  Distrusts : List ℕ → Saying
+  Allows : List ℕ → Proving → Saying
+  Denies : ℕ → Saying
+  Does : Step → Saying
+
+-- the fields of a line, as they are lent
+abbrev pub Fields : Type 0
+Fields = List (Bor (List ℕ))
+
+-- field i, which is empty past the end; a slice pattern reads its fields with this default
+abbrev pub field : Fields → ℕ → List ℕ
+field fields i = (slice_index_or fields i (record { ref_ptr = (0, 0); now = [] })).now
+
+-- so many fields, and the first is this word
+abbrev pub has_form : Fields → List ℕ → ℕ → Bool
+has_form fields word count = (length fields == count) && bytes_eq (field fields 0) word
+
+-- the setting of either side with this name and value
+unfoldable pub side_value : List ℕ → List ℕ → Option SideValue
+side_value name value =
+    if bytes_eq name (codes "version") then Some (SetVersion value)
+    else if bytes_eq name (codes "kex") then Some (SetKex (list_of value))
+    else if bytes_eq name (codes "cipher_cs") then Some (SetCipherToServer (list_of value))
+    else if bytes_eq name (codes "cipher_sc") then Some (SetCipherToClient (list_of value))
+    else if bytes_eq name (codes "mac_cs") then Some (SetMacToServer (list_of value))
+    else if bytes_eq name (codes "mac_sc") then Some (SetMacToClient (list_of value))
+    else if bytes_eq name (codes "strict") then option_map SetStrict (flag_of value)
+    else if bytes_eq name (codes "cookie") then option_map SetCookie (bytes_of value)
+    else if bytes_eq name (codes "random") then option_map SetRandom (bytes_of value)
+    else if bytes_eq name (codes "seed") then option_map SetSeed (bytes_of value) else None
+
+-- the setting of the client with this name and value
+unfoldable pub client_value : List ℕ → List ℕ → Option Saying
+client_value name value =
+    if bytes_eq name (codes "hostkey") then Some (OfClient (SetHostKeys (list_of value)))
+    else if bytes_eq name (codes "guess") then option_map (λ guess. OfClient (SetGuess guess)) (flag_of value)
+    else option_map (OfSide Client) (side_value name value)
+
+-- the setting of the server with this name and value
+unfoldable pub server_value : List ℕ → List ℕ → Option Saying
+server_value name value =
+    if bytes_eq name (codes "services") then Some (OfServer (SetServices (list_of value)))
+    else if bytes_eq name (codes "methods") then Some (OfServer (SetMethods (list_of value)))
+    else if bytes_eq name (codes "tries") then option_map (λ tries. OfServer (SetTries tries)) (number_of value)
+    else if bytes_eq name (codes "banner") then option_map (λ text. OfServer (SetBanner text)) (bytes_of value)
+    else option_map (OfSide Server) (side_value name value)
+
+-- how a user is proved by these fields: `none`, `password HEX` or `publickey ALG HEX`
+unfoldable pub proving : Fields → Option Proving
+proving fields =
+    if has_form fields (codes "none") 1 then Some ByNothing
+    else if has_form fields (codes "password") 2 then option_map ByPassword (bytes_of (field fields 1))
+    else if has_form fields (codes "publickey") 3 then option_map (ByKey (field fields 1)) (bytes_of (field fields 2)) else None
+
+-- a delivery to a side
+abbrev pub delivery : Option Side → Option ℕ → Option Step
+delivery (Some to) (Some count) = Some (Deliver (record { to = to; count = count }))
+delivery _ _ = None
+
+-- at most 1000 rounds
+abbrev pub rounds : Option ℕ → Option Step
+rounds (Some n) = if nat_le n 1000 then Some (Settle n) else None
+rounds None = None
+
+-- what is done by these fields: `deliver SIDE N` or `settle N`
+unfoldable pub step : Fields → Option Step
+step fields =
+    if has_form fields (codes "deliver") 3 then delivery (side_of (field fields 1)) (number_of (field fields 2))
+    else if has_form fields (codes "settle") 2 then rounds (number_of (field fields 1)) else None

@@ -1,0 +1,192 @@
+//! Scenarios: a client and a server, what they decide, and what is delivered between them.
+//!
+//! The text of a scenario is lines with an LF behind each, which the last may lack. It has at most 1048576
+//! bytes, and a line at most 20000, from 32 to 126. Empty lines and those that begin with `#` say nothing.
+//! Between the fields of any other line stand single spaces.
+//!
+//! - HEX is hexadecimal digits in either case, two a byte, or `-` for no bytes.
+//! - LIST is names with commas between, or `-` for the empty list. YN is `yes` or `no`.
+//! - N is one to ten digits, at most 4294967295. SIDE is `client` or `server`.
+//! - PROOF is `none`, `password HEX` or `publickey ALG HEX`, with the private key.
+//!
+//! | Line, at most once for each side | Default |
+//! |---|---|
+//! | `SIDE version SOFTWARE` | `lab_1`, without comments |
+//! | `SIDE kex LIST` | `a` |
+//! | `SIDE cipher_cs LIST`, `SIDE cipher_sc LIST` (to the server, to the client) | `c` |
+//! | `SIDE mac_cs LIST`, `SIDE mac_sc LIST` | `m` |
+//! | `SIDE strict YN` | `yes` |
+//! | `SIDE cookie HEX` | 16 bytes 00 of the client, ff of the server |
+//! | `SIDE random HEX` | 32 bytes 11 of the client, 33 of the server |
+//! | `SIDE seed HEX` | 32 bytes 22 of the client, 44 of the server |
+//!
+//! | Line, at most once | Default |
+//! |---|---|
+//! | `client hostkey LIST` | `h` |
+//! | `client guess YN` | `no` |
+//! | `server services LIST` | `ssh-connection` |
+//! | `server methods LIST` | `password,publickey` |
+//! | `server tries N` | 6 |
+//! | `server banner HEX` | no banner |
+//!
+//! | Line, any number of times | Meaning |
+//! |---|---|
+//! | `client try USER SERVICE PROOF` | an attempt of the client's plan |
+//! | `server hostkey ALG HEX` | a host key, with its private key; with no such line the server has the key 00 for `h` |
+//! | `server notice HEX` | a line before the server's version line |
+//! | `distrust ALG` | host keys of this algorithm aren't trusted |
+//! | `allow USER PROOF` | the user is let in who proves so to be this one |
+//! | `deny N` | request N, from 1, lets nobody in |
+//! | `deliver SIDE N` | at most N of the waiting bytes go to the side |
+//! | `settle N` | N rounds, at most 1000: all waiting bytes to the server, then all to the client |
+
+ghost use Rattle.std.specs.Prelude.{◌≡◌, ◌<◌, ◌≤◌, length};
+ghost use Rattle.sshlab.specs.declared.scenario.TheConstants.{TEXT_LIMIT};
+
+use crate::lab_decisions::LabDecisions;
+use crate::lab_suite::LabSuite;
+use crate::scenario_draft::Draft;
+use crate::scenario_fields::LineFault;
+use crate::scenario_line::Step;
+use sshcore::{ClientConfig, ConfigFault, End, ServerConfig};
+use sshwire::Memory;
+use sshworld::predict;
+use std::alloc::Global;
+use thiserror::Error;
+
+/// The most bytes of a scenario's text.
+pub const TEXT_LIMIT: usize = 1_048_576;
+
+/// Two configs, what both sides decide, and what is delivered.
+///
+/// The head of this file has the lines of its text.
+#[derive(Drop)]
+pub struct Scenario {
+    /// The client's config.
+    pub client: ClientConfig,
+    /// The server's config.
+    pub server: ServerConfig,
+    /// What both decide.
+    pub decisions: LabDecisions,
+    /// The deliveries, in the order of their lines.
+    pub steps: Vec<Step>,
+}
+
+/// Why a text is no scenario.
+#[derive(Clone, Copy, Debug, Error, PartialEq, Eq)]
+pub enum ScenarioFault {
+    /// The first line that has none of the forms, or stands where its like stood and may stand once;
+    /// lines are counted from 1. It is told before a config's refusal.
+    #[error("scenario line {0}")]
+    Line(u32),
+    /// The lines give no config of a client.
+    #[error("client config {0}")]
+    Client(ConfigFault),
+    /// They give one of a client, and none of a server.
+    #[error("server config {0}")]
+    Server(ConfigFault),
+    /// A growth was refused.
+    #[error("out of memory")]
+    Memory,
+}
+
+impl From<Memory> for ScenarioFault {
+    ghost use Rattle.sshlab.specs.declared.scenario.ScenarioFault.TheVariants as fault;
+
+    ghost from_gives = { λ _ e. e ≡ fault.Memory };
+
+    fn from(_e: Memory) -> ScenarioFault {
+        ScenarioFault::Memory
+    }
+}
+
+impl Scenario {
+    /// Reads a scenario of at most 1048576 bytes.
+    pub fn parse(alloc: Global, text: &[u8]) -> Result<Scenario, ScenarioFault>
+        requires { length text.now ≤ TEXT_LIMIT }
+    {
+        let mut draft = Draft::new(alloc)?;
+        read_lines(&mut draft, text)?;
+        let Draft {
+            client,
+            server,
+            decisions,
+            steps,
+            ..
+        } = draft.finish();
+        let client = ClientConfig::new(alloc, client).map_err(client_fault)?;
+        let server = ServerConfig::new(alloc, server).map_err(server_fault)?;
+        Ok(Scenario {
+            client,
+            server,
+            decisions,
+            steps,
+        })
+    }
+}
+
+impl Scenario {
+    ghost use Rattle.std.specs.Prelude.{IfOk};
+    ghost use Rattle.sshcore.specs.Ending.{ending};
+    ghost use Rattle.sshlab.specs.Lab.{lab};
+    ghost use Rattle.sshlab.specs.LabRules.{lab_policy};
+    ghost use Rattle.sshworld.specs.Outcome.{outcome};
+
+    /// How both sides end, the client's end first, where they use the lab suite and all that either
+    /// sends reaches the other. Answers `Memory` for want of memory alone.
+    pub fn predict(&self, alloc: Global) -> Result<(End, End), Memory>
+        ensures client { IfOk result (λ ends. ending ends.0 ≡ (outcome lab (lab_policy self.now.decisions) self.now.client self.now.server).client) }
+        ensures server { IfOk result (λ ends. ending ends.1 ≡ (outcome lab (lab_policy self.now.decisions) self.now.client self.now.server).server) }
+    {
+        predict(
+            alloc,
+            &self.client,
+            &self.server,
+            &LabSuite,
+            &self.decisions,
+        )
+    }
+}
+
+/// Reads the lines of a text, which have an LF between them.
+fn read_lines(draft: &mut Draft, text: &[u8]) -> Result<(), ScenarioFault>
+    requires { length text.now ≤ TEXT_LIMIT }
+{
+    let mut rest = text;
+    let mut number = 0u32;
+    while !rest.is_empty() {
+        let (line, behind) = cut_line(rest);
+        number += 1;
+        match draft.read(line) {
+            Ok(()) => rest = behind,
+            Err(LineFault::Form) => return Err(ScenarioFault::Line(number)),
+            Err(LineFault::Memory) => return Err(ScenarioFault::Memory),
+        }
+    }
+    Ok(())
+}
+
+/// The bytes before the first LF, and those behind it.
+fn cut_line(text: &[u8]) -> (&[u8], &[u8])
+    requires { 0 < length text.now }
+    ensures shorter { length result.1.now < length text.now }
+{
+    match text.iter().position(|byte| *byte == b'\n') {
+        Some(end) => (&text[..end], &text[end + 1..]),
+        None => (text, &[]),
+    }
+}
+
+fn client_fault(fault: ConfigFault) -> ScenarioFault {
+    match fault {
+        ConfigFault::Memory => ScenarioFault::Memory,
+        _ => ScenarioFault::Client(fault),
+    }
+}
+
+fn server_fault(fault: ConfigFault) -> ScenarioFault {
+    match fault {
+        ConfigFault::Memory => ScenarioFault::Memory,
+        _ => ScenarioFault::Server(fault),
+    }
+}

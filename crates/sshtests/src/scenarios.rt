@@ -1,0 +1,643 @@
+//! Scenarios that `tool` predicts, and those that it refuses.
+
+use crate::program::{Said, say_at, words_of};
+use std::alloc::Global;
+use std::process::Abort;
+use std::test::Fail;
+
+/// How a client without a plan ends, and its server.
+const UNTRIED: &str = "client failed F14\nserver closed 14\n";
+
+/// The only attempt is let in.
+const LET_IN: &str =
+    "client authenticated al ssh-connection\nserver authenticated al ssh-connection\nkex a\nhostkey h\ncipher_cs c\ncipher_sc c\nmac_cs m\nmac_sc m\nstrict yes\n";
+
+/// The same where a side isn't willing to be strict.
+const LOOSELY_LET_IN: &str =
+    "client authenticated al ssh-connection\nserver authenticated al ssh-connection\nkex a\nhostkey h\ncipher_cs c\ncipher_sc c\nmac_cs m\nmac_sc m\nstrict no\n";
+
+/// The same with other names agreed on.
+const OTHERWISE_LET_IN: &str =
+    "client authenticated al ssh-connection\nserver authenticated al ssh-connection\nkex b\nhostkey i\ncipher_cs d\ncipher_sc e16\nmac_cs n\nmac_sc o\nstrict yes\n";
+
+/// A key exchange method that needs encryption is agreed on.
+const LET_IN_BY_ENCRYPTION: &str =
+    "client authenticated al ssh-connection\nserver authenticated al ssh-connection\nkex x\nhostkey e\ncipher_cs c\ncipher_sc c\nmac_cs m\nmac_sc m\nstrict yes\n";
+
+/// The second attempt is let in.
+const SECOND_LET_IN: &str =
+    "client authenticated bo ssh-connection\nserver authenticated bo ssh-connection\nkex a\nhostkey h\ncipher_cs c\ncipher_sc c\nmac_cs m\nmac_sc m\nstrict yes\n";
+
+/// The only attempt is let in, and the session identifier is asked for.
+const LET_IN_WITH_SESSION: &str =
+    "client authenticated al ssh-connection\nserver authenticated al ssh-connection\nkex a\nhostkey h\ncipher_cs c\ncipher_sc c\nmac_cs m\nmac_sc m\nstrict yes\nsession 3f853a2b9a90593e300a890f25da4d7701e90cbcb363492bf0cd73f6d03ecc9b\n";
+
+/// The same where the client isn't willing to be strict.
+const LOOSELY_LET_IN_WITH_SESSION: &str =
+    "client authenticated al ssh-connection\nserver authenticated al ssh-connection\nkex a\nhostkey h\ncipher_cs c\ncipher_sc c\nmac_cs m\nmac_sc m\nstrict no\nsession 199b8e212760b47d8edb19fd10e971d0d967c406528ff4fe227ba2c8973da6dc\n";
+
+/// Too many tries.
+const TRIED_OUT: &str = "client closed 14\nserver failed F13\n";
+
+/// The service isn't there.
+const NO_SERVICE: &str = "client closed 7\nserver failed F12\n";
+
+/// Words, a scenario, and what is printed for it.
+type Predicted = (&'static str, &'static str, &'static str);
+
+/// Scenarios whose deliveries, if any, make no difference.
+const PREDICTED: &[Predicted] = &[
+    ("predict", "", UNTRIED),
+    ("predict", "\n\n# nothing\n", UNTRIED),
+    ("predict", "settle 5", UNTRIED),
+    ("predict", "settle 5\n", UNTRIED),
+    (
+        "predict",
+        "settle 0\ndeliver client 0\ndeliver server 4294967295\nsettle 1000",
+        UNTRIED,
+    ),
+    ("predict|--session", "settle 5", UNTRIED),
+    (
+        "predict",
+        "client try al ssh-connection none\nallow al none\nsettle 6",
+        LET_IN,
+    ),
+    (
+        "predict",
+        "client try al ssh-connection none\nallow al none\nsettle 3",
+        LET_IN,
+    ),
+    (
+        "predict",
+        "client try al ssh-connection none\nallow al none\nsettle 3\ndeliver server 79",
+        LET_IN,
+    ),
+    (
+        "predict",
+        "client try al ssh-connection none\nallow al none\nsettle 3\ndeliver server 80",
+        LET_IN,
+    ),
+    (
+        "predict",
+        "client try al ssh-connection none\nallow al none",
+        LET_IN,
+    ),
+    (
+        "predict",
+        "allow al none\n\n# al\nclient try al ssh-connection none\n",
+        LET_IN,
+    ),
+    (
+        "predict|--session",
+        "client try al ssh-connection none\nallow al none",
+        LET_IN_WITH_SESSION,
+    ),
+    (
+        "predict|--session",
+        "client try al ssh-connection none\nallow al none\nclient strict no",
+        LOOSELY_LET_IN_WITH_SESSION,
+    ),
+    (
+        "predict",
+        "client try al ssh-connection none\nallow al none\nclient strict no",
+        LOOSELY_LET_IN,
+    ),
+    (
+        "predict",
+        "client try al ssh-connection none\nallow al none\nserver strict no",
+        LOOSELY_LET_IN,
+    ),
+    (
+        "predict",
+        "client try al ssh-connection none\nallow al none\nclient guess yes",
+        LET_IN,
+    ),
+    (
+        "predict",
+        "client try al ssh-connection none\nallow al none\nsettle 6\nclient guess yes\nclient kex a,b\nserver kex b,a",
+        LET_IN,
+    ),
+    (
+        "predict",
+        "client try al ssh-connection none\nallow al none\nclient guess yes\nclient kex a,b\nserver kex b,a\nclient strict no",
+        LOOSELY_LET_IN,
+    ),
+    (
+        "predict",
+        "client try al ssh-connection none\nallow al none\nclient kex b\nserver kex c,b\nclient hostkey j,i,h\nserver hostkey h 00\nserver hostkey i 01\nclient cipher_cs c,d\nserver cipher_cs d\nclient cipher_sc e16\nserver cipher_sc c,e16\nclient mac_cs n\nserver mac_cs n\nclient mac_sc o,m\nserver mac_sc m,o",
+        OTHERWISE_LET_IN,
+    ),
+    (
+        "predict",
+        "client try al ssh-connection none\nallow al none\nclient kex x\nserver kex x\nclient hostkey h,e\nserver hostkey h 00\nserver hostkey e 00",
+        LET_IN_BY_ENCRYPTION,
+    ),
+    (
+        "predict",
+        "client try al ssh-connection password 00\nallow al password 00",
+        LET_IN,
+    ),
+    (
+        "predict",
+        "client try al ssh-connection password aB\nallow al password Ab",
+        LET_IN,
+    ),
+    (
+        "predict",
+        "client try al ssh-connection password -\nallow al password -",
+        LET_IN,
+    ),
+    (
+        "predict",
+        "client try al ssh-connection publickey h 00\nallow al publickey h 00",
+        LET_IN,
+    ),
+    (
+        "predict",
+        "client try al ssh-connection publickey h 00\nallow al publickey h 01",
+        UNTRIED,
+    ),
+    (
+        "predict",
+        "client try al ssh-connection publickey h 00\nallow al publickey i 00",
+        UNTRIED,
+    ),
+    (
+        "predict",
+        "client try al ssh-connection password 00\nallow al password 0000",
+        UNTRIED,
+    ),
+    (
+        "predict",
+        "client try al ssh-connection password 00\nallow bo password 00",
+        UNTRIED,
+    ),
+    (
+        "predict",
+        "client try al ssh-connection password 00\nallow al password 00\nserver methods publickey",
+        UNTRIED,
+    ),
+    (
+        "predict",
+        "client try al ssh-connection none\nallow al none\nserver methods -",
+        LET_IN,
+    ),
+    (
+        "predict",
+        "client try al ssh-connection none\nallow al none\ndeny 1",
+        UNTRIED,
+    ),
+    (
+        "predict",
+        "client try al ssh-connection none\nallow al none\ndeny 2",
+        LET_IN,
+    ),
+    (
+        "predict",
+        "client try al ssh-connection none\nallow al none\nserver banner 6869\nserver notice 61\nserver notice -",
+        LET_IN,
+    ),
+    (
+        "predict",
+        "client try al ssh-connection none\nallow al none\nserver services odd,ssh-connection",
+        LET_IN,
+    ),
+    (
+        "predict",
+        "client try al ssh-connection none\nallow al none\nserver services -",
+        NO_SERVICE,
+    ),
+    (
+        "predict",
+        "client try al ssh-connection none\nserver tries 1\nsettle 6",
+        TRIED_OUT,
+    ),
+    (
+        "predict",
+        "client try al ssh-connection none\nserver tries 2",
+        UNTRIED,
+    ),
+    (
+        "predict",
+        "client try al ssh-connection none\nclient try bo odd password 00\nallow bo password 00\nsettle 7",
+        NO_SERVICE,
+    ),
+    (
+        "predict",
+        "client try al ssh-connection none\nclient try bo ssh-connection password 00\nallow bo password 00\nsettle 7",
+        SECOND_LET_IN,
+    ),
+    (
+        "predict",
+        "client try al ssh-connection none\nclient try bo ssh-connection password 00\nallow bo password 00\ndeny 2",
+        UNTRIED,
+    ),
+    (
+        "predict",
+        "client try al ssh-connection none\nclient try bo ssh-connection password 00\nserver tries 2",
+        TRIED_OUT,
+    ),
+    (
+        "predict",
+        "client kex a\nserver kex b\nsettle 5",
+        "client failed F8 kex\nserver failed F8 kex\n",
+    ),
+    (
+        "predict",
+        "client kex x\nserver kex x",
+        "client failed F8 hostkey\nserver failed F8 hostkey\n",
+    ),
+    (
+        "predict",
+        "client hostkey i",
+        "client failed F8 hostkey\nserver failed F8 hostkey\n",
+    ),
+    (
+        "predict",
+        "server hostkey i 00",
+        "client failed F8 hostkey\nserver failed F8 hostkey\n",
+    ),
+    (
+        "predict",
+        "client cipher_cs d",
+        "client failed F8 cipher_cs\nserver failed F8 cipher_cs\n",
+    ),
+    (
+        "predict",
+        "server cipher_sc d",
+        "client failed F8 cipher_sc\nserver failed F8 cipher_sc\n",
+    ),
+    (
+        "predict",
+        "client mac_cs d",
+        "client failed F8 mac_cs\nserver failed F8 mac_cs\n",
+    ),
+    (
+        "predict",
+        "server mac_sc d",
+        "client failed F8 mac_sc\nserver failed F8 mac_sc\n",
+    ),
+    (
+        "predict",
+        "client mac_sc d\nserver cipher_sc d",
+        "client failed F8 cipher_sc\nserver failed F8 cipher_sc\n",
+    ),
+    (
+        "predict",
+        "distrust h\nsettle 5",
+        "client failed F10\nserver closed 9\n",
+    ),
+    ("predict", "distrust i", UNTRIED),
+];
+
+/// Scenarios, and the fault that is told; where there is none, they end without an attempt.
+const JUDGED: &[(&str, &str)] = &[
+    ("client strict yes\nclient strict no", "scenario line 2\n"),
+    ("server kex a\nserver kex a", "scenario line 2\n"),
+    ("client seed -\n\n#\nclient seed -", "scenario line 4\n"),
+    ("client hostkey h\nclient hostkey h", "scenario line 2\n"),
+    ("client guess no\nclient guess no", "scenario line 2\n"),
+    ("server services -\nserver services -", "scenario line 2\n"),
+    ("server methods -\nserver methods -", "scenario line 2\n"),
+    ("server tries 6\nserver tries 6", "scenario line 2\n"),
+    ("server banner -\nserver banner -", "scenario line 2\n"),
+    ("client strict yes\nserver strict no", ""),
+    ("settle 0", ""),
+    ("settle 1000", ""),
+    ("settle 0000001000", ""),
+    ("settle 1001", "scenario line 1\n"),
+    ("settle 00000001000", "scenario line 1\n"),
+    ("settle 4294967296", "scenario line 1\n"),
+    ("settle", "scenario line 1\n"),
+    ("settle -", "scenario line 1\n"),
+    ("settle +1", "scenario line 1\n"),
+    ("settle 1 1", "scenario line 1\n"),
+    ("deliver client 4294967295", ""),
+    ("deliver server 0004294967", ""),
+    ("deliver client 4294967296", "scenario line 1\n"),
+    ("deliver client 00000000000", "scenario line 1\n"),
+    ("deliver Client 1", "scenario line 1\n"),
+    ("deliver 1", "scenario line 1\n"),
+    ("deny 4294967295", ""),
+    ("deny 4294967296", "scenario line 1\n"),
+    ("deny -1", "scenario line 1\n"),
+    ("server tries 1", ""),
+    ("server tries 20", ""),
+    ("server tries 0", "server config C9\n"),
+    ("server tries 21", "server config C9\n"),
+    ("server tries 4294967295", "server config C9\n"),
+    ("server tries 4294967296", "scenario line 1\n"),
+    ("server tries 21\nclient cookie 00", "client config C10\n"),
+    ("client kex -", "client config C1\n"),
+    ("client hostkey -", "client config C1\n"),
+    ("server cipher_cs -", "server config C1\n"),
+    ("server mac_sc -", "server config C1\n"),
+    ("server kex -\nclient mac_cs -", "client config C1\n"),
+    ("client kex a,,b", "client config C2\n"),
+    ("client kex ,a", "client config C2\n"),
+    ("client cipher_sc c,", "client config C2\n"),
+    (
+        "client kex a,kex-strict-c-v00@openssh.com",
+        "client config C2\n",
+    ),
+    ("server kex ext-info-s", "server config C2\n"),
+    ("server methods none", "server config C2\n"),
+    ("server services a,,b", "server config C2\n"),
+    ("server hostkey h,i 00", "server config C2\n"),
+    ("client try al odd,even none", "client config C2\n"),
+    (
+        "client try al ssh-connection publickey h,i 00",
+        "client config C2\n",
+    ),
+    (
+        "client kex -\nclient cookie 00\nclient version -",
+        "client config C1\n",
+    ),
+    ("client version a-b", "client config C4\n"),
+    ("server version -", "server config C4\n"),
+    ("client version a b", "scenario line 1\n"),
+    ("server notice 00", "server config C4\n"),
+    ("server notice 1f", "server config C4\n"),
+    ("server notice 207e", ""),
+    ("server notice 7f", "server config C4\n"),
+    ("server notice 5353482d", "server config C4\n"),
+    ("server notice 5353482e", ""),
+    ("client cookie -", "client config C10\n"),
+    ("client random 11", "client config C10\n"),
+    ("server seed 11", "server config C10\n"),
+    ("client cookie 0", "scenario line 1\n"),
+    ("client cookie 0g", "scenario line 1\n"),
+    ("client cookie --", "scenario line 1\n"),
+    ("client strict Yes", "scenario line 1\n"),
+    ("client guess 1", "scenario line 1\n"),
+    ("server guess no", "scenario line 1\n"),
+    ("client tries 6", "scenario line 1\n"),
+    ("client notice 61", "scenario line 1\n"),
+    ("client hostkey h 00", "scenario line 1\n"),
+    ("server hostkey h", "scenario line 1\n"),
+    ("client try al ssh-connection", "scenario line 1\n"),
+    ("client try al ssh-connection none 00", "scenario line 1\n"),
+    ("client try al ssh-connection password", "scenario line 1\n"),
+    (
+        "client try al ssh-connection password 0",
+        "scenario line 1\n",
+    ),
+    (
+        "client try al ssh-connection publickey h",
+        "scenario line 1\n",
+    ),
+    (
+        "client try al ssh-connection query h 00",
+        "scenario line 1\n",
+    ),
+    ("server try al ssh-connection none", "scenario line 1\n"),
+    ("allow al", "scenario line 1\n"),
+    ("allow al password", "scenario line 1\n"),
+    ("allow al publickey h 0", "scenario line 1\n"),
+    ("distrust", "scenario line 1\n"),
+    ("distrust h i", "scenario line 1\n"),
+    ("client", "scenario line 1\n"),
+    ("x", "scenario line 1\n"),
+    (" settle 1", "scenario line 1\n"),
+    ("settle 1 ", "scenario line 1\n"),
+    ("settle  1", "scenario line 1\n"),
+    (" ", "scenario line 1\n"),
+    (" #", "scenario line 1\n"),
+    ("#\t", "scenario line 1\n"),
+    ("# é", "scenario line 1\n"),
+    ("# ~", ""),
+    ("settle 1\r\n", "scenario line 1\n"),
+    ("client kex -\nx", "scenario line 2\n"),
+    ("settle 1001\nsettle 1001", "scenario line 1\n"),
+];
+
+/// A text, another one so many times, and a third; and the fault that is told as above.
+type Long = (
+    &'static str,
+    &'static str,
+    usize,
+    &'static str,
+    &'static str,
+);
+
+/// The limits of lengths and counts.
+const LIMITS: &[Long] = &[
+    ("client version ", "x", 245, "", ""),
+    ("client version ", "x", 246, "", "client config C4\n"),
+    ("server version ", "x", 245, "", ""),
+    ("server version ", "x", 246, "", "server config C4\n"),
+    ("client kex a,", "b", 64, "", ""),
+    ("client kex a,", "b", 65, "", "client config C2\n"),
+    ("server mac_cs m,", "b", 64, "", ""),
+    ("server mac_cs m,", "b", 65, "", "server config C2\n"),
+    ("client try al ", "s", 65, " none", "client config C2\n"),
+    (
+        "client try al ssh-connection publickey ",
+        "h",
+        64,
+        " 00",
+        "",
+    ),
+    (
+        "client try al ssh-connection publickey ",
+        "h",
+        65,
+        " 00",
+        "client config C2\n",
+    ),
+    ("server hostkey h 00\nserver hostkey ", "h", 64, " 00", ""),
+    (
+        "server hostkey h 00\nserver hostkey ",
+        "h",
+        65,
+        " 00",
+        "server config C2\n",
+    ),
+    ("client kex aa", ",a", 499, "", ""),
+    ("client kex a", ",a", 500, "", "client config C3\n"),
+    ("server kex aa", ",a", 499, "", ""),
+    ("server kex a", ",a", 500, "", "server config C3\n"),
+    ("client hostkey hh", ",h", 499, "", ""),
+    ("client hostkey h", ",h", 500, "", "client config C3\n"),
+    ("client cipher_cs cc", ",c", 499, "", ""),
+    ("client cipher_cs c", ",c", 500, "", "client config C3\n"),
+    ("server cipher_sc cc", ",c", 499, "", ""),
+    ("server cipher_sc c", ",c", 500, "", "server config C3\n"),
+    ("server mac_cs mm", ",m", 499, "", ""),
+    ("server mac_cs m", ",m", 500, "", "server config C3\n"),
+    ("client mac_sc mm", ",m", 499, "", ""),
+    ("client mac_sc m", ",m", 500, "", "client config C3\n"),
+    ("server services ss", ",s", 499, "", ""),
+    ("server services s", ",s", 500, "", "server config C3\n"),
+    (
+        "server methods publickey,publickey",
+        ",password",
+        109,
+        "",
+        "",
+    ),
+    (
+        "server methods publickey,publickey,publickey",
+        ",password",
+        108,
+        "",
+        "server config C3\n",
+    ),
+    (
+        "server hostkey hh 00\n",
+        "server hostkey h 00\n",
+        499,
+        "",
+        "",
+    ),
+    (
+        "server hostkey h 00\n",
+        "server hostkey h 00\n",
+        500,
+        "",
+        "server config C3\n",
+    ),
+    ("", "server notice 61\n", 20, "", ""),
+    ("", "server notice 61\n", 21, "", "server config C4\n"),
+    ("server notice ", "61", 253, "", ""),
+    ("server notice ", "61", 254, "", "server config C4\n"),
+    ("client try ", "u", 255, " ssh-connection none", ""),
+    (
+        "client try ",
+        "u",
+        256,
+        " ssh-connection none",
+        "client config C5\n",
+    ),
+    ("client try al ssh-connection password ", "00", 1024, "", ""),
+    (
+        "client try al ssh-connection password ",
+        "00",
+        1025,
+        "",
+        "client config C6\n",
+    ),
+    (
+        "client try al ssh-connection publickey h ",
+        "00",
+        8192,
+        "",
+        "",
+    ),
+    (
+        "client try al ssh-connection publickey h ",
+        "00",
+        8193,
+        "",
+        "client config C7\n",
+    ),
+    ("server hostkey h ", "00", 8192, "", ""),
+    ("server hostkey h ", "00", 8193, "", "server config C7\n"),
+    ("server banner ", "00", 8192, "", ""),
+    ("server banner ", "00", 8193, "", "server config C7\n"),
+    ("", "client try al ssh-connection none\n", 64, "", ""),
+    (
+        "",
+        "client try al ssh-connection none\n",
+        65,
+        "",
+        "client config C8\n",
+    ),
+    ("client cookie ", "00", 15, "", "client config C10\n"),
+    ("client cookie ", "00", 16, "", ""),
+    ("client cookie ", "00", 17, "", "client config C10\n"),
+    ("server cookie ", "00", 16, "", ""),
+    ("server cookie ", "00", 17, "", "server config C10\n"),
+    ("client random ", "00", 31, "", "client config C10\n"),
+    ("client random ", "00", 32, "", ""),
+    ("client random ", "00", 33, "", "client config C10\n"),
+    ("server random ", "00", 32, "", ""),
+    ("server random ", "00", 33, "", "server config C10\n"),
+    ("client seed ", "00", 32, "", ""),
+    ("client seed ", "00", 33, "", "client config C10\n"),
+    ("server seed ", "00", 31, "", "server config C10\n"),
+    ("server seed ", "00", 32, "", ""),
+    ("#", "x", 19999, "", ""),
+    ("#", "x", 20000, "", "scenario line 1\n"),
+    ("#", "x", 19999, "\nclient kex -", "client config C1\n"),
+    ("\n#", "x", 20000, "\nclient kex -", "scenario line 2\n"),
+    ("server kex a", ",a", 9994, "", "server config C3\n"),
+    ("server kex aa", ",a", 9994, "", "scenario line 1\n"),
+    ("", "\n", 1000, "x", "scenario line 1001\n"),
+    ("", "\n", 1_048_576, "", ""),
+    ("", "\n", 1_048_577, "", "input too long\n"),
+    ("x", "\n", 1_048_575, "", "scenario line 1\n"),
+    ("x", "\n", 1_048_576, "", "input too long\n"),
+];
+
+/// What is said of a scenario that has this fault, or that has none and ends without an attempt.
+fn said_of(faults: &str) -> Said<'_> {
+    if faults.is_empty() {
+        return Said {
+            output: UNTRIED,
+            faults,
+            status: 0,
+        };
+    }
+    Said {
+        output: "",
+        faults,
+        status: 2,
+    }
+}
+
+/// The words have to be answered so where this is the input.
+fn is_answered(
+    rt: &impl Abort,
+    alloc: Global,
+    words: &str,
+    text: &[u8],
+    wanted: Said<'_>,
+) -> Result<(), Fail> {
+    say_at(rt, alloc, &words_of(alloc, words)?, text, wanted);
+    Ok(())
+}
+
+/// The text of a long scenario.
+fn text_of(alloc: Global, long: &Long) -> Result<Vec<u8>, Fail> {
+    let (before, repeated, count, behind, _) = long;
+    let mut text = Vec::from_slice(alloc, before.as_bytes())?;
+    for _ in 0..*count {
+        text.extend_from_slice(repeated.as_bytes())?;
+    }
+    text.extend_from_slice(behind.as_bytes())?;
+    Ok(text)
+}
+
+#[test]
+fn predicts_scenarios(rt: HostRuntime) -> Result<(), Fail> {
+    let alloc = rt.alloc();
+    for (words, text, output) in PREDICTED {
+        let wanted = Said {
+            output,
+            faults: "",
+            status: 0,
+        };
+        is_answered(&rt, alloc, words, text.as_bytes(), wanted)?;
+    }
+    Ok(())
+}
+
+#[test]
+fn judges_scenarios(rt: HostRuntime) -> Result<(), Fail> {
+    let alloc = rt.alloc();
+    for (text, faults) in JUDGED {
+        is_answered(&rt, alloc, "predict", text.as_bytes(), said_of(faults))?;
+    }
+    Ok(())
+}
+
+#[test]
+fn judges_long_scenarios(rt: HostRuntime) -> Result<(), Fail> {
+    let alloc = rt.alloc();
+    for long in LIMITS {
+        let text = text_of(alloc, long)?;
+        is_answered(&rt, alloc, "predict", &text, said_of(long.4))?;
+    }
+    Ok(())
+}

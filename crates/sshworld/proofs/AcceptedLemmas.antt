@@ -1,0 +1,183 @@
+-- What accepted configs write is read again.
+
+use Rattle.std.proofs.Common.{◌≡◌, ◌≢◌, ◌⊎◌, ℕ, ◌≤◌, Bool, true, false, List, [], ◌∷◌, length, slice_get, Option, Some, Ok, refl, sym, subst, arith}
+use Rattle.std.specs.List.{AllByRecursion}
+use Rattle.std.specs.Str.{IsUtf8}
+use Rattle.std.specs.Prelude.{Contains, IfSome}
+use Rattle.sshwire.specs.declared.share_form.ShareForm.{ShareForm}
+use Rattle.sshwire.specs.declared.share_form.ShareForm.TheVariants.{Hybrid, Mpint, OctetString}
+use Rattle.sshwire.specs.Types.{IsBytes, IsName}
+use Rattle.sshwire.proofs.NameLemmas.{name_tested}
+use Rattle.sshmsg.specs.Content.{Content, KexInit, UserauthBanner, UserauthFailure, UserauthRequest}
+use Rattle.sshmsg.specs.Messages.{message_in}
+use Rattle.sshmsg.specs.Written.{IsMessageOf, IsMethod, IsNameList, IsNumber, IsOffer, IsString, IsWellFormed, method_name, written_message}
+use Rattle.sshneg.specs.declared.choice.NoCommon.TheVariants as field
+use Rattle.sshneg.specs.declared.role.Role.{Role}
+use Rattle.sshneg.specs.declared.role.Role.TheVariants.{Client, Server}
+use Rattle.sshneg.specs.ChoiceReadings.{choice, is_in}
+use Rattle.sshneg.specs.Derivations.{signed_text}
+use Rattle.sshneg.specs.Fields.{Algorithms}
+use Rattle.sshneg.specs.Markers.{strict_marker}
+use Rattle.sshneg.proofs.ChoiceLaws.{choice_sound}
+use Rattle.sshneg.proofs.ChoicePlaces.{well}
+use Rattle.sshneg.proofs.FirstLemmas.{contains_in}
+use Rattle.sshpacket.specs.Shares.{IsShare}
+use Rattle.sshpacket.specs.Suite.{Agrees, IsAgreeing, IsLawful, Meaning, ResponseData, has_number_shares, shares_number}
+use Rattle.sshcore.specs.declared.config_fault.ConfigFault.TheVariants as fault
+use Rattle.sshcore.specs.Attempts.{method_by}
+use Rattle.sshcore.specs.ConfigData.{Attempt, ByKey, ByNothing, ByPassword, ClientData, Proving, ServerData, client_offer, server_offer}
+use Rattle.sshcore.specs.ConfigRules.{HasShortPassword, IsClient, IsNamed, IsServer}
+use Rattle.sshcore.specs.Counting.{switched_out}
+use Rattle.sshcore.specs.Exchange.{answer_or, secret_of}
+use Rattle.sshcore.specs.Party.{Policy}
+use Rattle.sshcore.specs.Work.{init_in, reply_in}
+use Rattle.sshworld.specs.Agreement.{answer_of_server, host_key_of_server, session_between}
+use Rattle.sshworld.specs.Follows.{BothFollow}
+use Rattle.sshworld.specs.Offered.{offered}
+use Rattle.sshworld.specs.Placed.{BothInPlace, HaveSameKeys, said_by_client, said_by_server}
+use Rattle.sshworld.specs.Understood.{AreUnderstood, CanSign}
+use Rattle.sshworld.specs.Wordings.{signature_of_server, wording_of}
+use Rattle.sshworld.proofs.BothFollowLemmas.{both_follow}
+use Rattle.sshworld.proofs.KeysLemmas.{same_keys}
+use Rattle.sshworld.proofs.OfferedLemmas.{offered_each}
+use Rattle.sshworld.proofs.PlacedLemmas.{both_placed}
+use Rattle.sshworld.proofs.Readable.{AreOffersRead, AreSound, IsRead, IsTestedName}
+
+-- the laws of the crates below that this rests on
+pub record Below (m : Meaning) : Type 0 where
+  pub again : (form : ShareForm) (x : Content) → IsMessageOf form x → IsWellFormed x → message_in form (written_message x) ≡ Ok x
+  pub share : (kex a : List ℕ) → length a ≡ 32 → IsBytes a → IsShare (has_number_shares (m.share_form kex)) (m.share kex a)
+  pub response : (kex a peer : List ℕ) (r : ResponseData) → length a ≡ 32 → IsBytes a → IsBytes peer → m.respond kex a peer ≡ Some r
+      → IsShare (has_number_shares (m.share_form kex)) r.share × IsShare (shares_number (m.share_form kex)) r.shared
+  pub client_written : (c : ClientData) → IsClient c → IsOffer (client_offer c)
+  pub server_written : (s : ServerData) → IsServer s → IsOffer (server_offer s)
+  pub client_unmarked : (c : ClientData) → IsClient c → (role : Role) → Contains c.side.kex_algorithms (strict_marker role) → ⊥
+  pub server_unmarked : (s : ServerData) → IsServer s → (role : Role) → Contains s.side.kex_algorithms (strict_marker role) → ⊥
+
+octets : OctetString ≢ Mpint
+octets e = cc (e)
+
+hybrid : Hybrid ≢ Mpint
+hybrid e = cc (e)
+
+init_of_form : (f : ShareForm) (e : List ℕ) → IsMessageOf f (init_in f e)
+init_of_form Mpint e = refl
+init_of_form OctetString e = octets
+init_of_form Hybrid e = hybrid
+
+reply_of_form : (f : ShareForm) (k e sign : List ℕ) → IsMessageOf f (reply_in f k e sign)
+reply_of_form Mpint k e sign = refl
+reply_of_form OctetString k e sign = octets
+reply_of_form Hybrid k e sign = hybrid
+
+number : (e : List ℕ) → IsShare true e → IsNumber e
+number e share = record { bytes = share.bytes; shortest = share.shortest refl; short = omega (arith, share.short) }
+
+init_well : (f : ShareForm) (e : List ℕ) → IsShare (has_number_shares f) e → IsWellFormed (init_in f e)
+init_well Mpint e share = number e share
+init_well OctetString e share = omega (arith, share.short)
+init_well Hybrid e share = omega (arith, share.short)
+
+reply_well : (f : ShareForm) (k e sign : List ℕ) → IsShare (has_number_shares f) e → length k ≤ 8192 → length sign ≤ 4096 → IsWellFormed (reply_in f k e sign)
+reply_well Mpint k e sign share blob signed = (omega (arith, blob), number e share, omega (arith, signed))
+reply_well OctetString k e sign share blob signed = (omega (arith, blob), omega (arith, share.short), omega (arith, signed))
+reply_well Hybrid k e sign share blob signed = (omega (arith, blob), omega (arith, share.short), omega (arith, signed))
+
+not_in : (names : List (List ℕ)) (name : List ℕ) → (Contains names name → ⊥) → is_in names name ≡ false
+not_in names name none = by (is_in names name) refl
+  where
+    by : (b : Bool) → is_in names name ≡ b → is_in names name ≡ false
+    by true e = absurd (none (contains_in names name e))
+    by false e = e
+
+module _ (m : Meaning) (law : IsLawful m) (below : Below m) (c : ClientData) (s : ServerData) (client : IsClient c) (server : IsServer s) where
+  pub offers_read : AreOffersRead c s
+  offers_read = record {
+    client = λ form. below.again form (KexInit (client_offer c)) tt (below.client_written c client);
+    server = λ form. below.again form (KexInit (server_offer s)) tt (below.server_written s server);
+  }
+
+  of_plan : (Q : Attempt → Type 0) → AllByRecursion Q c.plan → (i : ℕ) (r : Attempt) → slice_get (offered s.methods c.plan) i ≡ Some r → Q r
+  of_plan Q all i r e = offered_each s.methods Q c.plan all i r e
+
+  named_by : (p : Proving) → IsNamed p → IsTestedName p
+  named_by ByNothing t = tt
+  named_by (ByPassword password) t = tt
+  named_by (ByKey algorithm secret) t = name_tested algorithm t
+
+  pub sound : AreSound c s
+  sound = record {
+    client_unmarked = not_in c.side.kex_algorithms (strict_marker Client) (below.client_unmarked c client Client);
+    server_unmarked = not_in s.side.kex_algorithms (strict_marker Server) (below.server_unmarked s server Server);
+    named = λ i a e. named_by a.proving (of_plan (λ (a : Attempt). IsName a.service × IsNamed a.proving) (client.keeps fault.Name).2 i a e).1;
+    tries = (server.keeps fault.Tries).0;
+  }
+
+  client_share : (kex : List ℕ) → IsShare (has_number_shares (m.share_form kex)) (m.share kex c.side.random)
+  client_share kex = below.share kex c.side.random (client.keeps fault.Random).random client.bytes.random
+
+  server_share : (kex : List ℕ) → Agrees m kex c.side.random s.side.random → IsShare (has_number_shares (m.share_form kex)) (answer_of_server m c s kex).share
+  server_share kex g =
+      let answered = below.response kex s.side.random (m.share kex c.side.random) g.answer (server.keeps fault.Random).random server.bytes.random (client_share kex).bytes g.responds in
+      subst (λ (o : Option ResponseData). IsShare (has_number_shares (m.share_form kex)) (answer_or o).share) (sym g.responds) answered.0
+
+  method_well : (session : List ℕ) (r : Attempt) (p : Proving) → IsNamed p → HasShortPassword p
+      → IsString (method_name (method_by m session r.user r.service p)) × IsMethod (method_by m session r.user r.service p)
+  method_well session r ByNothing named short = (omega arith, tt)
+  method_well session r (ByPassword password) named short = (omega arith, omega (arith, short))
+  method_well session r (ByKey algorithm secret) named short =
+      (omega arith, (omega (arith, named.short), omega (arith, law.blob_high algorithm secret named), omega (arith, law.sign_high algorithm secret (signed_text session r.user r.service algorithm (m.blob algorithm secret)) named)))
+
+  methods_well : IsNameList s.methods
+  methods_well = record { each = (server.keeps fault.Name).0.1.1.1.1.1.1.1.0; short = omega (arith, (server.keeps fault.ListTooLong).1.1.1.1.1.1.1.0) }
+
+  banner_short : (text : List ℕ) → s.banner ≡ Some text → length text ≤ 8192
+  banner_short text has = subst (λ (b : Option (List ℕ)). IfSome b (λ text. length text ≤ 8192)) has (server.keeps fault.Blob).1
+
+  pub reads_all : (d : Policy) → AreUnderstood m d c s → (a : Algorithms) → choice m (client_offer c) (server_offer s) ≡ Ok a → IsRead m c s a
+  reads_all d understood a chosen =
+      let name : IsName a.host_key = well m (client_offer c) (server_offer s) a (choice_sound m (client_offer c) (server_offer s) a chosen) field.HostKey (below.client_written c client).server_host_key_algorithms.each in
+      record {
+        init = below.again (m.share_form a.kex) (init_in (m.share_form a.kex) (m.share a.kex c.side.random)) (init_of_form (m.share_form a.kex) (m.share a.kex c.side.random)) (init_well (m.share_form a.kex) (m.share a.kex c.side.random) (client_share a.kex));
+        reply = below.again (m.share_form a.kex) (reply_in (m.share_form a.kex) (host_key_of_server m s a.host_key) (answer_of_server m c s a.kex).share (signature_of_server m c s a))
+            (reply_of_form (m.share_form a.kex) (host_key_of_server m s a.host_key) (answer_of_server m c s a.kex).share (signature_of_server m c s a))
+            (reply_well (m.share_form a.kex) (host_key_of_server m s a.host_key) (answer_of_server m c s a.kex).share (signature_of_server m c s a) (server_share a.kex (understood.exchange a chosen))
+            (law.blob_high a.host_key (secret_of s.host_keys a.host_key) name) (law.sign_high a.host_key (secret_of s.host_keys a.host_key) (session_between m c s a) name));
+        banner = λ text has form. below.again form (UserauthBanner text []) tt (omega (arith, banner_short text has), omega arith);
+        failure = λ form. below.again form (UserauthFailure s.methods false) tt methods_well;
+        requests = λ i r e form.
+            let named = of_plan (λ (a : Attempt). IsName a.service × IsNamed a.proving) (client.keeps fault.Name).2 i r e in
+            let w = method_well (session_between m c s a) r r.proving named.1 (of_plan (λ (a : Attempt). HasShortPassword a.proving) (client.keeps fault.Secret) i r e) in
+            below.again form (UserauthRequest r.user r.service (method_by m (session_between m c s a) r.user r.service r.proving)) tt
+            (of_plan (λ (a : Attempt). IsUtf8 a.user) client.users i r e, omega (arith, of_plan (λ (a : Attempt). length a.user ≤ 255) (client.keeps fault.User) i r e), omega (arith, named.0.short), w.0, w.1);
+      }
+
+-- all ends agree, and all keys sign
+can_sign : (m : Meaning) → IsAgreeing m → (p : Proving) → CanSign m p
+can_sign m agrees ByNothing = tt
+can_sign m agrees (ByPassword password) = tt
+can_sign m agrees (ByKey algorithm secret) = agrees.signed algorithm secret
+
+can_sign_each : (m : Meaning) → IsAgreeing m → (plan : List Attempt) → AllByRecursion (λ (r : Attempt). CanSign m r.proving) plan
+can_sign_each m agrees [] = tt
+can_sign_each m agrees (a ∷ later) = (can_sign m agrees a.proving, can_sign_each m agrees later)
+
+pub understood_by : (m : Meaning) (d : Policy) (c : ClientData) (s : ServerData) → IsAgreeing m → IsClient c → IsServer s → AreUnderstood m d c s
+understood_by m d c s agrees client server = record {
+  exchange = λ a chosen. agrees.agreed a.kex c.side.random s.side.random (client.keeps fault.Random).random (server.keeps fault.Random).random client.bytes.random server.bytes.random;
+  host_key = λ a chosen trusted. agrees.signed a.host_key (secret_of s.host_keys a.host_key);
+  plan = can_sign_each m agrees c.plan;
+}
+
+pub accepted_follow : (m : Meaning) → IsLawful m → Below m → (d : Policy) (c : ClientData) (s : ServerData) → AreUnderstood m d c s → IsClient c → IsServer s → BothFollow m d c s (wording_of m c s)
+accepted_follow m law below d c s understood client server =
+    both_follow m d c s understood (sound m law below c s client server) (offers_read m law below c s client server) (reads_all m law below c s client server d understood)
+
+pub accepted_placed : (m : Meaning) → IsLawful m → Below m → (d : Policy) (c : ClientData) (s : ServerData) → AreUnderstood m d c s → IsClient c → IsServer s → BothInPlace m d c s
+accepted_placed m law below d c s understood client server =
+    both_placed m d c s understood (sound m law below c s client server) (offers_read m law below c s client server) (reads_all m law below c s client server d understood)
+
+pub accepted_same_keys : (m : Meaning) → IsLawful m → Below m → (d : Policy) (c : ClientData) (s : ServerData) → AreUnderstood m d c s → IsClient c → IsServer s
+    → (switched_out (said_by_client m d c s) ≡ true) ⊎ (switched_out (said_by_server m d c s) ≡ true) → HaveSameKeys m d c s
+accepted_same_keys m law below d c s understood client server =
+    same_keys m d c s understood (sound m law below c s client server) (offers_read m law below c s client server) (reads_all m law below c s client server d understood)

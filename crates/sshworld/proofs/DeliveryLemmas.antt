@@ -1,0 +1,165 @@
+-- Deliveries, one after another.
+
+use Rattle.std.proofs.Common.{◌≡◌, ◌≢◌, ℕ, zero, suc, ◌+◌, ◌≤◌, ◌<◌, inl, inr, List, [], ◌∷◌, ◌++◌, length, take, min, Result, Ok, Err, refl, sym, ap, subst, ◌∙◌, arith, get_or}
+use Rattle.std.proofs.lemmas.List.{take_more}
+use Rattle.std.specs.Result.{IfOk, OnErr, OnOk}
+use Rattle.sshwire.specs.declared.fault.Memory.{Memory}
+use Rattle.sshpacket.specs.Suite.{Meaning}
+use Rattle.sshcore.specs.declared.end.Fault.TheVariants as fault
+use Rattle.sshcore.specs.ConfigData.{ClientData, ServerData}
+use Rattle.sshcore.specs.Ending.{Failed}
+use Rattle.sshcore.specs.Endpoints.{ending_of}
+use Rattle.sshcore.specs.Party.{Party, Policy}
+use Rattle.sshneg.specs.declared.role.Role.{Role}
+use Rattle.sshworld.specs.declared.node.Node.{Node}
+use Rattle.sshworld.specs.declared.side.Delivery.{Delivery}
+use Rattle.sshworld.specs.declared.side.Side.{Side}
+use Rattle.sshworld.specs.declared.side.Side.TheVariants.{Client, Server}
+use Rattle.sshworld.specs.Conversed.{EachReplies}
+use Rattle.sshworld.specs.Deliveries.{Delivered, Done, Refused, Round, RoundInto, Rounds, RoundsInto, Runs, RunsInto, TakesIn}
+use Rattle.sshworld.specs.Stands.{NodeStands, NodesStand, Receives, ReceivesInto, ReceivesNone, ReceivesSome, half_of, seen}
+use Rattle.sshworld.specs.Worlds.{HadMemory, IsSameSetup, WorldData, waiting_for}
+use Rattle.sshworld.proofs.StandsLemmas.{receiver_stands, sender_stands, sent_on, side_replies}
+
+module _ {T E : Type 0} where
+  pub if_ok : {P Q R : T → Type 0} (r : Result T E) → IfOk r P → IfOk r Q → ((x : T) → P x → Q x → R x) → IfOk r R
+  if_ok (Ok x) p q f = f x p q
+  if_ok (Err e) p q f = p
+
+  pub on_ok : {P Q : Type 0} (r : Result T E) → OnOk r P → (P → Q) → OnOk r Q
+  on_ok (Ok x) p f = f p
+  on_ok (Err e) p f = tt
+
+  pub on_err : {P Q : Type 0} (r : Result T E) → OnErr r P → (P → Q) → OnErr r Q
+  on_err (Ok x) p f = tt
+  on_err (Err e) p f = f p
+
+  pub at_err : {P : Type 0} (r : Result T E) → P → OnErr r P
+  at_err (Ok x) p = tt
+  at_err (Err e) p = p
+
+module _ {S D : Type 0} where
+  pub same_then : (a b c : WorldData S D) → IsSameSetup a b → IsSameSetup b c → IsSameSetup a c
+  same_then a b c x y = record {
+    same_client_config = y.same_client_config ∙ x.same_client_config;
+    same_server_config = y.same_server_config ∙ x.same_server_config;
+    same_suite = y.same_suite ∙ x.same_suite;
+    same_decisions = y.same_decisions ∙ x.same_decisions;
+  }
+
+  rounds_push : (n : ℕ) (old mid new : WorldData S D) → Rounds n old mid → Round mid new → Rounds (suc n) old new
+  rounds_push zero old mid new e r = (new, subst (λ (w : WorldData S D). Round w new) e r, refl)
+  rounds_push (suc n) old mid new (next, first, later) r = (next, first, rounds_push n next mid new later r)
+
+  -- one round more
+  pub round_more : (n : ℕ) (old mid new : WorldData S D) → Rounds n old mid → Round mid new → Rounds (n + 1) old new
+  round_more n old mid new later r = let one : suc n ≡ n + 1 = omega arith in subst (λ (k : ℕ). Rounds k old new) one (rounds_push n old mid new later r)
+
+  -- a round for which memory was wanting
+  pub rounds_into : (rounds n : ℕ) (old mid new : WorldData S D) → n < rounds → Rounds n old mid → RoundInto mid new → RoundsInto rounds old new
+  rounds_into zero n old mid new lt before r = absurd (omega arith)
+  rounds_into (suc rounds) zero old mid new lt e r = inl (subst (λ (w : WorldData S D). RoundInto w new) e r)
+  rounds_into (suc rounds) (suc n) old mid new lt (next, first, later) r = inr (next, first, rounds_into rounds n next mid new (omega arith) later r)
+
+  runs_push : (ds : List Delivery) (d : Delivery) (old mid new : WorldData S D) → Runs ds old mid → Done d mid new → Runs (ds ++ d ∷ []) old new
+  runs_push [] d old mid new e r = (new, subst (λ (w : WorldData S D). Done d w new) e r, refl)
+  runs_push (x ∷ ds) d old mid new (next, first, later) r = (next, first, runs_push ds d next mid new later r)
+
+  -- one delivery more
+  pub run_more : (ds : List Delivery) (i n : ℕ) (default : Delivery) (old mid new : WorldData S D) → i < length ds → Runs (take i ds) old mid
+      → n ≡ min (get_or ds i default).count (waiting_for (get_or ds i default).to mid) → Delivered (get_or ds i default).to n mid new → Runs (take (i + 1) ds) old new
+  run_more ds i n default old mid new lt r count d =
+      subst (λ (q : List Delivery). Runs q old new) (sym (take_more ds i default lt))
+      (runs_push (take i ds) (get_or ds i default) old mid new r (subst (λ (k : ℕ). Delivered (get_or ds i default).to k mid new) count d))
+
+  -- a delivery for which memory was wanting
+  pub runs_into : (ds : List Delivery) (i : ℕ) (default : Delivery) (old mid new : WorldData S D) → i < length ds → Runs (take i ds) old mid
+      → Refused (get_or ds i default).to mid new → RunsInto ds old new
+  runs_into [] i default old mid new lt r refusal = absurd (omega arith)
+  runs_into (d ∷ ds) zero default old mid new lt e refusal = inl (subst (λ (w : WorldData S D). Refused d.to w new) e refusal)
+  runs_into (d ∷ ds) (suc i) default old mid new lt (next, first, later) refusal = inr (next, first, runs_into ds i default next mid new (omega arith) later refusal)
+
+-- a world is what is seen of it
+pub as_seen : {S D : Type 0} (P : Side → WorldData S D → Type 0) (to one : Side) (w v : WorldData S D) → to ≡ one → v ≡ w → P one v → P to w
+as_seen P to one w v e f p = subst (λ (s : Side). P s w) (sym e) (subst (λ w. P one w) f p)
+
+module _ {S D : Type 0} (meaning : S → Meaning) (policy : D → Policy) where
+  -- Nodes that stand so have replied, as callers see it.
+  pub each_replies : (client_config : ClientData) (server_config : ServerData) (suite : S) (decisions : D) (client server : Node S D)
+      → NodesStand meaning policy client_config server_config suite decisions client server → EachReplies meaning policy (seen client_config server_config suite decisions client server)
+  each_replies client_config server_config suite decisions client server s = record {
+    client = side_replies meaning policy _ _ suite decisions client server s.client_stands;
+    server = side_replies meaning policy _ _ suite decisions server client s.server_stands;
+  }
+
+  -- a node that received n bytes
+  pub takes_in : (role : Role) (party : Party) (suite : S) (decisions : D) (sent : List ℕ) (old new : Node S D) (n : ℕ)
+      → NodeStands meaning policy role party suite decisions old sent → NodeStands meaning policy role party suite decisions new sent → Receives meaning policy sent old new
+      → new.moved ≡ old.moved + n → (n ≡ 0 → new ≡ old) → TakesIn n (half_of old) (half_of new)
+  takes_in role party suite decisions sent old new n s t r moved none = record {
+    moved_on = moved;
+    used_on = used_more r;
+    used_within = t.used_within;
+    all_used = t.all_used;
+    more_sent = sent_on meaning policy sent old new r;
+    by_none = λ z. ap (λ (x : Node S D). half_of x) (none z);
+  }
+    where
+      used_more : Receives meaning policy sent old new → old.used ≤ new.used
+      used_more (ReceivesNone e) = omega (arith, ap (λ (x : Node S D). x.used) e)
+      used_more (ReceivesSome f) = omega (arith, f.used_on, s.all_used f.was_open)
+      used_more (ReceivesInto b) = omega (arith, b.same_used)
+
+module _ {S D : Type 0} (meaning : S → Meaning) (policy : D → Policy) (client_config : ClientData) (server_config : ServerData) (suite : S) (decisions : D) where
+  -- a world of the node of this side, and the other one
+  abbrev pub seen_at : Side → Node S D → Node S D → WorldData S D
+  seen_at Client own their = seen client_config server_config suite decisions own their
+  seen_at Server own their = seen client_config server_config suite decisions their own
+
+  abbrev pub StandAt : Side → Node S D → Node S D → Type 0
+  StandAt Client own their = NodesStand meaning policy client_config server_config suite decisions own their
+  StandAt Server own their = NodesStand meaning policy client_config server_config suite decisions their own
+
+  -- Both nodes stand behind a delivery.
+  pub received : (to : Side) (own their next : Node S D) → StandAt to own their → Receives meaning policy their.sent.items own next → StandAt to next their
+  received Client own their next s r = record {
+    client_stands = receiver_stands meaning policy _ _ suite decisions their.sent.items own next s.client_stands r;
+    server_stands = sender_stands meaning policy _ _ suite decisions their own.sent.items next.sent.items s.server_stands (sent_on meaning policy their.sent.items own next r);
+  }
+  received Server own their next s r = record {
+    client_stands = sender_stands meaning policy _ _ suite decisions their own.sent.items next.sent.items s.client_stands (sent_on meaning policy their.sent.items own next r);
+    server_stands = receiver_stands meaning policy _ _ suite decisions their.sent.items own next s.server_stands r;
+  }
+
+  taken : (to : Side) (own their next : Node S D) (n : ℕ) → StandAt to own their → Receives meaning policy their.sent.items own next
+      → next.moved ≡ own.moved + n → (n ≡ 0 → next ≡ own) → TakesIn n (half_of own) (half_of next)
+  taken Client own their next n s r moved none =
+      takes_in meaning policy _ _ suite decisions their.sent.items own next n s.client_stands (received Client own their next s r).client_stands r moved none
+  taken Server own their next n s r moved none =
+      takes_in meaning policy _ _ suite decisions their.sent.items own next n s.server_stands (received Server own their next s r).server_stands r moved none
+
+  delivered_at : (to : Side) (own their next : Node S D) (n : ℕ) → TakesIn n (half_of own) (half_of next) → Delivered to n (seen_at to own their) (seen_at to next their)
+  delivered_at Client own their next n t = record { receiver = t; sender = refl }
+  delivered_at Server own their next n t = record { receiver = t; sender = refl }
+
+  pub delivered : (to : Side) (own their next : Node S D) (r : Result ℕ Memory) → StandAt to own their → Receives meaning policy their.sent.items own next
+      → IfOk r (λ n. next.moved ≡ own.moved + n) → IfOk r (λ n. n ≡ 0 → next ≡ own) → IfOk r (λ n. Delivered to n (seen_at to own their) (seen_at to next their))
+  delivered to own their next r s x moved none = if_ok r moved none (λ n m z. delivered_at to own their next n (taken to own their next n s x m z))
+
+  refused_at : (to : Side) (own their next : Node S D) → Receives meaning policy their.sent.items own next → ending_of next.endpoint ≡ Failed fault.Memory
+      → Refused to (seen_at to own their) (seen_at to next their)
+  refused_at Client own their next x f = record { failed = f; more_sent = sent_on meaning policy their.sent.items own next x; sender = refl }
+  refused_at Server own their next x f = record { failed = f; more_sent = sent_on meaning policy their.sent.items own next x; sender = refl }
+
+  pub refused : (to : Side) (own their next : Node S D) (r : Result ℕ Memory) → Receives meaning policy their.sent.items own next
+      → OnErr r (ending_of next.endpoint ≡ Failed fault.Memory) → OnErr r (Refused to (seen_at to own their) (seen_at to next their))
+  refused to own their next r x failed = on_err r failed (refused_at to own their next x)
+
+  still_at : (to : Side) (own their next : Node S D) → (ending_of own.endpoint ≢ Failed fault.Memory → ending_of next.endpoint ≢ Failed fault.Memory)
+      → HadMemory (seen_at to own their) → HadMemory (seen_at to next their)
+  still_at Client own their next f h = record { client_had = f h.client_had; server_had = h.server_had }
+  still_at Server own their next f h = record { client_had = h.client_had; server_had = f h.server_had }
+
+  pub still : (to : Side) (own their next : Node S D) (r : Result ℕ Memory) → OnOk r (ending_of own.endpoint ≢ Failed fault.Memory → ending_of next.endpoint ≢ Failed fault.Memory)
+      → OnOk r (HadMemory (seen_at to own their) → HadMemory (seen_at to next their))
+  still to own their next r f = on_ok r f (still_at to own their next)

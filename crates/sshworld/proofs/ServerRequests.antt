@@ -1,0 +1,133 @@
+-- The server's part of authentication, by the number of requests made.
+
+use Rattle.std.proofs.Common.{◌≡◌, ◌⊎◌, inl, inr, ℕ, zero, suc, ◌+◌, ◌<◌, ◌≤◌, false, List, [], ◌∷◌, ◌++◌, take, length, length-append, slice_get, Option, None, Some, Ok, refl, sym, ap, ◌∙◌, subst, arith, nat_eq}
+use Rattle.std.proofs.lemmas.Bool.{ne_eqb}
+use native.Mathlib.Decide.{dec_lt}
+use Rattle.sshneg.specs.declared.role.Role.TheVariants.{Server}
+use Rattle.sshneg.specs.ChoiceReadings.{choice}
+use Rattle.sshneg.specs.Fields.{Algorithms}
+use Rattle.sshpacket.specs.Places.{EachPlace}
+use Rattle.sshpacket.specs.Stream.{Units}
+use Rattle.sshpacket.specs.Suite.{Meaning}
+use Rattle.sshcore.specs.declared.table.Phase.TheVariants as phase
+use Rattle.sshcore.specs.Attempts.{request_of}
+use Rattle.sshcore.specs.ConfigData.{Attempt, ClientData, ServerData, client_offer, server_offer, version_of}
+use Rattle.sshcore.specs.Ending.{Ending}
+use Rattle.sshcore.specs.Party.{Policy, server_party}
+use Rattle.sshcore.specs.Replies.{reply_at}
+use Rattle.sshcore.specs.Standing.{Sits}
+use Rattle.sshworld.specs.Agreement.{session_between}
+use Rattle.sshworld.specs.Course.{Part, client_last, client_next, heard_last, server_early, server_last, server_next, server_requests, unanswered}
+use Rattle.sshworld.specs.Follows.{IsAsPart}
+use Rattle.sshworld.specs.Guesses.{Guess, NoGuess, RightGuess, WrongGuess}
+use Rattle.sshworld.specs.Offered.{offered}
+use Rattle.sshworld.specs.Outcome.{case_of_how, table}
+use Rattle.sshworld.specs.Understood.{AreUnderstood, CanSign}
+use Rattle.sshworld.specs.Verdicts.{Exhausted, How, Limit, Success, Unknown, Verdict, ends_by, verdict}
+use Rattle.sshworld.specs.Wording.{Wording}
+use Rattle.sshworld.specs.Wordings.{request_or, wording_with}
+use Rattle.sshworld.proofs.CountLemmas.{none_exhausts}
+use Rattle.sshworld.proofs.CourseLemmas.{answer_in, answer_last, lt_false, next_in, next_last}
+use Rattle.sshworld.proofs.JudgedLemmas.{brings_at, get_in, granted, how_reply, judged, take_length}
+use Rattle.sshworld.proofs.MessageLemmas.{closed, fourteen_read, server_asked_for, server_view}
+use Rattle.sshworld.proofs.OfferedLemmas.{offered_each}
+use Rattle.sshworld.proofs.PartLemmas.{as_last, as_open, from, group_behind}
+use Rattle.sshworld.proofs.Readable.{AreOffersRead, AreSound, IsRead}
+
+pub server_early_length : (w : Wording) (guess : Guess) → length (server_early w guess) ≡ 5 + length (unanswered guess)
+server_early_length w NoGuess = refl
+server_early_length w RightGuess = refl
+server_early_length w WrongGuess = refl
+
+module _ (m : Meaning) (d : Policy) (c : ClientData) (s : ServerData) (understood : AreUnderstood m d c s) (sound : AreSound c s) (offers : AreOffersRead c s)
+    (a : Algorithms) (chosen : choice m (client_offer c) (server_offer s) ≡ Ok a) (readable : IsRead m c s a) (guess : Guess) (end : Ending)
+    (final : (how : How) → (verdict m d c s).how ≡ how → end ≡ (table (case_of_how m c s a how)).server) where
+  abbrev w : Wording
+  w = wording_with m c s a.kex a
+
+  abbrev v : Verdict
+  v = verdict m d c s
+
+  abbrev p : Part
+  p = server_requests w guess v end
+
+  abbrev Q : Units → List ℕ → Type 0
+  Q = IsAsPart m d Server (server_party s) p
+
+  abbrev sits : Units → ℕ → Type 0
+  sits before n = Sits m Server (server_party s) (version_of c.side) before phase.Auth false (server_view m d c s understood sound offers a chosen readable (session_between m c s a) n)
+
+  group_is : (before : Units) (j : ℕ) → length before ≡ 4 + length (unanswered guess) + j → p.group (length (version_of c.side ∷ before)) ≡ server_next w v j
+  group_is before j at = group_behind (server_early w guess) (server_next w v) j (suc (length before)) (omega (arith, at, server_early_length w guess))
+
+  -- behind the last request
+  ends_here : (before : Units) (j : ℕ) → j ≡ v.requests → sits before (j + 1) → length before ≡ 4 + length (unanswered guess) + j → (how : How) → v.how ≡ how
+      → EachPlace Q (version_of c.side ∷ before) (client_last w how ++ [])
+  ends_here before j all here at Unknown e = tt
+  ends_here before j all here at (Success q) e = tt
+  ends_here before j all here at Limit e = tt
+  ends_here before j all here at Exhausted e = (
+    as_last m d Server (server_party s) p (version_of c.side ∷ before) (w.disconnect 14) [] _
+        (closed m d Server (server_party s) (version_of c.side) before phase.Auth false _ 14 fourteen_read here)
+        (group_is before j at ∙ rw (lt_false (j + 1) v.requests (omega (arith, all)), let ne : nat_eq (j + 1) v.requests ≡ false = ne_eqb (j + 1) v.requests (λ z. omega (arith, z, all)) in ne) refl)
+        (omega (arith, at, all, ap heard_last e))
+        (final Exhausted e),
+    tt,
+  )
+
+  -- the answer to a request
+  answers_here : (before : Units) (j : ℕ) (x : Attempt) → sits before (j + 1) → length before ≡ 4 + length (unanswered guess) + j → slice_get (offered s.methods c.plan) j ≡ Some x → j < v.requests → v.requests ≤ length (offered s.methods c.plan)
+      → Q (version_of c.side ∷ before) (request_of m (session_between m c s a) x)
+  answers_here before j x here at get more most =
+      let made : List Attempt = take j (offered s.methods c.plan) in
+      let made_is : length (take j (offered s.methods c.plan)) ≡ j = take_length (offered s.methods c.plan) j (omega (arith, more, most)) in
+      let reply : reply_at m d Server (server_party s) (version_of c.side) before (request_of m (session_between m c s a) x) ≡ how_reply m c s a (ends_by m d s (take j (offered s.methods c.plan)) x) =
+      (server_asked_for m d c s understood sound offers a chosen readable before (j + 1) j x get here).0
+      ∙ judged m d c s sound a (server_view m d c s understood sound offers a chosen readable (session_between m c s a) (j + 1))
+      (take j (offered s.methods c.plan)) x (sound.named j x get) (offered_each s.methods (λ (r : Attempt). CanSign m r.proving) c.plan understood.plan j x get) refl refl (ap (λ (n : ℕ). n + 1) (sym made_is)) (omega (arith, made_is, granted m d c s sound.tries most j more)) refl in
+      let b = brings_at m d c s j x get in
+      elim (dec_lt (j + 1) v.requests) [
+        | yes less ↦
+            as_open m d Server (server_party s) p (version_of c.side ∷ before) (request_of m (session_between m c s a) x) (w.refusal j ∷ [])
+            (reply ∙ ap (how_reply m c s a) (b.before (omega (arith, less)))) (group_is before j at ∙ answer_in w v j less) (omega (arith, at, less))
+        | no ge ↦
+            let last : j + 1 ≡ v.requests = omega (arith, ge, more) in
+            at_last reply last (b.last (omega (arith, last)))
+      ]
+    where
+      by_how : reply_at m d Server (server_party s) (version_of c.side) before (request_of m (session_between m c s a) x) ≡ how_reply m c s a (ends_by m d s (take j (offered s.methods c.plan)) x)
+          → j + 1 ≡ v.requests → (how : How) → v.how ≡ how → ends_by m d s (take j (offered s.methods c.plan)) x ≡ Some how → Q (version_of c.side ∷ before) (request_of m (session_between m c s a) x)
+      by_how reply last Unknown is e =
+          as_last m d Server (server_party s) p (version_of c.side ∷ before) (request_of m (session_between m c s a) x) (w.disconnect 7 ∷ []) _
+          (reply ∙ ap (how_reply m c s a) e) (group_is before j at ∙ answer_last w v j last ∙ ap (λ h. server_last w j h) is) (omega (arith, at, last, ap heard_last is)) (final Unknown is)
+      by_how reply last (Success q) is e =
+          as_last m d Server (server_party s) p (version_of c.side ∷ before) (request_of m (session_between m c s a) x) (w.success ∷ []) _
+          (reply ∙ ap (how_reply m c s a) e) (group_is before j at ∙ answer_last w v j last ∙ ap (λ h. server_last w j h) is) (omega (arith, at, last, ap heard_last is)) (final (Success q) is)
+      by_how reply last Limit is e =
+          as_last m d Server (server_party s) p (version_of c.side ∷ before) (request_of m (session_between m c s a) x) (w.disconnect 14 ∷ []) _
+          (reply ∙ ap (how_reply m c s a) e) (group_is before j at ∙ answer_last w v j last ∙ ap (λ h. server_last w j h) is) (omega (arith, at, last, ap heard_last is)) (final Limit is)
+      by_how reply last Exhausted is e = absurd (none_exhausts m d s (take j (offered s.methods c.plan)) x e)
+
+      at_last : reply_at m d Server (server_party s) (version_of c.side) before (request_of m (session_between m c s a) x) ≡ how_reply m c s a (ends_by m d s (take j (offered s.methods c.plan)) x)
+          → j + 1 ≡ v.requests → (ends_by m d s (take j (offered s.methods c.plan)) x ≡ Some v.how) ⊎ ((ends_by m d s (take j (offered s.methods c.plan)) x ≡ None) × (v.how ≡ Exhausted))
+          → Q (version_of c.side ∷ before) (request_of m (session_between m c s a) x)
+      at_last reply last (inl e) = by_how reply last v.how refl e
+      at_last reply last (inr e) =
+          as_open m d Server (server_party s) p (version_of c.side ∷ before) (request_of m (session_between m c s a) x) (w.refusal j ∷ [])
+          (reply ∙ ap (how_reply m c s a) e.0) (group_is before j at ∙ answer_last w v j last ∙ ap (λ h. server_last w j h) e.1) (omega (arith, at, last, ap heard_last e.1))
+
+  pub server_loop : (r j : ℕ) → j + r ≡ v.requests → v.requests ≤ length (offered s.methods c.plan) → (before : Units) → sits before (j + 1) → length before ≡ 4 + length (unanswered guess) + j
+      → EachPlace Q (version_of c.side ∷ before) (from (client_next w v) j (suc r))
+  server_loop zero j sum most before here at =
+      let all : j ≡ v.requests = omega (arith, sum) in
+      subst (λ (g : Units). EachPlace Q (version_of c.side ∷ before) (g ++ [])) (sym (next_last w v j all)) (ends_here before j all here at v.how refl)
+  server_loop (suc r) j sum most before here at =
+      let more : j < v.requests = omega (arith, sum) in
+      let x = get_in (offered s.methods c.plan) j (omega (arith, more, most)) in
+      let one : client_next w v j ≡ request_of m (session_between m c s a) x.0 ∷ [] = next_in w v j more ∙ ap (λ (o : Option Attempt). request_or m (session_between m c s a) o ∷ []) x.1 in
+      let next : sits (before ++ request_of m (session_between m c s a) x.0 ∷ []) (suc j + 1) =
+      subst (λ (n : ℕ). sits (before ++ request_of m (session_between m c s a) x.0 ∷ []) n) (let e : j + 1 + 1 ≡ suc j + 1 = omega arith in e) (server_asked_for m d c s understood sound offers a chosen readable before (j + 1) j x.0 x.1 here).1 in
+      subst (λ (g : Units). EachPlace Q (version_of c.side ∷ before) (g ++ from (client_next w v) (suc j) (suc r))) (sym one) (
+        answers_here before j x.0 here at x.1 more most,
+        server_loop r (suc j) (omega (arith, sum)) most (before ++ request_of m (session_between m c s a) x.0 ∷ []) next (omega (arith, at, length-append before (request_of m (session_between m c s a) x.0 ∷ []))),
+      )

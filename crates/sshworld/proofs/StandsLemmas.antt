@@ -1,0 +1,134 @@
+-- How the nodes of a world stand behind a delivery.
+
+use Rattle.std.proofs.Common.{◌≡◌, ◌≢◌, ℕ, zero, suc, ◌+◌, ◌≤◌, List, [], ◌∷◌, ◌++◌, length, take, drop, refl, sym, ap, subst, ◌∙◌, arith}
+use Rattle.std.proofs.lemmas.List.{append-nil, length-append, take-append-le}
+use Rattle.std.proofs.Math.Seq.{take-add}
+use Rattle.sshneg.specs.declared.role.Role.{Role}
+use Rattle.sshpacket.specs.Places.{IsPrefix}
+use Rattle.sshpacket.specs.Suite.{Meaning}
+use Rattle.sshcore.specs.declared.end.Fault.TheVariants as fault
+use Rattle.sshcore.specs.Ending.{Failed}
+use Rattle.sshcore.specs.Endpoints.{After, Made, ending_of}
+use Rattle.sshcore.specs.Party.{Party, Policy}
+use Rattle.sshworld.specs.declared.node.Node.{Node}
+use Rattle.sshworld.specs.Conversed.{SideBegins, SideReplies}
+use Rattle.sshworld.specs.Stands.{BrokenWith, FedWith, NodeStands, Receives, ReceivesInto, ReceivesNone, ReceivesSome, half_of}
+
+-- the first bytes of a part of a list
+take_within : (xs : List ℕ) (n u : ℕ) → u ≤ n → take u (take n xs) ≡ take u xs
+take_within xs n zero h = refl
+take_within [] zero (suc u) h = absurd (omega arith)
+take_within [] (suc n) (suc u) h = refl
+take_within (x ∷ xs) zero (suc u) h = absurd (omega arith)
+take_within (x ∷ xs) (suc n) (suc u) h = ap (λ (q : List ℕ). x ∷ q) (take_within xs n u (omega arith))
+
+-- what was used before, and then the first bytes of the piece behind it
+taken_more : (xs : List ℕ) (used moved n u : ℕ) → used ≡ moved → u ≤ n → take used xs ++ take u (take n (drop moved xs)) ≡ take (moved + u) xs
+taken_more xs used moved n u e h =
+    ap (λ (q : ℕ). take q xs ++ take u (take n (drop moved xs))) e ∙ ap (λ (q : List ℕ). take moved xs ++ q) (take_within (drop moved xs) n u h) ∙ sym (take-add moved u xs)
+
+module _ {S D : Type 0} (meaning : S → Meaning) (policy : D → Policy) where
+  -- what was sent stays
+  pub sent_on : (sent : List ℕ) (old new : Node S D) → Receives meaning policy sent old new → IsPrefix old.sent.items new.sent.items
+  sent_on sent old new (ReceivesNone e) = record { rest = []; whole_is = ap (λ (n : Node S D). n.sent.items) e ∙ sym (append-nil old.sent.items) }
+  sent_on sent old new (ReceivesSome f) = record { rest = f.fed.added; whole_is = f.fed.appended }
+  sent_on sent old new (ReceivesInto b) = record { rest = b.breaks.added; whole_is = b.breaks.appended }
+
+  -- the node that was fed
+  fed_stands : (role : Role) (party : Party) (suite : S) (decisions : D) (sent : List ℕ) (old new : Node S D)
+      → NodeStands meaning policy role party suite decisions old sent → FedWith meaning policy sent old new → NodeStands meaning policy role party suite decisions new sent
+  fed_stands role party suite decisions sent old new s f =
+      let had : ending_of old.endpoint ≢ Failed fault.Memory = λ h. cc (h, f.was_open) in
+      let even : old.used ≡ old.moved = s.all_used f.was_open in
+      let heard : take old.used sent ++ take f.used (take f.count (drop old.moved sent)) ≡ take new.used sent =
+      taken_more sent old.used old.moved f.count f.used even f.used_within ∙ ap (λ (k : ℕ). take k sent) (sym f.used_on) in
+      record {
+        is_role = f.fed.same.same_role ∙ s.is_role;
+        is_party = f.fed.same.same_party ∙ s.is_party;
+        is_suite = f.fed.same.same_suite ∙ s.is_suite;
+        is_decisions = f.fed.same.same_decisions ∙ s.is_decisions;
+        used_within = omega (arith, f.used_on, f.moved_on, f.used_within);
+        moved_within = f.moved_within;
+        all_used = λ o. f.used_on ∙ ap (λ (k : ℕ). old.moved + k) (f.all_used o) ∙ sym f.moved_on;
+        after = λ m. subst (λ (h : List ℕ). After meaning policy new.endpoint h new.sent.items) heard
+            (subst (λ (s : List ℕ). After meaning policy new.endpoint (take old.used sent ++ take f.used (take f.count (drop old.moved sent))) s) (sym f.fed.appended)
+            (f.fed.follows (take old.used sent) old.sent.items (s.after had)));
+        uncut = λ cut. s.uncut (f.fed.uncut (take old.used sent) old.sent.items (s.after had) cut);
+      }
+
+  -- the node for which memory was wanting
+  broken_stands : (role : Role) (party : Party) (suite : S) (decisions : D) (sent : List ℕ) (old new : Node S D)
+      → NodeStands meaning policy role party suite decisions old sent → BrokenWith meaning policy sent old new → NodeStands meaning policy role party suite decisions new sent
+  broken_stands role party suite decisions sent old new s b = record {
+    is_role = b.breaks.same.same_role ∙ s.is_role;
+    is_party = b.breaks.same.same_party ∙ s.is_party;
+    is_suite = b.breaks.same.same_suite ∙ s.is_suite;
+    is_decisions = b.breaks.same.same_decisions ∙ s.is_decisions;
+    used_within = omega (arith, b.same_used, b.moved_on, s.used_within);
+    moved_within = b.moved_within;
+    all_used = λ o. absurd (cc (b.failed, o));
+    after = λ m. absurd (m b.failed);
+    uncut = λ cut. cc (b.failed, cut);
+  }
+
+  -- The node that receives stands as before, with more that it has used and sent.
+  pub receiver_stands : (role : Role) (party : Party) (suite : S) (decisions : D) (sent : List ℕ) (old new : Node S D)
+      → NodeStands meaning policy role party suite decisions old sent → Receives meaning policy sent old new → NodeStands meaning policy role party suite decisions new sent
+  receiver_stands role party suite decisions sent old new s (ReceivesNone e) = subst (λ (n : Node S D). NodeStands meaning policy role party suite decisions n sent) (sym e) s
+  receiver_stands role party suite decisions sent old new s (ReceivesSome f) = fed_stands role party suite decisions sent old new s f
+  receiver_stands role party suite decisions sent old new s (ReceivesInto b) = broken_stands role party suite decisions sent old new s b
+
+  -- The other node stands as before, beside more that was sent.
+  pub sender_stands : (role : Role) (party : Party) (suite : S) (decisions : D) (node : Node S D) (sent more : List ℕ)
+      → NodeStands meaning policy role party suite decisions node sent → IsPrefix sent more → NodeStands meaning policy role party suite decisions node more
+  sender_stands role party suite decisions node sent more s p =
+      let stays : take node.used more ≡ take node.used sent = ap (take node.used) p.whole_is ∙ take-append-le node.used sent p.rest (omega (arith, s.used_within, s.moved_within)) in
+      record {
+        is_role = s.is_role;
+        is_party = s.is_party;
+        is_suite = s.is_suite;
+        is_decisions = s.is_decisions;
+        used_within = s.used_within;
+        moved_within = omega (arith, s.moved_within, ap length p.whole_is, length-append sent p.rest);
+        all_used = s.all_used;
+        after = λ m. subst (λ (h : List ℕ). After meaning policy node.endpoint h node.sent.items) (sym stays) (s.after m);
+        uncut = s.uncut;
+      }
+
+  -- A node that stands so has replied, as callers see it.
+  pub side_replies : (role : Role) (party : Party) (suite : S) (decisions : D) (own their : Node S D)
+      → NodeStands meaning policy role party suite decisions own their.sent.items → SideReplies meaning policy role party suite decisions (half_of own) (half_of their)
+  side_replies role party suite decisions own their s = record {
+    used_within = s.used_within;
+    moved_within = s.moved_within;
+    all_used = s.all_used;
+    replies = λ m. record {
+      endpoint = own.endpoint;
+      is_role = s.is_role;
+      is_party = s.is_party;
+      is_suite = s.is_suite;
+      is_decisions = s.is_decisions;
+      is_end = refl;
+      after = s.after m;
+    };
+  }
+
+  -- A node of which the endpoint was just made stands, whatever the other has sent; and so it begins, as callers see it.
+  pub made_stands : (role : Role) (party : Party) (suite : S) (decisions : D) (node : Node S D) (sent : List ℕ)
+      → Made meaning policy role party suite decisions node.endpoint [] node.sent.items → node.moved ≡ 0 → node.used ≡ 0 → NodeStands meaning policy role party suite decisions node sent
+  made_stands role party suite decisions node sent made moved used = record {
+    is_role = made.is_role;
+    is_party = made.is_party;
+    is_suite = made.is_suite;
+    is_decisions = made.is_decisions;
+    used_within = omega arith;
+    moved_within = omega arith;
+    all_used = λ o. used ∙ sym moved;
+    after = λ m. subst (λ (k : ℕ). After meaning policy node.endpoint (take k sent) node.sent.items) (sym used)
+        (subst (λ (s : List ℕ). After meaning policy node.endpoint [] s) (sym made.appended) made.begins);
+    uncut = λ cut. cc (made.is_open, cut);
+  }
+
+  pub side_begins : (role : Role) (party : Party) (suite : S) (decisions : D) (node : Node S D)
+      → Made meaning policy role party suite decisions node.endpoint [] node.sent.items → node.moved ≡ 0 → node.used ≡ 0 → SideBegins meaning policy role party suite decisions (half_of node)
+  side_begins role party suite decisions node made moved used = record { none_moved = moved; none_used = used; is_open = made.is_open; endpoint = node.endpoint; made = made }

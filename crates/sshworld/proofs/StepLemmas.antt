@@ -1,0 +1,141 @@
+-- What a payload that is a message brings an endpoint, and where it stands behind it.
+
+use Rattle.std.proofs.Common.{◌≡◌, ℕ, ◌+◌, ◌==◌, Bool, true, false, List, [], ◌∷◌, ◌++◌, Option, None, Some, Ok, refl, sym, ap, subst, ◌∙◌, if◌then◌else◌}
+use Rattle.std.proofs.lemmas.Bool.{and_from, and_parts, and_right, true≢false}
+use Rattle.std.proofs.lemmas.Slice.Eq.{bytes_eq-Decides}
+use Rattle.sshwire.specs.declared.share_form.ShareForm.TheVariants.{Mpint}
+use Rattle.sshmsg.specs.Content.{Content, KexInit, Offer}
+use Rattle.sshmsg.specs.Messages.{message_in}
+use Rattle.sshmsg.specs.Numbers.{kind, number_of}
+use Rattle.sshmsg.proofs.NumberLemmas.{kind_tells, reads_alike}
+use Rattle.sshneg.specs.declared.role.Role.{Role}
+use Rattle.sshneg.specs.ChoiceReadings.{choice}
+use Rattle.sshneg.specs.ExchangeEnd.{client_of, exchange_hash, offer_by, server_of}
+use Rattle.sshneg.specs.Markers.{IsRightGuess, first_name, methods, same_name}
+use Rattle.sshneg.specs.Strictness.{is_right_guess}
+use Rattle.sshpacket.specs.Stream.{Units}
+use Rattle.sshpacket.specs.Suite.{Meaning}
+use Rattle.sshcore.specs.declared.end.Fault.TheVariants as fault
+use Rattle.sshcore.specs.declared.table.Line.{Line}
+use Rattle.sshcore.specs.declared.table.Line.TheVariants as line
+use Rattle.sshcore.specs.declared.table.Phase.{Phase}
+use Rattle.sshcore.specs.declared.table.Phase.TheVariants as phase
+use Rattle.sshcore.specs.Before.{strict_towards, wrong_guess}
+use Rattle.sshcore.specs.Counting.{number_in}
+use Rattle.sshcore.specs.Ending.{fails, goes}
+use Rattle.sshcore.specs.Exchange.{exchange_with}
+use Rattle.sshcore.specs.Known.{Known}
+use Rattle.sshcore.specs.Party.{Party, Policy}
+use Rattle.sshcore.specs.Phases.{behind, leaving, past_exchange}
+use Rattle.sshcore.specs.Plan.{left_behind, listed_by, listed_in, next_behind}
+use Rattle.sshcore.specs.Replies.{line_reply, read_reply, reply_at}
+use Rattle.sshcore.specs.Standing.{LeavesNone, Sits, behind_offer, behind_payload, nothing_known}
+use Rattle.sshcore.specs.Table.{line_by}
+use Rattle.sshcore.specs.Work.{chosen_reply, kexinit_reply, work}
+use Rattle.sshcore.proofs.Below.{Below}
+use Rattle.sshcore.proofs.StandingLemmas as standing
+
+-- two names that are the same
+record SameName (a b : Option (List ℕ)) : Type 0 where
+  name : List ℕ
+  left : a ≡ Some name
+  right : b ≡ Some name
+
+same_sound : (a b : Option (List ℕ)) → same_name a b ≡ true → SameName a b
+same_sound (Some x) (Some y) e = record { name = x; left = refl; right = ap Some (sym ((bytes_eq-Decides x y).0 e)) }
+same_sound (Some x) None e = absurd (true≢false (sym e))
+same_sound None b e = absurd (true≢false (sym e))
+
+same_complete : (a b : Option (List ℕ)) (x : List ℕ) → a ≡ Some x → b ≡ Some x → same_name a b ≡ true
+same_complete a b x e f = rw (e, f) ((bytes_eq-Decides x x).1 refl)
+
+pub right_sound : (client server : Offer) → is_right_guess client server ≡ true → IsRightGuess client server
+right_sound client server e =
+    let p = and_parts (same_name (first_name (methods client.kex_algorithms)) (first_name (methods server.kex_algorithms))) (same_name (first_name client.server_host_key_algorithms) (first_name server.server_host_key_algorithms)) e in
+    let k = same_sound (first_name (methods client.kex_algorithms)) (first_name (methods server.kex_algorithms)) p.0 in
+    let h = same_sound (first_name client.server_host_key_algorithms) (first_name server.server_host_key_algorithms) p.1 in
+    record { kex = k.name; client_kex = k.left; server_kex = k.right; host_key = h.name; client_host_key = h.left; server_host_key = h.right }
+
+right_complete : (client server : Offer) → IsRightGuess client server → is_right_guess client server ≡ true
+right_complete client server r =
+    and_from _ _ (same_complete (first_name (methods client.kex_algorithms)) (first_name (methods server.kex_algorithms)) r.kex r.client_kex r.server_kex)
+    (same_complete (first_name client.server_host_key_algorithms) (first_name server.server_host_key_algorithms) r.host_key r.client_host_key r.server_host_key)
+
+pub below : Below
+below = record { numbers = kind_tells; alike = reads_alike; right = λ client server. (right_sound client server, right_complete client server) }
+
+-- what a message changes that is neither dropped nor the first KEXINIT nor the exchange message
+abbrev pub behind_content : Known → Content → Known
+behind_content x content = record x {
+  request = if number_of content == 50 then x.request + 1 else x.request;
+  left = if number_of content == 51 then next_behind (listed_by (Ok content)) x.left else x.left;
+  first = false;
+}
+
+behind_read : (x : Known) (payload : List ℕ) (content : Content) → message_in Mpint payload ≡ Ok content → behind_payload x payload ≡ behind_content x content
+unfolding listed_in
+behind_read x payload content e =
+    ap (λ (n : ℕ). record x { request = if n == 50 then x.request + 1 else x.request; left = if n == 51 then left_behind x.left payload else x.left; first = false }) (kind_tells Mpint payload content e)
+    ∙ ap (λ r. record x { request = if number_of content == 50 then x.request + 1 else x.request; left = if number_of content == 51 then next_behind (listed_by r) x.left else x.left; first = false }) e
+
+first_line : (role : Role) (b : Bool) → line_by role phase.KexInit b false 20 ≡ line.Reads
+unfolding line_by
+first_line role b = refl
+
+module _ (m : Meaning) (d : Policy) (role : Role) (party : Party) (version : List ℕ) where
+  -- a message that has a place is worked on
+  pub reads : (before : Units) (payload : List ℕ) (p : Phase) (guess : Bool) (x : Known) (content : Content) → Sits m role party version before p guess x
+      → message_in x.shares payload ≡ Ok content → line_by role p x.strict guess (number_of content) ≡ line.Reads
+      → reply_at m d role party version before payload ≡ work m d role party x content
+  unfolding line_reply
+  reads before payload p guess x content s e is =
+      standing.replies m role party version before payload d p guess x s
+      ∙ ap (λ (n : ℕ). line_reply m d role party x (number_in role party before) (line_by role p x.strict guess n) payload) (kind_tells x.shares payload content e)
+      ∙ ap (λ (l : Line). line_reply m d role party x (number_in role party before) l payload) is
+      ∙ ap (λ r. read_reply m d role party x (kind payload) r) e
+
+  pub drops : (before : Units) (payload : List ℕ) (p : Phase) (guess : Bool) (x : Known) → Sits m role party version before p guess x
+      → line_by role p x.strict guess (kind payload) ≡ line.Drops → reply_at m d role party version before payload ≡ goes []
+  unfolding line_reply
+  drops before payload p guess x s is =
+      standing.replies m role party version before payload d p guess x s
+      ∙ ap (λ (l : Line). line_reply m d role party x (number_in role party before) l payload) is
+
+  -- the peer's KEXINIT, the first payload
+  pub begins : (payload : List ℕ) (peer : Offer) → message_in Mpint payload ≡ Ok (KexInit peer)
+      → Sits m role party version (payload ∷ []) phase.Exchange (wrong_guess role party.offer (Some peer)) (behind_offer m role party (nothing_known party version) payload peer)
+  begins payload peer e = standing.offers m role party version [] payload below peer (nothing_known party version) (standing.begins m role party version) (ap offer_by e)
+
+  pub replies_first : (payload : List ℕ) (peer : Offer) → message_in Mpint payload ≡ Ok (KexInit peer)
+      → reply_at m d role party version [] payload ≡ chosen_reply m role party peer (choice m (client_of role party.offer peer) (server_of role party.offer peer))
+  unfolding work kexinit_reply
+  replies_first payload peer e =
+      reads [] payload phase.KexInit false (nothing_known party version) (KexInit peer) (standing.begins m role party version) e (first_line role false)
+      ∙ ap (λ (b : Bool). if b then fails (fault.Strict 20) else chosen_reply m role party peer (choice m (client_of role party.offer peer) (server_of role party.offer peer))) (and_right (strict_towards role party.strict (Some peer)) false refl)
+
+  -- the packet of a wrong guess changes nothing but that none is due any more
+  pub goes_dropped : (before : Units) (payload : List ℕ) (p : Phase) (x : Known) → Sits m role party version before p true x → (kind payload == 1) ≡ false
+      → Sits m role party version (before ++ payload ∷ []) p false (record x { first = false })
+  goes_dropped before payload p x s one = standing.drops m role party version before payload p x s one
+
+  -- a message behind the exchange
+  pub goes_leaving : (before : Units) (payload : List ℕ) (p : Phase) (x : Known) (content : Content) → Sits m role party version before p false x → past_exchange p ≡ true
+      → message_in Mpint payload ≡ Ok content → number_of content ≡ leaving role p → Sits m role party version (before ++ payload ∷ []) (behind p) false (behind_content x content)
+  goes_leaving before payload p x content s past e n =
+      subst (λ (k : Known). Sits m role party version (before ++ payload ∷ []) (behind p) false k) (behind_read x payload content e)
+      (standing.leaves m role party version before payload p x s past (kind_tells Mpint payload content e ∙ n))
+
+  pub goes_staying : (before : Units) (payload : List ℕ) (p : Phase) (x : Known) (content : Content) → Sits m role party version before p false x
+      → message_in Mpint payload ≡ Ok content → LeavesNone role (number_of content) → Sits m role party version (before ++ payload ∷ []) p false (behind_content x content)
+  goes_staying before payload p x content s e l =
+      subst (λ (k : Known). Sits m role party version (before ++ payload ∷ []) p false k) (behind_read x payload content e)
+      (standing.stays m role party version before payload p x s (subst (λ (n : ℕ). LeavesNone role n) (sym (kind_tells Mpint payload content e)) l))
+
+  -- the exchange message gives the session
+  pub goes_exchanged : (before : Units) (payload : List ℕ) (x : Known) (content : Content) → Sits m role party version before phase.Exchange false x → message_in x.shares payload ≡ Ok content
+      → number_of content ≡ leaving role phase.Exchange
+      → Sits m role party version (before ++ payload ∷ []) phase.NewKeys false
+      (record x { session = exchange_hash m x.algorithms.kex (exchange_with m role party x.algorithms x.version x.kexinit (Ok content)) })
+  goes_exchanged before payload x content s e n =
+      subst (λ (r : _). Sits m role party version (before ++ payload ∷ []) phase.NewKeys false (record x { session = exchange_hash m x.algorithms.kex (exchange_with m role party x.algorithms x.version x.kexinit r) }))
+      e (standing.exchanges m role party version before payload x s (kind_tells x.shares payload content e ∙ n))

@@ -1,0 +1,235 @@
+-- A world stays on the course of its configs.
+
+use Rattle.std.proofs.Common.{◌≡◌, ◌≢◌, ℕ, suc, ◌+◌, ◌-◌, ◌≤◌, [], length, min, refl, sym, ap, subst, ◌∙◌, arith}
+use Rattle.sshneg.specs.declared.role.Role.TheVariants as role
+use Rattle.sshpacket.specs.Suite.{IsLawful, Meaning}
+use Rattle.sshcore.specs.declared.end.Fault.TheVariants as fault
+use Rattle.sshcore.specs.ConfigData.{ClientData, ServerData}
+use Rattle.sshcore.specs.ConfigRules.{IsClient, IsServer}
+use Rattle.sshcore.specs.Ending.{Authenticated, Closed, Ending, Failed, Open}
+use Rattle.sshcore.specs.Endpoints.{Made, ending_of}
+use Rattle.sshcore.specs.Party.{Policy, client_party, server_party}
+use Rattle.sshworld.specs.declared.node.Node.{Node}
+use Rattle.sshworld.specs.declared.side.Side.{Side}
+use Rattle.sshworld.specs.declared.side.Side.TheVariants.{Client, Server}
+use Rattle.sshworld.specs.CourseHeard.{BothHear, HasTakenAll, client_partner, server_partner}
+use Rattle.sshworld.specs.Deliveries.{Delivered, DeliveredAll, TakesIn}
+use Rattle.sshworld.specs.Halves.{BothOnCourse, Partner}
+use Rattle.sshworld.specs.Laws.{Laws}
+use Rattle.sshworld.specs.Rounds.{UnitsHeard, after_rounds}
+use Rattle.sshworld.specs.Stands.{NodesStand, Receives, half_of, seen}
+use Rattle.sshworld.specs.Understood.{AreUnderstood}
+use Rattle.sshworld.specs.Wordings.{wording_of}
+use Rattle.sshworld.specs.WorldCourse.{AreUnderstoodIn, HaveHeardIn, HeardAfter, HearsAll, HearsRound, IsOnCourse, KeepsCourse, KeepsHeadline, Settles, WorldStands, part_of_client_in, part_of_server_in, turn}
+use Rattle.sshworld.specs.Worlds.{Complete, HadMemory, Half, IsSameSetup, WorldData, waiting, waiting_at, waiting_for}
+use Rattle.sshworld.proofs.CourseHeardLemmas.{course_heard, headline_of}
+use Rattle.sshworld.proofs.DeliveryLemmas.{StandAt, received, seen_at}
+use Rattle.sshworld.proofs.HalfLemmas.{begins}
+use Rattle.sshworld.proofs.NodeLemmas.{node_history, stays_on_course}
+use Rattle.sshworld.proofs.StandsLemmas.{made_stands}
+use Rattle.sshworld.proofs.TurnLemmas.{client_turn, server_turn, settled}
+
+pub flip_course : (m : Meaning) (d : Policy) (own their : Partner) (half opposite : Half) → BothOnCourse m d own their half opposite → BothOnCourse m d their own opposite half
+flip_course m d own their half opposite on = record { own_side = on.their_side; their_side = on.own_side }
+
+-- Where all that waited was moved, nothing waits.
+module _ (old new opposite : Half) (takes : TakesIn (waiting old opposite) old new) (within : old.moved ≤ length opposite.sent) where
+  none_at : (e : Ending) (sent moved : ℕ) → moved ≡ sent → waiting_at e sent moved ≡ 0
+  none_at Open sent moved h = omega (arith, h)
+  none_at (Authenticated a) sent moved h = refl
+  none_at (Failed f) sent moved h = refl
+  none_at (Closed reason) sent moved h = refl
+
+  by_end : (e : Ending) → old.end ≡ e → waiting new opposite ≡ 0
+  by_end Open h =
+      let all : waiting old opposite ≡ length opposite.sent - old.moved = ap (λ (q : Ending). waiting_at q (length opposite.sent) old.moved) h in
+      none_at new.end (length opposite.sent) new.moved (omega (arith, takes.moved_on, all, within))
+  by_end (Authenticated a) h =
+      let none : waiting old opposite ≡ 0 = ap (λ (q : Ending). waiting_at q (length opposite.sent) old.moved) h in
+      ap (λ (q : Half). waiting q opposite) (takes.by_none none) ∙ none
+  by_end (Failed f) h =
+      let none : waiting old opposite ≡ 0 = ap (λ (q : Ending). waiting_at q (length opposite.sent) old.moved) h in
+      ap (λ (q : Half). waiting q opposite) (takes.by_none none) ∙ none
+  by_end (Closed reason) h =
+      let none : waiting old opposite ≡ 0 = ap (λ (q : Ending). waiting_at q (length opposite.sent) old.moved) h in
+      ap (λ (q : Half). waiting q opposite) (takes.by_none none) ∙ none
+
+  pub taken_all : HasTakenAll old new opposite
+  taken_all = record { more_sent = takes.more_sent; none_waits = by_end old.end refl }
+
+module _ {S D : Type 0} (meaning : S → Meaning) (policy : D → Policy) (client_config : ClientData) (server_config : ServerData) (suite : S) (decisions : D) where
+  -- Two nodes that are made are on their course.
+  pub made_on_course : Laws → (client server : Node S D) → NodesStand meaning policy client_config server_config suite decisions client server → client.used ≡ 0 → server.used ≡ 0
+      → ending_of client.endpoint ≢ Failed fault.Cut → ending_of server.endpoint ≢ Failed fault.Cut → IsOnCourse meaning policy (seen client_config server_config suite decisions client server)
+  made_on_course laws client server s none other_none whole other_whole hear =
+      begins laws (meaning suite) (policy decisions)
+      (client_partner (meaning suite) (policy decisions) client_config server_config (wording_of (meaning suite) client_config server_config))
+      (server_partner (meaning suite) (policy decisions) client_config server_config (wording_of (meaning suite) client_config server_config))
+      (half_of client) (half_of server) none other_none
+      (node_history meaning policy role.Client (client_party client_config) suite decisions client server s.client_stands whole)
+      (node_history meaning policy role.Server (server_party server_config) suite decisions server client s.server_stands other_whole)
+
+  -- They stay on it, whatever one of them receives.
+  pub received_on_course : Laws → IsLawful (meaning suite) → (to : Side) (own their next : Node S D) → StandAt meaning policy client_config server_config suite decisions to own their
+      → IsOnCourse meaning policy (seen_at meaning policy client_config server_config suite decisions to own their) → ending_of next.endpoint ≢ Failed fault.Cut
+      → Receives meaning policy their.sent.items own next → IsOnCourse meaning policy (seen_at meaning policy client_config server_config suite decisions to next their)
+  received_on_course laws lawful Client own their next s on whole r hear =
+      stays_on_course meaning policy laws suite decisions lawful
+      (client_partner (meaning suite) (policy decisions) client_config server_config (wording_of (meaning suite) client_config server_config))
+      (server_partner (meaning suite) (policy decisions) client_config server_config (wording_of (meaning suite) client_config server_config))
+      hear.to_client own next their (on hear) (received meaning policy client_config server_config suite decisions Client own their next s r).client_stands whole r
+  received_on_course laws lawful Server own their next s on whole r hear =
+      let cp : Partner = client_partner (meaning suite) (policy decisions) client_config server_config (wording_of (meaning suite) client_config server_config) in
+      let sp : Partner = server_partner (meaning suite) (policy decisions) client_config server_config (wording_of (meaning suite) client_config server_config) in
+      flip_course (meaning suite) (policy decisions) sp cp (half_of next) (half_of their)
+      (stays_on_course meaning policy laws suite decisions lawful sp cp hear.to_server own next their (flip_course (meaning suite) (policy decisions) cp sp (half_of their) (half_of own) (on hear))
+      (received meaning policy client_config server_config suite decisions Server own their next s r).server_stands whole r)
+
+module _ {S D : Type 0} where
+  -- a delivery of so many bytes as wait
+  pub all_delivered : (to : Side) (n all : ℕ) (old new : WorldData S D) → all ≡ waiting_for to old → n ≡ min all (waiting_for to old) → Delivered to n old new → DeliveredAll to old new
+  all_delivered to n all old new is_all is d =
+      let count : n ≡ waiting_for to old = omega (arith, is_all, is) in
+      subst (λ (k : ℕ). Delivered to k old new) count d
+
+  -- a world of the same setup as another
+  same_world : (old new : WorldData S D) → IsSameSetup old new → new ≡ record { client_config = old.client_config; server_config = old.server_config; suite = old.suite; decisions = old.decisions; client = new.client; server = new.server }
+  same_world old new same = rw (sym same.same_client_config, sym same.same_server_config, sym same.same_suite, sym same.same_decisions) refl
+
+module _ {S D : Type 0} (meaning : S → Meaning) (policy : D → Policy) (laws : Laws) where
+  -- the clauses on a world
+  module _ (w : WorldData S D) (lawful : IsLawful (meaning w.suite)) (understands : AreUnderstood (meaning w.suite) (policy w.decisions) w.client_config w.server_config → HearsAll meaning policy w)
+      (on : IsOnCourse meaning policy w) where
+    pub keeps_course : KeepsCourse meaning policy w
+    keeps_course u had =
+        let hear = understands u in
+        course_heard laws (meaning w.suite) (policy w.decisions) lawful w.client_config w.server_config (wording_of (meaning w.suite) w.client_config w.server_config) hear w.client w.server (on hear) had.client_had had.server_had
+
+    pub keeps_headline : KeepsHeadline meaning policy w
+    keeps_headline u had =
+        let hear = understands u in
+        headline_of laws (meaning w.suite) (policy w.decisions) lawful w.client_config w.server_config (wording_of (meaning w.suite) w.client_config w.server_config) hear w.client w.server (on hear) had.client_had had.server_had
+        (Complete w) (λ k. (k.for_client, k.for_server))
+
+    -- few rounds are enough
+    pub settles : HearsAll meaning policy w → HadMemory w → (r : ℕ) → length w.client_config.plan + 4 ≤ r
+        → HaveHeardIn meaning policy w (after_rounds (part_of_client_in meaning policy w) (part_of_server_in meaning policy w) r) → Complete w
+    settles hear had r few counts =
+        let both = settled laws (meaning w.suite) (policy w.decisions) lawful w.client_config w.server_config (wording_of (meaning w.suite) w.client_config w.server_config) hear w.client w.server r (on hear) had.client_had had.server_had few counts in
+        record { for_client = both.0; for_server = both.1 }
+
+  -- one turn, between worlds of one setup
+  module _ (c : ClientData) (s : ServerData) (suite : S) (decisions : D) (client client_new server server_new : Half) where
+    abbrev w : Half → Half → WorldData S D
+    w one other = record { client_config = c; server_config = s; suite = suite; decisions = decisions; client = one; server = other }
+
+    turned_so : IsLawful (meaning suite) → (to : Side) → HearsAll meaning policy (w client server) → IsOnCourse meaning policy (w client server) → IsOnCourse meaning policy (w client_new server_new)
+        → HadMemory (w client server) → HadMemory (w client_new server_new) → DeliveredAll to (w client server) (w client_new server_new) → (heard : UnitsHeard) → HaveHeardIn meaning policy (w client server) heard
+        → HaveHeardIn meaning policy (w client_new server_new) (turn (part_of_client_in meaning policy (w client server)) (part_of_server_in meaning policy (w client server)) to heard)
+    turned_so lawful Client hear on later had had_new all heard counts =
+        let on_old = on hear in
+        let same : server_new ≡ server = all.sender in
+        let on_new = subst (λ (q : Half). BothOnCourse (meaning suite) (policy decisions) (client_partner (meaning suite) (policy decisions) c s (wording_of (meaning suite) c s)) (server_partner (meaning suite) (policy decisions) c s (wording_of (meaning suite) c s)) client_new q) same (later hear) in
+        subst (λ (q : Half). HaveHeardIn meaning policy (w client_new q) (turn (part_of_client_in meaning policy (w client server)) (part_of_server_in meaning policy (w client server)) Client heard)) (sym same)
+        (client_turn laws (meaning suite) (policy decisions) lawful c s (wording_of (meaning suite) c s) hear client client_new server heard on_old on_new had_new.client_had had.server_had
+        (taken_all client client_new server all.receiver on_old.own_side.replies.moved_within) counts)
+    turned_so lawful Server hear on later had had_new all heard counts =
+        let on_old = on hear in
+        let same : client_new ≡ client = all.sender in
+        let on_new = subst (λ (q : Half). BothOnCourse (meaning suite) (policy decisions) (client_partner (meaning suite) (policy decisions) c s (wording_of (meaning suite) c s)) (server_partner (meaning suite) (policy decisions) c s (wording_of (meaning suite) c s)) q server_new) same (later hear) in
+        subst (λ (q : Half). HaveHeardIn meaning policy (w q server_new) (turn (part_of_client_in meaning policy (w client server)) (part_of_server_in meaning policy (w client server)) Server heard)) (sym same)
+        (server_turn laws (meaning suite) (policy decisions) lawful c s (wording_of (meaning suite) c s) hear client server server_new heard on_old on_new had.client_had had_new.server_had
+        (taken_all server server_new client all.receiver on_old.their_side.replies.moved_within) counts)
+
+  -- All that waits to one side: both have heard what that turn brings.
+  pub turned : (old new : WorldData S D) → IsSameSetup old new → IsLawful (meaning old.suite) → (to : Side) → HearsAll meaning policy old → IsOnCourse meaning policy old → IsOnCourse meaning policy new
+      → HadMemory old → HadMemory new → DeliveredAll to old new → (heard : UnitsHeard) → HaveHeardIn meaning policy old heard
+      → HaveHeardIn meaning policy new (turn (part_of_client_in meaning policy old) (part_of_server_in meaning policy old) to heard)
+  turned old new same lawful to hear on later had had_new all heard counts =
+      let e = same_world old new same in
+      subst (λ (v : WorldData S D). HaveHeardIn meaning policy v (turn (part_of_client_in meaning policy old) (part_of_server_in meaning policy old) to heard)) (sym e)
+      (turned_so old.client_config old.server_config old.suite old.decisions old.client new.client old.server new.server lawful to hear on
+      (subst (λ (v : WorldData S D). IsOnCourse meaning policy v) e later) had (record { client_had = had_new.client_had; server_had = had_new.server_had })
+      (subst (λ (v : WorldData S D). DeliveredAll to old v) e all) heard counts)
+
+-- what two accepted configs of which the ends understand each other give
+abbrev pub HearLaw : Type 0
+HearLaw = (m : Meaning) (d : Policy) (client : ClientData) (server : ServerData) → IsLawful m → AreUnderstood m d client server → IsClient client → IsServer server
+    → BothHear m d client server (wording_of m client server)
+
+module _ {S D : Type 0} (meaning : S → Meaning) (policy : D → Policy) (client_config : ClientData) (server_config : ServerData) (suite : S) (decisions : D) where
+  -- a world of the node of this side, and the other one
+  abbrev pub WorldAt : Side → Node S D → Node S D → Type 0
+  WorldAt Client own their = WorldStands meaning policy client_config server_config suite decisions own their
+  WorldAt Server own their = WorldStands meaning policy client_config server_config suite decisions their own
+
+  -- A new world stands.
+  pub made_world : Laws → (client server : Node S D) → IsClient client_config → IsServer server_config
+      → Made meaning policy role.Client (client_party client_config) suite decisions client.endpoint [] client.sent.items → client.moved ≡ 0 → client.used ≡ 0
+      → Made meaning policy role.Server (server_party server_config) suite decisions server.endpoint [] server.sent.items → server.moved ≡ 0 → server.used ≡ 0
+      → WorldStands meaning policy client_config server_config suite decisions client server
+  made_world laws client server is_client is_server made moved used other_made other_moved other_used =
+      let s : NodesStand meaning policy client_config server_config suite decisions client server = record {
+        client_stands = made_stands meaning policy role.Client (client_party client_config) suite decisions client server.sent.items made moved used;
+        server_stands = made_stands meaning policy role.Server (server_party server_config) suite decisions server client.sent.items other_made other_moved other_used;
+      } in
+      record {
+        client_accepted = is_client;
+        server_accepted = is_server;
+        nodes = s;
+        on_course = made_on_course meaning policy client_config server_config suite decisions laws client server s used other_used s.client_stands.uncut s.server_stands.uncut;
+      }
+
+  -- It stands behind a delivery.
+  pub received_world : Laws → IsLawful (meaning suite) → (to : Side) (own their next : Node S D) → WorldAt to own their → Receives meaning policy their.sent.items own next → WorldAt to next their
+  received_world laws lawful Client own their next w r =
+      let s = received meaning policy client_config server_config suite decisions Client own their next w.nodes r in
+      record {
+        client_accepted = w.client_accepted;
+        server_accepted = w.server_accepted;
+        nodes = s;
+        on_course = received_on_course meaning policy client_config server_config suite decisions laws lawful Client own their next w.nodes w.on_course s.client_stands.uncut r;
+      }
+  received_world laws lawful Server own their next w r =
+      let s = received meaning policy client_config server_config suite decisions Server own their next w.nodes r in
+      record {
+        client_accepted = w.client_accepted;
+        server_accepted = w.server_accepted;
+        nodes = s;
+        on_course = received_on_course meaning policy client_config server_config suite decisions laws lawful Server own their next w.nodes w.on_course s.server_stands.uncut r;
+      }
+
+  -- What callers see of a world that stands.
+  module _ (laws : Laws) (hear_law : HearLaw) (lawful : IsLawful (meaning suite)) (client server : Node S D) (w : WorldStands meaning policy client_config server_config suite decisions client server) where
+    pub understands_in : AreUnderstood (meaning suite) (policy decisions) client_config server_config → HearsAll meaning policy (seen client_config server_config suite decisions client server)
+    understands_in u = hear_law (meaning suite) (policy decisions) client_config server_config lawful u w.client_accepted w.server_accepted
+
+    pub course_in : KeepsCourse meaning policy (seen client_config server_config suite decisions client server)
+    course_in = keeps_course meaning policy laws (seen client_config server_config suite decisions client server) lawful understands_in w.on_course
+
+    pub headline_in : KeepsHeadline meaning policy (seen client_config server_config suite decisions client server)
+    headline_in = keeps_headline meaning policy laws (seen client_config server_config suite decisions client server) lawful understands_in w.on_course
+
+    pub settles_in : Settles meaning policy (seen client_config server_config suite decisions client server)
+    settles_in u = settles meaning policy laws (seen client_config server_config suite decisions client server) lawful understands_in w.on_course (understands_in u)
+
+module _ {S D : Type 0} (meaning : S → Meaning) (policy : D → Policy) where
+  -- what both have heard behind one round more
+  pub heard_more : (old mid new : WorldData S D) (n : ℕ) → IsSameSetup old mid → (HadMemory old → HadMemory mid) → HeardAfter meaning policy old mid n → HearsRound meaning policy mid new → HeardAfter meaning policy old new (n + 1)
+  heard_more old mid new n same still before round =
+      let e = same_world old mid same in
+      let one : suc n ≡ n + 1 = omega arith in
+      subst (λ (k : ℕ). HeardAfter meaning policy old new k) one
+      (subst (λ (v : WorldData S D). (HadMemory old → HadMemory v) → HeardAfter meaning policy old v n → HearsRound meaning policy v new → HeardAfter meaning policy old new (suc n)) (sym e)
+      (λ still before round hear had. round hear (still had) (after_rounds (part_of_client_in meaning policy old) (part_of_server_in meaning policy old) n) (before hear had))
+      still before round)
+
+  -- So few rounds leave nothing that waits.
+  pub bound : (old new : WorldData S D) (r : ℕ) → IsSameSetup old new → (HadMemory old → HadMemory new) → HeardAfter meaning policy old new r
+      → (AreUnderstoodIn meaning policy new → HearsAll meaning policy new) → Settles meaning policy new
+      → AreUnderstoodIn meaning policy old → HadMemory old → length old.client_config.plan + 4 ≤ r → Complete new
+  bound old new r same =
+      let e = same_world old new same in
+      subst (λ (v : WorldData S D). (HadMemory old → HadMemory v) → HeardAfter meaning policy old v r → (AreUnderstoodIn meaning policy v → HearsAll meaning policy v) → Settles meaning policy v
+      → AreUnderstoodIn meaning policy old → HadMemory old → length old.client_config.plan + 4 ≤ r → Complete v) (sym e)
+      (λ still heard understands settles u had few. settles u (still had) r few (heard (understands u) had))

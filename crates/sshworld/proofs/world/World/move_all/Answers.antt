@@ -1,0 +1,9 @@
+use Rattle.sshworld.proofs.WorldCourseLemmas.{all_delivered, turned}
+use Rattle.sshworld.proofs.world.World.move_all.Goals as goal
+
+pub returns-clause-turn : goal.returns-clause-turn
+returns-clause-turn g c = λ hear had heard counts.
+    let old = c.args.self.now in
+    let e = c.in_ok-move_bytes.ensures in
+    turned g.S.Suite.meaning g.D.Decisions.policy c.below_law.ensures.laws old c.move_bytes.new.self e.setup (g.met.S.Suite.lawful old.suite) c.args.to hear e.was_on e.on_course had (e.still had)
+    (all_delivered c.args.to c.in_ok-move_bytes.field-0 c.waiting-all.result old c.move_bytes.new.self c.waiting-all.ensures e.count e.delivered) heard counts

@@ -1,0 +1,25 @@
+use Rattle.std.proofs.Common.{◌+◌, ◌≤◌, length, arith}
+use Rattle.sshworld.proofs.DeliveryLemmas.{at_err, round_more, rounds_into, same_then}
+use Rattle.sshworld.proofs.WorldCourseLemmas.{bound, heard_more}
+use Rattle.sshworld.proofs.world.World.settle.Goals as goal
+
+pub loop-preserved : goal.loop-preserved
+loop-preserved g c =
+    let e = c.in_ok-round.ensures in
+    let i = c.loop.invariant in
+    record {
+      rounds = round_more c.loop.counter c.args.self.now c.loop.self c.round.new.self i.rounds e.round;
+      still = λ m. e.still (i.still m);
+      setup = same_then c.args.self.now c.loop.self c.round.new.self i.setup e.setup;
+      heard = heard_more g.S.Suite.meaning g.D.Decisions.policy c.args.self.now c.loop.self c.round.new.self c.loop.counter i.setup i.still i.heard e.hears;
+    }
+
+pub returns-in_err-round-clause-stopped : goal.returns-in_err-round-clause-stopped
+returns-in_err-round-clause-stopped g c = at_err c.from_residual.result
+    (rounds_into c.args.rounds c.loop.counter c.args.self.now c.loop.self c.round.new.self c.loop-test.true c.loop.invariant.rounds c.in_err-round.ensures.stopped)
+
+pub returns-clause-bound : goal.returns-clause-bound
+returns-clause-bound g c = λ understood had few.
+    let i = c.loop.invariant in
+    let enough : length c.args.self.now.client_config.plan + 4 ≤ c.loop.counter = omega (arith, c.loop-test.false, few) in
+    bound g.S.Suite.meaning g.D.Decisions.policy c.args.self.now c.loop.self c.loop.counter i.setup i.still i.heard c.holds.ensures.understands c.holds.ensures.settles understood had enough

@@ -1,0 +1,30 @@
+-- The algorithms of a choice, without where their names lie in memory.
+
+use Rattle.std.specs.Prelude.{string_bytes}
+use Rattle.sshneg.specs.Fields.{Algorithms}
+use Rattle.sshworld.specs.declared.algorithms.AlgorithmNames.{AlgorithmNames}
+use Rattle.sshworld.specs.declared.algorithms.Copies.{Copies}
+
+abbrev pub algorithms_named : AlgorithmNames → Algorithms
+algorithms_named names = record {
+  kex = names.kex.now;
+  host_key = names.host_key.now;
+  encryption_client_to_server = names.encryption_client_to_server.now;
+  encryption_server_to_client = names.encryption_server_to_client.now;
+  mac_client_to_server = names.mac_client_to_server.now;
+  mac_server_to_client = names.mac_server_to_client.now;
+  compression_client_to_server = names.compression_client_to_server.now;
+  compression_server_to_client = names.compression_server_to_client.now;
+}
+
+abbrev pub algorithms_copied : Copies → Algorithms
+algorithms_copied copies = record {
+  kex = string_bytes copies.exchange.first;
+  host_key = string_bytes copies.exchange.second;
+  encryption_client_to_server = string_bytes copies.encryption.first;
+  encryption_server_to_client = string_bytes copies.encryption.second;
+  mac_client_to_server = string_bytes copies.mac.first;
+  mac_server_to_client = string_bytes copies.mac.second;
+  compression_client_to_server = string_bytes copies.compression.first;
+  compression_server_to_client = string_bytes copies.compression.second;
+}

@@ -1,0 +1,46 @@
+-- What a payload of the course finds where it is heard, and the keys that both sides come to.
+
+use Rattle.std.specs.Prelude.{◌≡◌, ◌==◌, ℕ, true, List, []}
+use Rattle.sshmsg.specs.declared.numbers.TheConstants.{SSH_MSG_NEWKEYS}
+use Rattle.sshmsg.specs.Numbers.{kind}
+use Rattle.sshneg.specs.declared.role.Role.{Role}
+use Rattle.sshneg.specs.declared.role.Role.TheVariants.{Client, Server}
+use Rattle.sshpacket.specs.Places.{EachPlace}
+use Rattle.sshpacket.specs.Stream.{Units}
+use Rattle.sshpacket.specs.Suite.{Meaning}
+use Rattle.sshcore.specs.Before.{kept, strict_at}
+use Rattle.sshcore.specs.ConfigData.{ClientData, ServerData, version_of}
+use Rattle.sshcore.specs.Counting.{switched_out}
+use Rattle.sshcore.specs.Exchange.{keys_at}
+use Rattle.sshcore.specs.History.{IsReady}
+use Rattle.sshcore.specs.Party.{Party, Policy, client_party, server_party}
+use Rattle.sshworld.specs.Course.{said_after}
+use Rattle.sshworld.specs.Follows.{part_of_client, part_of_server}
+use Rattle.sshworld.specs.Wordings.{wording_of}
+
+-- NEWKEYS is never dropped, and what the other side says behind its NEWKEYS finds that the exchange was heard (RFC 4253 sections 7
+-- and 7.3).
+pub record IsInPlace (role : Role) (own : Party) (before : Units) (payload : List ℕ) : Type 0 where
+  pub switch : kept role own.offer SSH_MSG_NEWKEYS before payload ≡ (kind payload == SSH_MSG_NEWKEYS)
+  pub ready : switched_out before ≡ true → IsReady role own before
+
+-- All payloads that each side says in the course of two configs.
+abbrev pub said_by_client : Meaning → Policy → ClientData → ServerData → Units
+said_by_client m d client server =
+    said_after (part_of_client m d client server (wording_of m client server)) (part_of_client m d client server (wording_of m client server)).hears
+
+abbrev pub said_by_server : Meaning → Policy → ClientData → ServerData → Units
+said_by_server m d client server =
+    said_after (part_of_server m d client server (wording_of m client server)) (part_of_server m d client server (wording_of m client server)).hears
+
+-- All that either side says is in its place where the other hears it.
+pub record BothInPlace (m : Meaning) (d : Policy) (client : ClientData) (server : ServerData) : Type 0 where
+  pub heard_by_client : EachPlace (IsInPlace Client (client_party client)) [] (said_by_server m d client server)
+  pub heard_by_server : EachPlace (IsInPlace Server (server_party server)) [] (said_by_client m d client server)
+
+-- By all that the other says, both sides come to the same keys of each direction and are strict alike (RFC 4253 section 7.2,
+-- OpenSSH PROTOCOL section 1.10).
+pub record HaveSameKeys (m : Meaning) (d : Policy) (client : ClientData) (server : ServerData) : Type 0 where
+  pub keys : (sender : Role) → keys_at m Client (client_party client) (version_of server.side) (said_by_server m d client server) sender
+      ≡ keys_at m Server (server_party server) (version_of client.side) (said_by_client m d client server) sender
+  pub strict : strict_at Client (client_party client) (said_by_server m d client server) ≡ strict_at Server (server_party server) (said_by_client m d client server)

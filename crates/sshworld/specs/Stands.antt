@@ -1,0 +1,75 @@
+-- How the nodes of a world stand.
+
+use Rattle.std.specs.Prelude.{◌≡◌, ◌≢◌, ◌≤◌, ◌+◌, ℕ, List, length, take, drop}
+use Rattle.sshneg.specs.declared.role.Role.{Role}
+use Rattle.sshneg.specs.declared.role.Role.TheVariants as role
+use Rattle.sshpacket.specs.Suite.{Meaning}
+use Rattle.sshcore.specs.declared.end.Fault.TheVariants as fault
+use Rattle.sshcore.specs.ConfigData.{ClientData, ServerData}
+use Rattle.sshcore.specs.Ending.{Failed, Open}
+use Rattle.sshcore.specs.Endpoints.{After, Breaks, Fed, ending_of}
+use Rattle.sshcore.specs.Party.{Party, Policy, client_party, server_party}
+use Rattle.sshworld.specs.declared.node.Node.{Node}
+use Rattle.sshworld.specs.Worlds.{Half, WorldData}
+
+-- a node, as callers see it
+abbrev pub half_of : {S D : Type 0} → Node S D → Half
+half_of n = record { sent = n.sent.items; moved = n.moved; used = n.used; end = ending_of n.endpoint }
+
+-- a world of these nodes
+abbrev pub seen : {S D : Type 0} → ClientData → ServerData → S → D → Node S D → Node S D → WorldData S D
+seen client_config server_config suite decisions client server = record {
+  client_config = client_config;
+  server_config = server_config;
+  suite = suite;
+  decisions = decisions;
+  client = half_of client;
+  server = half_of server;
+}
+
+module _ {S D : Type 0} (meaning : S → Meaning) (policy : D → Policy) where
+  -- A node beside another that has sent these bytes: it has used what was moved to it, or what of it stands before its end; and
+  -- unless memory was wanting, its endpoint has heard what it used, and has said what it sent. Nothing cuts it off.
+  pub record NodeStands (role : Role) (party : Party) (suite : S) (decisions : D) (node : Node S D) (their_sent : List ℕ) : Type 0 where
+    pub is_role : node.endpoint.role ≡ role
+    pub is_party : node.endpoint.party ≡ party
+    pub is_suite : node.endpoint.suite ≡ suite
+    pub is_decisions : node.endpoint.decisions ≡ decisions
+    pub used_within : node.used ≤ node.moved
+    pub moved_within : node.moved ≤ length their_sent
+    pub all_used : ending_of node.endpoint ≡ Open → node.used ≡ node.moved
+    pub after : ending_of node.endpoint ≢ Failed fault.Memory → After meaning policy node.endpoint (take node.used their_sent) node.sent.items
+    pub uncut : ending_of node.endpoint ≢ Failed fault.Cut
+
+  -- the two nodes of a world
+  pub record NodesStand (client_config : ClientData) (server_config : ServerData) (suite : S) (decisions : D) (client server : Node S D) : Type 0 where
+    pub client_stands : NodeStands role.Client (client_party client_config) suite decisions client server.sent.items
+    pub server_stands : NodeStands role.Server (server_party server_config) suite decisions server client.sent.items
+
+  -- The next n of the other's bytes were moved to a node that was open, and its endpoint was fed with them.
+  pub record FedWith (their_sent : List ℕ) (old new : Node S D) : Type 0 where
+    pub count : ℕ
+    pub used : ℕ
+    pub was_open : ending_of old.endpoint ≡ Open
+    pub moved_on : new.moved ≡ old.moved + count
+    pub moved_within : new.moved ≤ length their_sent
+    pub used_on : new.used ≡ old.moved + used
+    pub used_within : used ≤ count
+    pub all_used : ending_of new.endpoint ≡ Open → used ≡ count
+    pub fed : Fed meaning policy old.endpoint new.endpoint (take used (take count (drop old.moved their_sent))) old.sent.items new.sent.items
+
+  -- So they were, and memory was wanting.
+  pub record BrokenWith (their_sent : List ℕ) (old new : Node S D) : Type 0 where
+    pub count : ℕ
+    pub was_open : ending_of old.endpoint ≡ Open
+    pub failed : ending_of new.endpoint ≡ Failed fault.Memory
+    pub moved_on : new.moved ≡ old.moved + count
+    pub moved_within : new.moved ≤ length their_sent
+    pub same_used : new.used ≡ old.used
+    pub breaks : Breaks meaning policy old.endpoint new.endpoint (take count (drop old.moved their_sent)) old.sent.items new.sent.items
+
+  -- what a delivery does to the node that receives
+  pub data Receives (their_sent : List ℕ) (old new : Node S D) : Type 0 where
+    ReceivesNone : new ≡ old → Receives their_sent old new
+    ReceivesSome : FedWith their_sent old new → Receives their_sent old new
+    ReceivesInto : BrokenWith their_sent old new → Receives their_sent old new

@@ -1,0 +1,65 @@
+-- The payloads that two configs send each other in their course.
+
+use Rattle.std.specs.Prelude.{ℕ, false, List, [], Option, None, Some, Result, Ok, Err, slice_get}
+use Rattle.sshmsg.specs.Content.{Disconnect, KexInit, NewKeys, ServiceAccept, ServiceRequest, UserauthFailure, UserauthSuccess}
+use Rattle.sshmsg.specs.Written.{written_message}
+use Rattle.sshneg.specs.declared.choice.NoCommon.{NoCommon}
+use Rattle.sshneg.specs.ChoiceReadings.{choice}
+use Rattle.sshneg.specs.Fields.{Algorithms}
+use Rattle.sshpacket.specs.Suite.{Meaning}
+use Rattle.sshcore.specs.Attempts.{request_of}
+use Rattle.sshcore.specs.ConfigData.{Attempt, ClientData, ServerData, client_offer, server_offer}
+use Rattle.sshcore.specs.Exchange.{chosen_or, secret_of}
+use Rattle.sshcore.specs.Party.{client_party}
+use Rattle.sshcore.specs.Work.{banner_by, guessed_method, init_for, reply_in, userauth}
+use Rattle.sshworld.specs.Agreement.{answer_of_server, host_key_of_server, session_between}
+use Rattle.sshworld.specs.Offered.{offered}
+use Rattle.sshworld.specs.Wording.{Wording}
+
+-- The method for which the client makes its share: the chosen one; where there is no choice, the one that it guesses (RFC 4253
+-- section 7).
+abbrev pub method_used : ClientData → Result Algorithms NoCommon → List ℕ
+method_used client (Ok algorithms) = algorithms.kex
+method_used client (Err field) = guessed_method (client_party client)
+
+-- The server's signature of the exchange hash (RFC 4253 section 8).
+abbrev pub signature_of_server : Meaning → ClientData → ServerData → Algorithms → List ℕ
+signature_of_server m client server algorithms =
+    m.sign algorithms.host_key (secret_of server.host_keys algorithms.host_key) (session_between m client server algorithms)
+
+-- The server's answer to the client's share, in the form of the chosen method (RFC 4253 section 8, RFC 5656 section 4).
+abbrev pub reply_of_server : Meaning → ClientData → ServerData → Algorithms → List ℕ
+reply_of_server m client server algorithms =
+    written_message (reply_in (m.share_form algorithms.kex) (host_key_of_server m server algorithms.host_key)
+    (answer_of_server m client server algorithms.kex).share (signature_of_server m client server algorithms))
+
+-- The request of an attempt, where there is one (RFC 4252 section 5).
+abbrev pub request_or : Meaning → List ℕ → Option Attempt → List ℕ
+request_or m session (Some attempt) = request_of m session attempt
+request_or m session None = []
+
+-- The payloads of a course with these algorithms, in which the client makes its share for this method.
+abbrev pub wording_with : Meaning → ClientData → ServerData → List ℕ → Algorithms → Wording
+wording_with m client server kex algorithms = record {
+  client_offer = written_message (KexInit (client_offer client));
+  server_offer = written_message (KexInit (server_offer server));
+  guess = init_for m (client_party client) (guessed_method (client_party client));
+  init = init_for m (client_party client) kex;
+  reply = reply_of_server m client server algorithms;
+  new_keys = written_message NewKeys;
+  service_request = written_message (ServiceRequest userauth);
+  service_accept = written_message (ServiceAccept userauth);
+  banner = banner_by server.banner;
+  request = λ i. request_or m (session_between m client server algorithms) (slice_get (offered server.methods client.plan) i);
+  refusal = λ i. written_message (UserauthFailure server.methods false);
+  success = written_message UserauthSuccess;
+  disconnect = λ reason. written_message (Disconnect reason [] []);
+}
+
+-- The payloads of a course with this choice of algorithms.
+abbrev pub wording_by : Meaning → ClientData → ServerData → Result Algorithms NoCommon → Wording
+wording_by m client server r = wording_with m client server (method_used client r) (chosen_or r)
+
+-- The payloads of the course of two configs.
+abbrev pub wording_of : Meaning → ClientData → ServerData → Wording
+wording_of m client server = wording_by m client server (choice m (client_offer client) (server_offer server))

@@ -1,0 +1,75 @@
+-- A world, as callers see it: a client and a server, what each has sent, and how far it was moved to the other.
+
+use Rattle.std.specs.Prelude.{◌≡◌, ◌≢◌, ◌-◌, ℕ, List, length}
+use Rattle.sshpacket.specs.Suite.{Meaning}
+use Rattle.sshcore.specs.declared.end.Fault.TheVariants as fault
+use Rattle.sshcore.specs.ConfigData.{ClientData, ServerData}
+use Rattle.sshcore.specs.Ending.{Authenticated, Closed, Ending, Failed, Open}
+use Rattle.sshcore.specs.Party.{Policy}
+use Rattle.sshworld.specs.declared.side.Side.{Side}
+use Rattle.sshworld.specs.declared.side.Side.TheVariants as side
+
+-- One side: all that it has sent; how many of the other's bytes were moved to it, and how many of those it has used; and how it
+-- stands.
+pub record Half : Type 0 where
+  pub sent : List ℕ
+  pub moved : ℕ
+  pub used : ℕ
+  pub end : Ending
+
+pub record WorldData (S D : Type 0) : Type 0 where
+  pub client_config : ClientData
+  pub server_config : ServerData
+  pub suite : S
+  pub decisions : D
+  pub client : Half
+  pub server : Half
+
+-- What both sides were made with: their configs, what the suite answers, and what is decided.
+pub record Setup : Type 0 where
+  pub client : ClientData
+  pub server : ServerData
+  pub meaning : Meaning
+  pub policy : Policy
+
+abbrev pub setup : {S D : Type 0} → (S → Meaning) → (D → Policy) → WorldData S D → Setup
+setup meaning policy w = record { client = w.client_config; server = w.server_config; meaning = meaning w.suite; policy = policy w.decisions }
+
+-- what never changes
+pub record IsSameSetup {S D : Type 0} (old new : WorldData S D) : Type 0 where
+  pub same_client_config : new.client_config ≡ old.client_config
+  pub same_server_config : new.server_config ≡ old.server_config
+  pub same_suite : new.suite ≡ old.suite
+  pub same_decisions : new.decisions ≡ old.decisions
+
+-- This side's half, and the other's.
+abbrev pub half_at : {S D : Type 0} → Side → WorldData S D → Half
+half_at side.Client w = w.client
+half_at side.Server w = w.server
+
+abbrev pub half_opposite : {S D : Type 0} → Side → WorldData S D → Half
+half_opposite side.Client w = w.server
+half_opposite side.Server w = w.client
+
+-- How many bytes wait for a side, of those that the other has sent: those that weren't moved to it, or none once it has ended.
+abbrev pub waiting_at : Ending → ℕ → ℕ → ℕ
+waiting_at Open sent moved = sent - moved
+waiting_at (Authenticated a) sent moved = 0
+waiting_at (Failed f) sent moved = 0
+waiting_at (Closed reason) sent moved = 0
+
+abbrev pub waiting : Half → Half → ℕ
+waiting own their = waiting_at own.end (length their.sent) own.moved
+
+abbrev pub waiting_for : {S D : Type 0} → Side → WorldData S D → ℕ
+waiting_for to w = waiting (half_at to w) (half_opposite to w)
+
+-- nothing waits for either side
+pub record Complete {S D : Type 0} (w : WorldData S D) : Type 0 where
+  pub for_client : waiting w.client w.server ≡ 0
+  pub for_server : waiting w.server w.client ≡ 0
+
+-- neither side has failed for want of memory
+pub record HadMemory {S D : Type 0} (w : WorldData S D) : Type 0 where
+  pub client_had : w.client.end ≢ Failed fault.Memory
+  pub server_had : w.server.end ≢ Failed fault.Memory

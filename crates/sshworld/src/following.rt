@@ -1,0 +1,45 @@
+//! The law of following a course.
+
+ghost use Rattle.std.specs.Prelude.{◌≡◌, ◌⊎◌, true};
+ghost use Rattle.sshpacket.specs.Suite.{IsAgreeing, IsLawful, Meaning};
+ghost use Rattle.sshcore.specs.ConfigData.{ClientData, ServerData};
+ghost use Rattle.sshcore.specs.ConfigRules.{IsClient, IsServer};
+ghost use Rattle.sshcore.specs.Counting.{switched_out};
+ghost use Rattle.sshcore.specs.Party.{Policy};
+ghost use Rattle.sshworld.specs.Follows.{BothFollow, BothKeep};
+ghost use Rattle.sshworld.specs.Placed.{BothInPlace, HaveSameKeys, said_by_client, said_by_server};
+ghost use Rattle.sshworld.specs.Understood.{AreUnderstood};
+ghost use Rattle.sshworld.specs.Wordings.{wording_of};
+
+use crate::course_laws::course_law;
+
+/// The law of following: of two accepted configs whose ends understand each other, each side replies to
+/// all that the other says in their course as its own part of the course has it. Takes no memory.
+pub fn follows_law()
+    ensures follows { (m : Meaning) (d : Policy) (client : ClientData) (server : ServerData) → IsLawful m → AreUnderstood m d client server
+        → IsClient client → IsServer server → BothFollow m d client server (wording_of m client server) }
+    // All that either side says is in its place where the other hears it.
+    ensures places { (m : Meaning) (d : Policy) (client : ClientData) (server : ServerData) → IsLawful m → AreUnderstood m d client server
+        → IsClient client → IsServer server → BothInPlace m d client server }
+    // Where either says NEWKEYS at all, both come to the same keys, and are strict alike.
+    ensures keys { (m : Meaning) (d : Policy) (client : ClientData) (server : ServerData) → IsLawful m → AreUnderstood m d client server
+        → IsClient client → IsServer server → (switched_out (said_by_client m d client server) ≡ true) ⊎ (switched_out (said_by_server m d client server) ≡ true)
+        → HaveSameKeys m d client server }
+    // A suite of which all ends agree and all keys sign lets any two understand each other.
+    ensures understood { (m : Meaning) (d : Policy) (client : ClientData) (server : ServerData) → IsAgreeing m
+        → IsClient client → IsServer server → AreUnderstood m d client server }
+{
+    sshmsg::written_law();
+    sshpacket::shares_law();
+    sshcore::config_law();
+}
+
+/// The law of keeping to a course: of two accepted configs whose ends understand each other, each side
+/// stands in its part, whatever prefix it has heard of what the other says. Takes no memory.
+pub fn keeps_law()
+    ensures keeps { (m : Meaning) (d : Policy) (client : ClientData) (server : ServerData) → IsLawful m → AreUnderstood m d client server
+        → IsClient client → IsServer server → BothKeep m d client server (wording_of m client server) }
+{
+    follows_law();
+    course_law();
+}

@@ -1,0 +1,171 @@
+//! How a server judges the requests that a client offers (RFC 4252).
+
+ghost use Rattle.std.specs.Prelude.{◌≡◌, ◌+◌, ◌≤◌, IfOk, List, length, map, option_map, string_bytes};
+ghost use Rattle.std.specs.List.{AllByRecursion, list_any};
+ghost use Rattle.std.specs.Str.{bytes_eq};
+ghost use Rattle.sshneg.specs.ChoiceReadings.{is_in};
+ghost use Rattle.sshcore.specs.declared.config_parts.TheConstants.{PLAN_LIMIT};
+ghost use Rattle.sshcore.specs.ConfigData as config_data;
+ghost use Rattle.sshcore.specs.ConfigRules.{IsAttempt};
+ghost use Rattle.sshcore.specs.ConfigView.{attempt_of, proving_of};
+ghost use Rattle.sshworld.specs.JudgedView.{how_of};
+ghost use Rattle.sshworld.specs.Verdicts.{ends_by, is_let_in, is_usable, proved_by, verdict};
+
+use sshcore::{Attempt, ClientConfig, Credential, Decisions, Proof, ServerConfig};
+use sshpacket::Suite;
+use sshwire::Memory;
+use std::alloc::Global;
+
+/// How the requests of a plan end.
+#[derive(Clone, Copy)]
+pub(crate) enum Judged<'a> {
+    /// One is for a service that the server doesn't have.
+    Unknown,
+    /// That of this attempt lets the user in.
+    Success(&'a Attempt),
+    /// One is the last that the server grants.
+    Limit,
+    /// None is left.
+    Exhausted,
+}
+
+/// How the requests of the client's plan end (RFC 4252 section 5): the plan is gone through once, and
+/// each request that is made is judged. Answers `Memory` for want of memory, as each function below.
+pub(crate) fn judge<'a, S: Suite, D: Decisions>(
+    alloc: Global,
+    client: &'a ClientConfig,
+    server: &ServerConfig,
+    suite: &S,
+    decisions: &D,
+) -> Result<Judged<'a>, Memory>
+    ensures { IfOk result (λ judged. how_of judged ≡ (verdict (S.meaning suite.now) (D.policy decisions.now) client.now server.now).how) }
+{
+    let mut made: u32 = 0;
+    for attempt in plan_of(client) {
+        if made == 0 || lists(server, attempt.credential.method()) {
+            made += 1;
+            if let Some(judged) = ends_by(alloc, server, suite, decisions, made, attempt)? {
+                return Ok(judged);
+            }
+        }
+    }
+    Ok(Judged::Exhausted)
+}
+
+/// The attempts of a client's plan.
+fn plan_of(client: &ClientConfig) -> &[Attempt]
+    ensures plan { map attempt_of result.now ≡ client.now.plan }
+    ensures accepted { AllByRecursion IsAttempt (map attempt_of result.now) }
+    ensures few { length result.now ≤ PLAN_LIMIT }
+{
+    &client.parts().plan
+}
+
+/// How this request, which has this number from 1, ends those made before it, if it does.
+fn ends_by<'a, S: Suite, D: Decisions>(
+    alloc: Global,
+    server: &ServerConfig,
+    suite: &S,
+    decisions: &D,
+    number: u32,
+    attempt: &'a Attempt,
+) -> Result<Option<Judged<'a>>, Memory>
+    requires { IsAttempt (attempt_of attempt.now) }
+    ensures { IfOk result (λ judged. (made : List config_data.Attempt) → number ≡ length made + 1
+        → option_map how_of judged ≡ ends_by (S.meaning suite.now) (D.policy decisions.now) server.now made (attempt_of attempt.now)) }
+{
+    if !has(&server.parts().services, &attempt.service) {
+        return Ok(Some(Judged::Unknown));
+    }
+    if is_let_in(alloc, server, suite, decisions, number, attempt)? {
+        return Ok(Some(Judged::Success(attempt)));
+    }
+    if number == server.parts().tries {
+        return Ok(Some(Judged::Limit));
+    }
+    Ok(None)
+}
+
+/// Whether the request of this number lets the user in: its method may be used, and the decision is yes.
+/// The decision is asked of nothing else.
+fn is_let_in<S: Suite, D: Decisions>(
+    alloc: Global,
+    server: &ServerConfig,
+    suite: &S,
+    decisions: &D,
+    number: u32,
+    attempt: &Attempt,
+) -> Result<bool, Memory>
+    requires { IsAttempt (attempt_of attempt.now) }
+    ensures { IfOk result (λ lets_in. lets_in ≡ is_let_in (S.meaning suite.now) (D.policy decisions.now) server.now number (attempt_of attempt.now)) }
+{
+    if !is_usable(server, &attempt.credential) {
+        return Ok(false);
+    }
+    decide(alloc, suite, decisions, number, attempt)
+}
+
+/// Whether a request that proves this may let a user in: `none` always, any other where the server lists
+/// its method.
+fn is_usable(server: &ServerConfig, credential: &Credential) -> bool
+    ensures { result ≡ is_usable server.now.methods (proving_of credential.now) }
+{
+    match credential {
+        Credential::None => true,
+        Credential::Password(_) => lists(server, "password"),
+        Credential::PublicKey { .. } => lists(server, "publickey"),
+    }
+}
+
+/// The decision on the request of this number (RFC 4252 sections 5.2, 7 and 8).
+fn decide<S: Suite, D: Decisions>(
+    alloc: Global,
+    suite: &S,
+    decisions: &D,
+    number: u32,
+    attempt: &Attempt,
+) -> Result<bool, Memory>
+    requires { IsAttempt (attempt_of attempt.now) }
+    ensures { IfOk result (λ yes. yes ≡ (D.policy decisions.now).user number (attempt_of attempt.now).user (attempt_of attempt.now).service
+        (proved_by (S.meaning suite.now) (attempt_of attempt.now).proving)) }
+{
+    let (user, service) = (&attempt.user, &attempt.service);
+    match &attempt.credential {
+        Credential::None => Ok(decisions.user(number, user, service, &Proof::None)),
+        Credential::Password(password) => {
+            Ok(decisions.user(number, user, service, &Proof::Password(password)))
+        }
+        Credential::PublicKey {
+            algorithm,
+            private_key,
+        } => {
+            let blob = suite.blob(alloc, algorithm, private_key)?;
+            let proof = Proof::Key {
+                algorithm,
+                blob: &blob,
+            };
+            Ok(decisions.user(number, user, service, &proof))
+        }
+    }
+}
+
+/// Whether the server lists this method (RFC 4252 section 5.1).
+fn lists(server: &ServerConfig, method: &str) -> bool
+    ensures { result ≡ is_in server.now.methods method.now }
+{
+    has(&server.parts().methods, method)
+}
+
+/// Whether a name stands among these.
+fn has(names: &[String], name: &str) -> bool
+    ensures { result ≡ is_in (map string_bytes names.now) name.now }
+{
+    is_one_of(names, name)
+}
+
+/// Whether a name is one of these.
+fn is_one_of(names: &[String], name: &str) -> bool
+    ensures { result ≡ list_any (λ own. bytes_eq name.now (string_bytes own)) names.now }
+{
+    names.iter().any(|own| name == own.as_str())
+}

@@ -1,0 +1,23 @@
+//! Two endpoints of SSH, a client and a server, and what comes of them.
+#![tactic(auto)]
+
+mod algorithms;
+mod course_laws;
+mod following;
+mod headline_laws;
+mod judge;
+mod law;
+mod link_laws;
+mod node;
+mod prediction;
+mod session;
+mod side;
+mod world;
+
+pub use course_laws::course_law;
+pub use following::{follows_law, keeps_law};
+pub use headline_laws::headline_law;
+pub use law::verdict_law;
+pub use prediction::predict;
+pub use side::{Delivery, Side};
+pub use world::World;

@@ -1,0 +1,19 @@
+//! Deliveries of waiting bytes to one of two sides.
+
+/// One of the two ends of a connection. In a delivery it is the receiver.
+#[derive(Clone, Copy, Debug, PartialEq, Eq)]
+pub enum Side {
+    /// The side that connects.
+    Client,
+    /// The side that accepts.
+    Server,
+}
+
+/// Moves to a side the lesser of `count` and the bytes that wait for it.
+#[derive(Clone, Copy, Debug, PartialEq, Eq)]
+pub struct Delivery {
+    /// The receiver.
+    pub to: Side,
+    /// How many bytes at most, from 0 to 4294967295.
+    pub count: u32,
+}

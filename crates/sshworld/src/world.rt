@@ -1,0 +1,249 @@
+//! Two endpoints and the bytes between them.
+
+ghost use Rattle.std.specs.Prelude.{◌≡◌, ◌≢◌, ◌↔◌, ◌+◌, ◌≤◌, IfOk, IsTrue, Ok, OnErr, OnOk, length, min};
+ghost use Rattle.sshcore.specs.Ending.{Open, ending};
+ghost use Rattle.sshworld.specs.Conversed.{EachReplies, IsNew};
+ghost use Rattle.sshworld.specs.Deliveries.{Delivered, DeliveredAll, Refused, Round, RoundInto, Rounds, RoundsInto, Runs, RunsInto};
+ghost use Rattle.sshworld.specs.WorldCourse.{AreUnderstoodIn, HearsAll, HearsRound, HearsTurn, IsOnCourse, KeepsCourse, KeepsHeadline, Settles};
+ghost use Rattle.sshworld.specs.Worlds.{Complete, HadMemory, IsSameSetup, half_at, waiting_for};
+
+use crate::link_laws::{below_law, course_hearing_law};
+use crate::node::Node;
+use crate::side::{Delivery, Side};
+use sshcore::{ClientConfig, Decisions, End, ServerConfig};
+use sshpacket::Suite;
+use sshwire::Memory;
+use std::alloc::Global;
+use std::marker::Model;
+
+/// A client and a server that share a suite and decisions, and all that each has sent. Bytes reach the
+/// other side in the order in which they were sent, when a delivery moves them; those that wait for a
+/// side that has ended are dropped.
+///
+/// Where the two ends understand each other, and neither wanted memory, every world keeps to the course
+/// of its configs: each side has heard and said a prefix of it, each that has ended has the end of the
+/// outcome, and where nothing waits for either, both have ended. The ends understand each other where
+/// the suite comes to one shared number of both random values, and the keys of both configs sign.
+#[derive(Drop)]
+pub struct World<'a, S: Suite, D: Decisions> {
+    client_config: &'a ClientConfig,
+    server_config: &'a ServerConfig,
+    suite: &'a S,
+    decisions: &'a D,
+    client: Node<'a, S, D>,
+    server: Node<'a, S, D>,
+}
+
+impl<'a, S: Suite, D: Decisions> Model for World<'a, S, D> {
+    ghost use Rattle.sshworld.specs.Stands.{half_of};
+    ghost use Rattle.sshworld.specs.WorldCourse.{WorldStands};
+    ghost use Rattle.sshworld.specs.Worlds.{WorldData};
+
+    ghost Value = { WorldData S D };
+
+    ghost view = { λ w. record {
+      client_config = w.client_config.now;
+      server_config = w.server_config.now;
+      suite = w.suite.now;
+      decisions = w.decisions.now;
+      client = half_of w.client;
+      server = half_of w.server;
+    } };
+
+    ghost invariant = { λ w. WorldStands S.meaning D.policy w.client_config.now w.server_config.now w.suite.now w.decisions.now w.client w.server };
+}
+
+impl<'a, S: Suite, D: Decisions> World<'a, S, D> {
+    /// A client and a server that have received nothing; each has sent its first output. Answers
+    /// `Memory` for want of memory alone.
+    pub fn new(
+        alloc: Global,
+        client: &'a ClientConfig,
+        server: &'a ServerConfig,
+        suite: &'a S,
+        decisions: &'a D,
+    ) -> Result<World<'a, S, D>, Memory>
+        ensures client_config { IfOk result (λ w. w.client_config ≡ client.now) }
+        ensures server_config { IfOk result (λ w. w.server_config ≡ server.now) }
+        ensures suite { IfOk result (λ w. w.suite ≡ suite.now) }
+        ensures decisions { IfOk result (λ w. w.decisions ≡ decisions.now) }
+        ensures start { IfOk result (λ w. IsNew S.meaning D.policy w) }
+        ensures replies { IfOk result (λ w. EachReplies S.meaning D.policy w) }
+        ensures course { IfOk result (λ w. KeepsCourse S.meaning D.policy w) }
+        ensures headline { IfOk result (λ w. KeepsHeadline S.meaning D.policy w) }
+    {
+        below_law();
+        course_hearing_law();
+        client.parts();
+        server.parts();
+        Ok(World {
+            client_config: client,
+            server_config: server,
+            suite,
+            decisions,
+            client: Node::client(alloc, client, suite, decisions)?,
+            server: Node::server(alloc, server, suite, decisions)?,
+        })
+    }
+
+    /// What is true of every world. Takes no memory.
+    fn holds(&self)
+        ensures replies { EachReplies S.meaning D.policy self.now }
+        ensures course { KeepsCourse S.meaning D.policy self.now }
+        ensures headline { KeepsHeadline S.meaning D.policy self.now }
+        ensures understands { AreUnderstoodIn S.meaning D.policy self.now → HearsAll S.meaning D.policy self.now }
+        ensures settles { Settles S.meaning D.policy self.now }
+    {
+        below_law();
+        course_hearing_law();
+        // Where a field is read the prover sees what every world holds.
+        let _ = &self.client;
+    }
+
+    /// How many bytes wait for a side. Takes no memory.
+    fn waiting(&self, to: Side) -> usize
+        ensures { result ≡ waiting_for to self.now }
+    {
+        match to {
+            Side::Client => self.client.waiting(&self.server.sent),
+            Side::Server => self.server.waiting(&self.client.sent),
+        }
+    }
+
+    /// Moves so many of the bytes that wait for a side to it, or all of them, and answers how many.
+    fn move_bytes(&mut self, to: Side, count: usize) -> Result<usize, Memory>
+        ensures count { IfOk result (λ n. n ≡ min count (waiting_for to self.old)) }
+        ensures delivered { IfOk result (λ n. Delivered to n self.old self.new) }
+        ensures refused { OnErr result (Refused to self.old self.new) }
+        ensures still { OnOk result (HadMemory self.old → HadMemory self.new) }
+        ensures ended { (half_at to self.old).end ≢ Open → (result ≡ Ok 0) × (self.new ≡ self.old) }
+        ensures setup { IsSameSetup self.old self.new }
+        ensures replies { EachReplies S.meaning D.policy self.new }
+        ensures course { KeepsCourse S.meaning D.policy self.new }
+        ensures headline { KeepsHeadline S.meaning D.policy self.new }
+        ensures was_on { IsOnCourse S.meaning D.policy self.old }
+        ensures on_course { IsOnCourse S.meaning D.policy self.new }
+    {
+        below_law();
+        course_hearing_law();
+        match to {
+            Side::Client => self.client.receive(&self.server.sent, count),
+            Side::Server => self.server.receive(&self.client.sent, count),
+        }
+    }
+
+    /// Moves to a side the lesser of `count` and the bytes that wait for it, and answers how many those
+    /// are. The side uses all of them, unless it ends before; the other side doesn't change.
+    ///
+    /// For a side that has ended nothing waits: a delivery to it moves nothing, changes nothing and takes
+    /// no memory. Answers `Memory` where a growth was refused: the side has then failed by that.
+    pub fn deliver(&mut self, to: Side, count: u32) -> Result<u32, Memory>
+        ensures count { IfOk result (λ n. n ≡ min count (waiting_for to self.old)) }
+        ensures delivered { IfOk result (λ n. Delivered to n self.old self.new) }
+        ensures refused { OnErr result (Refused to self.old self.new) }
+        ensures still { OnOk result (HadMemory self.old → HadMemory self.new) }
+        ensures ended { (half_at to self.old).end ≢ Open → (result ≡ Ok 0) × (self.new ≡ self.old) }
+        ensures setup { IsSameSetup self.old self.new }
+        ensures replies { EachReplies S.meaning D.policy self.new }
+        ensures course { KeepsCourse S.meaning D.policy self.new }
+        ensures headline { KeepsHeadline S.meaning D.policy self.new }
+    {
+        let moved = self.move_bytes(to, count as usize)?;
+        Ok(moved as u32)
+    }
+
+    /// Moves all bytes that wait for a side to it.
+    fn move_all(&mut self, to: Side) -> Result<(), Memory>
+        ensures delivered { OnOk result (DeliveredAll to self.old self.new) }
+        ensures refused { OnErr result (Refused to self.old self.new) }
+        ensures still { OnOk result (HadMemory self.old → HadMemory self.new) }
+        ensures setup { IsSameSetup self.old self.new }
+        ensures replies { EachReplies S.meaning D.policy self.new }
+        ensures course { KeepsCourse S.meaning D.policy self.new }
+        ensures headline { KeepsHeadline S.meaning D.policy self.new }
+        ensures turn { OnOk result (HearsTurn S.meaning D.policy to self.old self.new) }
+    {
+        below_law();
+        let all = self.waiting(to);
+        self.move_bytes(to, all)?;
+        Ok(())
+    }
+
+    /// Does the deliveries of a schedule in order, up to the first one for which memory was wanting;
+    /// then it answers `Memory`.
+    pub fn run(&mut self, schedule: &[Delivery]) -> Result<(), Memory>
+        ensures runs { OnOk result (Runs schedule.now self.old self.new) }
+        ensures stopped { OnErr result (RunsInto schedule.now self.old self.new) }
+        ensures still { OnOk result (HadMemory self.old → HadMemory self.new) }
+        ensures setup { IsSameSetup self.old self.new }
+        ensures replies { EachReplies S.meaning D.policy self.new }
+        ensures course { KeepsCourse S.meaning D.policy self.new }
+        ensures headline { KeepsHeadline S.meaning D.policy self.new }
+    {
+        for delivery in schedule {
+            self.deliver(delivery.to, delivery.count)?;
+        }
+        self.holds();
+        Ok(())
+    }
+
+    /// All waiting bytes to the server, and then all waiting bytes to the client.
+    fn round(&mut self) -> Result<(), Memory>
+        ensures round { OnOk result (Round self.old self.new) }
+        ensures stopped { OnErr result (RoundInto self.old self.new) }
+        ensures still { OnOk result (HadMemory self.old → HadMemory self.new) }
+        ensures setup { IsSameSetup self.old self.new }
+        ensures replies { EachReplies S.meaning D.policy self.new }
+        ensures course { KeepsCourse S.meaning D.policy self.new }
+        ensures headline { KeepsHeadline S.meaning D.policy self.new }
+        ensures hears { OnOk result (HearsRound S.meaning D.policy self.old self.new) }
+    {
+        self.move_all(Side::Server)?;
+        self.move_all(Side::Client)?;
+        Ok(())
+    }
+
+    /// Does so many rounds, up to the first delivery for which memory was wanting; then it answers
+    /// `Memory`. In each round all waiting bytes are moved to the server, and then all waiting bytes to
+    /// the client.
+    pub fn settle(&mut self, rounds: u32) -> Result<(), Memory>
+        ensures rounds { OnOk result (Rounds rounds self.old self.new) }
+        ensures stopped { OnErr result (RoundsInto rounds self.old self.new) }
+        ensures still { OnOk result (HadMemory self.old → HadMemory self.new) }
+        ensures setup { IsSameSetup self.old self.new }
+        ensures replies { EachReplies S.meaning D.policy self.new }
+        ensures course { KeepsCourse S.meaning D.policy self.new }
+        ensures headline { KeepsHeadline S.meaning D.policy self.new }
+        // Four rounds more than the client's plan has attempts leave a complete world, from any world that had memory and of which
+        // the two ends understand each other.
+        ensures bound { OnOk result (AreUnderstoodIn S.meaning D.policy self.old → HadMemory self.old → length self.old.client_config.plan + 4 ≤ rounds → Complete self.new) }
+    {
+        for _ in 0..rounds {
+            self.round()?;
+        }
+        self.holds();
+        Ok(())
+    }
+
+    /// Whether nothing waits for either side. Takes no memory.
+    pub fn complete(&self) -> bool
+        ensures complete { IsTrue result ↔ Complete self.now }
+        ensures course { KeepsCourse S.meaning D.policy self.now }
+        ensures headline { KeepsHeadline S.meaning D.policy self.now }
+    {
+        self.holds();
+        self.waiting(Side::Client) == 0 && self.waiting(Side::Server) == 0
+    }
+
+    /// How the two endpoints stand, the client's end first. Takes no memory.
+    pub fn ends(&self) -> (&End, &End)
+        ensures client { ending result.0.now ≡ self.now.client.end }
+        ensures server { ending result.1.now ≡ self.now.server.end }
+        ensures replies { EachReplies S.meaning D.policy self.now }
+        ensures course { KeepsCourse S.meaning D.policy self.now }
+        ensures headline { KeepsHeadline S.meaning D.policy self.now }
+    {
+        self.holds();
+        (self.client.endpoint.end(), self.server.endpoint.end())
+    }
+}
