@@ -17,6 +17,7 @@ pub record Half : Type 0 where
   pub used : ℕ
   pub end : Ending
 
+-- A world: both configs, the suite and the decisions that both sides share, and its two sides.
 pub record WorldData (S D : Type 0) : Type 0 where
   pub client_config : ClientData
   pub server_config : ServerData
