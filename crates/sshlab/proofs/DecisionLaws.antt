@@ -22,7 +22,7 @@ module _ {X : Type 0} (same : X → Bool) (q : X) where
   finds hit (x ∷ xs) zero within e = or_left _ _ (ap same e ∙ hit)
   finds hit (x ∷ xs) (suc k) within e = or_right _ _ (finds hit xs k (omega arith) e)
 
-  any_is : ((x : X) → same x ≡ true → x ≡ q) → same q ≡ true → (xs : List X) → (list_any same xs ≡ true) ↔ Contains xs q
+  pub any_is : ((x : X) → same x ≡ true → x ≡ q) → same q ≡ true → (xs : List X) → (list_any same xs ≡ true) ↔ Contains xs q
   any_is is hit xs = (found is xs, λ c. finds hit xs c.0 c.1 c.2)
 
 same_proof : (own proof : ProofData) → is_proof own proof ≡ true → own ≡ proof

@@ -3,3 +3,14 @@ pub mod StreamLemmas
 pub mod DecisionLemmas
 pub mod DecisionLaws
 pub mod ScenarioFieldLemmas
+pub mod StepLemmas
+pub mod RunLemmas
+pub mod RecordingLemmas
+pub mod ScenarioLineLemmas
+pub mod ScenarioDraftLemmas
+pub mod ScenarioPartLemmas
+pub mod ScenarioWordLemmas
+pub mod ScenarioTextLemmas
+pub mod ScenarioReadLemmas
+pub mod ScenarioSettingLemmas
+pub mod ScenarioCauseLemmas

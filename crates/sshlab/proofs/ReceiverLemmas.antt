@@ -10,9 +10,9 @@ use Rattle.sshwire.specs.LineState as progress
 use Rattle.sshwire.specs.Reading.{Got, More, Reading, Stop}
 use Rattle.sshwire.specs.Feeding.{StandsOpen}
 use Rattle.sshwire.specs.Meaning.{BeginsPreamble, EndsPreamble, IsLineRefused, ReadingMeans}
-use Rattle.sshlab.specs.declared.delivery.Side.{Side}
-use Rattle.sshlab.specs.declared.delivery.Side.TheVariants.{Client, Server}
-use Rattle.sshlab.specs.declared.delivery.Delivery.{Delivery}
+use Rattle.sshworld.specs.declared.side.Side.{Side}
+use Rattle.sshworld.specs.declared.side.Side.TheVariants.{Client, Server}
+use Rattle.sshworld.specs.declared.side.Delivery.{Delivery}
 use Rattle.sshlab.specs.declared.greetings.Receiver.{Receiver}
 use Rattle.sshlab.specs.declared.greetings.Hearing.{Hearing}
 use Rattle.sshlab.specs.declared.greetings.Hearing.TheVariants as hearing

@@ -4,9 +4,9 @@ use Rattle.std.specs.Prelude.{◌≡◌, ◌↔◌, ℕ, ◌+◌, List, [], ◌�
 use Rattle.sshwire.specs.declared.fault.WireFault.{WireFault}
 use Rattle.sshwire.specs.Lines.{IsVersionText, version_line}
 use Rattle.sshwire.specs.Meaning.{BeginsPreamble, IsLineRefused}
-use Rattle.sshlab.specs.declared.delivery.Side.{Side}
-use Rattle.sshlab.specs.declared.delivery.Side.TheVariants.{Client, Server}
-use Rattle.sshlab.specs.declared.delivery.Delivery.{Delivery}
+use Rattle.sshworld.specs.declared.side.Side.{Side}
+use Rattle.sshworld.specs.declared.side.Side.TheVariants.{Client, Server}
+use Rattle.sshworld.specs.declared.side.Delivery.{Delivery}
 use Rattle.sshlab.specs.declared.greetings.Hearing.{Hearing}
 use Rattle.sshlab.specs.declared.greetings.Hearing.TheVariants.{Got, Refused, Waiting}
 use Rattle.sshlab.specs.declared.greetings.Greeting.{Greeting}

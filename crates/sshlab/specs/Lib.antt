@@ -13,3 +13,11 @@ pub mod LabParties
 pub mod ScenarioFields
 pub mod Scenarios
 pub mod ScenarioView
+pub mod Steps
+pub mod Recordings
+pub mod Engines
+pub mod ScenarioSettings
+pub mod ScenarioParts
+pub mod ScenarioText
+pub mod ScenarioDrafts
+pub mod ScenarioFaults

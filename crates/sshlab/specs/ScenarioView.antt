@@ -1,6 +1,7 @@
 -- What the lines of a scenario say, without where it lies in memory.
 
-use Rattle.std.specs.Prelude.{map, string_bytes}
+use Rattle.std.specs.Prelude.{ℕ, List, map, string_bytes}
+use Rattle.std.specs.Borrow.{Bor}
 use Rattle.sshcore.specs.ConfigView.{attempt_of, host_key_of, proving_of}
 use Rattle.sshlab.specs.declared.scenario_line.SideSetting.{SideSetting}
 use Rattle.sshlab.specs.declared.scenario_line.SideSetting.TheVariants as side
@@ -11,6 +12,10 @@ use Rattle.sshlab.specs.declared.scenario_line.ServerSetting.TheVariants as serv
 use Rattle.sshlab.specs.declared.scenario_line.Statement.{Statement}
 use Rattle.sshlab.specs.declared.scenario_line.Statement.TheVariants as statement
 use Rattle.sshlab.specs.Scenarios.{Allows, ClientValue, Denies, Distrusts, Does, Holds, Notes, OfClient, OfServer, OfSide, Saying, ServerValue, SetBanner, SetCipherToClient, SetCipherToServer, SetCookie, SetGuess, SetHostKeys, SetKex, SetMacToClient, SetMacToServer, SetMethods, SetRandom, SetSeed, SetServices, SetStrict, SetTries, SetVersion, SideValue, Tries}
+
+-- texts that are lent
+abbrev pub texts : List (Bor (List ℕ)) → List (List ℕ)
+texts fields = map (λ field. field.now) fields
 
 abbrev pub side_value_of : SideSetting → SideValue
 side_value_of (side.Version text) = SetVersion (string_bytes text)

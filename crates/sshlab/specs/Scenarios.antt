@@ -1,14 +1,15 @@
 -- What the lines of a scenario say.
 
-use Rattle.std.specs.Prelude.{ℕ, ◌==◌, ◌&&◌, nat_le, Bool, if◌then◌else◌, List, [], length, codes, Option, Some, None, option_map, slice_index_or}
-use Rattle.std.specs.Borrow.{Bor}
+use Rattle.std.specs.Prelude.{ℕ, ◌==◌, ◌&&◌, ◌||◌, nat_le, Bool, if◌then◌else◌, List, [], length, drop, codes, Option, Some, None, option_map, slice_index, slice_index_or}
+use Rattle.std.specs.List.{list_all, list_any}
 use Rattle.std.specs.Str.{bytes_eq}
 use Rattle.sshcore.specs.ConfigData.{Attempt, ByKey, ByNothing, ByPassword, HostKey, Proving}
-use Rattle.sshlab.specs.declared.delivery.Side.{Side}
-use Rattle.sshlab.specs.declared.delivery.Side.TheVariants.{Client, Server}
+use Rattle.sshworld.specs.declared.side.Side.{Side}
+use Rattle.sshworld.specs.declared.side.Side.TheVariants.{Client, Server}
 use Rattle.sshlab.specs.declared.scenario_line.Step.{Step}
 use Rattle.sshlab.specs.declared.scenario_line.Step.TheVariants.{Deliver, Settle}
-use Rattle.sshlab.specs.ScenarioFields.{bytes_of, flag_of, list_of, number_of, side_of}
+use Rattle.sshlab.specs.declared.scenario_line.TheConstants.{LINE_LIMIT}
+use Rattle.sshlab.specs.ScenarioFields.{bytes_of, flag_of, list_of, number_of, parts, side_of}
 
 -- a setting that either side has
 pub data SideValue : Type 0 where
@@ -48,17 +49,21 @@ pub data Saying : Type 0 where
   Denies : ℕ → Saying
   Does : Step → Saying
 
--- the fields of a line, as they are lent
+-- the fields of a line
 abbrev pub Fields : Type 0
-Fields = List (Bor (List ℕ))
+Fields = List (List ℕ)
 
--- field i, which is empty past the end; a slice pattern reads its fields with this default
+-- field i, which is empty past the end
 abbrev pub field : Fields → ℕ → List ℕ
-field fields i = (slice_index_or fields i (record { ref_ptr = (0, 0); now = [] })).now
+field fields i = slice_index_or fields i []
 
 -- so many fields, and the first is this word
 abbrev pub has_form : Fields → List ℕ → ℕ → Bool
 has_form fields word count = (length fields == count) && bytes_eq (field fields 0) word
+
+-- so many fields or more, and the first is this word
+abbrev pub begins_with_word : Fields → List ℕ → ℕ → Bool
+begins_with_word fields word least = nat_le least (length fields) && bytes_eq (field fields 0) word
 
 -- the setting of either side with this name and value
 unfoldable pub side_value : List ℕ → List ℕ → Option SideValue
@@ -112,3 +117,51 @@ unfoldable pub step : Fields → Option Step
 step fields =
     if has_form fields (codes "deliver") 3 then delivery (side_of (field fields 1)) (number_of (field fields 2))
     else if has_form fields (codes "settle") 2 then rounds (number_of (field fields 1)) else None
+
+-- what is said by the fields behind `client`: `try USER SERVICE PROOF`, or a setting
+unfoldable pub said_of_client : Fields → Option Saying
+said_of_client fields =
+    if begins_with_word fields (codes "try") 3 then
+    option_map (λ proof. Tries (record { user = field fields 1; service = field fields 2; proving = proof })) (proving (drop 3 fields))
+    else if length fields == 2 then client_value (field fields 0) (field fields 1) else None
+
+-- what is said by the fields behind `server`: `hostkey ALG HEX`, `notice HEX`, or a setting
+unfoldable pub said_of_server : Fields → Option Saying
+said_of_server fields =
+    if has_form fields (codes "hostkey") 3 then
+    option_map (λ secret. Holds (record { algorithm = field fields 1; secret = secret })) (bytes_of (field fields 2))
+    else if has_form fields (codes "notice") 2 then option_map Notes (bytes_of (field fields 1))
+    else if length fields == 2 then server_value (field fields 0) (field fields 1) else None
+
+-- what the fields of a line say
+unfoldable pub said_by : Fields → Option Saying
+said_by fields =
+    if begins_with_word fields (codes "client") 1 then said_of_client (drop 1 fields)
+    else if begins_with_word fields (codes "server") 1 then said_of_server (drop 1 fields)
+    else if has_form fields (codes "distrust") 2 then Some (Distrusts (field fields 1))
+    else if begins_with_word fields (codes "allow") 2 then option_map (Allows (field fields 1)) (proving (drop 2 fields))
+    else if has_form fields (codes "deny") 2 then option_map Denies (number_of (field fields 1))
+    else option_map Does (step fields)
+
+abbrev pub is_line_byte : ℕ → Bool
+is_line_byte b = nat_le 32 b && nat_le b 126
+
+-- a line has at most 20000 bytes, from 32 to 126
+abbrev pub is_text : List ℕ → Bool
+is_text line = nat_le (length line) LINE_LIMIT && list_all is_line_byte line
+
+-- an empty line, and a comment, which begins with `#`, say nothing
+abbrev pub says_nothing : List ℕ → Bool
+says_nothing line = (length line == 0) || (slice_index line 0 == 35)
+
+-- two blanks side by side, or one at an end, leave an empty field
+abbrev pub has_empty : Fields → Bool
+has_empty fields = list_any (λ field. length field == 0) fields
+
+-- what is said by the fields between the blanks of a line
+unfoldable pub said_in_fields : List ℕ → Option Saying
+said_in_fields line = if has_empty (parts 32 line) then None else said_by (parts 32 line)
+
+-- What a line without its LF says, if it has a form; it may say nothing.
+unfoldable pub statement : List ℕ → Option (Option Saying)
+statement line = if is_text line then (if says_nothing line then Some None else option_map Some (said_in_fields line)) else None

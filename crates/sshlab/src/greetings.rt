@@ -6,8 +6,8 @@ ghost use Rattle.sshwire.specs.LineState.{Finished};
 ghost use Rattle.sshlab.specs.Receivers.{Follows, HasAll, MayRead};
 ghost use Rattle.sshlab.specs.Greetings.{Greets};
 
-use crate::delivery::{Delivery, Side};
 use sshwire::{LineReader, LineStep, Memory, OTHER_LINE_LIMIT, VersionLine, WireFault};
+use sshworld::{Delivery, Side};
 use std::alloc::Global;
 use std::fmt;
 

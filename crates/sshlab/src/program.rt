@@ -1,21 +1,31 @@
 //! All that the program does with its words and streams.
 
-ghost use Rattle.std.specs.Prelude.{◌≡◌, ◌≢◌, ◌≤◌, ◌↔◌, ◌||◌, ℕ, Err, IfErr, IfOk, codes, false, length, string_bytes, take, true};
+ghost use Rattle.std.specs.Prelude.{◌≡◌, ◌≢◌, ◌≤◌, ◌↔◌, ◌+◌, ◌||◌, ℕ, Err, IfErr, IfOk, OnErr, OnOk, false, length, string_bytes, take, true};
 ghost use Rattle.std.specs.Io.KnownBytes.{Appends, Keeps};
 ghost use Rattle.std.specs.IoError.{error_kind};
-ghost use Rattle.sshlab.specs.Statuses.{IsFirstWord, status_of, words_status};
+ghost use Rattle.sshworld.specs.Worlds.{Complete, WorldData};
+ghost use Rattle.sshlab.specs.Lab.{lab};
+ghost use Rattle.sshlab.specs.LabRules.{LabRules, lab_policy};
+ghost use Rattle.sshlab.specs.Statuses.{AsksForInput, IsNoToolFault, status_of, words_status};
+ghost use Rattle.sshlab.specs.Steps.{EndsSettling, StepsLeadTo};
+ghost use Rattle.sshlab.specs.declared.lab_suite.LabSuite.{LabSuite};
 ghost use Rattle.sshlab.specs.declared.program.CommandFault.TheVariants as command;
 ghost use Rattle.sshlab.specs.declared.scenario.TheConstants.{TEXT_LIMIT};
+ghost use Rattle.sshlab.specs.declared.tool_fault.ToolFault.TheVariants as fault;
 
+use crate::engines::{check, show, write_text};
 use crate::greetings::greet;
 use crate::input::read_all;
 use crate::report::Report;
 use crate::scenario::{Scenario, ScenarioFault};
 use crate::schedule::schedule_of;
-use crate::streams::{Broken, Sink, Source, write_all};
+use crate::streams::{Sink, Source, write_all};
+use crate::tool_fault::ToolFault;
 use crate::words::{Request, request_of};
-use sshcore::End;
+use sshcore::{Decisions, End};
+use sshpacket::Suite;
 use sshwire::{VersionLine, WireFault};
+use sshworld::World;
 use std::alloc::Global;
 use std::fmt::Write;
 use std::{fmt, io};
@@ -51,15 +61,20 @@ pub(crate) enum CommandFault {
     /// The input is no scenario.
     #[error("{0}")]
     Scenario(ScenarioFault),
-    /// The input is longer than any that is judged.
-    #[error("input too long")]
-    TooLong,
-    /// A read failed.
-    #[error("read failed")]
-    Read,
+    /// The input or the output failed, or the input is no recording.
+    #[error("{0}")]
+    Tool(ToolFault),
     /// A growth was refused.
     #[error("out of memory")]
     Memory,
+}
+
+impl From<ToolFault> for CommandFault {
+    ghost from_gives = { λ fault e. e ≡ command.Tool fault };
+
+    fn from(fault: ToolFault) -> CommandFault {
+        CommandFault::Tool(fault)
+    }
 }
 
 /// What the words are answered: the text for the output, and the status once it is written.
@@ -75,8 +90,10 @@ impl CommandFault {
         ensures { result ≡ status_of self }
     {
         match self {
-            CommandFault::Scenario(ScenarioFault::Memory) | CommandFault::Memory => NO_MEMORY,
-            CommandFault::Read => BROKEN,
+            CommandFault::Scenario(ScenarioFault::Memory)
+            | CommandFault::Tool(ToolFault::Memory)
+            | CommandFault::Memory => NO_MEMORY,
+            CommandFault::Tool(ToolFault::Read | ToolFault::Write) => BROKEN,
             _ => BAD_INPUT,
         }
     }
@@ -103,11 +120,11 @@ pub fn tool<I: Source, O: Sink, E: Sink>(
     ensures broken { (result ≡ 4) ↔ ((I.has_failed input.new || O.has_failed output.new) ≡ true) }
     // Where a read failed, nothing is written.
     ensures unwritten { I.has_failed input.new ≡ true → output.new ≡ output.old }
-    // No byte of the input is read unless the first word asks for a scenario.
-    ensures unread { (IsFirstWord (codes "predict") words.now → ⊥) → input.new ≡ input.old }
+    // No byte of the input is read unless the first word asks for a scenario or a recording.
+    ensures unread { (AsksForInput words.now → ⊥) → input.new ≡ input.old }
 {
-    match answer_of(alloc, words, input) {
-        Ok(answer) => print(&answer, output, faults),
+    match done(alloc, words, input, output) {
+        Ok(status) => status,
         Err(fault) => refuse(fault, faults),
     }
 }
@@ -126,35 +143,80 @@ pub fn refuse_words<E: Sink>(error: io::Error, faults: &mut E) -> u8
     refuse(fault, faults)
 }
 
-/// The answer to the words, of which nothing is written yet.
-fn answer_of<I: Source>(
+/// Does what the words ask for, and answers the exit status.
+fn done<I: Source, O: Sink>(
     alloc: Global,
     words: &[String],
     input: &mut I,
-) -> Result<Answer, CommandFault>
-    requires { I.has_failed input.old ≡ false }
-    ensures status { IfOk result (λ answer. answer.status ≤ 1) }
-    ensures failed { (result ≡ Err command.Read) ↔ (I.has_failed input.new ≡ true) }
-    ensures unread { (IsFirstWord (codes "predict") words.now → ⊥) → input.new ≡ input.old }
+    output: &mut O,
+) -> Result<u8, CommandFault>
+    requires input { I.has_failed input.old ≡ false }
+    requires output { O.has_failed output.old ≡ false }
+    ensures status { IfOk result (λ status. status ≤ 1) }
+    ensures read { (result ≡ Err (command.Tool fault.Read)) ↔ (I.has_failed input.new ≡ true) }
+    ensures write { (result ≡ Err (command.Tool fault.Write)) ↔ (O.has_failed output.new ≡ true) }
+    ensures unwritten { IfErr result (λ cause. cause ≢ command.Tool fault.Write → output.new ≡ output.old) }
+    ensures unread { (AsksForInput words.now → ⊥) → input.new ≡ input.old }
 {
     match request_of(alloc, words)? {
         Request::Greet {
             client,
             server,
             schedule,
-        } => greeting_of(alloc, client, server, schedule),
+        } => {
+            let greeting = greeting_of(alloc, client, server, schedule)?;
+            Ok(print(&greeting, output)?)
+        }
         Request::Predict { session } => {
-            let text = read_all(alloc, input)?;
-            prediction_of(alloc, &text, session)
+            let prediction = read_prediction(alloc, input, session)?;
+            Ok(print(&prediction, output)?)
+        }
+        Request::Run { session } => {
+            let run = read_run(alloc, input, session)?;
+            Ok(print(&run, output)?)
+        }
+        Request::Show => {
+            show(alloc, input, output)?;
+            Ok(DONE)
+        }
+        Request::Check => {
+            let all_fine = check(alloc, input, output)?;
+            Ok(if all_fine { DONE } else { NOT_COMPLETE })
         }
     }
+}
+
+/// The answer to `predict`.
+fn read_prediction<I: Source>(
+    alloc: Global,
+    input: &mut I,
+    session: bool,
+) -> Result<Answer, CommandFault>
+    requires { I.has_failed input.old ≡ false }
+    ensures status { IfOk result (λ answer. answer.status ≤ 1) }
+    ensures read { (result ≡ Err (command.Tool fault.Read)) ↔ (I.has_failed input.new ≡ true) }
+    ensures unwritten { IfErr result (λ cause. cause ≢ command.Tool fault.Write) }
+{
+    let text = read_all(alloc, input)?;
+    prediction_of(alloc, &text, session)
+}
+
+/// The answer to `run`.
+fn read_run<I: Source>(alloc: Global, input: &mut I, session: bool) -> Result<Answer, CommandFault>
+    requires { I.has_failed input.old ≡ false }
+    ensures status { IfOk result (λ answer. answer.status ≤ 1) }
+    ensures read { (result ≡ Err (command.Tool fault.Read)) ↔ (I.has_failed input.new ≡ true) }
+    ensures unwritten { IfErr result (λ cause. cause ≢ command.Tool fault.Write) }
+{
+    let text = read_all(alloc, input)?;
+    run_of(alloc, &text, session)
 }
 
 /// How the sides of a scenario with this text end, without its deliveries.
 fn prediction_of(alloc: Global, text: &[u8], session: bool) -> Result<Answer, CommandFault>
     requires { length text.now ≤ TEXT_LIMIT }
     ensures status { IfOk result (λ answer. answer.status ≤ 1) }
-    ensures fault { IfErr result (λ fault. fault ≢ command.Read) }
+    ensures fault { IfErr result IsNoToolFault }
 {
     let (client, server) = ends_of(alloc, text)?;
     let report = Report {
@@ -169,7 +231,7 @@ fn prediction_of(alloc: Global, text: &[u8], session: bool) -> Result<Answer, Co
 /// The ends of the sides of a scenario with this text.
 fn ends_of(alloc: Global, text: &[u8]) -> Result<(End, End), CommandFault>
     requires { length text.now ≤ TEXT_LIMIT }
-    ensures { IfErr result (λ fault. fault ≢ command.Read) }
+    ensures { IfErr result IsNoToolFault }
 {
     match Scenario::parse(alloc, text) {
         Ok(scenario) => match scenario.predict(alloc) {
@@ -180,10 +242,61 @@ fn ends_of(alloc: Global, text: &[u8]) -> Result<(End, End), CommandFault>
     }
 }
 
+/// How the sides of a scenario with this text stand when its steps were done.
+fn run_of(alloc: Global, text: &[u8], session: bool) -> Result<Answer, CommandFault>
+    requires { length text.now ≤ TEXT_LIMIT }
+    ensures status { IfOk result (λ answer. answer.status ≤ 1) }
+    ensures fault { IfErr result IsNoToolFault }
+{
+    match Scenario::parse(alloc, text) {
+        Ok(scenario) => steps_told(alloc, &scenario, session),
+        Err(fault) => Err(CommandFault::Scenario(fault)),
+    }
+}
+
+/// How the sides of a scenario stand when its steps were done.
+fn steps_told(alloc: Global, scenario: &Scenario, session: bool) -> Result<Answer, CommandFault>
+    ensures status { IfOk result (λ answer. answer.status ≤ 1) }
+    // The status is 0 exactly if the steps lead to a complete world.
+    ensures complete { IfOk result (λ answer. (w : WorldData LabSuite LabRules)
+        × StepsLeadTo (λ suite. lab) lab_policy scenario.now.client scenario.now.server scenario.now.decisions scenario.now.steps.items w
+        × ((answer.status ≡ 0) ↔ Complete w)) }
+    // So it is where the last step settles all.
+    ensures settled { IfOk result (λ answer. EndsSettling (length scenario.now.client.plan + 4) scenario.now.steps.items → answer.status ≡ 0) }
+    ensures fault { IfErr result IsNoToolFault }
+{
+    match scenario.run(alloc) {
+        Ok(world) => world_told(alloc, &world, session),
+        Err(_) => Err(CommandFault::Memory),
+    }
+}
+
+/// How the sides of a world stand, and whether nothing waits for either, which the status tells too.
+fn world_told<S: Suite, D: Decisions>(
+    alloc: Global,
+    world: &World<'_, S, D>,
+    session: bool,
+) -> Result<Answer, CommandFault>
+    ensures status { IfOk result (λ answer. answer.status ≤ 1) }
+    ensures complete { IfOk result (λ answer. (answer.status ≡ 0) ↔ Complete world.now) }
+    ensures fault { IfErr result IsNoToolFault }
+{
+    let (client, server) = world.ends();
+    let complete = world.complete();
+    let report = Report {
+        client,
+        server,
+        complete: Some(complete),
+        session,
+    };
+    let status = if complete { DONE } else { NOT_COMPLETE };
+    printed(alloc, &report, status)
+}
+
 /// The report as text, with the status once it is written.
 fn printed(alloc: Global, report: &Report<'_>, status: u8) -> Result<Answer, CommandFault>
     ensures status { IfOk result (λ answer. answer.status ≡ status) }
-    ensures fault { IfErr result (λ fault. fault ≢ command.Read) }
+    ensures fault { IfErr result IsNoToolFault }
 {
     match report.to_string(alloc) {
         Ok(text) => Ok(Answer { text, status }),
@@ -199,7 +312,7 @@ fn greeting_of(
     schedule: &str,
 ) -> Result<Answer, CommandFault>
     ensures status { IfOk result (λ answer. answer.status ≤ 1) }
-    ensures fault { IfErr result (λ fault. fault ≢ command.Read) }
+    ensures fault { IfErr result IsNoToolFault }
 {
     let client = line_of(alloc, client)?;
     let server = line_of(alloc, server)?;
@@ -216,7 +329,7 @@ fn greeting_of(
 
 /// The written version line of a softwareversion, which has no comments.
 fn line_of(alloc: Global, software: &str) -> Result<Vec<u8>, CommandFault>
-    ensures { IfErr result (λ fault. fault ≢ command.Read) }
+    ensures { IfErr result IsNoToolFault }
 {
     if software.contains(' ') {
         return Err(CommandFault::Version);
@@ -234,23 +347,17 @@ fn line_of(alloc: Global, software: &str) -> Result<Vec<u8>, CommandFault>
 }
 
 /// Prints the answer, and answers the status.
-fn print<O: Sink, E: Sink>(answer: &Answer, output: &mut O, faults: &mut E) -> u8
-    requires status { answer.now.status ≤ 1 }
-    requires output { O.has_failed output.old ≡ false }
-    requires faults { E.has_failed faults.old ≡ false }
-    ensures broken { (result ≡ 4) ↔ (O.has_failed output.new ≡ true) }
-    ensures done { O.has_failed output.new ≡ false → result ≡ answer.now.status }
-    ensures whole { result ≤ 1 → Appends (O.contents output.old) (O.contents output.new) (string_bytes answer.now.text) }
-    ensures prefix { result ≡ 4 → (n : ℕ) × Appends (O.contents output.old) (O.contents output.new)
-        (take n (string_bytes answer.now.text)) }
+fn print<O: Sink>(answer: &Answer, output: &mut O) -> Result<u8, ToolFault>
+    requires { O.has_failed output.old ≡ false }
+    ensures failed { (result ≡ Err fault.Write) ↔ (O.has_failed output.new ≡ true) }
+    ensures fault { IfErr result (λ cause. cause ≡ fault.Write) }
+    ensures status { IfOk result (λ status. status ≡ answer.now.status) }
+    ensures whole { OnOk result (Appends (O.contents output.old) (O.contents output.new) (string_bytes answer.now.text)) }
+    ensures prefix { OnErr result ((n : ℕ) × Appends (O.contents output.old) (O.contents output.new)
+        (take n (string_bytes answer.now.text))) }
 {
-    match write_all(output, answer.text.as_bytes()) {
-        Ok(()) => answer.status,
-        Err(Broken) => {
-            let _ = writeln!(FaultText { sink: faults }, "write failed");
-            BROKEN
-        }
-    }
+    write_text(&answer.text, output)?;
+    Ok(answer.status)
 }
 
 /// Tells a fault in one line, and answers its status.

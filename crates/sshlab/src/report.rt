@@ -69,13 +69,13 @@ fn write_agreed<W: fmt::Write>(
 }
 
 /// Two digits in lower case for each byte.
-fn write_hex<W: fmt::Write>(f: &mut fmt::Formatter<W>, bytes: &[u8]) -> fmt::Result {
+pub(crate) fn write_hex<W: fmt::Write>(f: &mut fmt::Formatter<W>, bytes: &[u8]) -> fmt::Result {
     for byte in bytes {
         write!(f, "{byte:02x}")?;
     }
     Ok(())
 }
 
-fn yes_or_no(flag: bool) -> &'static str {
+pub(crate) fn yes_or_no(flag: bool) -> &'static str {
     if flag { "yes" } else { "no" }
 }

@@ -40,15 +40,21 @@
 //! | `deliver SIDE N` | at most N of the waiting bytes go to the side |
 //! | `settle N` | N rounds, at most 1000: all waiting bytes to the server, then all to the client |
 
-ghost use Rattle.std.specs.Prelude.{◌≡◌, ◌<◌, ◌≤◌, length};
+ghost use Rattle.std.specs.Prelude.{◌≡◌, ◌≤◌, IfErr, IfOk, OnOk, length};
+ghost use Rattle.sshcore.specs.ConfigRules.{IsClient};
+ghost use Rattle.sshcore.specs.ConfigView.{client_data, server_data};
+ghost use Rattle.sshlab.specs.ScenarioDrafts.{drafted, no_lines};
+ghost use Rattle.sshlab.specs.ScenarioFaults.{IsCause, IsClientRefusal, IsLineCause, IsServerRefusal};
+ghost use Rattle.sshlab.specs.ScenarioParts.{client_of_lines, rules_of_lines, server_of_lines, steps_of_lines};
+ghost use Rattle.sshlab.specs.ScenarioText.{CanBeRead, lines, said};
 ghost use Rattle.sshlab.specs.declared.scenario.TheConstants.{TEXT_LIMIT};
 
 use crate::lab_decisions::LabDecisions;
 use crate::lab_suite::LabSuite;
-use crate::scenario_draft::Draft;
+use crate::scenario_draft::{Draft, ScenarioParts};
 use crate::scenario_fields::LineFault;
 use crate::scenario_line::Step;
-use sshcore::{ClientConfig, ConfigFault, End, ServerConfig};
+use sshcore::{ClientConfig, ClientParts, ConfigFault, End, ServerConfig, ServerParts};
 use sshwire::Memory;
 use sshworld::predict;
 use std::alloc::Global;
@@ -102,20 +108,26 @@ impl From<Memory> for ScenarioFault {
 
 impl Scenario {
     /// Reads a scenario of at most 1048576 bytes.
+    ///
+    /// Answers the fault of the first bad line; if there is none, that of the client's config, and then
+    /// that of the server's ([`ScenarioFault`] says what each tells); `Memory` for want of memory alone.
     pub fn parse(alloc: Global, text: &[u8]) -> Result<Scenario, ScenarioFault>
         requires { length text.now ≤ TEXT_LIMIT }
+        ensures read { IfOk result (λ scenario. CanBeRead (lines text.now)) }
+        ensures client { IfOk result (λ scenario. scenario.client ≡ client_of_lines (said (lines text.now))) }
+        ensures server { IfOk result (λ scenario. scenario.server ≡ server_of_lines (said (lines text.now))) }
+        ensures decisions { IfOk result (λ scenario. scenario.decisions ≡ rules_of_lines (said (lines text.now))) }
+        ensures steps { IfOk result (λ scenario. scenario.steps.items ≡ steps_of_lines (said (lines text.now))) }
+        ensures refused { IfErr result (λ fault. IsCause (lines text.now) fault) }
     {
-        let mut draft = Draft::new(alloc)?;
-        read_lines(&mut draft, text)?;
-        let Draft {
+        let ScenarioParts {
             client,
             server,
             decisions,
             steps,
-            ..
-        } = draft.finish();
-        let client = ClientConfig::new(alloc, client).map_err(client_fault)?;
-        let server = ServerConfig::new(alloc, server).map_err(server_fault)?;
+        } = parts_of_text(alloc, text)?;
+        let client = client_config(alloc, client)?;
+        let server = server_config(alloc, server)?;
         Ok(Scenario {
             client,
             server,
@@ -148,17 +160,34 @@ impl Scenario {
     }
 }
 
+/// What the lines of a text give, before the configs are judged.
+fn parts_of_text(alloc: Global, text: &[u8]) -> Result<ScenarioParts, ScenarioFault>
+    requires { length text.now ≤ TEXT_LIMIT }
+    ensures read { IfOk result (λ parts. CanBeRead (lines text.now)) }
+    ensures client { IfOk result (λ parts. client_data parts.client ≡ client_of_lines (said (lines text.now))) }
+    ensures server { IfOk result (λ parts. server_data parts.server ≡ server_of_lines (said (lines text.now))) }
+    ensures decisions { IfOk result (λ parts. parts.decisions ≡ rules_of_lines (said (lines text.now))) }
+    ensures steps { IfOk result (λ parts. parts.steps.items ≡ steps_of_lines (said (lines text.now))) }
+    ensures refused { IfErr result (λ fault. IsLineCause (lines text.now) fault) }
+{
+    let mut draft = Draft::new(alloc)?;
+    read_lines(&mut draft, text)?;
+    Ok(draft.finish())
+}
+
 /// Reads the lines of a text, which have an LF between them.
 fn read_lines(draft: &mut Draft, text: &[u8]) -> Result<(), ScenarioFault>
-    requires { length text.now ≤ TEXT_LIMIT }
+    requires within { length text.now ≤ TEXT_LIMIT }
+    requires fresh { draft.old ≡ no_lines }
+    ensures read { OnOk result (CanBeRead (lines text.now)) }
+    ensures draft { OnOk result (draft.new ≡ drafted (said (lines text.now))) }
+    ensures refused { IfErr result (λ fault. IsLineCause (lines text.now) fault) }
 {
-    let mut rest = text;
     let mut number = 0u32;
-    while !rest.is_empty() {
-        let (line, behind) = cut_line(rest);
+    for line in text.split(|byte| *byte == b'\n') {
         number += 1;
         match draft.read(line) {
-            Ok(()) => rest = behind,
+            Ok(()) => {}
             Err(LineFault::Form) => return Err(ScenarioFault::Line(number)),
             Err(LineFault::Memory) => return Err(ScenarioFault::Memory),
         }
@@ -166,27 +195,26 @@ fn read_lines(draft: &mut Draft, text: &[u8]) -> Result<(), ScenarioFault>
     Ok(())
 }
 
-/// The bytes before the first LF, and those behind it.
-fn cut_line(text: &[u8]) -> (&[u8], &[u8])
-    requires { 0 < length text.now }
-    ensures shorter { length result.1.now < length text.now }
+/// The client's config, whose refusal is the scenario's.
+fn client_config(alloc: Global, parts: ClientParts) -> Result<ClientConfig, ScenarioFault>
+    ensures accepted { IfOk result (λ config. (config ≡ client_data parts) × IsClient config) }
+    ensures refused { IfErr result (λ fault. IsClientRefusal (client_data parts) fault) }
 {
-    match text.iter().position(|byte| *byte == b'\n') {
-        Some(end) => (&text[..end], &text[end + 1..]),
-        None => (text, &[]),
+    match ClientConfig::new(alloc, parts) {
+        Ok(config) => Ok(config),
+        Err(ConfigFault::Memory) => Err(ScenarioFault::Memory),
+        Err(fault) => Err(ScenarioFault::Client(fault)),
     }
 }
 
-fn client_fault(fault: ConfigFault) -> ScenarioFault {
-    match fault {
-        ConfigFault::Memory => ScenarioFault::Memory,
-        _ => ScenarioFault::Client(fault),
-    }
-}
-
-fn server_fault(fault: ConfigFault) -> ScenarioFault {
-    match fault {
-        ConfigFault::Memory => ScenarioFault::Memory,
-        _ => ScenarioFault::Server(fault),
+/// The server's config, whose refusal is the scenario's.
+fn server_config(alloc: Global, parts: ServerParts) -> Result<ServerConfig, ScenarioFault>
+    ensures accepted { IfOk result (λ config. config ≡ server_data parts) }
+    ensures refused { IfErr result (λ fault. IsServerRefusal (server_data parts) fault) }
+{
+    match ServerConfig::new(alloc, parts) {
+        Ok(config) => Ok(config),
+        Err(ConfigFault::Memory) => Err(ScenarioFault::Memory),
+        Err(fault) => Err(ScenarioFault::Server(fault)),
     }
 }

@@ -1,55 +1,71 @@
 //! A scenario while its lines are read.
 
-use crate::delivery::Side;
+ghost use Rattle.std.specs.Prelude.{◌≡◌, ◌++◌, ◌∷◌, [], Err, IfOk, OnErr, OnOk, map};
+ghost use Rattle.std.specs.List.{Contains};
+ghost use Rattle.sshcore.specs.ConfigView.{client_data, host_key_of, proving_of, server_data};
+ghost use Rattle.sshlab.specs.ScenarioDrafts.{after, after_line, allowing, no_lines};
+ghost use Rattle.sshlab.specs.ScenarioParts.{can_be_proved, some_or};
+ghost use Rattle.sshlab.specs.ScenarioText.{CanFollow};
+ghost use Rattle.sshlab.specs.ScenarioView.{saying_of};
+ghost use Rattle.sshlab.specs.declared.scenario_fields.LineFault.TheVariants as fault;
+
 use crate::lab_decisions::LabDecisions;
 use crate::lab_parts::{lab_client_parts, lab_server_parts};
 use crate::scenario_fields::LineFault;
-use crate::scenario_line::{
-    ClientSetting, ServerSetting, SideSetting, Statement, Step, statement_of,
-};
-use sshcore::{ClientParts, Credential, HostKey, ServerParts, SideParts};
+use crate::scenario_line::{Statement, Step, statement_of};
+use crate::scenario_settings::{Setting, set_client, set_server, set_side, setting_of};
+use sshcore::{ClientParts, Credential, HostKey, ServerParts};
 use sshwire::{Memory, as_name};
+use sshworld::Side;
 use std::alloc::Global;
+use std::marker::Model;
 
 /// What the lines that were read say, and the defaults elsewhere.
 #[derive(Drop)]
 pub(crate) struct Draft {
-    pub(crate) client: ClientParts,
+    client: ClientParts,
     /// Its host keys are the default until the end.
-    pub(crate) server: ServerParts,
+    server: ServerParts,
     /// The host keys of the lines, which take the default's place if there is one.
     host_keys: Vec<HostKey>,
-    pub(crate) decisions: LabDecisions,
-    pub(crate) steps: Vec<Step>,
+    decisions: LabDecisions,
+    steps: Vec<Step>,
     /// The settings that stood already.
     settings: Vec<(Side, Setting)>,
     alloc: Global,
 }
 
-/// A setting that stands at most once for its side.
-#[derive(Clone, Copy, Debug, PartialEq, Eq)]
-enum Setting {
-    Version,
-    KexAlgorithms,
-    EncryptionClientToServer,
-    EncryptionServerToClient,
-    MacClientToServer,
-    MacServerToClient,
-    Strict,
-    Cookie,
-    ExchangeRandom,
-    PaddingSeed,
-    HostKeyAlgorithms,
-    Guess,
-    Services,
-    Methods,
-    Tries,
-    Banner,
+/// What all lines together give.
+#[derive(Drop)]
+pub(crate) struct ScenarioParts {
+    pub(crate) client: ClientParts,
+    pub(crate) server: ServerParts,
+    pub(crate) decisions: LabDecisions,
+    pub(crate) steps: Vec<Step>,
+}
+
+impl Model for Draft {
+    ghost use Rattle.std.specs.Prelude.{map};
+    ghost use Rattle.sshcore.specs.ConfigView.{client_data, host_key_of, server_data};
+    ghost use Rattle.sshlab.specs.ScenarioDrafts.{Drafted};
+
+    ghost Value = { Drafted };
+
+    ghost view = { λ d. record {
+      client = client_data d.client;
+      server = server_data d.server;
+      host_keys = map host_key_of d.host_keys.items;
+      rules = d.decisions;
+      steps = d.steps.items;
+      settings = d.settings.items;
+    } };
 }
 
 impl Draft {
     /// What no lines say.
-    pub(crate) fn new(alloc: Global) -> Result<Draft, Memory> {
+    pub(crate) fn new(alloc: Global) -> Result<Draft, Memory>
+        ensures { IfOk result (λ draft. draft ≡ no_lines) }
+    {
         Ok(Draft {
             client: lab_client_parts(alloc)?,
             server: lab_server_parts(alloc)?,
@@ -61,8 +77,13 @@ impl Draft {
         })
     }
 
-    /// Reads one more line, without its LF.
-    pub(crate) fn read(&mut self, line: &[u8]) -> Result<(), LineFault> {
+    /// Reads one more line, without its LF. A bad line changes nothing; at `Memory` the draft is of no
+    /// more use.
+    pub(crate) fn read(&mut self, line: &[u8]) -> Result<(), LineFault>
+        ensures read { OnOk result (CanFollow self.old.settings line.now × (self.new ≡ after_line self.old line.now)) }
+        ensures form { result ≡ Err fault.Form → CanFollow self.old.settings line.now → ⊥ }
+        ensures unchanged { result ≡ Err fault.Form → self.new ≡ self.old }
+    {
         if let Some(statement) = statement_of(self.alloc, line)? {
             if let Some(setting) = setting_of(&statement) {
                 self.note(setting)?;
@@ -73,14 +94,23 @@ impl Draft {
     }
 
     /// Notes that the setting stood, which is refused the second time.
-    fn note(&mut self, setting: (Side, Setting)) -> Result<(), LineFault> {
-        if self.settings.iter().any(|other| *other == setting) {
+    fn note(&mut self, setting: (Side, Setting)) -> Result<(), LineFault>
+        ensures new { OnOk result (Contains self.old.settings setting → ⊥) }
+        ensures noted { OnOk result (self.new ≡ record self.old { settings = self.old.settings ++ setting ∷ [] }) }
+        ensures form { result ≡ Err fault.Form → Contains self.old.settings setting }
+        ensures unchanged { OnErr result (self.new ≡ self.old) }
+    {
+        if self.settings.contains(&setting) {
             return Err(LineFault::Form);
         }
         self.settings.push(setting).map_err(|_| LineFault::Memory)
     }
 
-    fn accept(&mut self, statement: Statement) -> Result<(), Memory> {
+    /// Puts the statement to what was said before. At `Memory` nothing is changed.
+    fn accept(&mut self, statement: Statement) -> Result<(), Memory>
+        ensures done { OnOk result (self.new ≡ after self.old (saying_of statement)) }
+        ensures memory { OnErr result (self.new ≡ self.old) }
+    {
         match statement {
             Statement::Either(Side::Client, setting) => set_side(&mut self.client.side, setting),
             Statement::Either(Side::Server, setting) => set_side(&mut self.server.side, setting),
@@ -90,91 +120,69 @@ impl Draft {
             Statement::HostKey(key) => self.host_keys.push(key)?,
             Statement::Notice(line) => self.server.notice_lines.push(line)?,
             Statement::Distrust(algorithm) => self.decisions.distrust(&algorithm)?,
-            Statement::Allow { user, credential } => self.allow(&user, &credential)?,
+            Statement::Allow { user, credential } => {
+                allow(&mut self.decisions, &user, &credential)?;
+            }
             Statement::Deny(number) => self.decisions.deny(number)?,
             Statement::Step(step) => self.steps.push(step)?,
         }
         Ok(())
     }
 
-    /// Lets the user in who proves so to be this one. A key whose algorithm isn't a name is no request's.
-    fn allow(&mut self, user: &str, credential: &Credential) -> Result<(), Memory> {
-        if let Credential::PublicKey { algorithm, .. } = credential {
-            if as_name(algorithm.as_bytes()).is_none() {
-                return Ok(());
-            }
+    /// What was said, with the host keys of the lines in the place of the default, if there is one.
+    pub(crate) fn finish(self) -> ScenarioParts
+        ensures client { client_data result.client ≡ self.client }
+        ensures server { server_data result.server ≡ record self.server { host_keys = some_or self.server.host_keys self.host_keys } }
+        ensures decisions { result.decisions ≡ self.rules }
+        ensures steps { result.steps.items ≡ self.steps }
+    {
+        let Draft {
+            client,
+            server,
+            host_keys,
+            decisions,
+            steps,
+            ..
+        } = self;
+        ScenarioParts {
+            client,
+            server: with_keys(server, host_keys),
+            decisions,
+            steps,
         }
-        self.decisions.allow(user, credential)
-    }
-
-    /// Puts the host keys of the lines in the place of the default, if there is one.
-    pub(crate) fn finish(mut self) -> Draft {
-        if !self.host_keys.is_empty() {
-            self.server.host_keys = self.host_keys;
-            self.host_keys = Vec::new(self.alloc);
-        }
-        self
     }
 }
 
-/// The setting that a statement is, with its side, if it stands at most once.
-fn setting_of(statement: &Statement) -> Option<(Side, Setting)> {
-    match statement {
-        Statement::Either(side, setting) => Some((*side, name_of(setting))),
-        Statement::Client(ClientSetting::HostKeyAlgorithms(_)) => {
-            Some((Side::Client, Setting::HostKeyAlgorithms))
-        }
-        Statement::Client(ClientSetting::Guess(_)) => Some((Side::Client, Setting::Guess)),
-        Statement::Server(ServerSetting::Services(_)) => Some((Side::Server, Setting::Services)),
-        Statement::Server(ServerSetting::Methods(_)) => Some((Side::Server, Setting::Methods)),
-        Statement::Server(ServerSetting::Tries(_)) => Some((Side::Server, Setting::Tries)),
-        Statement::Server(ServerSetting::Banner(_)) => Some((Side::Server, Setting::Banner)),
-        _ => None,
+/// The server's parts with these host keys in the place of its own, if there is one.
+fn with_keys(server: ServerParts, host_keys: Vec<HostKey>) -> ServerParts
+    ensures { server_data result ≡ record (server_data server) { host_keys = some_or (server_data server).host_keys (map host_key_of host_keys.items) } }
+{
+    if host_keys.is_empty() {
+        return server;
+    }
+    ServerParts {
+        host_keys,
+        ..server
     }
 }
 
-fn name_of(setting: &SideSetting) -> Setting {
-    match setting {
-        SideSetting::Version(_) => Setting::Version,
-        SideSetting::KexAlgorithms(_) => Setting::KexAlgorithms,
-        SideSetting::EncryptionClientToServer(_) => Setting::EncryptionClientToServer,
-        SideSetting::EncryptionServerToClient(_) => Setting::EncryptionServerToClient,
-        SideSetting::MacClientToServer(_) => Setting::MacClientToServer,
-        SideSetting::MacServerToClient(_) => Setting::MacServerToClient,
-        SideSetting::Strict(_) => Setting::Strict,
-        SideSetting::Cookie(_) => Setting::Cookie,
-        SideSetting::ExchangeRandom(_) => Setting::ExchangeRandom,
-        SideSetting::PaddingSeed(_) => Setting::PaddingSeed,
+/// Lets the user in who proves so to be this one. A key whose algorithm isn't a name is no request's.
+fn allow(decisions: &mut LabDecisions, user: &str, credential: &Credential) -> Result<(), Memory>
+    ensures done { OnOk result (decisions.new ≡ allowing decisions.old user.now (proving_of credential.now)) }
+    ensures memory { OnErr result (decisions.new ≡ decisions.old) }
+{
+    if !can_be_proved(credential) {
+        return Ok(());
     }
+    decisions.allow(user, credential)
 }
 
-fn set_side(parts: &mut SideParts, setting: SideSetting) {
-    match setting {
-        SideSetting::Version(text) => parts.softwareversion = text,
-        SideSetting::KexAlgorithms(names) => parts.kex_algorithms = names,
-        SideSetting::EncryptionClientToServer(names) => parts.encryption_client_to_server = names,
-        SideSetting::EncryptionServerToClient(names) => parts.encryption_server_to_client = names,
-        SideSetting::MacClientToServer(names) => parts.mac_client_to_server = names,
-        SideSetting::MacServerToClient(names) => parts.mac_server_to_client = names,
-        SideSetting::Strict(strict) => parts.strict = strict,
-        SideSetting::Cookie(bytes) => parts.cookie = bytes,
-        SideSetting::ExchangeRandom(bytes) => parts.exchange_random = bytes,
-        SideSetting::PaddingSeed(bytes) => parts.padding_seed = bytes,
-    }
-}
-
-fn set_client(parts: &mut ClientParts, setting: ClientSetting) {
-    match setting {
-        ClientSetting::HostKeyAlgorithms(names) => parts.server_host_key_algorithms = names,
-        ClientSetting::Guess(guess) => parts.guess = guess,
-    }
-}
-
-fn set_server(parts: &mut ServerParts, setting: ServerSetting) {
-    match setting {
-        ServerSetting::Services(names) => parts.services = names,
-        ServerSetting::Methods(names) => parts.methods = names,
-        ServerSetting::Tries(tries) => parts.tries = tries,
-        ServerSetting::Banner(text) => parts.banner = Some(text),
+/// Whether a request can prove this: the algorithm of a key has to be a name.
+fn can_be_proved(credential: &Credential) -> bool
+    ensures { result ≡ can_be_proved (proving_of credential.now) }
+{
+    match credential {
+        Credential::None | Credential::Password(_) => true,
+        Credential::PublicKey { algorithm, .. } => as_name(algorithm.as_bytes()).is_some(),
     }
 }

@@ -1,15 +1,16 @@
 //! What a line of a scenario says.
 
-ghost use Rattle.std.specs.Prelude.{◌≡◌, Err, IfOk, None, Some};
+ghost use Rattle.std.specs.Prelude.{◌≡◌, ◌==◌, Err, IfOk, None, Some, length, option_map};
+ghost use Rattle.std.specs.List.{list_all, list_any};
 ghost use Rattle.sshcore.specs.ConfigView.{proving_of};
 ghost use Rattle.sshlab.specs.ScenarioFields.{side_of};
-ghost use Rattle.sshlab.specs.Scenarios.{client_value, proving, server_value, side_value, step};
-ghost use Rattle.sshlab.specs.ScenarioView.{saying_of, side_value_of};
+ghost use Rattle.sshlab.specs.Scenarios.{client_value, is_line_byte, is_text, proving, said_by, said_in_fields, said_of_client, said_of_server, says_nothing, server_value, side_value, statement, step};
+ghost use Rattle.sshlab.specs.ScenarioView.{saying_of, side_value_of, texts};
 ghost use Rattle.sshlab.specs.declared.scenario_fields.LineFault.TheVariants as fault;
 
-use crate::delivery::{Delivery, Side};
 use crate::scenario_fields::{LineFault, bytes_of, flag_of, list_of, number_of, parts_of, text_of};
 use sshcore::{Attempt, Credential, HostKey};
+use sshworld::{Delivery, Side};
 use std::alloc::Global;
 
 /// The most bytes of a line, without its LF.
@@ -87,56 +88,126 @@ pub(crate) enum ServerSetting {
 /// What a line without its LF says, and nothing if it is empty or a comment.
 ///
 /// A comment begins with `#`. A line has at most 20000 bytes from 32 to 126, also where it is a comment.
-pub(crate) fn statement_of(alloc: Global, line: &[u8]) -> Result<Option<Statement>, LineFault> {
-    if line.len() > LINE_LIMIT || !line.iter().all(|byte| is_line_byte(*byte)) {
+pub(crate) fn statement_of(alloc: Global, line: &[u8]) -> Result<Option<Statement>, LineFault>
+    ensures value { IfOk result (λ said. statement line.now ≡ Some (option_map saying_of said)) }
+    ensures form { result ≡ Err fault.Form → statement line.now ≡ None }
+{
+    if !is_text(line) {
         return Err(LineFault::Form);
     }
-    if line.is_empty() || line[0] == b'#' {
+    if says_nothing(line) {
         return Ok(None);
     }
-    let line = str::from_utf8(line).map_err(|_| LineFault::Form)?;
-    let fields = parts_of(alloc, line, ' ').map_err(|_| LineFault::Memory)?;
-    if fields.iter().any(|field| field.is_empty()) {
-        return Err(LineFault::Form);
+    match str::from_utf8(line) {
+        Ok(line) => Ok(Some(said_in_fields(alloc, line)?)),
+        Err(_) => Err(LineFault::Form),
     }
-    Ok(Some(said_by(alloc, &fields)?))
+}
+
+/// Whether a line is short enough, and has no byte but those from 32 to 126.
+fn is_text(line: &[u8]) -> bool
+    ensures { result ≡ is_text line.now }
+{
+    line.len() <= LINE_LIMIT && are_line_bytes(line)
+}
+
+fn are_line_bytes(bytes: &[u8]) -> bool
+    ensures { result ≡ list_all is_line_byte bytes.now }
+{
+    bytes.iter().all(|byte| is_line_byte(*byte))
 }
 
 /// Whether a line may have the byte.
-fn is_line_byte(byte: u8) -> bool {
+fn is_line_byte(byte: u8) -> bool
+    ensures { result ≡ is_line_byte byte }
+{
     (32..=126).contains(&byte)
 }
 
+/// Whether a line is empty or a comment.
+fn says_nothing(line: &[u8]) -> bool
+    ensures { result ≡ says_nothing line.now }
+{
+    line.is_empty() || line[0] == b'#'
+}
+
+/// What is said by the fields between the blanks of a line.
+fn said_in_fields(alloc: Global, line: &str) -> Result<Statement, LineFault>
+    ensures value { IfOk result (λ said. said_in_fields line.now ≡ Some (saying_of said)) }
+    ensures form { result ≡ Err fault.Form → said_in_fields line.now ≡ None }
+{
+    let fields = parts_of(alloc, line, ' ')?;
+    if has_empty(&fields) {
+        return Err(LineFault::Form);
+    }
+    said_by(alloc, &fields)
+}
+
+/// Whether a field is empty.
+fn has_empty(fields: &[&str]) -> bool
+    ensures { result ≡ list_any (λ field. length field.now == 0) fields.now }
+{
+    fields.iter().any(|field| field.is_empty())
+}
+
 /// What the fields of a line say.
-fn said_by(alloc: Global, fields: &[&str]) -> Result<Statement, LineFault> {
+#[tactic(auto, unfolding(crate::specs::Scenarios::said_by))]
+fn said_by(alloc: Global, fields: &[&str]) -> Result<Statement, LineFault>
+    ensures value { IfOk result (λ said. said_by (texts fields.now) ≡ Some (saying_of said)) }
+    ensures form { result ≡ Err fault.Form → said_by (texts fields.now) ≡ None }
+{
     match *fields {
-        ["client", "try", user, service, ref proof @ ..] => Ok(Statement::Try(Attempt {
-            user: text_of(alloc, user)?,
-            service: text_of(alloc, service)?,
-            credential: credential_of(alloc, proof)?,
-        })),
-        ["client", name, value] => client_setting(alloc, name, value),
-        ["server", "hostkey", algorithm, private_key] => Ok(Statement::HostKey(HostKey {
-            algorithm: text_of(alloc, algorithm)?,
-            private_key: bytes_of(alloc, private_key)?,
-        })),
-        ["server", "notice", line] => Ok(Statement::Notice(bytes_of(alloc, line)?)),
-        ["server", name, value] => server_setting(alloc, name, value),
+        ["client", ref rest @ ..] => said_of_client(alloc, rest),
+        ["server", ref rest @ ..] => said_of_server(alloc, rest),
         ["distrust", algorithm] => Ok(Statement::Distrust(text_of(alloc, algorithm)?)),
         ["allow", user, ref proof @ ..] => Ok(Statement::Allow {
             user: text_of(alloc, user)?,
             credential: credential_of(alloc, proof)?,
         }),
         ["deny", number] => Ok(Statement::Deny(number_of(number)?)),
-        _ => step_by(fields).map(Statement::Step),
+        _ => Ok(Statement::Step(step_by(fields)?)),
+    }
+}
+
+/// What is said by the fields behind `client`.
+#[tactic(auto, unfolding(crate::specs::Scenarios::said_of_client))]
+fn said_of_client(alloc: Global, fields: &[&str]) -> Result<Statement, LineFault>
+    ensures value { IfOk result (λ said. said_of_client (texts fields.now) ≡ Some (saying_of said)) }
+    ensures form { result ≡ Err fault.Form → said_of_client (texts fields.now) ≡ None }
+{
+    match *fields {
+        ["try", user, service, ref proof @ ..] => Ok(Statement::Try(Attempt {
+            user: text_of(alloc, user)?,
+            service: text_of(alloc, service)?,
+            credential: credential_of(alloc, proof)?,
+        })),
+        [name, value] => client_setting(alloc, name, value),
+        _ => Err(LineFault::Form),
+    }
+}
+
+/// What is said by the fields behind `server`.
+#[tactic(auto, unfolding(crate::specs::Scenarios::said_of_server))]
+fn said_of_server(alloc: Global, fields: &[&str]) -> Result<Statement, LineFault>
+    ensures value { IfOk result (λ said. said_of_server (texts fields.now) ≡ Some (saying_of said)) }
+    ensures form { result ≡ Err fault.Form → said_of_server (texts fields.now) ≡ None }
+{
+    match *fields {
+        ["hostkey", algorithm, private_key] => Ok(Statement::HostKey(HostKey {
+            algorithm: text_of(alloc, algorithm)?,
+            private_key: bytes_of(alloc, private_key)?,
+        })),
+        ["notice", line] => Ok(Statement::Notice(bytes_of(alloc, line)?)),
+        [name, value] => server_setting(alloc, name, value),
+        _ => Err(LineFault::Form),
     }
 }
 
 /// What happens in a world, by the fields of a line.
 #[tactic(auto, unfolding(crate::specs::Scenarios::step))]
 fn step_by(fields: &[&str]) -> Result<Step, LineFault>
-    ensures value { IfOk result (λ done. step fields.now ≡ Some done) }
-    ensures form { result ≡ Err fault.Form → step fields.now ≡ None }
+    ensures value { IfOk result (λ done. step (texts fields.now) ≡ Some done) }
+    ensures form { result ≡ Err fault.Form → step (texts fields.now) ≡ None }
 {
     match *fields {
         ["deliver", side, count] => Ok(Step::Deliver(Delivery {
@@ -170,8 +241,8 @@ fn side_of(field: &str) -> Result<Side, LineFault>
 /// How a user is proved by these fields: `none`, `password HEX` or `publickey ALG HEX`.
 #[tactic(auto, unfolding(crate::specs::Scenarios::proving))]
 fn credential_of(alloc: Global, fields: &[&str]) -> Result<Credential, LineFault>
-    ensures value { IfOk result (λ credential. proving fields.now ≡ Some (proving_of credential)) }
-    ensures form { result ≡ Err fault.Form → proving fields.now ≡ None }
+    ensures value { IfOk result (λ credential. proving (texts fields.now) ≡ Some (proving_of credential)) }
+    ensures form { result ≡ Err fault.Form → proving (texts fields.now) ≡ None }
 {
     match *fields {
         ["none"] => Ok(Credential::None),

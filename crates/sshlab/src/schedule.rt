@@ -1,11 +1,11 @@
 //! The schedule of `sshlab greet`: deliveries with commas between, as `s5,c99`.
 
-ghost use Rattle.std.specs.Prelude.{◌≡◌, ◌≢◌, IfErr};
+ghost use Rattle.std.specs.Prelude.{◌≡◌, IfErr};
 ghost use Rattle.sshlab.specs.ScenarioFields.{number_of, with_digit};
-ghost use Rattle.sshlab.specs.declared.program.CommandFault.TheVariants as command;
+ghost use Rattle.sshlab.specs.Statuses.{IsNoToolFault};
 
-use crate::delivery::{Delivery, Side};
 use crate::program::CommandFault;
+use sshworld::{Delivery, Side};
 use std::alloc::Global;
 
 /// The most digits of a count, zeros in front included.
@@ -14,7 +14,7 @@ const MOST_DIGITS: usize = 10;
 /// Reads a schedule: items with commas between, each `c` or `s` for the receiver and a count of
 /// one to ten digits, at most 4294967295.
 pub(crate) fn schedule_of(alloc: Global, text: &str) -> Result<Vec<Delivery>, CommandFault>
-    ensures { IfErr result (λ fault. fault ≢ command.Read) }
+    ensures { IfErr result IsNoToolFault }
 {
     let mut schedule = Vec::new(alloc);
     for item in text.split(',') {

@@ -1,9 +1,8 @@
 //! The words of the program, read with `clap`.
 
-ghost use Rattle.std.specs.Prelude.{◌≡◌, ◌≢◌, IfErr, IfOk, IsTrue, Bool, codes};
-ghost use Rattle.sshlab.specs.declared.program.CommandFault.TheVariants as command;
-ghost use Rattle.sshlab.specs.declared.words.Request.TheVariants as asks;
-ghost use Rattle.sshlab.specs.Statuses.{IsFirstWord};
+ghost use Rattle.std.specs.Prelude.{◌≡◌, IfErr, IfOk, IsTrue, List, String};
+ghost use Rattle.std.specs.declared.alloc.Global.{Global};
+ghost use Rattle.sshlab.specs.Statuses.{IsAsked, IsFirstWord, IsNoToolFault};
 
 use crate::program::CommandFault;
 use clap::error::ErrorKind;
@@ -29,14 +28,23 @@ pub(crate) enum Request<'a> {
         /// Whether the session identifier is printed too.
         session: bool,
     },
+    /// A scenario's steps are done.
+    Run {
+        /// Whether the session identifier is printed too.
+        session: bool,
+    },
+    /// What a recording's streams spell is told.
+    Show,
+    /// A recording's streams are judged.
+    Check,
 }
 
 /// Reads the words, the program's name left out.
 ///
 /// A word that begins with `-`, other than `--session`, is refused before anything else is judged.
 pub(crate) fn request_of(alloc: Global, words: &[String]) -> Result<Request<'_>, CommandFault>
-    ensures first { IfOk result (λ found. (session : Bool) → found ≡ asks.Predict session → IsFirstWord (codes "predict") words.now) }
-    ensures fault { IfErr result (λ fault. fault ≢ command.Read) }
+    ensures first { IfOk result (λ found. IsAsked words.now found) }
+    ensures fault { IfErr result IsNoToolFault }
 {
     if words.iter().any(|word| is_foreign_option(word)) {
         return Err(CommandFault::Words);
@@ -54,6 +62,11 @@ pub(crate) fn request_of(alloc: Global, words: &[String]) -> Result<Request<'_>,
         Some(("predict", predict)) if is_first(words, "predict") => Ok(Request::Predict {
             session: predict.get_flag(SESSION_NAME),
         }),
+        Some(("run", run)) if is_first(words, "run") => Ok(Request::Run {
+            session: run.get_flag(SESSION_NAME),
+        }),
+        Some(("show", _)) if is_first(words, "show") => Ok(Request::Show),
+        Some(("check", _)) if is_first(words, "check") => Ok(Request::Check),
         _ => Err(CommandFault::Words),
     }
 }
@@ -70,8 +83,8 @@ fn is_first(words: &[String], name: &str) -> bool
 
 /// The words of `greet`.
 fn greet_of<'a>(greet: &ArgMatches<'a>) -> Result<Request<'a>, CommandFault>
-    ensures first { IfOk result (λ found. (session : Bool) → found ≢ asks.Predict session) }
-    ensures fault { IfErr result (λ fault. fault ≢ command.Read) }
+    ensures first { (words : List (String Global)) → IfOk result (λ found. IsAsked words found) }
+    ensures fault { IfErr result IsNoToolFault }
 {
     match (
         greet.get_str("CLIENT"),
@@ -98,12 +111,6 @@ fn command<'a>(alloc: Global) -> Result<Command<'a>, AllocError> {
         .arg(Arg::new(alloc, "CLIENT").required(true))?
         .arg(Arg::new(alloc, "SERVER").required(true))?
         .arg(Arg::new(alloc, "SCHEDULE").required(true))?;
-    let session = Arg::new(alloc, SESSION_NAME)
-        .long(SESSION_NAME)
-        .action(ArgAction::SetTrue);
-    let predict = Command::new(alloc, "predict")
-        .disable_help_flag(true)
-        .arg(session)?;
     Command::new(alloc, "sshlab")
         .no_binary_name(true)
         .disable_help_subcommand(true)
@@ -111,5 +118,18 @@ fn command<'a>(alloc: Global) -> Result<Command<'a>, AllocError> {
         .disable_version_flag(true)
         .subcommand_required(true)
         .subcommand(greet)?
-        .subcommand(predict)
+        .subcommand(of_scenario(alloc, "predict")?)?
+        .subcommand(of_scenario(alloc, "run")?)?
+        .subcommand(Command::new(alloc, "show").disable_help_flag(true))?
+        .subcommand(Command::new(alloc, "check").disable_help_flag(true))
+}
+
+/// The form of the words that ask for something of a scenario: this one, and perhaps `--session`.
+fn of_scenario<'a>(alloc: Global, name: &'a str) -> Result<Command<'a>, AllocError> {
+    let session = Arg::new(alloc, SESSION_NAME)
+        .long(SESSION_NAME)
+        .action(ArgAction::SetTrue);
+    Command::new(alloc, name)
+        .disable_help_flag(true)
+        .arg(session)
 }

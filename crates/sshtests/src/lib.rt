@@ -51,6 +51,12 @@ mod prediction;
 #[cfg(test)]
 mod program;
 #[cfg(test)]
+mod recorded_sessions;
+#[cfg(test)]
+mod recordings;
+#[cfg(test)]
+mod runs;
+#[cfg(test)]
 mod scenarios;
 #[cfg(test)]
 mod streams;

@@ -1,8 +1,9 @@
-//! Examples of `sshlab greet` on `tool`, words that are refused, and writes that fail.
+//! Examples of `sshlab greet` on `tool`, words that are refused, and reads and writes that fail.
 
 ghost use Rattle.std.specs.Prelude.{◌≡◌, false};
 
 use crate::helpers::{prefix_of, same, same_count};
+use crate::streams::Breaking;
 use sshlab::{Broken, Sink, StreamSource, refuse_words, tool};
 use std::alloc::{AllocError, Global};
 use std::io;
@@ -11,30 +12,30 @@ use std::test::Fail;
 
 /// What a full sink answers.
 #[derive(Clone, Copy, Debug, PartialEq)]
-enum WhenFull {
+pub(crate) enum WhenFull {
     Fails,
     TakesNone,
 }
 
 /// A sink that has room for so many bytes, and takes at most `step` of them a call.
 #[derive(Drop)]
-struct LimitedSink {
-    bytes: Vec<u8>,
+pub(crate) struct LimitedSink {
+    pub(crate) bytes: Vec<u8>,
     room: usize,
     step: usize,
     full: WhenFull,
-    failed: bool,
+    pub(crate) failed: bool,
 }
 
 impl LimitedSink {
     /// As much room as is wanted.
-    fn ample(alloc: Global) -> LimitedSink
+    pub(crate) fn ample(alloc: Global) -> LimitedSink
         ensures { result.failed ≡ false }
     {
         LimitedSink::of(alloc, usize::MAX, usize::MAX, WhenFull::Fails)
     }
 
-    fn of(alloc: Global, room: usize, step: usize, full: WhenFull) -> LimitedSink
+    pub(crate) fn of(alloc: Global, room: usize, step: usize, full: WhenFull) -> LimitedSink
         ensures { result.failed ≡ false }
     {
         LimitedSink {
@@ -231,7 +232,11 @@ const REFUSED: &[(&str, &str)] = &[
     ("greet|-a|b-c|x", "bad words\n"),
     ("greet|a|b|s5|--session", "bad words\n"),
     ("--session|greet|a|b|s5", "bad words\n"),
-    ("run", "bad words\n"),
+    ("run|a", "bad words\n"),
+    ("run|help", "bad words\n"),
+    ("run|--help", "bad words\n"),
+    ("run|-", "bad words\n"),
+    ("run|predict", "bad words\n"),
     ("run|--session|--session", "bad words\n"),
     ("--session|run", "bad words\n"),
     ("predict|--session|--session", "bad words\n"),
@@ -241,8 +246,15 @@ const REFUSED: &[(&str, &str)] = &[
     ("predict|-", "bad words\n"),
     ("--session|predict", "bad words\n"),
     ("greet|predict", "bad words\n"),
-    ("show", "bad words\n"),
-    ("check", "bad words\n"),
+    ("show|--session", "bad words\n"),
+    ("--session|show", "bad words\n"),
+    ("show|a", "bad words\n"),
+    ("show|help", "bad words\n"),
+    ("show|--help", "bad words\n"),
+    ("show|check", "bad words\n"),
+    ("check|--session", "bad words\n"),
+    ("check|-", "bad words\n"),
+    ("Check", "bad words\n"),
 ];
 
 /// The words have to be refused with this fault, and nothing to be printed.
@@ -296,41 +308,103 @@ fn refuses_words_that_are_no_text(rt: HostRuntime) {
     );
 }
 
-/// Words, and what is printed for them.
-const GREETED: (&str, &[u8]) = (
-    "greet|alpha|beta|s5,c99,s99",
-    b"client got SSH-2.0-beta\nserver got SSH-2.0-alpha\ncomplete yes\n",
-);
+/// Words, what there is to read, and what is printed for them.
+type Printed = (&'static str, &'static str, &'static str);
 
-/// The greeting has to be printed up to what there is room for, and the failed write to be told.
-fn breaks_at(rt: &impl Abort, alloc: Global, words: &[String], room: usize, full: WhenFull) {
+/// What is printed by each subcommand.
+const PRINTED: &[Printed] = &[
+    (
+        "greet|alpha|beta|s5,c99,s99",
+        "",
+        "client got SSH-2.0-beta\nserver got SSH-2.0-alpha\ncomplete yes\n",
+    ),
+    (
+        "run",
+        "settle 5",
+        "client failed F14\nserver closed 14\ncomplete yes\n",
+    ),
+    (
+        "predict",
+        "settle 5",
+        "client failed F14\nserver closed 14\n",
+    ),
+];
+
+/// The output has to be printed up to what there is room for, and the failed write to be told.
+fn breaks_at(
+    rt: &impl Abort,
+    alloc: Global,
+    printed: &Printed,
+    room: usize,
+    full: WhenFull,
+) -> Result<(), Fail> {
+    let (words, text, wanted) = printed;
+    let words = words_of(alloc, words)?;
     let mut output = LimitedSink::of(alloc, room, 7, full);
     let mut faults = LimitedSink::ample(alloc);
-    let status = status_of(alloc, words, &mut output, &mut faults);
+    let status = status_at(alloc, &words, text.as_bytes(), &mut output, &mut faults);
     same_count(rt, usize::from(status), 4);
-    same(rt, &output.bytes, prefix_of(GREETED.1, room));
+    same(rt, &output.bytes, prefix_of(wanted.as_bytes(), room));
     same(rt, &faults.bytes, b"write failed\n");
     assert!(rt; output.failed());
+    Ok(())
 }
 
-/// The greeting has to be printed whole where there is room for it.
-fn is_whole(rt: &impl Abort, alloc: Global, words: &[String]) {
-    let mut output = LimitedSink::of(alloc, GREETED.1.len(), 1, WhenFull::Fails);
+/// The output has to be printed whole where there is room for it.
+fn is_whole(rt: &impl Abort, alloc: Global, printed: &Printed) -> Result<(), Fail> {
+    let (words, text, wanted) = printed;
+    let words = words_of(alloc, words)?;
+    let mut output = LimitedSink::of(alloc, wanted.len(), 1, WhenFull::Fails);
     let mut faults = LimitedSink::ample(alloc);
-    let status = status_of(alloc, words, &mut output, &mut faults);
+    let status = status_at(alloc, &words, text.as_bytes(), &mut output, &mut faults);
     same_count(rt, usize::from(status), 0);
-    same(rt, &output.bytes, GREETED.1);
+    same(rt, &output.bytes, wanted.as_bytes());
+    Ok(())
+}
+
+/// The output has to break wherever there is no more room, and to be whole where there is.
+fn breaks_anywhere(rt: &impl Abort, alloc: Global, printed: &Printed) -> Result<(), Fail> {
+    for room in 0..printed.2.len() {
+        breaks_at(rt, alloc, printed, room, WhenFull::Fails)?;
+        breaks_at(rt, alloc, printed, room, WhenFull::TakesNone)?;
+    }
+    is_whole(rt, alloc, printed)
 }
 
 #[test]
 fn tells_a_failed_write(rt: HostRuntime) -> Result<(), Fail> {
     let alloc = rt.alloc();
-    let words = words_of(alloc, GREETED.0)?;
-    for room in 0..GREETED.1.len() {
-        breaks_at(&rt, alloc, &words, room, WhenFull::Fails);
-        breaks_at(&rt, alloc, &words, room, WhenFull::TakesNone);
+    for printed in PRINTED {
+        breaks_anywhere(&rt, alloc, printed)?;
     }
-    is_whole(&rt, alloc, &words);
+    Ok(())
+}
+
+/// A read that fails behind so many bytes has to be told, and nothing to be printed.
+fn tells_a_failed_read_behind(
+    rt: &impl Abort,
+    alloc: Global,
+    words: &str,
+    count: u8,
+) -> Result<(), Fail> {
+    let words = words_of(alloc, words)?;
+    let mut input = StreamSource::new(Breaking { calls: count });
+    let mut output = LimitedSink::ample(alloc);
+    let mut faults = LimitedSink::ample(alloc);
+    let status = tool(alloc, &words, &mut input, &mut output, &mut faults);
+    same_count(rt, usize::from(status), 4);
+    same(rt, &output.bytes, b"");
+    same(rt, &faults.bytes, b"read failed\n");
+    Ok(())
+}
+
+#[test]
+fn tells_a_failed_read(rt: HostRuntime) -> Result<(), Fail> {
+    let alloc = rt.alloc();
+    for words in ["run", "run|--session", "predict"] {
+        tells_a_failed_read_behind(&rt, alloc, words, 0)?;
+        tells_a_failed_read_behind(&rt, alloc, words, 3)?;
+    }
     Ok(())
 }
 
@@ -357,7 +431,8 @@ fn keeps_the_status_where_no_fault_can_be_told(rt: HostRuntime) -> Result<(), Fa
     keeps(&rt, alloc, "help", WhenFull::Fails, 2)?;
     keeps(&rt, alloc, "help", WhenFull::TakesNone, 2)?;
     keeps(&rt, alloc, "greet|a|b|s5", WhenFull::Fails, 4)?;
-    keeps(&rt, alloc, "greet|a|b|s5", WhenFull::TakesNone, 4)
+    keeps(&rt, alloc, "greet|a|b|s5", WhenFull::TakesNone, 4)?;
+    keeps(&rt, alloc, "run", WhenFull::Fails, 4)
 }
 
 /// A softwareversion of so many `x` has to bring this status.

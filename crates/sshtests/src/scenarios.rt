@@ -1,293 +1,304 @@
-//! Scenarios that `tool` predicts, and those that it refuses.
+//! Scenarios that `tool` predicts and runs, and those that it refuses.
 
 use crate::program::{Said, say_at, words_of};
 use std::alloc::Global;
 use std::process::Abort;
 use std::test::Fail;
 
-/// How a client without a plan ends, and its server.
-const UNTRIED: &str = "client failed F14\nserver closed 14\n";
+/// How both sides of a scenario stand, and what was agreed.
+pub(crate) type Told = (&'static str, &'static str);
 
-/// The only attempt is let in.
-const LET_IN: &str =
-    "client authenticated al ssh-connection\nserver authenticated al ssh-connection\nkex a\nhostkey h\ncipher_cs c\ncipher_sc c\nmac_cs m\nmac_sc m\nstrict yes\n";
+/// How a client without a plan ends, and its server.
+pub(crate) const UNTRIED: Told = ("client failed F14\nserver closed 14\n", "");
+
+/// The ends where `al` is let in.
+const AL_IN: &str =
+    "client authenticated al ssh-connection\nserver authenticated al ssh-connection\n";
+
+/// What is agreed where nothing differs from the defaults.
+pub(crate) const AGREED: &str =
+    "kex a\nhostkey h\ncipher_cs c\ncipher_sc c\nmac_cs m\nmac_sc m\nstrict yes\n";
 
 /// The same where a side isn't willing to be strict.
-const LOOSELY_LET_IN: &str =
-    "client authenticated al ssh-connection\nserver authenticated al ssh-connection\nkex a\nhostkey h\ncipher_cs c\ncipher_sc c\nmac_cs m\nmac_sc m\nstrict no\n";
+const LOOSELY_AGREED: &str =
+    "kex a\nhostkey h\ncipher_cs c\ncipher_sc c\nmac_cs m\nmac_sc m\nstrict no\n";
+
+/// The only attempt is let in.
+pub(crate) const LET_IN: Told = (AL_IN, AGREED);
+
+/// The same where a side isn't willing to be strict.
+const LOOSELY_LET_IN: Told = (AL_IN, LOOSELY_AGREED);
 
 /// The same with other names agreed on.
-const OTHERWISE_LET_IN: &str =
-    "client authenticated al ssh-connection\nserver authenticated al ssh-connection\nkex b\nhostkey i\ncipher_cs d\ncipher_sc e16\nmac_cs n\nmac_sc o\nstrict yes\n";
+const OTHERWISE_LET_IN: Told = (
+    AL_IN,
+    "kex b\nhostkey i\ncipher_cs d\ncipher_sc e16\nmac_cs n\nmac_sc o\nstrict yes\n",
+);
 
 /// A key exchange method that needs encryption is agreed on.
-const LET_IN_BY_ENCRYPTION: &str =
-    "client authenticated al ssh-connection\nserver authenticated al ssh-connection\nkex x\nhostkey e\ncipher_cs c\ncipher_sc c\nmac_cs m\nmac_sc m\nstrict yes\n";
+const LET_IN_BY_ENCRYPTION: Told = (
+    AL_IN,
+    "kex x\nhostkey e\ncipher_cs c\ncipher_sc c\nmac_cs m\nmac_sc m\nstrict yes\n",
+);
 
 /// The second attempt is let in.
-const SECOND_LET_IN: &str =
-    "client authenticated bo ssh-connection\nserver authenticated bo ssh-connection\nkex a\nhostkey h\ncipher_cs c\ncipher_sc c\nmac_cs m\nmac_sc m\nstrict yes\n";
+pub(crate) const SECOND_LET_IN: Told = (
+    "client authenticated bo ssh-connection\nserver authenticated bo ssh-connection\n",
+    AGREED,
+);
+
+/// The same as `AGREED`, with the session identifier.
+pub(crate) const AGREED_WITH_SESSION: &str =
+    "kex a\nhostkey h\ncipher_cs c\ncipher_sc c\nmac_cs m\nmac_sc m\nstrict yes\nsession 3f853a2b9a90593e300a890f25da4d7701e90cbcb363492bf0cd73f6d03ecc9b\n";
 
 /// The only attempt is let in, and the session identifier is asked for.
-const LET_IN_WITH_SESSION: &str =
-    "client authenticated al ssh-connection\nserver authenticated al ssh-connection\nkex a\nhostkey h\ncipher_cs c\ncipher_sc c\nmac_cs m\nmac_sc m\nstrict yes\nsession 3f853a2b9a90593e300a890f25da4d7701e90cbcb363492bf0cd73f6d03ecc9b\n";
+pub(crate) const LET_IN_WITH_SESSION: Told = (AL_IN, AGREED_WITH_SESSION);
 
 /// The same where the client isn't willing to be strict.
-const LOOSELY_LET_IN_WITH_SESSION: &str =
-    "client authenticated al ssh-connection\nserver authenticated al ssh-connection\nkex a\nhostkey h\ncipher_cs c\ncipher_sc c\nmac_cs m\nmac_sc m\nstrict no\nsession 199b8e212760b47d8edb19fd10e971d0d967c406528ff4fe227ba2c8973da6dc\n";
+const LOOSELY_LET_IN_WITH_SESSION: Told = (
+    AL_IN,
+    "kex a\nhostkey h\ncipher_cs c\ncipher_sc c\nmac_cs m\nmac_sc m\nstrict no\nsession 199b8e212760b47d8edb19fd10e971d0d967c406528ff4fe227ba2c8973da6dc\n",
+);
 
 /// Too many tries.
-const TRIED_OUT: &str = "client closed 14\nserver failed F13\n";
+pub(crate) const TRIED_OUT: Told = ("client closed 14\nserver failed F13\n", "");
 
 /// The service isn't there.
-const NO_SERVICE: &str = "client closed 7\nserver failed F12\n";
+pub(crate) const NO_SERVICE: Told = ("client closed 7\nserver failed F12\n", "");
 
-/// Words, a scenario, and what is printed for it.
-type Predicted = (&'static str, &'static str, &'static str);
+/// No key exchange method in common.
+pub(crate) const NO_KEX: Told = ("client failed F8 kex\nserver failed F8 kex\n", "");
 
-/// Scenarios whose deliveries, if any, make no difference.
+/// No host key in common.
+const NO_HOST_KEY: Told = ("client failed F8 hostkey\nserver failed F8 hostkey\n", "");
+
+/// No cipher in common to the server.
+const NO_CIPHER_CS: Told = (
+    "client failed F8 cipher_cs\nserver failed F8 cipher_cs\n",
+    "",
+);
+
+/// No cipher in common to the client.
+const NO_CIPHER_SC: Told = (
+    "client failed F8 cipher_sc\nserver failed F8 cipher_sc\n",
+    "",
+);
+
+/// No MAC in common to the server.
+const NO_MAC_CS: Told = ("client failed F8 mac_cs\nserver failed F8 mac_cs\n", "");
+
+/// No MAC in common to the client.
+const NO_MAC_SC: Told = ("client failed F8 mac_sc\nserver failed F8 mac_sc\n", "");
+
+/// The host key isn't trusted.
+pub(crate) const DISTRUSTED: Told = ("client failed F10\nserver closed 9\n", "");
+
+/// Words behind the command, a scenario, and how it is predicted.
+type Predicted = (&'static str, &'static str, Told);
+
+/// Scenarios, and how they end once all that waits is delivered.
 const PREDICTED: &[Predicted] = &[
-    ("predict", "", UNTRIED),
-    ("predict", "\n\n# nothing\n", UNTRIED),
-    ("predict", "settle 5", UNTRIED),
-    ("predict", "settle 5\n", UNTRIED),
+    ("", "", UNTRIED),
+    ("", "\n\n# nothing\n", UNTRIED),
+    ("", "settle 5", UNTRIED),
+    ("", "settle 5\n", UNTRIED),
     (
-        "predict",
+        "",
         "settle 0\ndeliver client 0\ndeliver server 4294967295\nsettle 1000",
         UNTRIED,
     ),
-    ("predict|--session", "settle 5", UNTRIED),
+    ("|--session", "settle 5", UNTRIED),
     (
-        "predict",
+        "",
         "client try al ssh-connection none\nallow al none\nsettle 6",
         LET_IN,
     ),
     (
-        "predict",
+        "",
         "client try al ssh-connection none\nallow al none\nsettle 3",
         LET_IN,
     ),
     (
-        "predict",
+        "",
         "client try al ssh-connection none\nallow al none\nsettle 3\ndeliver server 79",
         LET_IN,
     ),
     (
-        "predict",
+        "",
         "client try al ssh-connection none\nallow al none\nsettle 3\ndeliver server 80",
         LET_IN,
     ),
     (
-        "predict",
+        "",
         "client try al ssh-connection none\nallow al none",
         LET_IN,
     ),
     (
-        "predict",
+        "",
         "allow al none\n\n# al\nclient try al ssh-connection none\n",
         LET_IN,
     ),
     (
-        "predict|--session",
+        "|--session",
         "client try al ssh-connection none\nallow al none",
         LET_IN_WITH_SESSION,
     ),
     (
-        "predict|--session",
+        "|--session",
         "client try al ssh-connection none\nallow al none\nclient strict no",
         LOOSELY_LET_IN_WITH_SESSION,
     ),
     (
-        "predict",
+        "",
         "client try al ssh-connection none\nallow al none\nclient strict no",
         LOOSELY_LET_IN,
     ),
     (
-        "predict",
+        "",
         "client try al ssh-connection none\nallow al none\nserver strict no",
         LOOSELY_LET_IN,
     ),
     (
-        "predict",
+        "",
         "client try al ssh-connection none\nallow al none\nclient guess yes",
         LET_IN,
     ),
     (
-        "predict",
+        "",
         "client try al ssh-connection none\nallow al none\nsettle 6\nclient guess yes\nclient kex a,b\nserver kex b,a",
         LET_IN,
     ),
     (
-        "predict",
+        "",
         "client try al ssh-connection none\nallow al none\nclient guess yes\nclient kex a,b\nserver kex b,a\nclient strict no",
         LOOSELY_LET_IN,
     ),
     (
-        "predict",
+        "",
         "client try al ssh-connection none\nallow al none\nclient kex b\nserver kex c,b\nclient hostkey j,i,h\nserver hostkey h 00\nserver hostkey i 01\nclient cipher_cs c,d\nserver cipher_cs d\nclient cipher_sc e16\nserver cipher_sc c,e16\nclient mac_cs n\nserver mac_cs n\nclient mac_sc o,m\nserver mac_sc m,o",
         OTHERWISE_LET_IN,
     ),
     (
-        "predict",
+        "",
         "client try al ssh-connection none\nallow al none\nclient kex x\nserver kex x\nclient hostkey h,e\nserver hostkey h 00\nserver hostkey e 00",
         LET_IN_BY_ENCRYPTION,
     ),
     (
-        "predict",
+        "",
         "client try al ssh-connection password 00\nallow al password 00",
         LET_IN,
     ),
     (
-        "predict",
+        "",
         "client try al ssh-connection password aB\nallow al password Ab",
         LET_IN,
     ),
     (
-        "predict",
+        "",
         "client try al ssh-connection password -\nallow al password -",
         LET_IN,
     ),
     (
-        "predict",
+        "",
         "client try al ssh-connection publickey h 00\nallow al publickey h 00",
         LET_IN,
     ),
     (
-        "predict",
+        "",
         "client try al ssh-connection publickey h 00\nallow al publickey h 01",
         UNTRIED,
     ),
     (
-        "predict",
+        "",
         "client try al ssh-connection publickey h 00\nallow al publickey i 00",
         UNTRIED,
     ),
     (
-        "predict",
+        "",
         "client try al ssh-connection password 00\nallow al password 0000",
         UNTRIED,
     ),
     (
-        "predict",
+        "",
         "client try al ssh-connection password 00\nallow bo password 00",
         UNTRIED,
     ),
     (
-        "predict",
+        "",
         "client try al ssh-connection password 00\nallow al password 00\nserver methods publickey",
         UNTRIED,
     ),
     (
-        "predict",
+        "",
         "client try al ssh-connection none\nallow al none\nserver methods -",
         LET_IN,
     ),
     (
-        "predict",
+        "",
         "client try al ssh-connection none\nallow al none\ndeny 1",
         UNTRIED,
     ),
     (
-        "predict",
+        "",
         "client try al ssh-connection none\nallow al none\ndeny 2",
         LET_IN,
     ),
     (
-        "predict",
+        "",
         "client try al ssh-connection none\nallow al none\nserver banner 6869\nserver notice 61\nserver notice -",
         LET_IN,
     ),
     (
-        "predict",
+        "",
         "client try al ssh-connection none\nallow al none\nserver services odd,ssh-connection",
         LET_IN,
     ),
     (
-        "predict",
+        "",
         "client try al ssh-connection none\nallow al none\nserver services -",
         NO_SERVICE,
     ),
     (
-        "predict",
+        "",
         "client try al ssh-connection none\nserver tries 1\nsettle 6",
         TRIED_OUT,
     ),
     (
-        "predict",
+        "",
         "client try al ssh-connection none\nserver tries 2",
         UNTRIED,
     ),
     (
-        "predict",
+        "",
         "client try al ssh-connection none\nclient try bo odd password 00\nallow bo password 00\nsettle 7",
         NO_SERVICE,
     ),
     (
-        "predict",
+        "",
         "client try al ssh-connection none\nclient try bo ssh-connection password 00\nallow bo password 00\nsettle 7",
         SECOND_LET_IN,
     ),
     (
-        "predict",
+        "",
         "client try al ssh-connection none\nclient try bo ssh-connection password 00\nallow bo password 00\ndeny 2",
         UNTRIED,
     ),
     (
-        "predict",
+        "",
         "client try al ssh-connection none\nclient try bo ssh-connection password 00\nserver tries 2",
         TRIED_OUT,
     ),
-    (
-        "predict",
-        "client kex a\nserver kex b\nsettle 5",
-        "client failed F8 kex\nserver failed F8 kex\n",
-    ),
-    (
-        "predict",
-        "client kex x\nserver kex x",
-        "client failed F8 hostkey\nserver failed F8 hostkey\n",
-    ),
-    (
-        "predict",
-        "client hostkey i",
-        "client failed F8 hostkey\nserver failed F8 hostkey\n",
-    ),
-    (
-        "predict",
-        "server hostkey i 00",
-        "client failed F8 hostkey\nserver failed F8 hostkey\n",
-    ),
-    (
-        "predict",
-        "client cipher_cs d",
-        "client failed F8 cipher_cs\nserver failed F8 cipher_cs\n",
-    ),
-    (
-        "predict",
-        "server cipher_sc d",
-        "client failed F8 cipher_sc\nserver failed F8 cipher_sc\n",
-    ),
-    (
-        "predict",
-        "client mac_cs d",
-        "client failed F8 mac_cs\nserver failed F8 mac_cs\n",
-    ),
-    (
-        "predict",
-        "server mac_sc d",
-        "client failed F8 mac_sc\nserver failed F8 mac_sc\n",
-    ),
-    (
-        "predict",
-        "client mac_sc d\nserver cipher_sc d",
-        "client failed F8 cipher_sc\nserver failed F8 cipher_sc\n",
-    ),
-    (
-        "predict",
-        "distrust h\nsettle 5",
-        "client failed F10\nserver closed 9\n",
-    ),
-    ("predict", "distrust i", UNTRIED),
+    ("", "client kex a\nserver kex b\nsettle 5", NO_KEX),
+    ("", "client kex x\nserver kex x", NO_HOST_KEY),
+    ("", "client hostkey i", NO_HOST_KEY),
+    ("", "server hostkey i 00", NO_HOST_KEY),
+    ("", "client cipher_cs d", NO_CIPHER_CS),
+    ("", "server cipher_sc d", NO_CIPHER_SC),
+    ("", "client mac_cs d", NO_MAC_CS),
+    ("", "server mac_sc d", NO_MAC_SC),
+    ("", "client mac_sc d\nserver cipher_sc d", NO_CIPHER_SC),
+    ("", "distrust h\nsettle 5", DISTRUSTED),
+    ("", "distrust i", UNTRIED),
 ];
 
 /// Scenarios, and the fault that is told; where there is none, they end without an attempt.
@@ -420,8 +431,8 @@ type Long = (
     &'static str,
 );
 
-/// The limits of lengths and counts.
-const LIMITS: &[Long] = &[
+/// The limits of names and values, and how many of them there may be.
+const VALUE_LIMITS: &[Long] = &[
     ("client version ", "x", 245, "", ""),
     ("client version ", "x", 246, "", "client config C4\n"),
     ("server version ", "x", 245, "", ""),
@@ -452,50 +463,6 @@ const LIMITS: &[Long] = &[
         65,
         " 00",
         "server config C2\n",
-    ),
-    ("client kex aa", ",a", 499, "", ""),
-    ("client kex a", ",a", 500, "", "client config C3\n"),
-    ("server kex aa", ",a", 499, "", ""),
-    ("server kex a", ",a", 500, "", "server config C3\n"),
-    ("client hostkey hh", ",h", 499, "", ""),
-    ("client hostkey h", ",h", 500, "", "client config C3\n"),
-    ("client cipher_cs cc", ",c", 499, "", ""),
-    ("client cipher_cs c", ",c", 500, "", "client config C3\n"),
-    ("server cipher_sc cc", ",c", 499, "", ""),
-    ("server cipher_sc c", ",c", 500, "", "server config C3\n"),
-    ("server mac_cs mm", ",m", 499, "", ""),
-    ("server mac_cs m", ",m", 500, "", "server config C3\n"),
-    ("client mac_sc mm", ",m", 499, "", ""),
-    ("client mac_sc m", ",m", 500, "", "client config C3\n"),
-    ("server services ss", ",s", 499, "", ""),
-    ("server services s", ",s", 500, "", "server config C3\n"),
-    (
-        "server methods publickey,publickey",
-        ",password",
-        109,
-        "",
-        "",
-    ),
-    (
-        "server methods publickey,publickey,publickey",
-        ",password",
-        108,
-        "",
-        "server config C3\n",
-    ),
-    (
-        "server hostkey hh 00\n",
-        "server hostkey h 00\n",
-        499,
-        "",
-        "",
-    ),
-    (
-        "server hostkey h 00\n",
-        "server hostkey h 00\n",
-        500,
-        "",
-        "server config C3\n",
     ),
     ("", "server notice 61\n", 20, "", ""),
     ("", "server notice 61\n", 21, "", "server config C4\n"),
@@ -557,6 +524,58 @@ const LIMITS: &[Long] = &[
     ("client seed ", "00", 33, "", "client config C10\n"),
     ("server seed ", "00", 31, "", "server config C10\n"),
     ("server seed ", "00", 32, "", ""),
+];
+
+/// The limit of a list, and of the host keys together.
+const LIST_LIMITS: &[Long] = &[
+    ("client kex aa", ",a", 499, "", ""),
+    ("client kex a", ",a", 500, "", "client config C3\n"),
+    ("server kex aa", ",a", 499, "", ""),
+    ("server kex a", ",a", 500, "", "server config C3\n"),
+    ("client hostkey hh", ",h", 499, "", ""),
+    ("client hostkey h", ",h", 500, "", "client config C3\n"),
+    ("client cipher_cs cc", ",c", 499, "", ""),
+    ("client cipher_cs c", ",c", 500, "", "client config C3\n"),
+    ("server cipher_sc cc", ",c", 499, "", ""),
+    ("server cipher_sc c", ",c", 500, "", "server config C3\n"),
+    ("server mac_cs mm", ",m", 499, "", ""),
+    ("server mac_cs m", ",m", 500, "", "server config C3\n"),
+    ("client mac_sc mm", ",m", 499, "", ""),
+    ("client mac_sc m", ",m", 500, "", "client config C3\n"),
+    ("server services ss", ",s", 499, "", ""),
+    ("server services s", ",s", 500, "", "server config C3\n"),
+    (
+        "server methods publickey,publickey",
+        ",password",
+        109,
+        "",
+        "",
+    ),
+    (
+        "server methods publickey,publickey,publickey",
+        ",password",
+        108,
+        "",
+        "server config C3\n",
+    ),
+    (
+        "server hostkey hh 00\n",
+        "server hostkey h 00\n",
+        499,
+        "",
+        "",
+    ),
+    (
+        "server hostkey h 00\n",
+        "server hostkey h 00\n",
+        500,
+        "",
+        "server config C3\n",
+    ),
+];
+
+/// The limits of a line, and of all of them.
+const TEXT_LIMITS: &[Long] = &[
     ("#", "x", 19999, "", ""),
     ("#", "x", 20000, "", "scenario line 1\n"),
     ("#", "x", 19999, "\nclient kex -", "client config C1\n"),
@@ -570,11 +589,14 @@ const LIMITS: &[Long] = &[
     ("x", "\n", 1_048_576, "", "input too long\n"),
 ];
 
-/// What is said of a scenario that has this fault, or that has none and ends without an attempt.
-fn said_of(faults: &str) -> Said<'_> {
+/// So many rounds that nothing waits behind them, as the last line of a scenario.
+const SETTLE: &str = "\nsettle 100\n";
+
+/// What is said of a scenario that has this fault, or that has none and is answered by this output.
+fn said_of<'a>(faults: &'a str, output: &'a str) -> Said<'a> {
     if faults.is_empty() {
         return Said {
-            output: UNTRIED,
+            output,
             faults,
             status: 0,
         };
@@ -587,7 +609,7 @@ fn said_of(faults: &str) -> Said<'_> {
 }
 
 /// The words have to be answered so where this is the input.
-fn is_answered(
+pub(crate) fn is_answered(
     rt: &impl Abort,
     alloc: Global,
     words: &str,
@@ -598,11 +620,66 @@ fn is_answered(
     Ok(())
 }
 
-/// The text of a long scenario.
-fn text_of(alloc: Global, long: &Long) -> Result<Vec<u8>, Fail> {
-    let (before, repeated, count, behind, _) = long;
+/// The scenario has to be predicted so; the option stands behind the command.
+fn is_predicted(
+    rt: &impl Abort,
+    alloc: Global,
+    option: &str,
+    text: &[u8],
+    told: Told,
+) -> Result<(), Fail> {
+    let words = format!(in alloc; "predict{option}")?;
+    let output = format!(in alloc; "{}{}", told.0, told.1)?;
+    is_answered(rt, alloc, &words, text, said_of("", &output))
+}
+
+/// The steps of the scenario have to bring both sides so far, and to leave nothing that waits, or something.
+/// Where nothing waits, the same has to be predicted.
+pub(crate) fn is_run(
+    rt: &impl Abort,
+    alloc: Global,
+    option: &str,
+    text: &[u8],
+    told: Told,
+    complete: bool,
+) -> Result<(), Fail> {
+    let words = format!(in alloc; "run{option}")?;
+    let answer = if complete { "yes" } else { "no" };
+    let output = format!(in alloc; "{}complete {answer}\n{}", told.0, told.1)?;
+    let wanted = Said {
+        output: &output,
+        faults: "",
+        status: if complete { 0 } else { 1 },
+    };
+    is_answered(rt, alloc, &words, text, wanted)?;
+    if complete {
+        is_predicted(rt, alloc, option, text, told)?;
+    }
+    Ok(())
+}
+
+/// The scenario has to be judged so by `predict`, and by `run` with rounds behind its lines.
+fn is_judged(rt: &impl Abort, alloc: Global, text: &str, faults: &str) -> Result<(), Fail> {
+    let wanted = said_of(faults, UNTRIED.0);
+    is_answered(rt, alloc, "predict", text.as_bytes(), wanted)?;
+    let settled = format!(in alloc; "{text}{SETTLE}")?;
+    let wanted = said_of(
+        faults,
+        "client failed F14\nserver closed 14\ncomplete yes\n",
+    );
+    is_answered(rt, alloc, "run", settled.as_bytes(), wanted)
+}
+
+/// A text, another one so many times, and a third.
+pub(crate) fn text_of(
+    alloc: Global,
+    before: &str,
+    repeated: &str,
+    count: usize,
+    behind: &str,
+) -> Result<Vec<u8>, Fail> {
     let mut text = Vec::from_slice(alloc, before.as_bytes())?;
-    for _ in 0..*count {
+    for _ in 0..count {
         text.extend_from_slice(repeated.as_bytes())?;
     }
     text.extend_from_slice(behind.as_bytes())?;
@@ -610,15 +687,12 @@ fn text_of(alloc: Global, long: &Long) -> Result<Vec<u8>, Fail> {
 }
 
 #[test]
-fn predicts_scenarios(rt: HostRuntime) -> Result<(), Fail> {
+fn predicts_and_runs_scenarios(rt: HostRuntime) -> Result<(), Fail> {
     let alloc = rt.alloc();
-    for (words, text, output) in PREDICTED {
-        let wanted = Said {
-            output,
-            faults: "",
-            status: 0,
-        };
-        is_answered(&rt, alloc, words, text.as_bytes(), wanted)?;
+    for (option, text, told) in PREDICTED {
+        is_predicted(&rt, alloc, option, text.as_bytes(), *told)?;
+        let settled = format!(in alloc; "{text}{SETTLE}")?;
+        is_run(&rt, alloc, option, settled.as_bytes(), *told, true)?;
     }
     Ok(())
 }
@@ -627,17 +701,32 @@ fn predicts_scenarios(rt: HostRuntime) -> Result<(), Fail> {
 fn judges_scenarios(rt: HostRuntime) -> Result<(), Fail> {
     let alloc = rt.alloc();
     for (text, faults) in JUDGED {
-        is_answered(&rt, alloc, "predict", text.as_bytes(), said_of(faults))?;
+        is_judged(&rt, alloc, text, faults)?;
+    }
+    Ok(())
+}
+
+/// Each text is told its fault, or is a scenario.
+fn are_judged(rt: &impl Abort, alloc: Global, rows: &[Long]) -> Result<(), Fail> {
+    for (before, repeated, count, behind, faults) in rows {
+        let text = text_of(alloc, before, repeated, *count, behind)?;
+        let wanted = said_of(faults, UNTRIED.0);
+        is_answered(rt, alloc, "predict", &text, wanted)?;
     }
     Ok(())
 }
 
 #[test]
-fn judges_long_scenarios(rt: HostRuntime) -> Result<(), Fail> {
-    let alloc = rt.alloc();
-    for long in LIMITS {
-        let text = text_of(alloc, long)?;
-        is_answered(&rt, alloc, "predict", &text, said_of(long.4))?;
-    }
-    Ok(())
+fn judges_long_values(rt: HostRuntime) -> Result<(), Fail> {
+    are_judged(&rt, rt.alloc(), VALUE_LIMITS)
+}
+
+#[test]
+fn judges_long_lists(rt: HostRuntime) -> Result<(), Fail> {
+    are_judged(&rt, rt.alloc(), LIST_LIMITS)
+}
+
+#[test]
+fn judges_long_texts(rt: HostRuntime) -> Result<(), Fail> {
+    are_judged(&rt, rt.alloc(), TEXT_LIMITS)
 }

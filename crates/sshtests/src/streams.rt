@@ -5,10 +5,10 @@ use sshlab::{Broken, Sink, Source, StreamSink, StreamSource};
 use std::io;
 use std::process::Abort;
 
-/// A reader and writer of std whose second call fails, and whose first moves one byte.
+/// A reader and writer of std that moves one byte a call, so many times, and fails then.
 #[derive(Drop)]
-struct Breaking {
-    calls: u8,
+pub(crate) struct Breaking {
+    pub(crate) calls: u8,
 }
 
 impl io::Read for Breaking {

@@ -29,7 +29,7 @@ use Rattle.sshcore.specs.ConfigData.{Attempt, ByKey, ByNothing, ByPassword, Clie
 use Rattle.sshcore.specs.ConfigRules.{HasShortPassword, IsClient, IsNamed, IsServer}
 use Rattle.sshcore.specs.Counting.{switched_out}
 use Rattle.sshcore.specs.Exchange.{answer_or, secret_of}
-use Rattle.sshcore.specs.Party.{Policy}
+use Rattle.sshcore.specs.Party.{Policy, client_party, server_party}
 use Rattle.sshcore.specs.Work.{init_in, reply_in}
 use Rattle.sshworld.specs.Agreement.{answer_of_server, host_key_of_server, session_between}
 use Rattle.sshworld.specs.Follows.{BothFollow}
@@ -178,6 +178,7 @@ accepted_placed m law below d c s understood client server =
     both_placed m d c s understood (sound m law below c s client server) (offers_read m law below c s client server) (reads_all m law below c s client server d understood)
 
 pub accepted_same_keys : (m : Meaning) → IsLawful m → Below m → (d : Policy) (c : ClientData) (s : ServerData) → AreUnderstood m d c s → IsClient c → IsServer s
-    → (switched_out (said_by_client m d c s) ≡ true) ⊎ (switched_out (said_by_server m d c s) ≡ true) → HaveSameKeys m d c s
+    → (switched_out (said_by_client m d c s) ≡ true) ⊎ (switched_out (said_by_server m d c s) ≡ true)
+    → HaveSameKeys m Client Server (client_party c) (server_party s) (said_by_client m d c s) (said_by_server m d c s)
 accepted_same_keys m law below d c s understood client server =
     same_keys m d c s understood (sound m law below c s client server) (offers_read m law below c s client server) (reads_all m law below c s client server d understood)

@@ -24,8 +24,8 @@ module _ (laws : Laws) (m : Meaning) (d : Policy) (lawful : IsLawful m) (c : Cli
 
   pub course_heard : IsCourseHeard m d c s w of_client of_server
   course_heard =
-      let a : HasHistory m d Client (client_party c) of_client.end (take of_client.used of_server.sent) of_client.sent = on.own_side.replies.history had in
-      let b : HasHistory m d Server (server_party s) of_server.end (take of_server.used of_client.sent) of_server.sent = on.their_side.replies.history other_had in
+      let a : HasHistory m d Client (client_party c) of_client.end (take of_client.used of_server.sent) of_client.sent = on.own_side.replies.replies had in
+      let b : HasHistory m d Server (server_party s) of_server.end (take of_server.used of_client.sent) of_server.sent = on.their_side.replies.replies other_had in
       let cp : Partner = client_partner m d c s w in
       let sp : Partner = server_partner m d c s w in
       record {
@@ -49,6 +49,3 @@ module _ (laws : Laws) (m : Meaning) (d : Policy) (lawful : IsLawful m) (c : Cli
   headline_of complete none =
       let h = course_heard in
       headline m d c s w (told h.client_history) (told h.server_history) h.in_course complete (λ k. let both = none k in h.heard_all both.0 both.1)
-
-  pub headline_heard : Headline (outcome m d c s) of_client.end of_server.end ((waiting of_client of_server ≡ 0) × (waiting of_server of_client ≡ 0))
-  headline_heard = headline_of ((waiting of_client of_server ≡ 0) × (waiting of_server of_client ≡ 0)) (λ k. k)

@@ -17,9 +17,9 @@ use Rattle.sshworld.specs.declared.side.Side.{Side}
 use Rattle.sshworld.specs.declared.side.Side.TheVariants.{Client, Server}
 use Rattle.sshworld.specs.Conversed.{EachReplies}
 use Rattle.sshworld.specs.Deliveries.{Delivered, Done, Refused, Round, RoundInto, Rounds, RoundsInto, Runs, RunsInto, TakesIn}
-use Rattle.sshworld.specs.Stands.{NodeStands, NodesStand, Receives, ReceivesInto, ReceivesNone, ReceivesSome, half_of, seen}
+use Rattle.sshworld.specs.Stands.{BrokenWith, NodeStands, NodesStand, Receives, ReceivesInto, ReceivesNone, ReceivesSome, half_of, seen}
 use Rattle.sshworld.specs.Worlds.{HadMemory, IsSameSetup, WorldData, waiting_for}
-use Rattle.sshworld.proofs.StandsLemmas.{receiver_stands, sender_stands, sent_on, side_replies}
+use Rattle.sshworld.proofs.StandsLemmas.{breaks_off, receiver_stands, sender_stands, sent_on, side_replies}
 
 module _ {T E : Type 0} where
   pub if_ok : {P Q R : T → Type 0} (r : Result T E) → IfOk r P → IfOk r Q → ((x : T) → P x → Q x → R x) → IfOk r R
@@ -55,12 +55,6 @@ module _ {S D : Type 0} where
   pub round_more : (n : ℕ) (old mid new : WorldData S D) → Rounds n old mid → Round mid new → Rounds (n + 1) old new
   round_more n old mid new later r = let one : suc n ≡ n + 1 = omega arith in subst (λ (k : ℕ). Rounds k old new) one (rounds_push n old mid new later r)
 
-  -- a round for which memory was wanting
-  pub rounds_into : (rounds n : ℕ) (old mid new : WorldData S D) → n < rounds → Rounds n old mid → RoundInto mid new → RoundsInto rounds old new
-  rounds_into zero n old mid new lt before r = absurd (omega arith)
-  rounds_into (suc rounds) zero old mid new lt e r = inl (subst (λ (w : WorldData S D). RoundInto w new) e r)
-  rounds_into (suc rounds) (suc n) old mid new lt (next, first, later) r = inr (next, first, rounds_into rounds n next mid new (omega arith) later r)
-
   runs_push : (ds : List Delivery) (d : Delivery) (old mid new : WorldData S D) → Runs ds old mid → Done d mid new → Runs (ds ++ d ∷ []) old new
   runs_push [] d old mid new e r = (new, subst (λ (w : WorldData S D). Done d w new) e r, refl)
   runs_push (x ∷ ds) d old mid new (next, first, later) r = (next, first, runs_push ds d next mid new later r)
@@ -72,11 +66,18 @@ module _ {S D : Type 0} where
       subst (λ (q : List Delivery). Runs q old new) (sym (take_more ds i default lt))
       (runs_push (take i ds) (get_or ds i default) old mid new r (subst (λ (k : ℕ). Delivered (get_or ds i default).to k mid new) count d))
 
-  -- a delivery for which memory was wanting
+module _ {S D : Type 0} (meaning : S → Meaning) (policy : D → Policy) where
+  -- a round for which memory was wanting
+  pub rounds_into : (rounds n : ℕ) (old mid new : WorldData S D) → n < rounds → Rounds n old mid → RoundInto meaning policy mid new → RoundsInto meaning policy rounds old new
+  rounds_into zero n old mid new lt before r = absurd (omega arith)
+  rounds_into (suc rounds) zero old mid new lt e r = inl (subst (λ (w : WorldData S D). RoundInto meaning policy w new) e r)
+  rounds_into (suc rounds) (suc n) old mid new lt (next, first, later) r = inr (next, first, rounds_into rounds n next mid new (omega arith) later r)
+
+  -- a delivery for which it was
   pub runs_into : (ds : List Delivery) (i : ℕ) (default : Delivery) (old mid new : WorldData S D) → i < length ds → Runs (take i ds) old mid
-      → Refused (get_or ds i default).to mid new → RunsInto ds old new
+      → Refused meaning policy (get_or ds i default).to (min (get_or ds i default).count (waiting_for (get_or ds i default).to mid)) mid new → RunsInto meaning policy ds old new
   runs_into [] i default old mid new lt r refusal = absurd (omega arith)
-  runs_into (d ∷ ds) zero default old mid new lt e refusal = inl (subst (λ (w : WorldData S D). Refused d.to w new) e refusal)
+  runs_into (d ∷ ds) zero default old mid new lt e refusal = inl (subst (λ (w : WorldData S D). Refused meaning policy d.to (min d.count (waiting_for d.to w)) w new) e refusal)
   runs_into (d ∷ ds) (suc i) default old mid new lt (next, first, later) refusal = inr (next, first, runs_into ds i default next mid new (omega arith) later refusal)
 
 -- a world is what is seen of it
@@ -108,7 +109,7 @@ module _ {S D : Type 0} (meaning : S → Meaning) (policy : D → Policy) where
       used_more : Receives meaning policy sent old new → old.used ≤ new.used
       used_more (ReceivesNone e) = omega (arith, ap (λ (x : Node S D). x.used) e)
       used_more (ReceivesSome f) = omega (arith, f.used_on, s.all_used f.was_open)
-      used_more (ReceivesInto b) = omega (arith, b.same_used)
+      used_more (ReceivesInto k b) = omega (arith, b.same_used)
 
 module _ {S D : Type 0} (meaning : S → Meaning) (policy : D → Policy) (client_config : ClientData) (server_config : ServerData) (suite : S) (decisions : D) where
   -- a world of the node of this side, and the other one
@@ -146,14 +147,14 @@ module _ {S D : Type 0} (meaning : S → Meaning) (policy : D → Policy) (clien
       → IfOk r (λ n. next.moved ≡ own.moved + n) → IfOk r (λ n. n ≡ 0 → next ≡ own) → IfOk r (λ n. Delivered to n (seen_at to own their) (seen_at to next their))
   delivered to own their next r s x moved none = if_ok r moved none (λ n m z. delivered_at to own their next n (taken to own their next n s x m z))
 
-  refused_at : (to : Side) (own their next : Node S D) → Receives meaning policy their.sent.items own next → ending_of next.endpoint ≡ Failed fault.Memory
-      → Refused to (seen_at to own their) (seen_at to next their)
-  refused_at Client own their next x f = record { failed = f; more_sent = sent_on meaning policy their.sent.items own next x; sender = refl }
-  refused_at Server own their next x f = record { failed = f; more_sent = sent_on meaning policy their.sent.items own next x; sender = refl }
+  refused_at : (to : Side) (own their next : Node S D) (n : ℕ) → StandAt to own their → BrokenWith meaning policy their.sent.items n own next
+      → Refused meaning policy to n (seen_at to own their) (seen_at to next their)
+  refused_at Client own their next n s b = record { receiver = breaks_off meaning policy _ _ suite decisions own next their n s.client_stands b; sender = refl }
+  refused_at Server own their next n s b = record { receiver = breaks_off meaning policy _ _ suite decisions own next their n s.server_stands b; sender = refl }
 
-  pub refused : (to : Side) (own their next : Node S D) (r : Result ℕ Memory) → Receives meaning policy their.sent.items own next
-      → OnErr r (ending_of next.endpoint ≡ Failed fault.Memory) → OnErr r (Refused to (seen_at to own their) (seen_at to next their))
-  refused to own their next r x failed = on_err r failed (refused_at to own their next x)
+  pub refused : (to : Side) (own their next : Node S D) (n : ℕ) (r : Result ℕ Memory) → StandAt to own their → OnErr r (BrokenWith meaning policy their.sent.items n own next)
+      → OnErr r (Refused meaning policy to n (seen_at to own their) (seen_at to next their))
+  refused to own their next n r s broken = on_err r broken (refused_at to own their next n s)
 
   still_at : (to : Side) (own their next : Node S D) → (ending_of own.endpoint ≢ Failed fault.Memory → ending_of next.endpoint ≢ Failed fault.Memory)
       → HadMemory (seen_at to own their) → HadMemory (seen_at to next their)

@@ -94,7 +94,7 @@ module _ (laws : Laws) (m : Meaning) (d : Policy) (lawful : IsLawful m) (own the
   receives r = record {
     replies = r;
     prefix = λ new_had other_had a.
-        let b = on.replies.history other_had in
+        let b = on.replies.replies other_had in
         let l = hears_prefix laws m d lawful own their hears old opposite on had other_had b (take new.used opposite.sent) (drop new.used opposite.sent) a.units a.rest a.refusal
         (sym (take-append-drop new.used opposite.sent)) a.history.heard in
         (prefix-through a.units (their.party.version ∷ b.answers) (stream_of their) l.prefix (stream_prefix laws m d lawful own their hears old opposite on had other_had b), l.no_refusal);
@@ -109,7 +109,7 @@ module _ (m : Meaning) (d : Policy) (own their : Partner) (old new opposite : Ha
     used_within = on.replies.used_within;
     moved_within = omega (arith, on.replies.moved_within, ap length more.whole_is, length-append old.sent more.rest);
     all_used = on.replies.all_used;
-    history = λ had. subst (λ (b : List ℕ). HasHistory m d their.role their.party opposite.end b opposite.sent) (sym same_taken) (on.replies.history had);
+    replies = λ had. subst (λ (b : List ℕ). HasHistory m d their.role their.party opposite.end b opposite.sent) (sym same_taken) (on.replies.replies had);
   }
 
   -- the speaker, beside a receiver that had memory and said more

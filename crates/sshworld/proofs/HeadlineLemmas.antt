@@ -91,50 +91,6 @@ module _ (p q : Part) (of_client of_server : Told) (client_version server_versio
   pub both_parts_end : (of_client.end ≢ Open) × (of_server.end ≢ Open)
   both_parts_end = (client_ended, server_ended)
 
-module _ (m : Meaning) (d : Policy) (c : ClientData) (s : ServerData) (w : Wording) (of_client of_server : Told) (are : AreInCourse m d c s w of_client of_server) where
-  pub end_as : EndAs (outcome m d c s) of_client.end of_server.end
-  end_as = record {
-    client_as = λ e. (ends_as (part_of_client m d c s w) of_client.units of_client.answers of_client.end are.client_in_part e).0 ∙ client_final w (guess_of c s) (way_of m d c s) (outcome m d c s);
-    server_as = λ e. (ends_as (part_of_server m d c s w) of_server.units of_server.answers of_server.end are.server_in_part e).0 ∙ server_final w (guess_of c s) (way_of m d c s) (outcome m d c s);
-  }
-
-  pub both_ended : HaveHeardAll c s of_client of_server → (of_client.end ≢ Open) × (of_server.end ≢ Open)
-  both_ended all = both_parts_end (part_of_client m d c s w) (part_of_server m d c s w) of_client of_server (version_of c.side) (version_of s.side) (of_outcome m d c s w)
-      are.client_in_part are.server_in_part all.client_all all.server_all
-
-  -- the headline, of two sides in their course
-  pub headline : (complete : Type 0) → (complete → HaveHeardAll c s of_client of_server) → Headline (outcome m d c s) of_client.end of_server.end complete
-  headline complete all = record { as_given = end_as; both_ended = λ k. both_ended (all k) }
-
-  -- what a side has heard is a prefix of all that the other says
-  pub client_heard_of : IsPrefix of_client.units (version_of s.side ∷ said_after (part_of_server m d c s w) (part_of_server m d c s w).hears)
-  client_heard_of = prefix-through of_client.units (version_of s.side ∷ of_server.answers) (version_of s.side ∷ said_after (part_of_server m d c s w) (part_of_server m d c s w).hears)
-      are.client_heard (said_prefix (part_of_server m d c s w) of_server.units of_server.answers of_server.end are.server_in_part (version_of s.side))
-
-  pub server_heard_of : IsPrefix of_server.units (version_of c.side ∷ said_after (part_of_client m d c s w) (part_of_client m d c s w).hears)
-  server_heard_of = prefix-through of_server.units (version_of c.side ∷ of_client.answers) (version_of c.side ∷ said_after (part_of_client m d c s w) (part_of_client m d c s w).hears)
-      are.server_heard (said_prefix (part_of_client m d c s w) of_client.units of_client.answers of_client.end are.client_in_part (version_of c.side))
-
--- the groups that a side has sent, by what it has said
-pub more_groups : (part : Part) (old new : Told) → IsInPart part old.units old.answers old.end → IsInPart part new.units new.answers new.end
-    → length old.answers < length new.answers → groups_said part.group (length old.units) < groups_said part.group (length new.units)
-more_groups part old new a b more =
-    more_groups_of part (length old.units) (length new.units) (omega (arith, more, ap length a.said, ap length b.said))
-
-pub most_groups : (m : Meaning) (d : Policy) (c : ClientData) (s : ServerData) (w : Wording) (told : Told) → IsInPart (part_of_client m d c s w) told.units told.answers told.end
-    → groups_said (part_of_client m d c s w).group (length told.units) ≤ length c.plan + 3
-most_groups m d c s w told is = omega (
-  arith,
-  said_on (part_of_client m d c s w).group (length told.units) (part_of_client m d c s w).hears is.within,
-  few_groups m d c s w (guess_of c s) (outcome m d c s),
-)
-
--- after more rounds than there are groups, nothing waits: n rounds were made, in each of which that still leaves something waiting a
--- group was sent
-pub enough : (complete : Type 0) (n groups most rounds : ℕ) → complete ⊎ (n ≤ groups) → groups ≤ most → most < rounds → rounds ≤ n → complete
-enough complete n groups most rounds (inl done) few less within = done
-enough complete n groups most rounds (inr sent) few less within = absurd (omega (arith, sent, few, less, within))
-
 -- both sides are authenticated, or neither
 one_then : (k : Case) (a : AgreedData) → (table k).client ≡ Authenticated a → (table k).server ≡ Authenticated a
 one_then (NothingCommon f) a e = absurd (cc (e))
@@ -163,3 +119,45 @@ both_authenticated m d c s client server a ends c_ended s_ended =
     let of_s = ends.server_as s_ended in
     let o = one m d c s a in
     ((λ e. of_s ∙ o.0 (sym of_c ∙ e)), (λ e. of_c ∙ o.1 (sym of_s ∙ e)))
+
+module _ (m : Meaning) (d : Policy) (c : ClientData) (s : ServerData) (w : Wording) (of_client of_server : Told) (are : AreInCourse m d c s w of_client of_server) where
+  pub end_as : EndAs (outcome m d c s) of_client.end of_server.end
+  end_as = record {
+    client_as = λ e. (ends_as (part_of_client m d c s w) of_client.units of_client.answers of_client.end are.client_in_part e).0 ∙ client_final w (guess_of c s) (way_of m d c s) (outcome m d c s);
+    server_as = λ e. (ends_as (part_of_server m d c s w) of_server.units of_server.answers of_server.end are.server_in_part e).0 ∙ server_final w (guess_of c s) (way_of m d c s) (outcome m d c s);
+  }
+
+  pub both_ended : HaveHeardAll c s of_client of_server → (of_client.end ≢ Open) × (of_server.end ≢ Open)
+  both_ended all = both_parts_end (part_of_client m d c s w) (part_of_server m d c s w) of_client of_server (version_of c.side) (version_of s.side) (of_outcome m d c s w)
+      are.client_in_part are.server_in_part all.client_all all.server_all
+
+  -- the headline, of two sides in their course
+  pub headline : (complete : Type 0) → (complete → HaveHeardAll c s of_client of_server) → Headline (outcome m d c s) of_client.end of_server.end complete
+  headline complete all = record {
+    as_given = end_as;
+    both_ended = λ k. both_ended (all k);
+    together = λ k a. let ended = both_ended (all k) in both_authenticated m d c s of_client.end of_server.end a end_as ended.0 ended.1;
+  }
+
+  -- what a side has heard is a prefix of all that the other says
+  pub client_heard_of : IsPrefix of_client.units (version_of s.side ∷ said_after (part_of_server m d c s w) (part_of_server m d c s w).hears)
+  client_heard_of = prefix-through of_client.units (version_of s.side ∷ of_server.answers) (version_of s.side ∷ said_after (part_of_server m d c s w) (part_of_server m d c s w).hears)
+      are.client_heard (said_prefix (part_of_server m d c s w) of_server.units of_server.answers of_server.end are.server_in_part (version_of s.side))
+
+  pub server_heard_of : IsPrefix of_server.units (version_of c.side ∷ said_after (part_of_client m d c s w) (part_of_client m d c s w).hears)
+  server_heard_of = prefix-through of_server.units (version_of c.side ∷ of_client.answers) (version_of c.side ∷ said_after (part_of_client m d c s w) (part_of_client m d c s w).hears)
+      are.server_heard (said_prefix (part_of_client m d c s w) of_client.units of_client.answers of_client.end are.client_in_part (version_of c.side))
+
+-- the groups that a side has sent, by what it has said
+pub more_groups : (part : Part) (old new : Told) → IsInPart part old.units old.answers old.end → IsInPart part new.units new.answers new.end
+    → length old.answers < length new.answers → groups_said part.group (length old.units) < groups_said part.group (length new.units)
+more_groups part old new a b more =
+    more_groups_of part (length old.units) (length new.units) (omega (arith, more, ap length a.said, ap length b.said))
+
+pub most_groups : (m : Meaning) (d : Policy) (c : ClientData) (s : ServerData) (w : Wording) (told : Told) → IsInPart (part_of_client m d c s w) told.units told.answers told.end
+    → groups_said (part_of_client m d c s w).group (length told.units) ≤ length c.plan + 3
+most_groups m d c s w told is = omega (
+  arith,
+  said_on (part_of_client m d c s w).group (length told.units) (part_of_client m d c s w).hears is.within,
+  few_groups m d c s w (guess_of c s) (outcome m d c s),
+)

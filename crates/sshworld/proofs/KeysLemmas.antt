@@ -55,9 +55,8 @@ unfolding switched_out
 none_switched xs none = none_stands [] xs none
 
 -- the keys and strictness of two streams, once either switches
-record SameKeys (m : Meaning) (c : ClientData) (s : ServerData) (by_client by_server : Units) : Type 0 where
-  keys : (sender : Role) → keys_at m Client (client_party c) (version_of s.side) by_server sender ≡ keys_at m Server (server_party s) (version_of c.side) by_client sender
-  strict : strict_at Client (client_party c) by_server ≡ strict_at Server (server_party s) by_client
+abbrev SameKeys : Meaning → ClientData → ServerData → Units → Units → Type 0
+SameKeys m c s by_client by_server = HaveSameKeys m Client Server (client_party c) (server_party s) by_client by_server
 
 abbrev Switching : Meaning → ClientData → ServerData → Units → Units → Type 0
 Switching m c s by_client by_server = (switched_out by_client ≡ true) ⊎ (switched_out by_server ≡ true) → SameKeys m c s by_client by_server
@@ -148,8 +147,7 @@ module _ (m : Meaning) (d : Policy) (c : ClientData) (s : ServerData) (understoo
 
 pub same_keys : (m : Meaning) (d : Policy) (c : ClientData) (s : ServerData) → AreUnderstood m d c s → AreSound c s → AreOffersRead c s
     → ((a : Algorithms) → choice m (client_offer c) (server_offer s) ≡ Ok a → IsRead m c s a)
-    → (switched_out (said_by_client m d c s) ≡ true) ⊎ (switched_out (said_by_server m d c s) ≡ true) → HaveSameKeys m d c s
+    → (switched_out (said_by_client m d c s) ≡ true) ⊎ (switched_out (said_by_server m d c s) ≡ true) → SameKeys m c s (said_by_client m d c s) (said_by_server m d c s)
 unfolding outcome
 same_keys m d c s understood sound offers readable on =
-    let k = by_choice m d c s understood sound offers readable (choice m (client_offer c) (server_offer s)) refl (table (case_of_choice m d c s (choice m (client_offer c) (server_offer s)))) on in
-    record { keys = k.keys; strict = k.strict }
+    by_choice m d c s understood sound offers readable (choice m (client_offer c) (server_offer s)) refl (table (case_of_choice m d c s (choice m (client_offer c) (server_offer s)))) on

@@ -38,3 +38,9 @@ pub mod CourseSamples
 pub mod TurnLemmas
 pub mod NodeLemmas
 pub mod WorldCourseLemmas
+pub mod OneWayLemmas
+pub mod SoFarLemmas
+pub mod JoinedLemmas
+pub mod LetInLemmas
+pub mod CrosswiseLemmas
+pub mod EndpointPairs

@@ -12,18 +12,26 @@ use Rattle.sshpacket.specs.Parse.{Refusal, parse_packet, protection, whole}
 use Rattle.sshpacket.specs.Places.{EachPlace, IsPrefix, after_first, stands}
 use Rattle.sshpacket.specs.Stream.{Heard, HeardAll, Linked, Spelled, Units}
 use Rattle.sshpacket.specs.Suite.{IsLawful, Meaning}
-use Rattle.sshpacket.proofs.Places.{each-prefix, each-push, prefix-through, stands-prefix}
+use Rattle.sshpacket.proofs.Places.{each-prefix, each-push, each-weaker, prefix-through, stands-prefix}
 use Rattle.sshcore.specs.Before.{kept, offered, since, stood, strict_at}
 use Rattle.sshcore.specs.Counting.{is_newkeys, number_by, number_in, number_out, switched_out}
 use Rattle.sshcore.specs.Directions.{keys_in, keys_out, others_of, parsers, payloads_in, spelled_by, spells, version_in}
 use Rattle.sshcore.specs.Ending.{Ending}
 use Rattle.sshcore.specs.Exchange.{keys_at}
-use Rattle.sshcore.specs.History.{FitsPacket, History, IsReady}
+use Rattle.sshcore.specs.History.{AllFit, FitsPacket, History, IsReady}
 use Rattle.sshcore.specs.Party.{Party, Policy}
 use Rattle.sshcore.proofs.StreamLemmas.{keys_stay, strict_stays}
 use Rattle.sshworld.specs.Laws.{Laws}
-use Rattle.sshworld.specs.Links.{CanBeHeard, HearsKeys, SpeaksInCourse}
-use Rattle.sshworld.specs.Placed.{IsInPlace}
+use Rattle.sshworld.specs.Links.{CanBeHeard}
+use Rattle.sshworld.specs.Placed.{HaveSameKeys, IsInPlace}
+
+-- A speaker stands in its course, once it has heard these units and said these answers: both are a prefix of all that is
+-- said, what was said fits packets, and NEWKEYS is among it only where the speaker has heard the exchange message.
+pub record SpeaksInCourse (peer : Role) (own their : Party) (ours theirs units answers : Units) : Type 0 where
+  pub heard : IsPrefix units (own.version ∷ ours)
+  pub said : IsPrefix answers theirs
+  pub fits : AllFit answers
+  pub keyed : switched_out answers ≡ true → IsReady peer their (payloads_in units)
 
 -- tests that agree at each place
 module _ (t u : Units → List ℕ → Bool) where
@@ -38,12 +46,12 @@ module _ (t u : Units → List ℕ → Bool) where
       ap (λ (b : Bool). cond b xs (after_first t (before ++ x ∷ []) xs)) each.0 ∙ ap (λ (r : Units). cond (u before x) xs r) (after_same (before ++ x ∷ []) xs each.1)
 
 -- NEWKEYS isn't dropped here
-abbrev SameSwitch : Role → Party → Units → List ℕ → Type 0
+abbrev pub SameSwitch : Role → Party → Units → List ℕ → Type 0
 SameSwitch role own before p = kept role own.offer 21 before p ≡ (kind p == 21)
 
 module _ (role : Role) (own : Party) where
   -- the switch and the packets behind it are the same on both sides
-  switch_same : (xs : Units) → EachPlace (SameSwitch role own) [] xs → stood role own.offer 21 xs ≡ switched_out xs
+  pub switch_same : (xs : Units) → EachPlace (SameSwitch role own) [] xs → stood role own.offer 21 xs ≡ switched_out xs
   unfolding stood switched_out
   switch_same xs each = stands_same (kept role own.offer 21) is_newkeys [] xs each
 
@@ -69,7 +77,7 @@ module _ (laws : Laws) (m : Meaning) (lawful : IsLawful m) where
       rw (ek, el, e) (laws.sealed m lawful keys seed j p more low fits.bytes fits.some fits.short)
 
   module _ (role peer : Role) (own their : Party) (heard : Units) where
-    numbers_same : (before : Units) → EachPlace (SameSwitch role own) [] before → switched_out before ≡ true → SameWay m role peer own their heard before
+    pub numbers_same : (before : Units) → EachPlace (SameSwitch role own) [] before → switched_out before ≡ true → SameWay m role peer own their heard before
         → number_in role own before ≡ number_out (strict_at peer their (payloads_in heard)) before
     unfolding number_out
     numbers_same before same on way =
@@ -134,22 +142,26 @@ module _ (m : Meaning) (role : Role) (party : Party) where
   strict_of_prefix xs ys f r = ap (λ (q : Units). strict_at role party q) f.whole_is ∙ strict_stays m role party xs f.rest r.offer
 
 module _ (m : Meaning) (role peer : Role) (own their : Party) (ours theirs : Units) (can : CanBeHeard m role peer own their ours theirs) (units answers : Units) (speaks : SpeaksInCourse peer own their ours theirs units answers) where
-  same_way : (b : Units) → IsPrefix b answers → switched_out b ≡ true → IsReady role own b → SameWay m role peer own their units b
+  pub same_way : (b : Units) → IsPrefix b answers → switched_out b ≡ true → IsReady role own b → SameWay m role peer own their units b
   same_way b f on ready =
       let mine : IsReady peer their (payloads_in units) = speaks.keyed (switched_on b answers f on) in
       let all : IsPrefix b theirs = prefix-through b answers theirs f speaks.said in
-      let agree : HearsKeys m role peer own their ours theirs = can.keys (switched_on b theirs all on) in
+      let agree : HaveSameKeys m role peer own their ours theirs = can.keys (switched_on b theirs all on) in
       let begins = begins_so units own.version ours speaks.heard mine.offer in
       record {
         keys = sym (keys_of_prefix m role own their.version b theirs (other role) all ready)
-            ∙ (agree.keys
+            ∙ (agree.keys (other role)
+            ∙ (ap (λ (sender : Role). keys_at m peer their own.version ours sender) can.is_other
             ∙ (keys_of_prefix m peer their own.version (payloads_in units) ours peer begins.1 mine
-            ∙ ap (λ (v : List ℕ). keys_at m peer their v (payloads_in units) peer) (sym begins.0)));
+            ∙ ap (λ (v : List ℕ). keys_at m peer their v (payloads_in units) peer) (sym begins.0))));
         strict = sym (strict_of_prefix m role own b theirs all ready) ∙ (agree.strict ∙ strict_of_prefix m peer their (payloads_in units) ours begins.1 mine);
       }
 
   places_said : EachPlace (IsInPlace role own) [] answers
   places_said = each-prefix (IsInPlace role own) [] answers speaks.said.rest (subst (λ (q : Units). EachPlace (IsInPlace role own) [] q) speaks.said.whole_is can.places)
+
+  pub switches_said : EachPlace (SameSwitch role own) [] answers
+  switches_said = each-weaker (IsInPlace role own) (SameSwitch role own) (λ before payload place. place.switch) [] answers places_said
 
   pub all_spelled : Laws → IsLawful m → EachPlace (Spelled (parsers m role own) (spells m peer their units)) [] (their.version ∷ answers)
   all_spelled laws lawful = (

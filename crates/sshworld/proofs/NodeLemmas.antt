@@ -1,20 +1,18 @@
 -- The two nodes of a world on the course of their configs, behind a delivery.
 
-use Rattle.std.proofs.Common.{◌≡◌, ◌≢◌, ℕ, List, take, sym, subst, ◌∙◌}
+use Rattle.std.proofs.Common.{◌≡◌, ◌≢◌, ℕ, List, take, sym, subst}
 use Rattle.sshneg.specs.declared.role.Role.{Role}
 use Rattle.sshpacket.specs.Suite.{IsLawful, Meaning}
 use Rattle.sshcore.specs.declared.end.Fault.TheVariants as fault
-use Rattle.sshcore.specs.Ending.{Ending, Failed}
+use Rattle.sshcore.specs.Ending.{Failed}
 use Rattle.sshcore.specs.EndpointData.{EndpointData}
 use Rattle.sshcore.specs.Endpoints.{After, ending_of}
 use Rattle.sshcore.specs.Kept.{kept_of}
 use Rattle.sshcore.specs.Party.{Party, Policy}
 use Rattle.sshworld.specs.declared.node.Node.{Node}
-use Rattle.sshworld.specs.Conversed.{HasConversed, SideReplies}
 use Rattle.sshworld.specs.Halves.{BothOnCourse, HalfReplies, HasHistory, HearsCourse, Partner}
 use Rattle.sshworld.specs.Laws.{Laws}
 use Rattle.sshworld.specs.Stands.{NodeStands, Receives, ReceivesInto, ReceivesNone, ReceivesSome, half_of}
-use Rattle.sshworld.specs.Worlds.{Half}
 use Rattle.sshworld.proofs.HalfLemmas.{delivered, from_standing}
 use Rattle.sshworld.proofs.StandsLemmas.{sent_on}
 
@@ -29,26 +27,13 @@ module _ {S D : Type 0} (meaning : S → Meaning) (policy : D → Policy) where
       (subst (λ (k : D). HasHistory (meaning e.suite) (policy k) e.role e.party (ending_of e) h s) is_decisions
       (from_standing (meaning e.suite) (policy e.decisions) e.role e.party (kept_of e.state) e.input h s a whole))))
 
-  -- a side of a world, and a node
-  pub side_history : (role : Role) (party : Party) (suite : S) (decisions : D) (half opposite : Half) → SideReplies meaning policy role party suite decisions half opposite → half.end ≢ Failed fault.Cut
-      → HalfReplies (meaning suite) (policy decisions) role party half opposite
-  side_history role party suite decisions half opposite r whole = record {
-    used_within = r.used_within;
-    moved_within = r.moved_within;
-    all_used = r.all_used;
-    history = λ had.
-        let c : HasConversed meaning policy role party suite decisions half.end (take half.used opposite.sent) half.sent = r.replies had in
-        subst (λ (e : Ending). HasHistory (meaning suite) (policy decisions) role party e (take half.used opposite.sent) half.sent) c.is_end
-        (endpoint_history c.endpoint role party suite decisions (take half.used opposite.sent) half.sent c.is_role c.is_party c.is_suite c.is_decisions (λ cut. whole (sym c.is_end ∙ cut)) c.after);
-  }
-
   pub node_history : (role : Role) (party : Party) (suite : S) (decisions : D) (node other_node : Node S D) → NodeStands meaning policy role party suite decisions node other_node.sent.items
       → ending_of node.endpoint ≢ Failed fault.Cut → HalfReplies (meaning suite) (policy decisions) role party (half_of node) (half_of other_node)
   node_history role party suite decisions node other_node r whole = record {
     used_within = r.used_within;
     moved_within = r.moved_within;
     all_used = r.all_used;
-    history = λ had. endpoint_history node.endpoint role party suite decisions (take node.used other_node.sent.items) node.sent.items r.is_role r.is_party r.is_suite r.is_decisions whole (r.after had);
+    replies = λ had. endpoint_history node.endpoint role party suite decisions (take node.used other_node.sent.items) node.sent.items r.is_role r.is_party r.is_suite r.is_decisions whole (r.after had);
   }
 
   -- The two nodes stay on their course, whatever the one receives.
@@ -61,6 +46,6 @@ module _ {S D : Type 0} (meaning : S → Meaning) (policy : D → Policy) where
   stays_on_course laws suite decisions lawful own their hears old new other_node on stands whole (ReceivesSome f) =
       delivered laws (meaning suite) (policy decisions) lawful own their hears (half_of old) (half_of new) (half_of other_node) on (λ failed. cc (failed, f.was_open))
       (node_history own.role own.party suite decisions new other_node stands whole) (sent_on meaning policy other_node.sent.items old new (ReceivesSome f))
-  stays_on_course laws suite decisions lawful own their hears old new other_node on stands whole (ReceivesInto b) =
+  stays_on_course laws suite decisions lawful own their hears old new other_node on stands whole (ReceivesInto n b) =
       delivered laws (meaning suite) (policy decisions) lawful own their hears (half_of old) (half_of new) (half_of other_node) on (λ failed. cc (failed, b.was_open))
-      (node_history own.role own.party suite decisions new other_node stands whole) (sent_on meaning policy other_node.sent.items old new (ReceivesInto b))
+      (node_history own.role own.party suite decisions new other_node stands whole) (sent_on meaning policy other_node.sent.items old new (ReceivesInto n b))

@@ -1,7 +1,7 @@
 -- How the nodes of a world stand behind a delivery.
 
 use Rattle.std.proofs.Common.{◌≡◌, ◌≢◌, ℕ, zero, suc, ◌+◌, ◌≤◌, List, [], ◌∷◌, ◌++◌, length, take, drop, refl, sym, ap, subst, ◌∙◌, arith}
-use Rattle.std.proofs.lemmas.List.{append-nil, length-append, take-append-le}
+use Rattle.std.proofs.lemmas.List.{append-nil, length-append, length-take, take-append-le}
 use Rattle.std.proofs.Math.Seq.{take-add}
 use Rattle.sshneg.specs.declared.role.Role.{Role}
 use Rattle.sshpacket.specs.Places.{IsPrefix}
@@ -9,9 +9,11 @@ use Rattle.sshpacket.specs.Suite.{Meaning}
 use Rattle.sshcore.specs.declared.end.Fault.TheVariants as fault
 use Rattle.sshcore.specs.Ending.{Failed}
 use Rattle.sshcore.specs.Endpoints.{After, Made, ending_of}
+use Rattle.sshcore.specs.History.{BrokenOff}
 use Rattle.sshcore.specs.Party.{Party, Policy}
 use Rattle.sshworld.specs.declared.node.Node.{Node}
 use Rattle.sshworld.specs.Conversed.{SideBegins, SideReplies}
+use Rattle.sshworld.specs.Deliveries.{BreaksOff}
 use Rattle.sshworld.specs.Stands.{BrokenWith, FedWith, NodeStands, Receives, ReceivesInto, ReceivesNone, ReceivesSome, half_of}
 
 -- the first bytes of a part of a list
@@ -32,7 +34,7 @@ module _ {S D : Type 0} (meaning : S → Meaning) (policy : D → Policy) where
   pub sent_on : (sent : List ℕ) (old new : Node S D) → Receives meaning policy sent old new → IsPrefix old.sent.items new.sent.items
   sent_on sent old new (ReceivesNone e) = record { rest = []; whole_is = ap (λ (n : Node S D). n.sent.items) e ∙ sym (append-nil old.sent.items) }
   sent_on sent old new (ReceivesSome f) = record { rest = f.fed.added; whole_is = f.fed.appended }
-  sent_on sent old new (ReceivesInto b) = record { rest = b.breaks.added; whole_is = b.breaks.appended }
+  sent_on sent old new (ReceivesInto n b) = record { rest = b.breaks.added; whole_is = b.breaks.appended }
 
   -- the node that was fed
   fed_stands : (role : Role) (party : Party) (suite : S) (decisions : D) (sent : List ℕ) (old new : Node S D)
@@ -57,9 +59,9 @@ module _ {S D : Type 0} (meaning : S → Meaning) (policy : D → Policy) where
       }
 
   -- the node for which memory was wanting
-  broken_stands : (role : Role) (party : Party) (suite : S) (decisions : D) (sent : List ℕ) (old new : Node S D)
-      → NodeStands meaning policy role party suite decisions old sent → BrokenWith meaning policy sent old new → NodeStands meaning policy role party suite decisions new sent
-  broken_stands role party suite decisions sent old new s b = record {
+  broken_stands : (role : Role) (party : Party) (suite : S) (decisions : D) (sent : List ℕ) (old new : Node S D) (n : ℕ)
+      → NodeStands meaning policy role party suite decisions old sent → BrokenWith meaning policy sent n old new → NodeStands meaning policy role party suite decisions new sent
+  broken_stands role party suite decisions sent old new n s b = record {
     is_role = b.breaks.same.same_role ∙ s.is_role;
     is_party = b.breaks.same.same_party ∙ s.is_party;
     is_suite = b.breaks.same.same_suite ∙ s.is_suite;
@@ -76,7 +78,34 @@ module _ {S D : Type 0} (meaning : S → Meaning) (policy : D → Policy) where
       → NodeStands meaning policy role party suite decisions old sent → Receives meaning policy sent old new → NodeStands meaning policy role party suite decisions new sent
   receiver_stands role party suite decisions sent old new s (ReceivesNone e) = subst (λ (n : Node S D). NodeStands meaning policy role party suite decisions n sent) (sym e) s
   receiver_stands role party suite decisions sent old new s (ReceivesSome f) = fed_stands role party suite decisions sent old new s f
-  receiver_stands role party suite decisions sent old new s (ReceivesInto b) = broken_stands role party suite decisions sent old new s b
+  receiver_stands role party suite decisions sent old new s (ReceivesInto n b) = broken_stands role party suite decisions sent old new n s b
+
+  -- So callers see it: what was said before stands in front, and all of it is whole packets.
+  pub breaks_off : (role : Role) (party : Party) (suite : S) (decisions : D) (old new their : Node S D) (n : ℕ)
+      → NodeStands meaning policy role party suite decisions old their.sent.items → BrokenWith meaning policy their.sent.items n old new
+      → BreaksOff (meaning suite) (policy decisions) role party n (half_of old) (half_of new) (half_of their)
+  breaks_off role party suite decisions old new their n s b =
+      let sent : List ℕ = their.sent.items in
+      let had : ending_of old.endpoint ≢ Failed fault.Memory = λ h. cc (h, b.was_open) in
+      let within : b.breaks.used ≤ n = omega (arith, b.breaks.within, length-take n (drop old.moved sent)) in
+      let heard : take old.used sent ++ take b.breaks.used (take n (drop old.moved sent)) ≡ take (old.used + b.breaks.used) sent =
+      taken_more sent old.used old.moved n b.breaks.used (s.all_used b.was_open) within ∙ ap (λ (k : ℕ). take (k + b.breaks.used) sent) (sym (s.all_used b.was_open)) in
+      record {
+        failed = b.failed;
+        moved_on = b.moved_on;
+        same_used = b.same_used;
+        more_sent = record { rest = b.breaks.added; whole_is = b.breaks.appended };
+        used = b.breaks.used;
+        used_within = within;
+        broken_off =
+            subst (λ (r : Role). BrokenOff (meaning suite) (policy decisions) r party (take (old.used + b.breaks.used) sent) new.sent.items) s.is_role
+            (subst (λ (p : Party). BrokenOff (meaning suite) (policy decisions) old.endpoint.role p (take (old.used + b.breaks.used) sent) new.sent.items) s.is_party
+            (subst (λ (k : S). BrokenOff (meaning k) (policy decisions) old.endpoint.role old.endpoint.party (take (old.used + b.breaks.used) sent) new.sent.items) s.is_suite
+            (subst (λ (k : D). BrokenOff (meaning old.endpoint.suite) (policy k) old.endpoint.role old.endpoint.party (take (old.used + b.breaks.used) sent) new.sent.items) s.is_decisions
+            (subst (λ (h : List ℕ). BrokenOff (meaning old.endpoint.suite) (policy old.endpoint.decisions) old.endpoint.role old.endpoint.party h new.sent.items) heard
+            (subst (λ (t : List ℕ). BrokenOff (meaning old.endpoint.suite) (policy old.endpoint.decisions) old.endpoint.role old.endpoint.party (take old.used sent ++ take b.breaks.used (take n (drop old.moved sent))) t) (sym b.breaks.appended)
+            (b.breaks.follows (take old.used sent) old.sent.items (s.after had)))))));
+      }
 
   -- The other node stands as before, beside more that was sent.
   pub sender_stands : (role : Role) (party : Party) (suite : S) (decisions : D) (node : Node S D) (sent more : List ℕ)

@@ -10,19 +10,25 @@ use Rattle.sshcore.specs.declared.end.Fault.TheVariants as fault
 use Rattle.sshcore.specs.ConfigData.{ClientData, ServerData}
 use Rattle.sshcore.specs.Ending.{Authenticated, Closed, Ending, Failed, Open}
 use Rattle.sshcore.specs.Party.{Policy, client_party, server_party}
-use Rattle.sshworld.specs.CourseHeard.{BothHear, HasTakenAll, HaveHeard, client_partner, server_partner}
+use Rattle.sshworld.specs.CourseHeard.{BothHear, client_partner, server_partner}
 use Rattle.sshworld.specs.Follows.{part_of_client, part_of_server}
 use Rattle.sshworld.specs.Guesses.{guess_of}
 use Rattle.sshworld.specs.Halves.{BothOnCourse, HasHistory, HearsCourse, OnCourse, Partner}
 use Rattle.sshworld.specs.Laws.{Laws}
 use Rattle.sshworld.specs.Outcome.{outcome}
-use Rattle.sshworld.specs.Rounds.{UnitsHeard, after_rounds, round_from, server_hears_all, units_said}
+use Rattle.sshworld.specs.Rounds.{UnitsHeard, after_rounds, server_hears_all, units_said}
 use Rattle.sshworld.specs.Wording.{Wording}
+use Rattle.sshworld.specs.WorldRounds.{HaveHeard}
 use Rattle.sshworld.specs.Worlds.{Half, waiting, waiting_at}
 use Rattle.sshworld.proofs.CourseLaws.{few_rounds, of_outcome}
 use Rattle.sshworld.proofs.HalfLemmas.{all_heard_of, in_part}
 use Rattle.sshworld.proofs.HeadlineLemmas.{ends_as, fewer, open_or_not, sent_count}
 use Rattle.sshworld.proofs.RoundLemmas.{more_said}
+
+-- All that waited for a side, whose half is own, was moved to it: it has sent more, or the same, and nothing waits for it.
+pub record HasTakenAll (old new opposite : Half) : Type 0 where
+  pub more_sent : IsPrefix old.sent new.sent
+  pub none_waits : waiting new opposite ≡ 0
 
 module _ (laws : Laws) (m : Meaning) (d : Policy) (lawful : IsLawful m) (own their : Partner) (hears : HearsCourse m d own their) (heard : HearsCourse m d their own) where
   -- the receiver
@@ -30,7 +36,7 @@ module _ (laws : Laws) (m : Meaning) (d : Policy) (lawful : IsLawful m) (own the
       → (k : ℕ) → ((b : HasHistory m d their.role their.party opposite.end (take opposite.used half.sent) opposite.sent) → k ≤ length b.units)
       → (a : HasHistory m d own.role own.party half.end (take half.used opposite.sent) half.sent) → min own.part.hears (units_said their.part k) ≤ length a.units
   takes_all half opposite on had other_had none k least a =
-      let b : HasHistory m d their.role their.party opposite.end (take opposite.used half.sent) opposite.sent = on.their_side.replies.history other_had in
+      let b : HasHistory m d their.role their.party opposite.end (take opposite.used half.sent) opposite.sent = on.their_side.replies.replies other_had in
       let mine = in_part m d own their heard half opposite on.own_side had other_had a in
       let theirs = in_part m d their own hears opposite half on.their_side other_had had b in
       elim (open_or_not half.end) [
@@ -82,15 +88,6 @@ module _ (laws : Laws) (m : Meaning) (d : Policy) (lawful : IsLawful m) (c : Cli
         by_server = still;
       }
 
-  -- a round
-  pub round_turn : (client_old client_new server_old server_new : Half) (heard : UnitsHeard) → On client_old server_old → On client_old server_new → On client_new server_new
-      → client_old.end ≢ Failed fault.Memory → client_new.end ≢ Failed fault.Memory → server_new.end ≢ Failed fault.Memory → HasTakenAll server_old server_new client_old → HasTakenAll client_old client_new server_new
-      → HaveHeard m d c s w heard client_old server_old → HaveHeard m d c s w (round_from (part_of_client m d c s w) (part_of_server m d c s w) heard) client_new server_new
-  round_turn client_old client_new server_old server_new heard before mid after had now_had other_had first second counts =
-      let one = server_turn client_old server_old server_new heard before mid had other_had first counts in
-      let two = client_turn client_old client_new server_new (record heard { server = server_hears_all (part_of_client m d c s w) (part_of_server m d c s w) heard.client }) mid after now_had other_had second one in
-      record { by_client = two.by_client; by_server = two.by_server }
-
   none_waiting : (e : Ending) (sent moved : ℕ) → e ≢ Open → waiting_at e sent moved ≡ 0
   none_waiting Open sent moved not = absurd (not refl)
   none_waiting (Authenticated a) sent moved not = refl
@@ -101,7 +98,7 @@ module _ (laws : Laws) (m : Meaning) (d : Policy) (lawful : IsLawful m) (c : Cli
   ended_by : (own their : Partner) → HearsCourse m d their own → own.part.final ≢ Open → (half opposite : Half) → OnCourse m d own their half opposite → half.end ≢ Failed fault.Memory → opposite.end ≢ Failed fault.Memory
       → ((a : HasHistory m d own.role own.party half.end (take half.used opposite.sent) half.sent) → own.part.hears ≤ length a.units) → half.end ≢ Open
   ended_by own their heard final half opposite on had other_had all o =
-      let a : HasHistory m d own.role own.party half.end (take half.used opposite.sent) half.sent = on.replies.history had in
+      let a : HasHistory m d own.role own.party half.end (take half.used opposite.sent) half.sent = on.replies.replies had in
       let less = fewer own.part a.units a.answers half.end (in_part m d own their heard half opposite on had other_had a) o final in
       let most = all a in
       omega (arith, less, most)

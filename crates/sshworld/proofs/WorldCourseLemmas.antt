@@ -12,7 +12,7 @@ use Rattle.sshcore.specs.Party.{Policy, client_party, server_party}
 use Rattle.sshworld.specs.declared.node.Node.{Node}
 use Rattle.sshworld.specs.declared.side.Side.{Side}
 use Rattle.sshworld.specs.declared.side.Side.TheVariants.{Client, Server}
-use Rattle.sshworld.specs.CourseHeard.{BothHear, HasTakenAll, client_partner, server_partner}
+use Rattle.sshworld.specs.CourseHeard.{BothHear, client_partner, server_partner}
 use Rattle.sshworld.specs.Deliveries.{Delivered, DeliveredAll, TakesIn}
 use Rattle.sshworld.specs.Halves.{BothOnCourse, Partner}
 use Rattle.sshworld.specs.Laws.{Laws}
@@ -20,14 +20,15 @@ use Rattle.sshworld.specs.Rounds.{UnitsHeard, after_rounds}
 use Rattle.sshworld.specs.Stands.{NodesStand, Receives, half_of, seen}
 use Rattle.sshworld.specs.Understood.{AreUnderstood}
 use Rattle.sshworld.specs.Wordings.{wording_of}
-use Rattle.sshworld.specs.WorldCourse.{AreUnderstoodIn, HaveHeardIn, HeardAfter, HearsAll, HearsRound, IsOnCourse, KeepsCourse, KeepsHeadline, Settles, WorldStands, part_of_client_in, part_of_server_in, turn}
+use Rattle.sshworld.specs.WorldCourse.{AreUnderstoodIn, HearsAll, IsOnCourse, KeepsCourse, KeepsHeadline, WorldStands}
+use Rattle.sshworld.specs.WorldRounds.{HaveHeardIn, HearsRound, Settles, part_of_client_in, part_of_server_in, turn}
 use Rattle.sshworld.specs.Worlds.{Complete, HadMemory, Half, IsSameSetup, WorldData, waiting, waiting_at, waiting_for}
 use Rattle.sshworld.proofs.CourseHeardLemmas.{course_heard, headline_of}
 use Rattle.sshworld.proofs.DeliveryLemmas.{StandAt, received, seen_at}
 use Rattle.sshworld.proofs.HalfLemmas.{begins}
 use Rattle.sshworld.proofs.NodeLemmas.{node_history, stays_on_course}
 use Rattle.sshworld.proofs.StandsLemmas.{made_stands}
-use Rattle.sshworld.proofs.TurnLemmas.{client_turn, server_turn, settled}
+use Rattle.sshworld.proofs.TurnLemmas.{HasTakenAll, client_turn, server_turn, settled}
 
 pub flip_course : (m : Meaning) (d : Policy) (own their : Partner) (half opposite : Half) → BothOnCourse m d own their half opposite → BothOnCourse m d their own opposite half
 flip_course m d own their half opposite on = record { own_side = on.their_side; their_side = on.own_side }
@@ -214,22 +215,28 @@ module _ {S D : Type 0} (meaning : S → Meaning) (policy : D → Policy) (clien
     settles_in u = settles meaning policy laws (seen client_config server_config suite decisions client server) lawful understands_in w.on_course (understands_in u)
 
 module _ {S D : Type 0} (meaning : S → Meaning) (policy : D → Policy) where
+  -- Where both hear all that the other says in the course, and neither wanted memory, they have heard what so many rounds bring that
+  -- end at the new world.
+  abbrev pub HeardAfter : WorldData S D → WorldData S D → ℕ → Type 0
+  HeardAfter old new n = HearsAll meaning policy old → HadMemory old
+      → HaveHeardIn meaning policy new (after_rounds (part_of_client_in meaning policy old) (part_of_server_in meaning policy old) n)
+
   -- what both have heard behind one round more
-  pub heard_more : (old mid new : WorldData S D) (n : ℕ) → IsSameSetup old mid → (HadMemory old → HadMemory mid) → HeardAfter meaning policy old mid n → HearsRound meaning policy mid new → HeardAfter meaning policy old new (n + 1)
+  pub heard_more : (old mid new : WorldData S D) (n : ℕ) → IsSameSetup old mid → (HadMemory old → HadMemory mid) → HeardAfter old mid n → HearsRound meaning policy mid new → HeardAfter old new (n + 1)
   heard_more old mid new n same still before round =
       let e = same_world old mid same in
       let one : suc n ≡ n + 1 = omega arith in
-      subst (λ (k : ℕ). HeardAfter meaning policy old new k) one
-      (subst (λ (v : WorldData S D). (HadMemory old → HadMemory v) → HeardAfter meaning policy old v n → HearsRound meaning policy v new → HeardAfter meaning policy old new (suc n)) (sym e)
+      subst (λ (k : ℕ). HeardAfter old new k) one
+      (subst (λ (v : WorldData S D). (HadMemory old → HadMemory v) → HeardAfter old v n → HearsRound meaning policy v new → HeardAfter old new (suc n)) (sym e)
       (λ still before round hear had. round hear (still had) (after_rounds (part_of_client_in meaning policy old) (part_of_server_in meaning policy old) n) (before hear had))
       still before round)
 
   -- So few rounds leave nothing that waits.
-  pub bound : (old new : WorldData S D) (r : ℕ) → IsSameSetup old new → (HadMemory old → HadMemory new) → HeardAfter meaning policy old new r
+  pub bound : (old new : WorldData S D) (r : ℕ) → IsSameSetup old new → (HadMemory old → HadMemory new) → HeardAfter old new r
       → (AreUnderstoodIn meaning policy new → HearsAll meaning policy new) → Settles meaning policy new
       → AreUnderstoodIn meaning policy old → HadMemory old → length old.client_config.plan + 4 ≤ r → Complete new
   bound old new r same =
       let e = same_world old new same in
-      subst (λ (v : WorldData S D). (HadMemory old → HadMemory v) → HeardAfter meaning policy old v r → (AreUnderstoodIn meaning policy v → HearsAll meaning policy v) → Settles meaning policy v
+      subst (λ (v : WorldData S D). (HadMemory old → HadMemory v) → HeardAfter old v r → (AreUnderstoodIn meaning policy v → HearsAll meaning policy v) → Settles meaning policy v
       → AreUnderstoodIn meaning policy old → HadMemory old → length old.client_config.plan + 4 ≤ r → Complete v) (sym e)
       (λ still heard understands settles u had few. settles u (still had) r few (heard (understands u) had))

@@ -1,15 +1,14 @@
 -- How the endpoints of a world stand: each has heard and said the bytes that were moved.
 
-use Rattle.std.specs.Prelude.{◌≡◌, ◌≢◌, ◌≤◌, ℕ, List, [], length, take}
+use Rattle.std.specs.Prelude.{◌≡◌, ℕ, List, []}
 use Rattle.sshneg.specs.declared.role.Role.{Role}
 use Rattle.sshneg.specs.declared.role.Role.TheVariants as role
 use Rattle.sshpacket.specs.Suite.{Meaning}
-use Rattle.sshcore.specs.declared.end.Fault.TheVariants as fault
-use Rattle.sshcore.specs.Ending.{Ending, Failed, Open}
+use Rattle.sshcore.specs.Ending.{Ending, Open}
 use Rattle.sshcore.specs.EndpointData.{EndpointData}
 use Rattle.sshcore.specs.Endpoints.{After, Made, ending_of}
 use Rattle.sshcore.specs.Party.{Party, Policy, client_party, server_party}
-use Rattle.sshworld.specs.Worlds.{Half, WorldData}
+use Rattle.sshworld.specs.Worlds.{Half, HasReplied, WorldData}
 
 module _ {S D : Type 0} (meaning : S → Meaning) (policy : D → Policy) where
   -- An endpoint of this role, party, suite and decisions stands so, and has heard and said these bytes.
@@ -22,13 +21,10 @@ module _ {S D : Type 0} (meaning : S → Meaning) (policy : D → Policy) where
     pub is_end : ending_of endpoint ≡ end
     pub after : After meaning policy endpoint heard_bytes said_bytes
 
-  -- A side has used what was moved to it, or what of it stands before its end; and unless memory was wanting, its endpoint has
-  -- heard what it used, and has said what it sent.
-  pub record SideReplies (role : Role) (party : Party) (suite : S) (decisions : D) (own their : Half) : Type 0 where
-    pub used_within : own.used ≤ own.moved
-    pub moved_within : own.moved ≤ length their.sent
-    pub all_used : own.end ≡ Open → own.used ≡ own.moved
-    pub replies : own.end ≢ Failed fault.Memory → HasConversed role party suite decisions own.end (take own.used their.sent) own.sent
+  -- A side has used what was moved to it, up to its end; and unless memory was wanting, its endpoint has heard what it used, and has
+  -- said what it sent.
+  abbrev pub SideReplies : Role → Party → S → D → Half → Half → Type 0
+  SideReplies role party suite decisions own their = HasReplied (HasConversed role party suite decisions own.end) own their
 
   -- so does each side of a world
   pub record EachReplies (w : WorldData S D) : Type 0 where

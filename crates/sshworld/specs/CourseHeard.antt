@@ -1,15 +1,13 @@
 -- The course of two configs, as both sides of a world hear and say it.
 
-use Rattle.std.specs.Prelude.{◌≡◌, ◌≤◌, length, take, None}
+use Rattle.std.specs.Prelude.{◌≡◌, take, None}
 use Rattle.sshneg.specs.declared.role.Role.TheVariants.{Client, Server}
-use Rattle.sshpacket.specs.Places.{IsPrefix}
 use Rattle.sshpacket.specs.Suite.{Meaning}
 use Rattle.sshcore.specs.ConfigData.{ClientData, ServerData}
 use Rattle.sshcore.specs.Party.{Policy, client_party, server_party}
 use Rattle.sshworld.specs.Follows.{part_of_client, part_of_server}
 use Rattle.sshworld.specs.Halves.{HasHistory, HearsCourse, Partner, told}
 use Rattle.sshworld.specs.Headline.{AreInCourse, HaveHeardAll}
-use Rattle.sshworld.specs.Rounds.{UnitsHeard}
 use Rattle.sshworld.specs.Wording.{Wording}
 use Rattle.sshworld.specs.Worlds.{Half, waiting}
 
@@ -35,13 +33,3 @@ module _ (m : Meaning) (d : Policy) (client : ClientData) (server : ServerData) 
     pub server_unrefused : server_history.refusal ≡ None
     pub in_course : AreInCourse m d client server w (told client_history) (told server_history)
     pub heard_all : waiting of_client of_server ≡ 0 → waiting of_server of_client ≡ 0 → HaveHeardAll client server (told client_history) (told server_history)
-
-  -- In each history of it, each side has heard at least so many units.
-  pub record HaveHeard (heard : UnitsHeard) (of_client of_server : Half) : Type 0 where
-    pub by_client : (a : HasHistory m d Client (client_party client) of_client.end (take of_client.used of_server.sent) of_client.sent) → heard.client ≤ length a.units
-    pub by_server : (b : HasHistory m d Server (server_party server) of_server.end (take of_server.used of_client.sent) of_server.sent) → heard.server ≤ length b.units
-
--- All that waited for a side, whose half is own, was moved to it: it has sent more, or the same, and nothing waits for it.
-pub record HasTakenAll (old new opposite : Half) : Type 0 where
-  pub more_sent : IsPrefix old.sent new.sent
-  pub none_waits : waiting new opposite ≡ 0

@@ -1,13 +1,17 @@
 -- What a delivery does, and what several do, one after another.
 
-use Rattle.std.specs.Prelude.{◌≡◌, ◌+◌, ◌≤◌, ◌⊎◌, ℕ, zero, suc, List, [], ◌∷◌, min}
+use Rattle.std.specs.Prelude.{◌≡◌, ◌+◌, ◌≤◌, ◌⊎◌, ℕ, zero, suc, List, [], ◌∷◌, min, take}
+use Rattle.sshneg.specs.declared.role.Role.{Role}
 use Rattle.sshpacket.specs.Places.{IsPrefix}
+use Rattle.sshpacket.specs.Suite.{Meaning}
 use Rattle.sshcore.specs.declared.end.Fault.TheVariants as fault
 use Rattle.sshcore.specs.Ending.{Failed, Open}
+use Rattle.sshcore.specs.History.{BrokenOff}
+use Rattle.sshcore.specs.Party.{Party, Policy}
 use Rattle.sshworld.specs.declared.side.Delivery.{Delivery}
 use Rattle.sshworld.specs.declared.side.Side.{Side}
 use Rattle.sshworld.specs.declared.side.Side.TheVariants.{Client, Server}
-use Rattle.sshworld.specs.Worlds.{Half, WorldData, half_at, half_opposite, waiting_for}
+use Rattle.sshworld.specs.Worlds.{Half, WorldData, half_at, half_opposite, party_at, role_at, waiting_for}
 
 -- The next n bytes were moved to a side: it used all of them, or those up to its end, and what it said stands behind what it had
 -- sent. Where none were moved, nothing changed.
@@ -24,12 +28,16 @@ pub record Delivered {S D : Type 0} (to : Side) (n : ℕ) (old new : WorldData S
   pub receiver : TakesIn n (half_at to old) (half_at to new)
   pub sender : half_opposite to new ≡ half_opposite to old
 
--- A delivery for which memory was wanting: the receiver has failed by that, what it said stands behind what it had sent, and the
--- other doesn't change.
-pub record Refused {S D : Type 0} (to : Side) (old new : WorldData S D) : Type 0 where
-  pub failed : (half_at to new).end ≡ Failed fault.Memory
-  pub more_sent : IsPrefix (half_at to old).sent (half_at to new).sent
-  pub sender : half_opposite to new ≡ half_opposite to old
+-- The next n bytes were moved to a side, and memory was wanting: it has failed by that. It doesn't count those that it used of
+-- them. Behind what it had sent stands what it said, so that it has sent whole packets, a prefix of those that it would have sent.
+pub record BreaksOff (m : Meaning) (d : Policy) (role : Role) (party : Party) (n : ℕ) (old new opposite : Half) : Type 0 where
+  pub failed : new.end ≡ Failed fault.Memory
+  pub moved_on : new.moved ≡ old.moved + n
+  pub same_used : new.used ≡ old.used
+  pub more_sent : IsPrefix old.sent new.sent
+  pub used : ℕ
+  pub used_within : used ≤ n
+  pub broken_off : BrokenOff m d role party (take (old.used + used) opposite.sent) new.sent
 
 -- A delivery of a schedule moves the lesser of its count and what waits.
 abbrev pub Done : {S D : Type 0} → Delivery → WorldData S D → WorldData S D → Type 0
@@ -39,11 +47,6 @@ Done d old new = Delivered d.to (min d.count (waiting_for d.to old)) old new
 abbrev pub Runs : {S D : Type 0} → List Delivery → WorldData S D → WorldData S D → Type 0
 Runs [] old new = new ≡ old
 Runs {S} {D} (d ∷ later) old new = (mid : WorldData S D) × Done d old mid × Runs later mid new
-
--- the first delivery of a schedule for which memory was wanting; those before it were done
-abbrev pub RunsInto : {S D : Type 0} → List Delivery → WorldData S D → WorldData S D → Type 0
-RunsInto [] old new = ⊥
-RunsInto {S} {D} (d ∷ later) old new = Refused d.to old new ⊎ ((mid : WorldData S D) × Done d old mid × RunsInto later mid new)
 
 -- all waiting bytes were moved to a side
 abbrev pub DeliveredAll : {S D : Type 0} → Side → WorldData S D → WorldData S D → Type 0
@@ -58,10 +61,25 @@ abbrev pub Rounds : {S D : Type 0} → ℕ → WorldData S D → WorldData S D �
 Rounds zero old new = new ≡ old
 Rounds {S} {D} (suc n) old new = (mid : WorldData S D) × Round old mid × Rounds n mid new
 
--- the first delivery of a round for which memory was wanting, and the first of so many rounds
-abbrev pub RoundInto : {S D : Type 0} → WorldData S D → WorldData S D → Type 0
-RoundInto {S} {D} old new = Refused Server old new ⊎ ((mid : WorldData S D) × DeliveredAll Server old mid × Refused Client mid new)
+module _ {S D : Type 0} (meaning : S → Meaning) (policy : D → Policy) where
+  -- A delivery of n bytes for which memory was wanting; the side that doesn't receive doesn't change.
+  pub record Refused (to : Side) (n : ℕ) (old new : WorldData S D) : Type 0 where
+    pub receiver : BreaksOff (meaning old.suite) (policy old.decisions) (role_at to) (party_at to old) n (half_at to old) (half_at to new) (half_opposite to old)
+    pub sender : half_opposite to new ≡ half_opposite to old
 
-abbrev pub RoundsInto : {S D : Type 0} → ℕ → WorldData S D → WorldData S D → Type 0
-RoundsInto zero old new = ⊥
-RoundsInto {S} {D} (suc n) old new = RoundInto old new ⊎ ((mid : WorldData S D) × Round old mid × RoundsInto n mid new)
+  -- a delivery of so many bytes as wait for which it was
+  abbrev pub RefusedAll : Side → WorldData S D → WorldData S D → Type 0
+  RefusedAll to old new = Refused to (waiting_for to old) old new
+
+  -- the first delivery of a schedule for which it was; those before it were done
+  abbrev pub RunsInto : List Delivery → WorldData S D → WorldData S D → Type 0
+  RunsInto [] old new = ⊥
+  RunsInto (d ∷ later) old new = Refused d.to (min d.count (waiting_for d.to old)) old new ⊎ ((mid : WorldData S D) × Done d old mid × RunsInto later mid new)
+
+  -- the first delivery of a round for which it was, and the first of so many rounds
+  abbrev pub RoundInto : WorldData S D → WorldData S D → Type 0
+  RoundInto old new = RefusedAll Server old new ⊎ ((mid : WorldData S D) × DeliveredAll Server old mid × RefusedAll Client mid new)
+
+  abbrev pub RoundsInto : ℕ → WorldData S D → WorldData S D → Type 0
+  RoundsInto zero old new = ⊥
+  RoundsInto (suc n) old new = RoundInto old new ⊎ ((mid : WorldData S D) × Round old mid × RoundsInto n mid new)

@@ -1,21 +1,21 @@
 -- The two sides of a world on their course, in units, stated once for either role: own is the partner whose half it is, and
 -- their is the other, whose half is the opposite one.
 
-use Rattle.std.specs.Prelude.{◌≡◌, ◌≢◌, ◌≤◌, ℕ, List, length, take, Option, None}
+use Rattle.std.specs.Prelude.{◌≡◌, ◌≢◌, ℕ, List, take, Option, None}
 use Rattle.sshneg.specs.declared.role.Role.{Role}
 use Rattle.sshpacket.specs.Parse.{Refusal}
 use Rattle.sshpacket.specs.Places.{IsPrefix}
 use Rattle.sshpacket.specs.Stream.{Units}
 use Rattle.sshpacket.specs.Suite.{Meaning}
 use Rattle.sshcore.specs.declared.end.Fault.TheVariants as fault
-use Rattle.sshcore.specs.Ending.{Ending, Failed, Open}
+use Rattle.sshcore.specs.Ending.{Ending, Failed}
 use Rattle.sshcore.specs.History.{History}
 use Rattle.sshcore.specs.Party.{Party, Policy}
 use Rattle.sshworld.specs.Course.{Part, said_after}
 use Rattle.sshworld.specs.Follows.{KeepsPart, units_of}
 use Rattle.sshworld.specs.Headline.{Told}
 use Rattle.sshworld.specs.Links.{CanBeHeard}
-use Rattle.sshworld.specs.Worlds.{Half}
+use Rattle.sshworld.specs.Worlds.{Half, HasReplied}
 
 -- One of the two in a course: its role, what its endpoint is made of, and its part.
 pub record Partner : Type 0 where
@@ -48,13 +48,10 @@ pub record HearsCourse (m : Meaning) (d : Policy) (own their : Partner) : Type 0
   pub heard : CanBeHeard m own.role their.role own.party their.party (payloads_of own) (payloads_of their)
   pub keeps : KeepsPart m d their.role their.party their.part (stream_of own)
 
--- A side has used what was moved to it, or what of it stands before its end; and unless memory was wanting, it has a history with
--- the bytes that it used and those that it sent.
-pub record HalfReplies (m : Meaning) (d : Policy) (role : Role) (party : Party) (half opposite : Half) : Type 0 where
-  pub used_within : half.used ≤ half.moved
-  pub moved_within : half.moved ≤ length opposite.sent
-  pub all_used : half.end ≡ Open → half.used ≡ half.moved
-  pub history : half.end ≢ Failed fault.Memory → HasHistory m d role party half.end (take half.used opposite.sent) half.sent
+-- A side has used what was moved to it, up to its end; and unless memory was wanting, it has a history with the bytes that it used
+-- and those that it sent.
+abbrev pub HalfReplies : Meaning → Policy → Role → Party → Half → Half → Type 0
+HalfReplies m d role party half opposite = HasReplied (HasHistory m d role party half.end) half opposite
 
 -- A side is on its course: unless memory was wanting to one of the two, the units of each such history are a prefix of all that
 -- the other says, and nothing was refused.

@@ -1,12 +1,12 @@
 -- The headline: two sides that have ended have the ends that the outcome of their configs gives; and where nothing waits for
 -- either, both have ended.
 
-use Rattle.std.specs.Prelude.{◌≡◌, ◌≢◌, ◌∷◌}
+use Rattle.std.specs.Prelude.{◌≡◌, ◌≢◌, ◌↔◌, ◌∷◌}
 use Rattle.sshpacket.specs.Places.{IsPrefix}
 use Rattle.sshpacket.specs.Stream.{Units}
 use Rattle.sshpacket.specs.Suite.{Meaning}
 use Rattle.sshcore.specs.ConfigData.{ClientData, ServerData, version_of}
-use Rattle.sshcore.specs.Ending.{Ending, Open}
+use Rattle.sshcore.specs.Ending.{AgreedData, Authenticated, Ending, Open}
 use Rattle.sshcore.specs.Party.{Policy}
 use Rattle.sshworld.specs.Follows.{IsInPart, part_of_client, part_of_server}
 use Rattle.sshworld.specs.Outcome.{BothEnds}
@@ -17,10 +17,12 @@ pub record EndAs (ends : BothEnds) (client server : Ending) : Type 0 where
   pub client_as : client ≢ Open → client ≡ ends.client
   pub server_as : server ≢ Open → server ≡ ends.server
 
--- The headline, of ends that are given, how both sides stand, and whether nothing waits for either.
+-- The headline, of ends that are given, how both sides stand, and whether nothing waits for either: then both have ended, and one is
+-- authenticated exactly if the other is, with the same that was agreed.
 pub record Headline (ends : BothEnds) (client server : Ending) (complete : Type 0) : Type 0 where
   pub as_given : EndAs ends client server
   pub both_ended : complete → (client ≢ Open) × (server ≢ Open)
+  pub together : complete → (a : AgreedData) → (client ≡ Authenticated a) ↔ (server ≡ Authenticated a)
 
 -- What one side has heard and said: the units that it has heard, the payloads that it has said, and how it stands.
 pub record Told : Type 0 where

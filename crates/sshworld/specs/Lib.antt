@@ -23,4 +23,6 @@ pub mod Conversed
 pub mod Stands
 pub mod Halves
 pub mod CourseHeard
+pub mod Joined
 pub mod WorldCourse
+pub mod WorldRounds

@@ -9,7 +9,7 @@ use Rattle.sshpacket.specs.Places.{EachPlace}
 use Rattle.sshpacket.specs.Stream.{Units}
 use Rattle.sshpacket.specs.Suite.{Meaning}
 use Rattle.sshcore.specs.Before.{kept, strict_at}
-use Rattle.sshcore.specs.ConfigData.{ClientData, ServerData, version_of}
+use Rattle.sshcore.specs.ConfigData.{ClientData, ServerData}
 use Rattle.sshcore.specs.Counting.{switched_out}
 use Rattle.sshcore.specs.Exchange.{keys_at}
 use Rattle.sshcore.specs.History.{IsReady}
@@ -38,9 +38,8 @@ pub record BothInPlace (m : Meaning) (d : Policy) (client : ClientData) (server 
   pub heard_by_client : EachPlace (IsInPlace Client (client_party client)) [] (said_by_server m d client server)
   pub heard_by_server : EachPlace (IsInPlace Server (server_party server)) [] (said_by_client m d client server)
 
--- By all that the other says, both sides come to the same keys of each direction and are strict alike (RFC 4253 section 7.2,
--- OpenSSH PROTOCOL section 1.10).
-pub record HaveSameKeys (m : Meaning) (d : Policy) (client : ClientData) (server : ServerData) : Type 0 where
-  pub keys : (sender : Role) → keys_at m Client (client_party client) (version_of server.side) (said_by_server m d client server) sender
-      ≡ keys_at m Server (server_party server) (version_of client.side) (said_by_client m d client server) sender
-  pub strict : strict_at Client (client_party client) (said_by_server m d client server) ≡ strict_at Server (server_party server) (said_by_client m d client server)
+-- Of two endpoints own hears theirs, and the other hears ours: by that both come to the same keys of each direction and are strict
+-- alike (RFC 4253 section 7.2, OpenSSH PROTOCOL section 1.10).
+pub record HaveSameKeys (m : Meaning) (role peer : Role) (own their : Party) (ours theirs : Units) : Type 0 where
+  pub keys : (sender : Role) → keys_at m role own their.version theirs sender ≡ keys_at m peer their own.version ours sender
+  pub strict : strict_at role own theirs ≡ strict_at peer their ours

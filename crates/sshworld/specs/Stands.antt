@@ -58,9 +58,8 @@ module _ {S D : Type 0} (meaning : S → Meaning) (policy : D → Policy) where
     pub all_used : ending_of new.endpoint ≡ Open → used ≡ count
     pub fed : Fed meaning policy old.endpoint new.endpoint (take used (take count (drop old.moved their_sent))) old.sent.items new.sent.items
 
-  -- So they were, and memory was wanting.
-  pub record BrokenWith (their_sent : List ℕ) (old new : Node S D) : Type 0 where
-    pub count : ℕ
+  -- The next count of them were, and memory was wanting.
+  pub record BrokenWith (their_sent : List ℕ) (count : ℕ) (old new : Node S D) : Type 0 where
     pub was_open : ending_of old.endpoint ≡ Open
     pub failed : ending_of new.endpoint ≡ Failed fault.Memory
     pub moved_on : new.moved ≡ old.moved + count
@@ -72,4 +71,4 @@ module _ {S D : Type 0} (meaning : S → Meaning) (policy : D → Policy) where
   pub data Receives (their_sent : List ℕ) (old new : Node S D) : Type 0 where
     ReceivesNone : new ≡ old → Receives their_sent old new
     ReceivesSome : FedWith their_sent old new → Receives their_sent old new
-    ReceivesInto : BrokenWith their_sent old new → Receives their_sent old new
+    ReceivesInto : (count : ℕ) → BrokenWith their_sent count old new → Receives their_sent old new

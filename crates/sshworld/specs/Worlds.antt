@@ -1,11 +1,12 @@
 -- A world, as callers see it: a client and a server, what each has sent, and how far it was moved to the other.
 
-use Rattle.std.specs.Prelude.{◌≡◌, ◌≢◌, ◌-◌, ℕ, List, length}
-use Rattle.sshpacket.specs.Suite.{Meaning}
+use Rattle.std.specs.Prelude.{◌≡◌, ◌≢◌, ◌≤◌, ◌-◌, ℕ, List, length, take}
+use Rattle.sshneg.specs.declared.role.Role.{Role}
+use Rattle.sshneg.specs.declared.role.Role.TheVariants as role
 use Rattle.sshcore.specs.declared.end.Fault.TheVariants as fault
 use Rattle.sshcore.specs.ConfigData.{ClientData, ServerData}
 use Rattle.sshcore.specs.Ending.{Authenticated, Closed, Ending, Failed, Open}
-use Rattle.sshcore.specs.Party.{Policy}
+use Rattle.sshcore.specs.Party.{Party, client_party, server_party}
 use Rattle.sshworld.specs.declared.side.Side.{Side}
 use Rattle.sshworld.specs.declared.side.Side.TheVariants as side
 
@@ -17,6 +18,14 @@ pub record Half : Type 0 where
   pub used : ℕ
   pub end : Ending
 
+-- A side has used what was moved to it, or what of it stands before its end; and unless memory was wanting to it, this is true of
+-- the bytes that it used and those that it sent.
+pub record HasReplied (conversed : List ℕ → List ℕ → Type 0) (own their : Half) : Type 0 where
+  pub used_within : own.used ≤ own.moved
+  pub moved_within : own.moved ≤ length their.sent
+  pub all_used : own.end ≡ Open → own.used ≡ own.moved
+  pub replies : own.end ≢ Failed fault.Memory → conversed (take own.used their.sent) own.sent
+
 -- A world: both configs, the suite and the decisions that both sides share, and its two sides.
 pub record WorldData (S D : Type 0) : Type 0 where
   pub client_config : ClientData
@@ -25,16 +34,6 @@ pub record WorldData (S D : Type 0) : Type 0 where
   pub decisions : D
   pub client : Half
   pub server : Half
-
--- What both sides were made with: their configs, what the suite answers, and what is decided.
-pub record Setup : Type 0 where
-  pub client : ClientData
-  pub server : ServerData
-  pub meaning : Meaning
-  pub policy : Policy
-
-abbrev pub setup : {S D : Type 0} → (S → Meaning) → (D → Policy) → WorldData S D → Setup
-setup meaning policy w = record { client = w.client_config; server = w.server_config; meaning = meaning w.suite; policy = policy w.decisions }
 
 -- what never changes
 pub record IsSameSetup {S D : Type 0} (old new : WorldData S D) : Type 0 where
@@ -51,6 +50,15 @@ half_at side.Server w = w.server
 abbrev pub half_opposite : {S D : Type 0} → Side → WorldData S D → Half
 half_opposite side.Client w = w.server
 half_opposite side.Server w = w.client
+
+-- A side's role, and what its endpoint is made of.
+abbrev pub role_at : Side → Role
+role_at side.Client = role.Client
+role_at side.Server = role.Server
+
+abbrev pub party_at : {S D : Type 0} → Side → WorldData S D → Party
+party_at side.Client w = client_party w.client_config
+party_at side.Server w = server_party w.server_config
 
 -- How many bytes wait for a side, of those that the other has sent: those that weren't moved to it, or none once it has ended.
 abbrev pub waiting_at : Ending → ℕ → ℕ → ℕ

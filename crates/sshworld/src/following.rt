@@ -1,11 +1,12 @@
 //! The law of following a course.
 
 ghost use Rattle.std.specs.Prelude.{◌≡◌, ◌⊎◌, true};
+ghost use Rattle.sshneg.specs.declared.role.Role.TheVariants.{Client, Server};
 ghost use Rattle.sshpacket.specs.Suite.{IsAgreeing, IsLawful, Meaning};
 ghost use Rattle.sshcore.specs.ConfigData.{ClientData, ServerData};
 ghost use Rattle.sshcore.specs.ConfigRules.{IsClient, IsServer};
 ghost use Rattle.sshcore.specs.Counting.{switched_out};
-ghost use Rattle.sshcore.specs.Party.{Policy};
+ghost use Rattle.sshcore.specs.Party.{Policy, client_party, server_party};
 ghost use Rattle.sshworld.specs.Follows.{BothFollow, BothKeep};
 ghost use Rattle.sshworld.specs.Placed.{BothInPlace, HaveSameKeys, said_by_client, said_by_server};
 ghost use Rattle.sshworld.specs.Understood.{AreUnderstood};
@@ -24,7 +25,7 @@ pub fn follows_law()
     // Where either says NEWKEYS at all, both come to the same keys, and are strict alike.
     ensures keys { (m : Meaning) (d : Policy) (client : ClientData) (server : ServerData) → IsLawful m → AreUnderstood m d client server
         → IsClient client → IsServer server → (switched_out (said_by_client m d client server) ≡ true) ⊎ (switched_out (said_by_server m d client server) ≡ true)
-        → HaveSameKeys m d client server }
+        → HaveSameKeys m Client Server (client_party client) (server_party server) (said_by_client m d client server) (said_by_server m d client server) }
     // A suite of which all ends agree and all keys sign lets any two understand each other.
     ensures understood { (m : Meaning) (d : Policy) (client : ClientData) (server : ServerData) → IsAgreeing m
         → IsClient client → IsServer server → AreUnderstood m d client server }

@@ -11,6 +11,7 @@ mod link_laws;
 mod node;
 mod prediction;
 mod session;
+mod session_laws;
 mod side;
 mod world;
 
@@ -19,5 +20,6 @@ pub use following::{follows_law, keeps_law};
 pub use headline_laws::headline_law;
 pub use law::verdict_law;
 pub use prediction::predict;
+pub use session_laws::session_law;
 pub use side::{Delivery, Side};
 pub use world::World;

@@ -6,7 +6,7 @@ ghost use Rattle.sshcore.specs.declared.end.Fault.TheVariants as fault;
 ghost use Rattle.sshcore.specs.Ending.{Failed, Open};
 ghost use Rattle.sshcore.specs.Endpoints.{Made, ending_of};
 ghost use Rattle.sshcore.specs.Party.{client_party, server_party};
-ghost use Rattle.sshworld.specs.Stands.{Receives};
+ghost use Rattle.sshworld.specs.Stands.{BrokenWith, Receives};
 ghost use Rattle.sshworld.specs.Worlds.{waiting_at};
 
 use sshcore::{ClientConfig, Decisions, End, Endpoint, ServerConfig};
@@ -87,11 +87,11 @@ impl<'a, S: Suite, D: Decisions> Node<'a, S, D> {
         ensures count { IfOk result (λ n. n ≡ min count (waiting_at (ending_of self.old.endpoint) (length their_sent.now) self.old.moved)) }
         ensures moved { IfOk result (λ n. self.new.moved ≡ self.old.moved + n) }
         ensures by_none { IfOk result (λ n. n ≡ 0 → self.new ≡ self.old) }
-        ensures refused { OnErr result (ending_of self.new.endpoint ≡ Failed fault.Memory) }
+        ensures broken { OnErr result (BrokenWith S.meaning D.policy their_sent.now (min count (waiting_at (ending_of self.old.endpoint) (length their_sent.now) self.old.moved)) self.old self.new) }
         ensures still { OnOk result (ending_of self.old.endpoint ≢ Failed fault.Memory → ending_of self.new.endpoint ≢ Failed fault.Memory) }
         ensures ended { ending_of self.old.endpoint ≢ Open → (result ≡ Ok 0) × (self.new ≡ self.old) }
     {
-        let count = least(count, self.waiting(their_sent));
+        let count = count.min(self.waiting(their_sent));
         if count == 0 {
             return Ok(0);
         }
@@ -102,11 +102,4 @@ impl<'a, S: Suite, D: Decisions> Node<'a, S, D> {
         self.used = from + used;
         Ok(count)
     }
-}
-
-/// The lesser of two counts.
-fn least(count: usize, waiting: usize) -> usize
-    ensures { result ≡ min count waiting }
-{
-    if count < waiting { count } else { waiting }
 }

@@ -3,8 +3,9 @@
 ghost use Rattle.std.specs.Prelude.{◌≡◌, ◌≢◌, ◌↔◌, ◌+◌, ◌≤◌, IfOk, IsTrue, Ok, OnErr, OnOk, length, min};
 ghost use Rattle.sshcore.specs.Ending.{Open, ending};
 ghost use Rattle.sshworld.specs.Conversed.{EachReplies, IsNew};
-ghost use Rattle.sshworld.specs.Deliveries.{Delivered, DeliveredAll, Refused, Round, RoundInto, Rounds, RoundsInto, Runs, RunsInto};
-ghost use Rattle.sshworld.specs.WorldCourse.{AreUnderstoodIn, HearsAll, HearsRound, HearsTurn, IsOnCourse, KeepsCourse, KeepsHeadline, Settles};
+ghost use Rattle.sshworld.specs.Deliveries.{Delivered, DeliveredAll, Refused, RefusedAll, Round, RoundInto, Rounds, RoundsInto, Runs, RunsInto};
+ghost use Rattle.sshworld.specs.WorldCourse.{AreUnderstoodIn, HearsAll, IsOnCourse, KeepsCourse, KeepsHeadline};
+ghost use Rattle.sshworld.specs.WorldRounds.{HearsRound, HearsTurn, Settles};
 ghost use Rattle.sshworld.specs.Worlds.{Complete, HadMemory, IsSameSetup, half_at, waiting_for};
 
 use crate::link_laws::{below_law, course_hearing_law};
@@ -114,7 +115,7 @@ impl<'a, S: Suite, D: Decisions> World<'a, S, D> {
     fn move_bytes(&mut self, to: Side, count: usize) -> Result<usize, Memory>
         ensures count { IfOk result (λ n. n ≡ min count (waiting_for to self.old)) }
         ensures delivered { IfOk result (λ n. Delivered to n self.old self.new) }
-        ensures refused { OnErr result (Refused to self.old self.new) }
+        ensures refused { OnErr result (Refused S.meaning D.policy to (min count (waiting_for to self.old)) self.old self.new) }
         ensures still { OnOk result (HadMemory self.old → HadMemory self.new) }
         ensures ended { (half_at to self.old).end ≢ Open → (result ≡ Ok 0) × (self.new ≡ self.old) }
         ensures setup { IsSameSetup self.old self.new }
@@ -140,7 +141,7 @@ impl<'a, S: Suite, D: Decisions> World<'a, S, D> {
     pub fn deliver(&mut self, to: Side, count: u32) -> Result<u32, Memory>
         ensures count { IfOk result (λ n. n ≡ min count (waiting_for to self.old)) }
         ensures delivered { IfOk result (λ n. Delivered to n self.old self.new) }
-        ensures refused { OnErr result (Refused to self.old self.new) }
+        ensures refused { OnErr result (Refused S.meaning D.policy to (min count (waiting_for to self.old)) self.old self.new) }
         ensures still { OnOk result (HadMemory self.old → HadMemory self.new) }
         ensures ended { (half_at to self.old).end ≢ Open → (result ≡ Ok 0) × (self.new ≡ self.old) }
         ensures setup { IsSameSetup self.old self.new }
@@ -155,7 +156,7 @@ impl<'a, S: Suite, D: Decisions> World<'a, S, D> {
     /// Moves all bytes that wait for a side to it.
     fn move_all(&mut self, to: Side) -> Result<(), Memory>
         ensures delivered { OnOk result (DeliveredAll to self.old self.new) }
-        ensures refused { OnErr result (Refused to self.old self.new) }
+        ensures refused { OnErr result (RefusedAll S.meaning D.policy to self.old self.new) }
         ensures still { OnOk result (HadMemory self.old → HadMemory self.new) }
         ensures setup { IsSameSetup self.old self.new }
         ensures replies { EachReplies S.meaning D.policy self.new }
@@ -173,7 +174,7 @@ impl<'a, S: Suite, D: Decisions> World<'a, S, D> {
     /// then it answers `Memory`.
     pub fn run(&mut self, schedule: &[Delivery]) -> Result<(), Memory>
         ensures runs { OnOk result (Runs schedule.now self.old self.new) }
-        ensures stopped { OnErr result (RunsInto schedule.now self.old self.new) }
+        ensures stopped { OnErr result (RunsInto S.meaning D.policy schedule.now self.old self.new) }
         ensures still { OnOk result (HadMemory self.old → HadMemory self.new) }
         ensures setup { IsSameSetup self.old self.new }
         ensures replies { EachReplies S.meaning D.policy self.new }
@@ -190,7 +191,7 @@ impl<'a, S: Suite, D: Decisions> World<'a, S, D> {
     /// All waiting bytes to the server, and then all waiting bytes to the client.
     fn round(&mut self) -> Result<(), Memory>
         ensures round { OnOk result (Round self.old self.new) }
-        ensures stopped { OnErr result (RoundInto self.old self.new) }
+        ensures stopped { OnErr result (RoundInto S.meaning D.policy self.old self.new) }
         ensures still { OnOk result (HadMemory self.old → HadMemory self.new) }
         ensures setup { IsSameSetup self.old self.new }
         ensures replies { EachReplies S.meaning D.policy self.new }
@@ -208,7 +209,7 @@ impl<'a, S: Suite, D: Decisions> World<'a, S, D> {
     /// the client.
     pub fn settle(&mut self, rounds: u32) -> Result<(), Memory>
         ensures rounds { OnOk result (Rounds rounds self.old self.new) }
-        ensures stopped { OnErr result (RoundsInto rounds self.old self.new) }
+        ensures stopped { OnErr result (RoundsInto S.meaning D.policy rounds self.old self.new) }
         ensures still { OnOk result (HadMemory self.old → HadMemory self.new) }
         ensures setup { IsSameSetup self.old self.new }
         ensures replies { EachReplies S.meaning D.policy self.new }

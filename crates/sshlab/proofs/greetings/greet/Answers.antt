@@ -1,5 +1,5 @@
 use Rattle.std.proofs.Common.{refl}
-use Rattle.sshlab.specs.declared.delivery.Side.TheVariants.{Client, Server}
+use Rattle.sshworld.specs.declared.side.Side.TheVariants.{Client, Server}
 use Rattle.sshlab.specs.Greetings.{asked}
 use Rattle.sshlab.proofs.ReceiverLemmas.{IsLaw, delivered_new, done, greets, step_other, step_own}
 use Rattle.sshlab.proofs.greetings.greet.Goals.{in-Client+in_ok-deliver-in-Client, in-Server+in_ok-deliver-in-Server}

@@ -1,5 +1,5 @@
 use Rattle.std.proofs.Common.{drop}
-use Rattle.sshlab.specs.declared.delivery.Side.TheVariants.{Client, Server}
+use Rattle.sshworld.specs.declared.side.Side.TheVariants.{Client, Server}
 use Rattle.sshlab.specs.Greetings.{asked}
 use Rattle.sshlab.proofs.ReceiverLemmas.{Delivered}
 use Rattle.sshlab.proofs.greetings.greet.Given as goal

@@ -1,9 +1,12 @@
-use Rattle.std.proofs.Common.{◌+◌, ◌≤◌, length}
+use Rattle.std.proofs.Common.{◌≡◌, length, take}
+use Rattle.sshlab.specs.ScenarioDrafts.{drafted}
+use Rattle.sshlab.specs.ScenarioText.{CanBeRead, lines, said}
 use Rattle.sshlab.proofs.scenario.read_lines.Given as goal
 
--- each line took a byte at least
-abbrev pub invariant-loop-rest : goal.invariant-loop-rest
-invariant-loop-rest l = l.number + length l.rest ≤ length l.text
-
-abbrev pub decreases-loop-rest : goal.decreases-loop-rest
-decreases-loop-rest l = length l.rest
+-- the lines so far can be read, and give the draft
+abbrev pub invariant-loop-line : goal.invariant-loop-line
+invariant-loop-line l = record {
+  counted : l.number ≡ length l.yielded;
+  read : CanBeRead (take l.number (lines l.text));
+  draft : l.draft ≡ drafted (said (take l.number (lines l.text)));
+}

@@ -1,6 +1,7 @@
 use Rattle.std.proofs.Common.{subst}
 use Rattle.sshworld.specs.Conversed.{EachReplies}
-use Rattle.sshworld.specs.WorldCourse.{AreUnderstoodIn, HearsAll, KeepsCourse, KeepsHeadline, Settles}
+use Rattle.sshworld.specs.WorldCourse.{AreUnderstoodIn, HearsAll, KeepsCourse, KeepsHeadline}
+use Rattle.sshworld.specs.WorldRounds.{Settles}
 use Rattle.sshworld.proofs.DeliveryLemmas.{each_replies}
 use Rattle.sshworld.proofs.WorldCourseLemmas.{course_in, headline_in, settles_in, understands_in}
 use Rattle.sshworld.proofs.world.World.holds.Goals as goal

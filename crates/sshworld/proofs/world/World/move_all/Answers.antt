@@ -1,3 +1,7 @@
+use Rattle.std.proofs.Common.{◌≡◌, arith, min, subst}
+use Rattle.sshworld.specs.Deliveries.{Refused}
+use Rattle.sshworld.specs.Worlds.{waiting_for}
+use Rattle.sshworld.proofs.DeliveryLemmas.{at_err}
 use Rattle.sshworld.proofs.WorldCourseLemmas.{all_delivered, turned}
 use Rattle.sshworld.proofs.world.World.move_all.Goals as goal
 
@@ -7,3 +11,9 @@ returns-clause-turn g c = λ hear had heard counts.
     let e = c.in_ok-move_bytes.ensures in
     turned g.S.Suite.meaning g.D.Decisions.policy c.below_law.ensures.laws old c.move_bytes.new.self e.setup (g.met.S.Suite.lawful old.suite) c.args.to hear e.was_on e.on_course had (e.still had)
     (all_delivered c.args.to c.in_ok-move_bytes.field-0 c.waiting-all.result old c.move_bytes.new.self c.waiting-all.ensures e.count e.delivered) heard counts
+
+pub returns-in_err-move_bytes-clause-refused : goal.returns-in_err-move_bytes-clause-refused
+returns-in_err-move_bytes-clause-refused g c =
+    let old = c.args.self.now in
+    let count : min c.waiting-all.result (waiting_for c.args.to old) ≡ waiting_for c.args.to old = omega (arith, c.waiting-all.ensures) in
+    at_err c.from_residual.result (subst (λ n. Refused g.S.Suite.meaning g.D.Decisions.policy c.args.to n old c.move_bytes.new.self) count c.in_err-move_bytes.ensures.refused)

@@ -1,9 +1,10 @@
-use Rattle.std.proofs.Common.{subst, IfOk, OnErr, OnOk}
+use Rattle.std.proofs.Common.{length, min, subst, IfOk, OnErr, OnOk}
+use Rattle.sshcore.specs.Endpoints.{ending_of}
 use Rattle.sshworld.specs.declared.side.Side.TheVariants.{Client, Server}
 use Rattle.sshworld.specs.Deliveries.{Delivered, Refused}
-use Rattle.sshworld.specs.Stands.{Receives, seen}
+use Rattle.sshworld.specs.Stands.{BrokenWith, Receives, half_of, seen}
 use Rattle.sshworld.specs.WorldCourse.{IsOnCourse}
-use Rattle.sshworld.specs.Worlds.{HadMemory}
+use Rattle.sshworld.specs.Worlds.{HadMemory, waiting, waiting_at, waiting_for}
 use Rattle.sshworld.proofs.DeliveryLemmas.{as_seen, delivered, each_replies, refused, still}
 use Rattle.sshworld.proofs.WorldCourseLemmas.{course_in, headline_in, received_world}
 use Rattle.sshworld.proofs.world.World.move_bytes.Goals as goal
@@ -22,8 +23,11 @@ returns-in-Client-clause-delivered g c =
 pub returns-in-Client-clause-refused : goal.returns-in-Client-clause-refused
 returns-in-Client-clause-refused g c =
     let i = c.self.inside in
-    as_seen (λ s w. OnErr c.receive.result (Refused s w (seen i.client_config.now i.server_config.now i.suite.now i.decisions.now c.receive.new.self i.server))) c.args.to Client c.args.self.now (seen i.client_config.now i.server_config.now i.suite.now i.decisions.now i.client i.server) c.in-Client.is c.self.view_is
-    (refused g.S.Suite.meaning g.D.Decisions.policy i.client_config.now i.server_config.now i.suite.now i.decisions.now Client i.client i.server c.receive.new.self c.receive.result (subst (λ q. Receives g.S.Suite.meaning g.D.Decisions.policy q i.client c.receive.new.self) c.deref.ensures.value c.receive.ensures.receives) c.receive.ensures.refused)
+    let m = g.S.Suite.meaning in
+    let d = g.D.Decisions.policy in
+    as_seen (λ s w. OnErr c.receive.result (Refused m d s (min c.args.count (waiting_for s w)) w (seen i.client_config.now i.server_config.now i.suite.now i.decisions.now c.receive.new.self i.server))) c.args.to Client c.args.self.now (seen i.client_config.now i.server_config.now i.suite.now i.decisions.now i.client i.server) c.in-Client.is c.self.view_is
+    (refused m d i.client_config.now i.server_config.now i.suite.now i.decisions.now Client i.client i.server c.receive.new.self (min c.args.count (waiting (half_of i.client) (half_of i.server))) c.receive.result c.self.invariant.nodes
+    (subst (λ q. OnErr c.receive.result (BrokenWith m d q (min c.args.count (waiting_at (ending_of i.client.endpoint) (length q) i.client.moved)) i.client c.receive.new.self)) c.deref.ensures.value c.receive.ensures.broken))
 
 pub returns-in-Client-clause-still : goal.returns-in-Client-clause-still
 returns-in-Client-clause-still g c =
@@ -49,8 +53,11 @@ returns-in-Server-clause-delivered g c =
 pub returns-in-Server-clause-refused : goal.returns-in-Server-clause-refused
 returns-in-Server-clause-refused g c =
     let i = c.self.inside in
-    as_seen (λ s w. OnErr c.receive-in-Server.result (Refused s w (seen i.client_config.now i.server_config.now i.suite.now i.decisions.now i.client c.receive-in-Server.new.self))) c.args.to Server c.args.self.now (seen i.client_config.now i.server_config.now i.suite.now i.decisions.now i.client i.server) c.in-Server.is c.self.view_is
-    (refused g.S.Suite.meaning g.D.Decisions.policy i.client_config.now i.server_config.now i.suite.now i.decisions.now Server i.server i.client c.receive-in-Server.new.self c.receive-in-Server.result (subst (λ q. Receives g.S.Suite.meaning g.D.Decisions.policy q i.server c.receive-in-Server.new.self) c.deref-in-Server.ensures.value c.receive-in-Server.ensures.receives) c.receive-in-Server.ensures.refused)
+    let m = g.S.Suite.meaning in
+    let d = g.D.Decisions.policy in
+    as_seen (λ s w. OnErr c.receive-in-Server.result (Refused m d s (min c.args.count (waiting_for s w)) w (seen i.client_config.now i.server_config.now i.suite.now i.decisions.now i.client c.receive-in-Server.new.self))) c.args.to Server c.args.self.now (seen i.client_config.now i.server_config.now i.suite.now i.decisions.now i.client i.server) c.in-Server.is c.self.view_is
+    (refused m d i.client_config.now i.server_config.now i.suite.now i.decisions.now Server i.server i.client c.receive-in-Server.new.self (min c.args.count (waiting (half_of i.server) (half_of i.client))) c.receive-in-Server.result c.self.invariant.nodes
+    (subst (λ q. OnErr c.receive-in-Server.result (BrokenWith m d q (min c.args.count (waiting_at (ending_of i.server.endpoint) (length q) i.server.moved)) i.server c.receive-in-Server.new.self)) c.deref-in-Server.ensures.value c.receive-in-Server.ensures.broken))
 
 pub returns-in-Server-clause-still : goal.returns-in-Server-clause-still
 returns-in-Server-clause-still g c =

@@ -13,4 +13,4 @@ loop-delivery-preserved g c =
 
 pub returns-in_err-deliver-clause-stopped : goal.returns-in_err-deliver-clause-stopped
 returns-in_err-deliver-clause-stopped g c = at_err c.from_residual.result
-    (runs_into c.args.schedule.now c.loop-delivery.delivery-index _ c.args.self.now c.loop-delivery.self c.deliver.new.self c.loop-delivery-test.true c.loop-delivery.invariant.runs c.in_err-deliver.ensures.refused)
+    (runs_into g.S.Suite.meaning g.D.Decisions.policy c.args.schedule.now c.loop-delivery.delivery-index _ c.args.self.now c.loop-delivery.self c.deliver.new.self c.loop-delivery-test.true c.loop-delivery.invariant.runs c.in_err-deliver.ensures.refused)

@@ -16,7 +16,7 @@ loop-preserved g c =
 
 pub returns-in_err-round-clause-stopped : goal.returns-in_err-round-clause-stopped
 returns-in_err-round-clause-stopped g c = at_err c.from_residual.result
-    (rounds_into c.args.rounds c.loop.counter c.args.self.now c.loop.self c.round.new.self c.loop-test.true c.loop.invariant.rounds c.in_err-round.ensures.stopped)
+    (rounds_into g.S.Suite.meaning g.D.Decisions.policy c.args.rounds c.loop.counter c.args.self.now c.loop.self c.round.new.self c.loop-test.true c.loop.invariant.rounds c.in_err-round.ensures.stopped)
 
 pub returns-clause-bound : goal.returns-clause-bound
 returns-clause-bound g c = λ understood had few.

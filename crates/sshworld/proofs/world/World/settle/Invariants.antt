@@ -1,6 +1,6 @@
 use Rattle.sshworld.specs.Deliveries.{Rounds}
-use Rattle.sshworld.specs.WorldCourse.{HeardAfter}
 use Rattle.sshworld.specs.Worlds.{HadMemory, IsSameSetup}
+use Rattle.sshworld.proofs.WorldCourseLemmas.{HeardAfter}
 use Rattle.sshworld.proofs.world.World.settle.Given as goal
 
 -- so many rounds were done, and both have heard what those bring

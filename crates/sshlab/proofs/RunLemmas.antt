@@ -1,0 +1,62 @@
+-- A world of a scenario, whose ends understand each other.
+
+use Rattle.std.proofs.Common.{◌≡◌, ◌≢◌, ◌↔◌, ◌+◌, ℕ, List, Result, Ok, Err, length, sym}
+use Rattle.std.specs.Result.{IfOk}
+use Rattle.sshpacket.specs.Suite.{Meaning}
+use Rattle.sshcore.specs.declared.end.Fault.TheVariants as fault
+use Rattle.sshcore.specs.ConfigData.{ClientData, ServerData}
+use Rattle.sshcore.specs.Ending.{Ending, Failed, Open}
+use Rattle.sshcore.specs.Party.{Policy}
+use Rattle.sshworld.specs.Conversed.{IsNew}
+use Rattle.sshworld.specs.CourseHeard.{IsCourseHeard}
+use Rattle.sshworld.specs.Headline.{Headline}
+use Rattle.sshworld.specs.Outcome.{BothEnds, outcome}
+use Rattle.sshworld.specs.Understood.{AreUnderstood}
+use Rattle.sshworld.specs.WorldCourse.{AreUnderstoodIn, KeepsCourse, KeepsHeadline}
+use Rattle.sshworld.specs.Wordings.{wording_of}
+use Rattle.sshworld.specs.Worlds.{Complete, HadMemory, WorldData}
+use Rattle.sshlab.specs.declared.scenario_line.Step.{Step}
+use Rattle.sshlab.specs.Steps.{EndsSettling}
+
+-- a side that is open hasn't failed
+open_had : (end : Ending) → end ≡ Open → end ≢ Failed fault.Memory
+open_had end is_open failed = cc
+
+module _ {S D : Type 0} (meaning : S → Meaning) (policy : D → Policy) where
+  -- neither side of a new world has failed
+  pub new_had : (w : WorldData S D) → IsNew meaning policy w → HadMemory w
+  new_had w new = record { client_had = open_had w.client.end new.client.is_open; server_had = open_had w.server.end new.server.is_open }
+
+-- where nothing waits, both ends are those of the headline
+pub both_predicted : (ends : BothEnds) (client server : Ending) (complete : Type 0) → Headline ends client server complete → complete
+    → (client ≡ ends.client) × (server ≡ ends.server)
+both_predicted ends client server complete h c =
+    let both = h.both_ended c in
+    (h.as_given.client_as both.0, h.as_given.server_as both.1)
+
+-- what is known of a world of these configs and rules
+module _ {S D : Type 0} (m : Meaning) (policy : D → Policy) (client : ClientData) (server : ServerData) (rules : D) (w : WorldData S D)
+    (of_client : w.client_config ≡ client) (of_server : w.server_config ≡ server) (of_rules : w.decisions ≡ rules) where
+  pub course_of : AreUnderstood m (policy rules) client server → HadMemory w → KeepsCourse (λ suite. m) policy w
+      → IsCourseHeard m (policy rules) client server (wording_of m client server) w.client w.server
+  course_of = rw (sym of_client, sym of_server, sym of_rules) (λ u had keeps. keeps u had)
+
+  pub headline_of : AreUnderstood m (policy rules) client server → HadMemory w → KeepsHeadline (λ suite. m) policy w
+      → Headline (outcome m (policy rules) client server) w.client.end w.server.end (Complete w)
+  headline_of = rw (sym of_client, sym of_server, sym of_rules) (λ u had keeps. keeps u had)
+
+  pub settled_of : (steps read : List Step) (new : WorldData S D) → read ≡ steps → AreUnderstood m (policy rules) client server → HadMemory w
+      → (AreUnderstoodIn (λ suite. m) policy w → HadMemory w → EndsSettling (length w.client_config.plan + 4) read → Complete new)
+      → EndsSettling (length client.plan + 4) steps → Complete new
+  settled_of steps read new same = rw (sym of_client, sym of_server, sym of_rules, sym same) (λ u had settled. settled u had)
+
+-- an answer that tells whether a world is whole by its status
+module _ {A E W : Type 0} (status : A → ℕ) (Whole : W → Type 0) (w : W) where
+  pub told_of : (Leads : W → Type 0) (r : Result A E) → Leads w → IfOk r (λ answer. (status answer ≡ 0) ↔ Whole w)
+      → IfOk r (λ answer. (x : W) × Leads x × ((status answer ≡ 0) ↔ Whole x))
+  told_of Leads (Ok answer) leads told = (w, leads, told)
+  told_of Leads (Err e) leads told = told
+
+  pub done_by : (Ends : Type 0) (r : Result A E) → (Ends → Whole w) → IfOk r (λ answer. (status answer ≡ 0) ↔ Whole w) → IfOk r (λ answer. Ends → status answer ≡ 0)
+  done_by Ends (Ok answer) whole told = λ ends. told.1 (whole ends)
+  done_by Ends (Err e) whole told = told

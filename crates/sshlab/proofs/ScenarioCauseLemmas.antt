@@ -1,0 +1,33 @@
+-- Why a text is refused.
+
+use Rattle.std.proofs.Common.{◌≡◌, ℕ, List, subst, sym}
+use Rattle.sshcore.specs.declared.config_fault.ConfigFault.{ConfigFault}
+use Rattle.sshcore.specs.ConfigData.{ClientData, ServerData}
+use Rattle.sshcore.specs.ConfigRules.{ClientRule, IsLeastBroken, ServerRule}
+use Rattle.sshlab.specs.declared.scenario.ScenarioFault.{ScenarioFault}
+use Rattle.sshlab.specs.declared.scenario.ScenarioFault.TheVariants as fault
+use Rattle.sshlab.specs.ScenarioFaults.{IsCause, IsClientRefusal, IsLineCause, IsServerRefusal}
+use Rattle.sshlab.specs.ScenarioParts.{client_of_lines, server_of_lines}
+use Rattle.sshlab.specs.ScenarioText.{CanBeRead, said}
+
+pub line_cause : (ls : List (List ℕ)) (told : ScenarioFault) → IsLineCause ls told → IsCause ls told
+line_cause ls (fault.Line k) cause = cause
+line_cause ls (fault.Client code) cause = absurd cause
+line_cause ls (fault.Server code) cause = absurd cause
+line_cause ls fault.Memory cause = tt
+
+module _ (ls : List (List ℕ)) (read : CanBeRead ls) where
+  pub client_cause : (parts : ClientData) (told : ScenarioFault) → parts ≡ client_of_lines (said ls) → IsClientRefusal parts told → IsCause ls told
+  client_cause parts (fault.Line k) is cause = absurd cause
+  client_cause parts (fault.Client code) is cause =
+      record { read = read; client = subst (λ (client : ClientData). IsLeastBroken (λ rule. ClientRule rule client) code) is cause }
+  client_cause parts (fault.Server code) is cause = absurd cause
+  client_cause parts fault.Memory is cause = tt
+
+  pub server_cause : (parts : ServerData) (told : ScenarioFault) → ((rule : ConfigFault) → ClientRule rule (client_of_lines (said ls)))
+      → parts ≡ server_of_lines (said ls) → IsServerRefusal parts told → IsCause ls told
+  server_cause parts (fault.Line k) kept is cause = absurd cause
+  server_cause parts (fault.Client code) kept is cause = absurd cause
+  server_cause parts (fault.Server code) kept is cause =
+      record { read = read; client = kept; server = subst (λ (server : ServerData). IsLeastBroken (λ rule. ServerRule rule server) code) is cause }
+  server_cause parts fault.Memory kept is cause = tt

@@ -1,0 +1,21 @@
+use Rattle.std.proofs.Common.{◌+◌, length}
+use Rattle.sshworld.specs.Worlds.{Complete}
+use Rattle.sshlab.specs.Lab.{lab}
+use Rattle.sshlab.specs.LabRules.{lab_policy}
+use Rattle.sshlab.specs.Steps.{EndsSettling, StepsLeadTo}
+use Rattle.sshlab.proofs.RunLemmas.{done_by, told_of}
+use Rattle.sshlab.proofs.program.steps_told.Goals as goal
+
+pub returns-in-Ok-clause-complete : goal.returns-in-Ok-clause-complete
+returns-in-Ok-clause-complete c =
+    let scenario = c.args.scenario.now in
+    told_of (λ answer. answer.status) (λ w. Complete w) c.in-Ok.world
+    (λ w. StepsLeadTo (λ suite. lab) lab_policy scenario.client scenario.server scenario.decisions scenario.steps.items w)
+    c.world_told.result c.in-Ok.ensures.steps c.world_told.ensures.complete
+
+pub returns-in-Ok-clause-settled : goal.returns-in-Ok-clause-settled
+returns-in-Ok-clause-settled c =
+    let scenario = c.args.scenario.now in
+    done_by (λ answer. answer.status) (λ w. Complete w) c.in-Ok.world
+    (EndsSettling (length scenario.client.plan + 4) scenario.steps.items)
+    c.world_told.result c.in-Ok.ensures.settled c.world_told.ensures.complete

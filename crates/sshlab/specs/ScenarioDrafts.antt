@@ -1,0 +1,70 @@
+-- A scenario while its lines are read.
+
+use Rattle.std.specs.Prelude.{ℕ, if◌then◌else◌, List, [], ◌∷◌, ◌++◌, Option, Some, None, fold}
+use Rattle.sshcore.specs.ConfigData.{ClientData, HostKey, Proving, ServerData}
+use Rattle.sshworld.specs.declared.side.Side.{Side}
+use Rattle.sshworld.specs.declared.side.Side.TheVariants.{Client, Server}
+use Rattle.sshlab.specs.declared.scenario_line.Step.{Step}
+use Rattle.sshlab.specs.declared.scenario_settings.Setting.{Setting}
+use Rattle.sshlab.specs.LabParties.{lab_client, lab_server}
+use Rattle.sshlab.specs.LabRules.{LabRules, proof_by}
+use Rattle.sshlab.specs.ScenarioParts.{can_be_proved}
+use Rattle.sshlab.specs.ScenarioSettings.{setting_in, with_client, with_server, with_side}
+use Rattle.sshlab.specs.ScenarioText.{said_in}
+use Rattle.sshlab.specs.Scenarios.{Allows, Denies, Distrusts, Does, Holds, Notes, OfClient, OfServer, OfSide, Saying, Tries}
+
+-- what lines give, and the settings that they make; the server's host keys are the default, and those of the lines stand apart
+pub record Drafted : Type 0 where
+  pub client : ClientData
+  pub server : ServerData
+  pub host_keys : List HostKey
+  pub rules : LabRules
+  pub steps : List Step
+  pub settings : List (Side × Setting)
+
+-- what no lines give
+unfoldable pub no_lines : Drafted
+no_lines = record {
+  client = lab_client;
+  server = lab_server;
+  host_keys = [];
+  rules = record { distrusted = []; allowed = []; denied = [] };
+  steps = [];
+  settings = [];
+}
+
+-- one more is let in, by a proof that a request can have
+abbrev pub allowing : LabRules → List ℕ → Proving → LabRules
+allowing rules user proving =
+    if can_be_proved proving then record rules { allowed = rules.allowed ++ record { user = user; proof = proof_by proving } ∷ [] } else rules
+
+-- what one more line gives
+abbrev pub after : Drafted → Saying → Drafted
+after d (OfSide Client value) = record d { client = record d.client { side = with_side d.client.side value } }
+after d (OfSide Server value) = record d { server = record d.server { side = with_side d.server.side value } }
+after d (OfClient value) = record d { client = with_client d.client value }
+after d (OfServer value) = record d { server = with_server d.server value }
+after d (Tries attempt) = record d { client = record d.client { plan = d.client.plan ++ attempt ∷ [] } }
+after d (Holds key) = record d { host_keys = d.host_keys ++ key ∷ [] }
+after d (Notes line) = record d { server = record d.server { notices = d.server.notices ++ line ∷ [] } }
+after d (Distrusts algorithm) = record d { rules = record d.rules { distrusted = d.rules.distrusted ++ algorithm ∷ [] } }
+after d (Allows user proving) = record d { rules = allowing d.rules user proving }
+after d (Denies number) = record d { rules = record d.rules { denied = d.rules.denied ++ number ∷ [] } }
+after d (Does step) = record d { steps = d.steps ++ step ∷ [] }
+
+-- the setting noted, if there is one
+abbrev pub noting : Drafted → Option (Side × Setting) → Drafted
+noting d None = d
+noting d (Some setting) = record d { settings = d.settings ++ setting ∷ [] }
+
+abbrev pub after_said : Drafted → Option Saying → Drafted
+after_said d None = d
+after_said d (Some saying) = after (noting d (setting_in saying)) saying
+
+-- the draft with one more line
+unfoldable pub after_line : Drafted → List ℕ → Drafted
+after_line d line = after_said d (said_in line)
+
+-- what the lines together give
+unfoldable pub drafted : List Saying → Drafted
+drafted sayings = fold (λ d saying. after_said d (Some saying)) no_lines sayings

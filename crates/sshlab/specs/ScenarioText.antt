@@ -1,0 +1,42 @@
+-- The lines of a scenario's text.
+
+use Rattle.std.specs.Prelude.{◌≡◌, ◌≢◌, ◌-◌, ◌≤◌, ℕ, List, take, length, Option, None, IfSome}
+use Rattle.std.specs.List.{AllByRecursion, AllPairs, Contains, filter_map}
+use Rattle.std.specs.Option.{option_and_then, option_flatten}
+use Rattle.sshworld.specs.declared.side.Side.{Side}
+use Rattle.sshlab.specs.declared.scenario_settings.Setting.{Setting}
+use Rattle.sshlab.specs.ScenarioFields.{parts}
+use Rattle.sshlab.specs.ScenarioSettings.{setting_in}
+use Rattle.sshlab.specs.Scenarios.{Saying, statement}
+
+-- what stands between the LFs; behind one at the end there is an empty line, which says nothing
+abbrev pub lines : List ℕ → List (List ℕ)
+lines text = parts 10 text
+
+abbrev pub said_in : List ℕ → Option Saying
+said_in line = option_flatten (statement line)
+
+-- what the lines say, in their order, those left out that say nothing
+unfoldable pub said : List (List ℕ) → List Saying
+said ls = filter_map said_in ls
+
+-- the settings that the lines make
+abbrev pub settings : List (List ℕ) → List (Side × Setting)
+settings ls = filter_map setting_in (said ls)
+
+-- The lines can be read: each has a form, and no two make one setting of one side.
+pub record CanBeRead (ls : List (List ℕ)) : Type 0 where
+  pub forms : AllByRecursion (λ line. statement line ≢ None) ls
+  pub once : AllPairs (λ one other. one ≢ other) (settings ls)
+
+-- Line k, counted from 1, is the first bad one: the lines before it can be read, and with it they can't.
+pub record IsFirstBad (k : ℕ) (ls : List (List ℕ)) : Type 0 where
+  pub from_one : 1 ≤ k
+  pub within : k ≤ length ls
+  pub before : CanBeRead (take (k - 1) ls)
+  pub bad : CanBeRead (take k ls) → ⊥
+
+-- A line can stand behind others that made these settings: it has a form, and makes none of them.
+pub record CanFollow (made : List (Side × Setting)) (line : List ℕ) : Type 0 where
+  pub form : statement line ≢ None
+  pub new : IfSome (option_and_then setting_in (said_in line)) (λ setting. Contains made setting → ⊥)

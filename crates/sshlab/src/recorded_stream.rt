@@ -1,0 +1,246 @@
+//! What a recorded stream spells, as far as it can be read without keys.
+
+ghost use Rattle.std.specs.Prelude.{◌≤◌, IfOk, IfSome, length};
+
+use crate::lab_suite::LabSuite;
+use sshmsg::{MsgFault, SSH_MSG_KEXINIT, SSH_MSG_NEWKEYS, read};
+use sshpacket::{PacketFault, PacketReader, PacketStep};
+use sshwire::{LineReader, LineStep, Memory, VersionLine, WireFault};
+use std::alloc::Global;
+use std::fmt;
+
+/// What one side sent, up to its first NEWKEYS.
+#[derive(Drop)]
+pub(crate) struct RecordedStream<'a> {
+    /// The lines before the version line, without their LF.
+    pub(crate) lines: Vec<&'a [u8]>,
+    /// The version line, if it came.
+    pub(crate) version: Option<VersionLine>,
+    /// The clear packets behind it.
+    pub(crate) clear: ClearPackets,
+    /// What stands behind all of these.
+    pub(crate) end: StreamEnd,
+}
+
+/// The clear packets of a stream that could be read, in their order.
+#[derive(Drop)]
+pub(crate) struct ClearPackets {
+    pub(crate) packets: Vec<ClearPacket>,
+    /// The payload of the first KEXINIT among them.
+    pub(crate) kexinit: Option<Vec<u8>>,
+    alloc: Global,
+}
+
+/// A clear packet.
+#[derive(Clone, Copy, Debug, PartialEq, Eq)]
+pub(crate) struct ClearPacket {
+    /// The number of its message.
+    pub(crate) number: u8,
+    /// How many bytes its payload has.
+    pub(crate) payload_len: usize,
+}
+
+/// What stands behind the lines and packets that could be read.
+#[derive(Clone, Copy, Debug, PartialEq, Eq)]
+pub(crate) enum StreamEnd {
+    /// NEWKEYS was the last packet, and so many bytes stand behind it.
+    Sealed(usize),
+    /// So many bytes of a line or packet that isn't all there.
+    Partial(usize),
+    /// Bytes that nothing can be read from.
+    Refused(StreamFault),
+}
+
+/// Why bytes of a stream are refused.
+#[derive(Clone, Copy, Debug, PartialEq, Eq)]
+pub(crate) enum StreamFault {
+    /// They are no version line, or lines before it that aren't taken.
+    Line(WireFault),
+    /// They are no packet.
+    Packet(PacketFault),
+    /// Their packet's message has this number, and its payload doesn't spell it.
+    Malformed(u8),
+}
+
+impl fmt::Display for StreamFault {
+    /// Writes the code of the fault; for a malformed message its number follows.
+    fn fmt<W: fmt::Write>(&self, f: &mut fmt::Formatter<W>) -> fmt::Result {
+        match self {
+            StreamFault::Line(fault) => f.write_str(line_code(*fault)),
+            StreamFault::Packet(fault) => f.write_str(packet_code(*fault)),
+            StreamFault::Malformed(number) => write!(f, "M2 {number}"),
+        }
+    }
+}
+
+fn line_code(fault: WireFault) -> &'static str {
+    match fault {
+        WireFault::Short => "V1",
+        WireFault::Name => "V2",
+        WireFault::NotCanonical => "V3",
+        WireFault::Line => "V4",
+        WireFault::TooLong => "V5",
+        WireFault::TooManyLines => "V6",
+        WireFault::Memory => "V7",
+    }
+}
+
+fn packet_code(fault: PacketFault) -> &'static str {
+    match fault {
+        PacketFault::Length => "P1",
+        PacketFault::Padding => "P2",
+        PacketFault::Empty => "P3",
+        PacketFault::Mac => "P4",
+        PacketFault::Memory => "P5",
+    }
+}
+
+/// Why a stream isn't read on.
+enum Stop {
+    /// Bytes are refused.
+    Refused(StreamFault),
+    /// A growth was refused.
+    Memory,
+}
+
+impl From<Memory> for Stop {
+    fn from(_e: Memory) -> Stop {
+        Stop::Memory
+    }
+}
+
+impl From<PacketFault> for Stop {
+    fn from(fault: PacketFault) -> Stop {
+        match fault {
+            PacketFault::Memory => Stop::Memory,
+            _ => Stop::Refused(StreamFault::Packet(fault)),
+        }
+    }
+}
+
+impl<'a> RecordedStream<'a> {
+    /// Reads what a side sent, of whose lines so many may stand before the version line. Answers `Memory`
+    /// for want of memory alone.
+    pub(crate) fn read(
+        alloc: Global,
+        bytes: &'a [u8],
+        others: u32,
+    ) -> Result<RecordedStream<'a>, Memory> {
+        let mut reader = LineReader::new(alloc, others);
+        let step = reader.feed(bytes);
+        let (judged, behind) = bytes.split_at(reader.taken());
+        let mut clear = ClearPackets::new(alloc);
+        match step {
+            Ok(LineStep::Done { version, .. }) => Ok(RecordedStream {
+                lines: lines_before_last(alloc, judged)?,
+                version: Some(version),
+                end: clear.read(behind)?,
+                clear,
+            }),
+            Ok(LineStep::More) => Ok(RecordedStream {
+                lines: whole_lines(alloc, judged)?,
+                version: None,
+                end: StreamEnd::Partial(reader.buffered()),
+                clear,
+            }),
+            Err(WireFault::Memory) => Err(Memory),
+            Err(fault) => Ok(RecordedStream {
+                lines: lines_before_last(alloc, judged)?,
+                version: None,
+                end: StreamEnd::Refused(StreamFault::Line(fault)),
+                clear,
+            }),
+        }
+    }
+}
+
+/// The lines before the one that the last byte ends, or is refused in.
+fn lines_before_last(alloc: Global, bytes: &[u8]) -> Result<Vec<&[u8]>, Memory> {
+    match bytes.split_last() {
+        Some((_, before)) => whole_lines(alloc, before),
+        None => Ok(Vec::new(alloc)),
+    }
+}
+
+/// The lines that an LF ends, without it.
+fn whole_lines(alloc: Global, bytes: &[u8]) -> Result<Vec<&[u8]>, Memory> {
+    let mut lines = Vec::new(alloc);
+    let mut rest = bytes;
+    while let Some(end) = rest.iter().position(|byte| *byte == b'\n') {
+        lines.push(&rest[..end])?;
+        rest = &rest[end + 1..];
+    }
+    Ok(lines)
+}
+
+impl ClearPackets {
+    fn new(alloc: Global) -> ClearPackets {
+        ClearPackets {
+            packets: Vec::new(alloc),
+            kexinit: None,
+            alloc,
+        }
+    }
+
+    /// Reads the packets of a stream up to its first NEWKEYS, and answers what stands behind them.
+    fn read(&mut self, bytes: &[u8]) -> Result<StreamEnd, Memory> {
+        let mut reader = PacketReader::new(self.alloc);
+        match self.read_packets(&mut reader, bytes) {
+            Ok(end) => Ok(end),
+            Err(Stop::Refused(fault)) => Ok(StreamEnd::Refused(fault)),
+            Err(Stop::Memory) => Err(Memory),
+        }
+    }
+
+    fn read_packets(&mut self, reader: &mut PacketReader, bytes: &[u8]) -> Result<StreamEnd, Stop> {
+        let mut rest = bytes;
+        while let Some((number, used)) = self.read_packet(reader, rest)? {
+            rest = &rest[used..];
+            if number == SSH_MSG_NEWKEYS {
+                return Ok(StreamEnd::Sealed(rest.len()));
+            }
+        }
+        Ok(StreamEnd::Partial(rest.len()))
+    }
+
+    /// Reads the next packet. Answers the number of its message, and how many bytes it has; None where it
+    /// isn't all there.
+    fn read_packet(
+        &mut self,
+        reader: &mut PacketReader,
+        bytes: &[u8],
+    ) -> Result<Option<(u8, usize)>, Stop>
+        ensures { IfOk result (λ found. IfSome found (λ packet. (1 ≤ packet.1) × (packet.1 ≤ length bytes.now))) }
+    {
+        match reader.next(&LabSuite, bytes)? {
+            PacketStep::More => Ok(None),
+            PacketStep::Payload { payload, used, .. } => {
+                let number = number_of(self.alloc, payload)?;
+                self.keep(number, payload)?;
+                Ok(Some((number, used)))
+            }
+        }
+    }
+
+    /// Keeps what is told of a packet.
+    fn keep(&mut self, number: u8, payload: &[u8]) -> Result<(), Memory> {
+        if number == SSH_MSG_KEXINIT && self.kexinit.is_none() {
+            self.kexinit = Some(Vec::from_slice(self.alloc, payload)?);
+        }
+        self.packets.push(ClearPacket {
+            number,
+            payload_len: payload.len(),
+        })?;
+        Ok(())
+    }
+}
+
+/// The number of a payload's message, which may be one that isn't known here.
+fn number_of(alloc: Global, payload: &[u8]) -> Result<u8, Stop> {
+    match read(alloc, payload) {
+        Ok(_) => Ok(payload.first().copied().unwrap_or(0)),
+        Err(MsgFault::Unrecognised(number)) => Ok(number),
+        Err(MsgFault::Malformed(number)) => Err(Stop::Refused(StreamFault::Malformed(number))),
+        Err(MsgFault::Memory) => Err(Stop::Memory),
+    }
+}

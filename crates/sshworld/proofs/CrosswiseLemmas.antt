@@ -1,0 +1,180 @@
+-- Two joined sides that ended authenticated: each has heard all that the other has said, and what they hand over matches.
+
+use Rattle.std.proofs.Common.{◌≡◌, ◌≢◌, ℕ, Bool, true, false, cond, List, [], ◌∷◌, ◌++◌, length, Option, None, Some, refl, sym, ap, subst, ◌∙◌, arith, append-nil, length-append}
+use Rattle.sshneg.specs.declared.role.Role.TheVariants.{Client, Server}
+use Rattle.sshneg.specs.Markers.{other}
+use Rattle.sshpacket.specs.KeyData.{KeyData}
+use Rattle.sshpacket.specs.Parse.{Refusal}
+use Rattle.sshpacket.specs.Places.{EachPlace, IsPrefix, flat_places}
+use Rattle.sshpacket.specs.Stream.{Heard, Read, Spelled, Units}
+use Rattle.sshpacket.specs.Suite.{IsLawful, Meaning}
+use Rattle.sshpacket.proofs.Places.{prefix-all}
+use Rattle.sshpacket.proofs.Streams.{read_more}
+use Rattle.sshcore.specs.declared.session.Direction.{Direction}
+use Rattle.sshcore.specs.declared.session.Session.{Session}
+use Rattle.sshcore.specs.Before.{stood, strict_at}
+use Rattle.sshcore.specs.ConfigData.{ClientData, ServerData, version_of}
+use Rattle.sshcore.specs.Counting.{number_in, number_out, switched_out}
+use Rattle.sshcore.specs.Directions.{keys_in, parsers, payloads_in, spells, version_in}
+use Rattle.sshcore.specs.Ending.{AgreedData, Authenticated, Ending, Open}
+use Rattle.sshcore.specs.Exchange.{keys_at}
+use Rattle.sshcore.specs.History.{History, IsReady}
+use Rattle.sshcore.specs.Party.{Policy, client_party, server_party}
+use Rattle.sshcore.specs.Sessions.{IsSession}
+use Rattle.sshcore.proofs.Below.{Below}
+use Rattle.sshworld.specs.CourseHeard.{BothHear, client_partner, server_partner}
+use Rattle.sshworld.specs.Course.{way_of}
+use Rattle.sshworld.specs.Follows.{IsInPart}
+use Rattle.sshworld.specs.Guesses.{guess_of}
+use Rattle.sshworld.specs.Halves.{HearsCourse, Partner, payloads_of, stream_of}
+use Rattle.sshworld.specs.Headline.{AreInCourse, EndAs}
+use Rattle.sshworld.specs.Joined.{AreCrosswise}
+use Rattle.sshworld.specs.Laws.{Laws}
+use Rattle.sshworld.specs.Outcome.{outcome}
+use Rattle.sshworld.specs.Rounds.{units_said}
+use Rattle.sshworld.specs.Wording.{Wording}
+use Rattle.sshworld.proofs.HeadlineLemmas.{end_as, ends_as, one, sent_count}
+use Rattle.sshworld.proofs.JoinedLemmas.{client_of, joined_course, said_within, server_of}
+use Rattle.sshworld.proofs.LetInLemmas.{HearAll, hear_all, lets_in}
+use Rattle.sshworld.proofs.LinkLemmas.{SpeaksInCourse, SameWay, all_spelled, numbers_same, same_way, speaks_by, switches_said}
+use Rattle.sshworld.proofs.OneWayLemmas.{behind_all}
+
+none_left : {A : Type 0} (xs : List A) → length xs ≡ 0 → xs ≡ []
+none_left [] e = refl
+none_left (x ∷ xs) e = absurd (omega (arith, e))
+
+-- a prefix that is as long as the whole
+prefix_full : (us all : Units) → IsPrefix us all → length us ≡ length all → us ≡ all
+prefix_full us all f e =
+    let none : f.rest ≡ [] = none_left f.rest (omega (arith, e, ap length f.whole_is, length-append us f.rest)) in
+    sym (f.whole_is ∙ (ap (λ (l : Units). us ++ l) none ∙ append-nil us))
+
+-- the keys that are there are these
+keyed_by : (b : Bool) (keys used : KeyData) → cond b (Some keys) None ≡ Some used → (b ≡ true) × (keys ≡ used)
+keyed_by true keys used e = (refl, cc (e))
+keyed_by false keys used e = absurd (cc (e))
+
+same_direction : (x y : Direction) → x.keys ≡ y.keys → x.sequence_number ≡ y.sequence_number → x ≡ y
+same_direction x y keys number =
+    ap (λ (k : KeyData). record { keys = k; sequence_number = x.sequence_number }) keys ∙ ap (λ (n : ℕ). record { keys = y.keys; sequence_number = n }) number
+
+-- One direction: their endpoint has said these bytes, and the own one has heard all their units.
+module _ (laws : Laws) (m : Meaning) (d : Policy) (lawful : IsLawful m) (own their : Partner) (hears : HearsCourse m d own their)
+    (units answers : Units) (rest h s : List ℕ) (end : Ending) (b : History m d their.role their.party units rest None answers end h s)
+    (f : IsPrefix units (stream_of own)) (is : IsInPart their.part units answers end) where
+  speaks : SpeaksInCourse their.role own.party their.party (payloads_of own) (payloads_of their) units answers
+  speaks = speaks_by m d their.role own.party their.party (payloads_of own) (payloads_of their) units answers rest h s None end b f (said_within their units answers end is)
+
+  pub all_bytes : (us : Units) (left heard : List ℕ) (refusal : Option Refusal) → Heard (parsers m own.role own.party) heard us left refusal → IsPrefix heard s → us ≡ their.party.version ∷ answers → heard ≡ s
+  all_bytes us left heard refusal a to_own all =
+      let said : Units = their.party.version ∷ answers in
+      let reads = parsers m own.role own.party in
+      let writes = spells m their.role their.party units in
+      let spelled : EachPlace (Spelled (parsers m own.role own.party) (spells m their.role their.party units)) [] (their.party.version ∷ answers) =
+      all_spelled m own.role their.role own.party their.party (payloads_of own) (payloads_of their) hears.heard units answers speaks laws lawful in
+      let read : Read (parsers m own.role own.party) [] s (their.party.version ∷ answers) (left ++ to_own.rest) =
+      subst (λ (l : Units). Read (parsers m own.role own.party) [] s l (left ++ to_own.rest)) all
+      (subst (λ (t : List ℕ). Read (parsers m own.role own.party) [] t us (left ++ to_own.rest)) (sym to_own.whole_is)
+      (read_more (parsers m own.role own.party) (laws.parsers m own.role own.party) [] heard to_own.rest us left a.read)) in
+      let none : left ++ to_own.rest ≡ [] =
+      behind_all (parsers m own.role own.party) (spells m their.role their.party units) [] (their.party.version ∷ answers) s [] (left ++ to_own.rest)
+      (b.said.spelled ∙ sym (append-nil (flat_places (spells m their.role their.party units) [] (their.party.version ∷ answers)))) spelled read in
+      let nothing : to_own.rest ≡ [] = none_left to_own.rest (omega (arith, ap length none, length-append left to_own.rest)) in
+      sym (to_own.whole_is ∙ (ap (λ (l : List ℕ). heard ++ l) nothing ∙ append-nil heard))
+
+  -- what the one says next, the other hears
+  pub direction : (us said : Units) → us ≡ their.party.version ∷ answers → IsReady own.role own.party (payloads_in us) → (agreed other_agreed : AgreedData) (speaker hearer : Session)
+      → IsSession m their.role their.party units answers agreed speaker → IsSession m own.role own.party us said other_agreed hearer → speaker.outgoing ≡ hearer.incoming
+  direction us said all ready agreed other_agreed speaker hearer t u =
+      let out = keyed_by (switched_out answers) (keys_at m their.role their.party (version_in units) (payloads_in units) their.role) speaker.outgoing.keys t.outgoing_keys in
+      let heard_keys : keys_in m own.role own.party their.party.version answers ≡ Some hearer.incoming.keys = ap (λ (l : Units). keys_in m own.role own.party (version_in l) (payloads_in l)) (sym all) ∙ u.incoming_keys in
+      let inside = keyed_by (stood own.role own.party.offer 21 answers) (keys_at m own.role own.party their.party.version answers (other own.role)) hearer.incoming.keys heard_keys in
+      let now_ready : IsReady own.role own.party answers = subst (λ (l : Units). IsReady own.role own.party (payloads_in l)) all ready in
+      let way : SameWay m own.role their.role own.party their.party units answers =
+      same_way m own.role their.role own.party their.party (payloads_of own) (payloads_of their) hears.heard units answers speaks answers (prefix-all answers) out.0 now_ready in
+      let switches = switches_said m own.role their.role own.party their.party (payloads_of own) (payloads_of their) hears.heard units answers speaks in
+      let numbers : number_in own.role own.party answers ≡ number_out (strict_at their.role their.party (payloads_in units)) answers =
+      numbers_same laws m lawful own.role their.role own.party their.party units answers switches out.0 way in
+      same_direction speaker.outgoing hearer.incoming
+      (sym out.1 ∙ (sym way.keys ∙ inside.1))
+      (t.outgoing_number ∙ (sym numbers ∙ (ap (λ (l : Units). number_in own.role own.party (payloads_in l)) (sym all) ∙ sym u.incoming_number)))
+
+-- Both, where each ended authenticated.
+module _ (laws : Laws) (below : Below) (m : Meaning) (d : Policy) (lawful : IsLawful m) (c : ClientData) (s : ServerData) (w : Wording) (hear : BothHear m d c s w)
+    (client_units client_answers : Units) (client_rest client_heard client_said : List ℕ) (client_agreed : AgreedData)
+    (a : History m d Client (client_party c) client_units client_rest None client_answers (Authenticated client_agreed) client_heard client_said)
+    (server_units server_answers : Units) (server_rest server_heard server_said : List ℕ) (server_agreed : AgreedData)
+    (b : History m d Server (server_party s) server_units server_rest None server_answers (Authenticated server_agreed) server_heard server_said)
+    (to_client : IsPrefix client_heard server_said) (to_server : IsPrefix server_heard client_said) where
+  abbrev cp : Partner
+  cp = client_partner m d c s w
+
+  abbrev sp : Partner
+  sp = server_partner m d c s w
+
+  course : AreInCourse m d c s w (record { units = client_units; answers = client_answers; end = Authenticated client_agreed }) (record { units = server_units; answers = server_answers; end = Authenticated server_agreed })
+  course = joined_course laws below m d lawful c s w hear client_units client_answers client_rest client_heard client_said (Authenticated client_agreed) a
+      server_units server_answers server_rest server_heard server_said (Authenticated server_agreed) b to_client to_server
+
+  shut : (x : AgreedData) → Authenticated x ≢ Open
+  shut x e = cc (e)
+
+  ends : EndAs (outcome m d c s) (Authenticated client_agreed) (Authenticated server_agreed)
+  ends = end_as m d c s w (record { units = client_units; answers = client_answers; end = Authenticated client_agreed }) (record { units = server_units; answers = server_answers; end = Authenticated server_agreed }) course
+
+  by_client : (outcome m d c s).client ≡ Authenticated client_agreed
+  by_client = sym (ends.client_as (shut client_agreed))
+
+  pub same_agreed : client_agreed ≡ server_agreed
+  same_agreed =
+      let e : Authenticated server_agreed ≡ Authenticated client_agreed = ends.server_as (shut server_agreed) ∙ (one m d c s client_agreed).0 by_client in
+      cc (e)
+
+  counts : HearAll w (guess_of c s) (way_of m d c s) (outcome m d c s)
+  counts = hear_all w (guess_of c s) (outcome m d c s) (way_of m d c s) (lets_in m d c s client_agreed by_client)
+
+  client_count : length client_units ≡ cp.part.hears
+  client_count = (ends_as cp.part client_units client_answers (Authenticated client_agreed) course.client_in_part (shut client_agreed)).1
+
+  server_count : length server_units ≡ sp.part.hears
+  server_count = (ends_as sp.part server_units server_answers (Authenticated server_agreed) course.server_in_part (shut server_agreed)).1
+
+  client_all : client_units ≡ version_of s.side ∷ server_answers
+  client_all =
+      let sent = sent_count sp.part server_units server_answers (Authenticated server_agreed) course.server_in_part (version_of s.side) ∙ ap (λ (n : ℕ). units_said sp.part n) server_count in
+      prefix_full client_units (version_of s.side ∷ server_answers) course.client_heard (client_count ∙ (counts.client_all ∙ sym sent))
+
+  server_all : server_units ≡ version_of c.side ∷ client_answers
+  server_all =
+      let sent = sent_count cp.part client_units client_answers (Authenticated client_agreed) course.client_in_part (version_of c.side) ∙ ap (λ (n : ℕ). units_said cp.part n) client_count in
+      prefix_full server_units (version_of c.side ∷ client_answers) course.server_heard (server_count ∙ (counts.server_all ∙ sym sent))
+
+  client_in : IsPrefix client_units (stream_of sp)
+  client_in = client_of laws below m d lawful c s w hear client_units client_answers client_rest client_heard client_said (Authenticated client_agreed) a
+      server_units server_answers server_rest server_heard server_said (Authenticated server_agreed) b to_client to_server
+
+  server_in : IsPrefix server_units (stream_of cp)
+  server_in = server_of laws below m d lawful c s w hear client_units client_answers client_rest client_heard client_said (Authenticated client_agreed) a
+      server_units server_answers server_rest server_heard server_said (Authenticated server_agreed) b to_client to_server
+
+  pub all_heard : (client_heard ≡ server_said) × (server_heard ≡ client_said) × (client_agreed ≡ server_agreed)
+  all_heard = (
+    all_bytes laws m d lawful cp sp hear.to_client server_units server_answers server_rest server_heard server_said (Authenticated server_agreed) b server_in course.server_in_part
+        client_units client_rest client_heard None a.heard to_client client_all,
+    all_bytes laws m d lawful sp cp hear.to_server client_units client_answers client_rest client_heard client_said (Authenticated client_agreed) a client_in course.client_in_part
+        server_units server_rest server_heard None b.heard to_server server_all,
+    same_agreed,
+  )
+
+  pub crosswise : (one_session other_session : Session) → IsSession m Client (client_party c) client_units client_answers client_agreed one_session
+      → IsSession m Server (server_party s) server_units server_answers server_agreed other_session → AreCrosswise one_session other_session
+  crosswise one_session other_session t u =
+      let client_keyed = keyed_by (switched_out client_answers) (keys_at m Client (client_party c) (version_in client_units) (payloads_in client_units) Client) one_session.outgoing.keys t.outgoing_keys in
+      let server_keyed = keyed_by (switched_out server_answers) (keys_at m Server (server_party s) (version_in server_units) (payloads_in server_units) Server) other_session.outgoing.keys u.outgoing_keys in
+      record {
+        same_agreed = t.agreed_is ∙ (same_agreed ∙ sym u.agreed_is);
+        there = direction laws m d lawful sp cp hear.to_server client_units client_answers client_rest client_heard client_said (Authenticated client_agreed) a client_in course.client_in_part
+            server_units server_answers server_all (b.keyed server_keyed.0) client_agreed server_agreed one_session other_session t u;
+        back = direction laws m d lawful cp sp hear.to_client server_units server_answers server_rest server_heard server_said (Authenticated server_agreed) b server_in course.server_in_part
+            client_units client_answers client_all (a.keyed client_keyed.0) server_agreed client_agreed other_session one_session u t;
+      }
