@@ -13,7 +13,6 @@ mod kexinit;
 mod lent;
 mod long;
 mod packets;
-mod scripts;
 mod sent;
 mod table;
 mod talk;
@@ -67,8 +66,6 @@ fn check(rt: &HostRuntime) -> Result<(), Fault> {
     writeln!(rt.stdout(), "negotiation ok")?;
     talk::check(alloc, Reach::User)?;
     writeln!(rt.stdout(), "session ok")?;
-    scripts::check(alloc)?;
-    writeln!(rt.stdout(), "scenario ok")?;
     Ok(())
 }
 

@@ -7,7 +7,6 @@ use crate::fault::Fault;
 use crate::kexinit::{copy, read_and_write};
 use crate::lent::{Kind, own, payload, read_only};
 use crate::packets::{Load, PIECE_LENS, Stream};
-use crate::scripts::{Deliveries, Script};
 use crate::talk::{Lab, Reach, WHOLE, talk};
 use std::fmt;
 use std::io::Write;
@@ -34,12 +33,6 @@ const SLOW_READS: u32 = 20;
 /// How often two endpoints talk.
 const TALKS: u32 = 5_000;
 
-/// How often a scenario is run.
-const SCRIPTS: u32 = 500;
-
-/// How often one with many deliveries is run.
-const LONG_SCRIPTS: u32 = 50;
-
 /// What a row's work stands beside.
 #[derive(Clone, Copy, Debug)]
 pub(crate) enum Beside {
@@ -53,14 +46,12 @@ pub(crate) enum Beside {
     Digests,
     /// Comparing as many names with as many others.
     Comparing,
-    /// The same work for a tenth of the bytes, or of the deliveries.
+    /// The same work for a tenth of the bytes.
     Tenth,
     /// The suite's calls alone, with the same arguments.
     Calls,
     /// The same work in pieces that are as large as can be.
     Whole,
-    /// A session of the same endpoints alone.
-    Session,
 }
 
 impl fmt::Display for Beside {
@@ -74,7 +65,6 @@ impl fmt::Display for Beside {
             Beside::Tenth => "a tenth of it",
             Beside::Calls => "the suite's calls",
             Beside::Whole => "whole",
-            Beside::Session => "session",
         })
     }
 }
@@ -149,8 +139,7 @@ pub(crate) fn print(rt: &HostRuntime, payload: &[u8]) -> Result<(), Fault> {
         )?;
     }
     print_row(rt, "2 MB of clear packets by 1448", &time_ten_times(rt)?)?;
-    print_all_talks(rt)?;
-    print_scripts(rt)
+    print_all_talks(rt)
 }
 
 /// Times negotiations and sessions, and prints their rows.
@@ -162,7 +151,7 @@ fn print_all_talks(rt: &HostRuntime) -> Result<(), Fault> {
 /// Times talks that come so far, whole and by single bytes, and prints a row for each.
 fn print_talks(rt: &HostRuntime, reach: Reach, work: &str, by_bytes: &str) -> Result<(), Fault> {
     let lab = Lab::new(rt.alloc(), reach)?;
-    let whole = time_talks(rt, &lab, WHOLE, TALKS)?;
+    let whole = time_talks(rt, &lab, WHOLE)?;
     let row = Row {
         rounds: TALKS,
         work: whole,
@@ -172,38 +161,11 @@ fn print_talks(rt: &HostRuntime, reach: Reach, work: &str, by_bytes: &str) -> Re
     print_row(rt, work, &row)?;
     let bytes = Row {
         rounds: TALKS,
-        work: time_talks(rt, &lab, 1, TALKS)?,
+        work: time_talks(rt, &lab, 1)?,
         other: whole,
         beside: Beside::Whole,
     };
     print_row(rt, by_bytes, &bytes)
-}
-
-/// Times scenarios that the program runs, and prints their rows.
-fn print_scripts(rt: &HostRuntime) -> Result<(), Fault> {
-    let whole = time_scripts(rt, Deliveries::Whole, SCRIPTS)?;
-    let lab = Lab::new(rt.alloc(), Reach::User)?;
-    let row = Row {
-        rounds: SCRIPTS,
-        work: whole,
-        other: time_talks(rt, &lab, WHOLE, SCRIPTS)?,
-        beside: Beside::Session,
-    };
-    print_row(rt, "scenario", &row)?;
-    let bytes = Row {
-        rounds: SCRIPTS,
-        work: time_scripts(rt, Deliveries::Bytes, SCRIPTS)?,
-        other: whole,
-        beside: Beside::Whole,
-    };
-    print_row(rt, "scenario by 1", &bytes)?;
-    let long = Row {
-        rounds: LONG_SCRIPTS,
-        work: time_scripts(rt, Deliveries::TenThousand, LONG_SCRIPTS)?,
-        other: time_scripts(rt, Deliveries::Thousand, LONG_SCRIPTS)?,
-        beside: Beside::Tenth,
-    };
-    print_row(rt, "scenario of 10000 deliveries", &long)
 }
 
 /// Times reads of packets in clear, and prints the rows.
@@ -395,14 +357,9 @@ fn time_digests(rt: &HostRuntime, stream: &Stream, rounds: u32) -> Result<Durati
 }
 
 /// Times talks in pieces of so many bytes.
-fn time_talks(
-    rt: &HostRuntime,
-    lab: &Lab,
-    piece_len: usize,
-    rounds: u32,
-) -> Result<Duration, Fault> {
+fn time_talks(rt: &HostRuntime, lab: &Lab, piece_len: usize) -> Result<Duration, Fault> {
     let start = Instant::now(rt)?;
-    for _ in 0..rounds {
+    for _ in 0..TALKS {
         talk(rt.alloc(), lab, piece_len)?;
     }
     Ok(start.elapsed(rt)?)
@@ -415,16 +372,6 @@ fn time_calls(rt: &HostRuntime, lab: &Lab) -> Result<Duration, Fault> {
     let start = Instant::now(rt)?;
     for _ in 0..TALKS {
         calls.make(alloc)?;
-    }
-    Ok(start.elapsed(rt)?)
-}
-
-/// Times runs of a scenario with these deliveries.
-fn time_scripts(rt: &HostRuntime, deliveries: Deliveries, rounds: u32) -> Result<Duration, Fault> {
-    let script = Script::new(rt.alloc(), deliveries)?;
-    let start = Instant::now(rt)?;
-    for _ in 0..rounds {
-        script.run(rt.alloc())?;
     }
     Ok(start.elapsed(rt)?)
 }
