@@ -5,6 +5,7 @@ pub mod DecisionLaws
 pub mod ScenarioFieldLemmas
 pub mod StepLemmas
 pub mod RunLemmas
+pub mod TextLemmas
 pub mod RecordingLemmas
 pub mod ScenarioLineLemmas
 pub mod ScenarioDraftLemmas

@@ -1,20 +1,9 @@
 -- What the lines read so far say of a recording.
 
-use Rattle.std.proofs.Common.{◌≡◌, ◌==◌, ℕ, ◌+◌, ◌<◌, List, [], ◌∷◌, ◌++◌, length, take, drop, drop-cons, get_or, map, suc, refl, sym, ap, ◌∙◌, arith, Bor, Bool, true, false}
+use Rattle.std.proofs.Common.{◌≡◌, ℕ, ◌+◌, ◌<◌, List, [], ◌∷◌, ◌++◌, length, take, drop, drop-cons, get_or, map, suc, sym, ap, ◌∙◌, arith, Bor, Bool, true, false}
 use Rattle.std.proofs.lemmas.List.{take-append-drop}
-use Rattle.std.specs.List.{list_all, slice_split, onto_first}
+use Rattle.std.specs.List.{list_all}
 use Rattle.sshlab.specs.Recordings.{IsFirstBadLine, is_recorded}
-use Rattle.sshlab.specs.ScenarioFields.{begins_with, parts}
-
-onto_begins : (b : ℕ) (ps : List (List ℕ)) → onto_first b ps ≡ begins_with b ps
-onto_begins b [] = refl
-onto_begins b (part ∷ ps) = refl
-
--- the parts that `split` gives
-pub slice_split-parts : (c : ℕ) (bytes : List ℕ) → slice_split (λ x. x == c) bytes ≡ parts c bytes
-unfolding parts
-slice_split-parts c [] = refl
-slice_split-parts c (b ∷ bytes) = rw (slice_split-parts c bytes, onto_begins b (parts c bytes)) refl
 
 -- a line of those that were cut, and what stands before and behind it
 cut_at : (ls : List (List ℕ)) (line : List ℕ) (n : ℕ) → n < length ls → line ≡ get_or ls n line → ls ≡ take n ls ++ line ∷ drop (suc n) ls
@@ -29,7 +18,7 @@ bad_at ls before line number n front within at count long good bad = record {
   before = before;
   line = line;
   behind = drop (suc n) ls;
-  lines = (rw front (cut_at ls line n within at));
+  is = (rw front (cut_at ls line n within at));
   place = omega arith;
   good = good;
   bad = bad;

@@ -1,8 +1,8 @@
 -- The lines of a text, read one after the other.
 
-use Rattle.std.proofs.Common.{◌≡◌, ◌∙◌, ℕ, ◌+◌, ◌-◌, ◌<◌, ◌≤◌, cond, List, [], ◌∷◌, ◌++◌, length, take, get_or, refl, sym, subst, ap, add-one, arith}
+use Rattle.std.proofs.Common.{◌≡◌, ◌∙◌, ℕ, ◌+◌, ◌-◌, ◌<◌, ◌≤◌, List, [], ◌∷◌, ◌++◌, length, take, get_or, refl, sym, subst, ap, add-one, arith}
 use Rattle.std.specs.Prelude.{◌==◌, count_by}
-use Rattle.std.specs.List.{onto_first, slice_split}
+use Rattle.std.specs.List.{slice_split}
 use Rattle.std.proofs.lemmas.List.{take_all}
 use Rattle.std.proofs.lemmas.List.Splits.{length-slice_split}
 use Rattle.std.proofs.lemmas.List.Sums.{count_by-le-length}
@@ -10,21 +10,11 @@ use Rattle.std.proofs.Math.Seq.{take-suc}
 use Rattle.sshworld.specs.declared.side.Side.{Side}
 use Rattle.sshlab.specs.declared.scenario_settings.Setting.{Setting}
 use Rattle.sshlab.specs.ScenarioDrafts.{Drafted, after_line, drafted, no_lines}
-use Rattle.sshlab.specs.ScenarioFields.{begins_with, parts}
-use Rattle.sshlab.specs.ScenarioText.{CanBeRead, CanFollow, IsFirstBad, lines, said, settings}
+use Rattle.sshlab.specs.ScenarioText.{CanBeRead, CanFollow, IsFirstBad, said, settings}
+use Rattle.sshlab.specs.TextLines.{lines}
 use Rattle.sshlab.proofs.ScenarioDraftLemmas.{drafted_more, drafted_settings}
 use Rattle.sshlab.proofs.ScenarioLineLemmas.{read_less, read_more}
-
-begun : (b : ℕ) (ps : List (List ℕ)) → onto_first b ps ≡ begins_with b ps
-begun b [] = refl
-begun b (p ∷ ps) = refl
-
-parts_are : (c : ℕ) (s : List ℕ) → slice_split (λ b. b == c) s ≡ parts c s
-unfolding parts
-parts_are c [] = refl
-parts_are c (b ∷ s) =
-    ap (λ (ps : List (List ℕ)). cond (b == c) ([] ∷ ps) (onto_first b ps)) (parts_are c s)
-    ∙ ap (λ (ps : List (List ℕ)). cond (b == c) ([] ∷ parts c s) ps) (begun b (parts c s))
+use Rattle.sshlab.proofs.TextLemmas.{parts_are}
 
 -- the line that is read next stands so far behind
 pub record IsLineAt (ls : List (List ℕ)) (n : ℕ) (line : List ℕ) : Type 0 where

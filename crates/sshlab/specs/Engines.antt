@@ -3,7 +3,8 @@
 use Rattle.std.specs.Prelude.{◌≡◌, ◌<◌, ◌≤◌, ℕ, List, length, take, true, Option, Result, Ok, Err}
 use Rattle.std.specs.List.{list_all}
 use Rattle.std.specs.Io.KnownBytes.{Appends, Keeps}
-use Rattle.sshlab.specs.Recordings.{IsFirstBadLine, is_recorded, recorded_lines}
+use Rattle.sshlab.specs.Recordings.{IsFirstBadLine, is_recorded}
+use Rattle.sshlab.specs.TextLines.{lines}
 use Rattle.sshlab.specs.declared.tool_fault.ToolFault.{ToolFault}
 use Rattle.sshlab.specs.declared.tool_fault.ToolFault.TheVariants as fault
 use Rattle.sshlab.specs.declared.scenario.TheConstants.{TEXT_LIMIT}
@@ -18,13 +19,13 @@ IsInputFault _ = ⊥
 -- the bytes are a recording
 pub record IsRecording (bytes : List ℕ) : Type 0 where
   pub within : length bytes ≤ TEXT_LIMIT
-  pub lines : list_all is_recorded (recorded_lines bytes) ≡ true
+  pub recorded : list_all is_recorded (lines bytes) ≡ true
 
 -- what the bytes of the input are where it is judged so; nothing where a read failed or memory was wanting
 abbrev pub Judges : {T : Type 0} → List ℕ → Result T ToolFault → Type 0
 Judges bytes (Ok done) = IsRecording bytes
 Judges bytes (Err fault.Write) = IsRecording bytes
-Judges bytes (Err (fault.Recording k)) = (length bytes ≤ TEXT_LIMIT) × IsFirstBadLine k (recorded_lines bytes)
+Judges bytes (Err (fault.Recording k)) = (length bytes ≤ TEXT_LIMIT) × IsFirstBadLine k (lines bytes)
 Judges bytes (Err fault.TooLong) = TEXT_LIMIT < length bytes
 Judges bytes (Err fault.Read) = Unit {0}
 Judges bytes (Err fault.Memory) = Unit {0}

@@ -11,6 +11,7 @@ pub mod LabRules
 pub mod LabRulesView
 pub mod LabParties
 pub mod ScenarioFields
+pub mod TextLines
 pub mod Scenarios
 pub mod ScenarioView
 pub mod Steps

@@ -7,7 +7,7 @@ use Rattle.std.specs.Result.{result_ok}
 use Rattle.hex.specs.Hex.{decode_of}
 use Rattle.sshworld.specs.declared.side.Side.{Side}
 use Rattle.sshworld.specs.declared.side.Side.TheVariants.{Client, Server}
-use Rattle.sshlab.specs.ScenarioFields.{parts}
+use Rattle.sshlab.specs.TextLines.{lines}
 use Rattle.sshlab.specs.declared.tool_fault.ToolFault.{ToolFault}
 use Rattle.sshlab.specs.declared.tool_fault.ToolFault.TheVariants as fault
 
@@ -35,20 +35,16 @@ of_side _ _ = []
 abbrev pub sent : Side → List ℕ → List ℕ
 sent side line = of_side side (piece_of line)
 
--- what stands between the LFs; behind one at the end there is an empty line
-abbrev pub recorded_lines : List ℕ → List (List ℕ)
-recorded_lines text = parts 10 text
-
 -- all that a side sent, in the order of the lines
 abbrev pub stream : Side → List ℕ → List ℕ
-stream side text = flat_map (sent side) (recorded_lines text)
+stream side text = flat_map (sent side) (lines text)
 
 -- Line k, counted from 1, is the first that no recording may have.
 pub record IsFirstBadLine (k : ℕ) (ls : List (List ℕ)) : Type 0 where
   pub before : List (List ℕ)
   pub line : List ℕ
   pub behind : List (List ℕ)
-  pub lines : ls ≡ before ++ line ∷ behind
+  pub is : ls ≡ before ++ line ∷ behind
   pub place : k ≡ length before + 1
   pub good : list_all is_recorded before ≡ true
   pub bad : is_recorded line ≡ false

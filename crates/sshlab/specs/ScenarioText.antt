@@ -1,17 +1,12 @@
--- The lines of a scenario's text.
+-- What the lines of a scenario's text say, and when they can be read.
 
 use Rattle.std.specs.Prelude.{◌≡◌, ◌≢◌, ◌-◌, ◌≤◌, ℕ, List, take, length, Option, None, IfSome}
 use Rattle.std.specs.List.{AllByRecursion, AllPairs, Contains, filter_map}
 use Rattle.std.specs.Option.{option_and_then, option_flatten}
 use Rattle.sshworld.specs.declared.side.Side.{Side}
 use Rattle.sshlab.specs.declared.scenario_settings.Setting.{Setting}
-use Rattle.sshlab.specs.ScenarioFields.{parts}
 use Rattle.sshlab.specs.ScenarioSettings.{setting_in}
 use Rattle.sshlab.specs.Scenarios.{Saying, statement}
-
--- what stands between the LFs; behind one at the end there is an empty line, which says nothing
-abbrev pub lines : List ℕ → List (List ℕ)
-lines text = parts 10 text
 
 abbrev pub said_in : List ℕ → Option Saying
 said_in line = option_flatten (statement line)

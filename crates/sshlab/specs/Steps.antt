@@ -5,17 +5,17 @@ use Rattle.sshpacket.specs.Suite.{Meaning}
 use Rattle.sshcore.specs.ConfigData.{ClientData, ServerData}
 use Rattle.sshcore.specs.Party.{Policy}
 use Rattle.sshworld.specs.Conversed.{EachReplies, IsNew}
-use Rattle.sshworld.specs.Deliveries.{Done, Refused, Rounds, RoundsInto}
+use Rattle.sshworld.specs.Deliveries.{DoneBy, Refused, Rounds, RoundsInto}
 use Rattle.sshworld.specs.Worlds.{IsSameSetup, WorldData, waiting_for}
 use Rattle.sshlab.specs.declared.scenario_line.Step.{Step}
 use Rattle.sshlab.specs.declared.scenario_line.Step.TheVariants.{Deliver, Settle}
 
--- what a step moves: one delivery, or so many rounds
-abbrev pub MovesByStep : {S D : Type 0} → Step → WorldData S D → WorldData S D → Type 0
-MovesByStep (Deliver delivery) old new = Done delivery old new
-MovesByStep (Settle rounds) old new = Rounds rounds old new
-
 module _ {S D : Type 0} (meaning : S → Meaning) (policy : D → Policy) where
+  -- what a step moves: one delivery, or so many rounds
+  abbrev pub MovesByStep : Step → WorldData S D → WorldData S D → Type 0
+  MovesByStep (Deliver delivery) old new = DoneBy meaning policy delivery old new
+  MovesByStep (Settle rounds) old new = Rounds meaning policy rounds old new
+
   -- the first delivery of a step for which memory was wanting
   abbrev pub StopsInStep : Step → WorldData S D → WorldData S D → Type 0
   StopsInStep (Deliver delivery) old new = Refused meaning policy delivery.to (min delivery.count (waiting_for delivery.to old)) old new

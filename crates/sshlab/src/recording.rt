@@ -8,7 +8,8 @@
 ghost use Rattle.std.specs.Prelude.{◌≡◌, ◌++◌, ◌≤◌, IfErr, IfOk, OnOk, Some, length, option_map, true};
 ghost use Rattle.std.specs.List.{list_all};
 ghost use Rattle.sshworld.specs.declared.side.Side.TheVariants.{Client, Server};
-ghost use Rattle.sshlab.specs.Recordings.{IsRecordingCause, is_recorded, of_side, piece_of, recorded_lines, sent, stream};
+ghost use Rattle.sshlab.specs.Recordings.{IsRecordingCause, is_recorded, of_side, piece_of, sent, stream};
+ghost use Rattle.sshlab.specs.TextLines.{lines};
 ghost use Rattle.sshlab.specs.declared.scenario.TheConstants.{TEXT_LIMIT};
 
 use crate::tool_fault::ToolFault;
@@ -55,8 +56,8 @@ impl Recording {
         requires { length text.now ≤ TEXT_LIMIT }
         ensures client { IfOk result (λ recording. recording.client.items ≡ stream Client text.now) }
         ensures server { IfOk result (λ recording. recording.server.items ≡ stream Server text.now) }
-        ensures taken { OnOk result (list_all is_recorded (recorded_lines text.now) ≡ true) }
-        ensures refused { IfErr result (λ fault. IsRecordingCause (recorded_lines text.now) fault) }
+        ensures taken { OnOk result (list_all is_recorded (lines text.now) ≡ true) }
+        ensures refused { IfErr result (λ fault. IsRecordingCause (lines text.now) fault) }
     {
         let mut recording = Recording {
             client: Vec::new(alloc),
@@ -72,8 +73,8 @@ impl Recording {
         requires { length text.now ≤ TEXT_LIMIT }
         ensures client { OnOk result (self.new.client.items ≡ self.old.client.items ++ stream Client text.now) }
         ensures server { OnOk result (self.new.server.items ≡ self.old.server.items ++ stream Server text.now) }
-        ensures taken { OnOk result (list_all is_recorded (recorded_lines text.now) ≡ true) }
-        ensures refused { IfErr result (λ fault. IsRecordingCause (recorded_lines text.now) fault) }
+        ensures taken { OnOk result (list_all is_recorded (lines text.now) ≡ true) }
+        ensures refused { IfErr result (λ fault. IsRecordingCause (lines text.now) fault) }
     {
         let mut number = 0u32;
         for line in text.split(|byte| *byte == b'\n') {

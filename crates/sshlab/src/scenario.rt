@@ -46,7 +46,8 @@ ghost use Rattle.sshcore.specs.ConfigView.{client_data, server_data};
 ghost use Rattle.sshlab.specs.ScenarioDrafts.{drafted, no_lines};
 ghost use Rattle.sshlab.specs.ScenarioFaults.{IsCause, IsClientRefusal, IsLineCause, IsServerRefusal};
 ghost use Rattle.sshlab.specs.ScenarioParts.{client_of_lines, rules_of_lines, server_of_lines, steps_of_lines};
-ghost use Rattle.sshlab.specs.ScenarioText.{CanBeRead, lines, said};
+ghost use Rattle.sshlab.specs.ScenarioText.{CanBeRead, said};
+ghost use Rattle.sshlab.specs.TextLines.{lines};
 ghost use Rattle.sshlab.specs.declared.scenario.TheConstants.{TEXT_LIMIT};
 
 use crate::lab_decisions::LabDecisions;

@@ -16,16 +16,12 @@ use Rattle.sshworld.specs.declared.side.Delivery.{Delivery}
 use Rattle.sshworld.specs.declared.side.Side.{Side}
 use Rattle.sshworld.specs.declared.side.Side.TheVariants.{Client, Server}
 use Rattle.sshworld.specs.Conversed.{EachReplies}
-use Rattle.sshworld.specs.Deliveries.{Delivered, Done, Refused, Round, RoundInto, Rounds, RoundsInto, Runs, RunsInto, TakesIn}
+use Rattle.sshworld.specs.Deliveries.{Delivered, Done, DoneBy, Refused, Round, RoundInto, Rounds, RoundsInto, Runs, RunsInto, TakesIn}
 use Rattle.sshworld.specs.Stands.{BrokenWith, NodeStands, NodesStand, Receives, ReceivesInto, ReceivesNone, ReceivesSome, half_of, seen}
 use Rattle.sshworld.specs.Worlds.{HadMemory, IsSameSetup, WorldData, waiting_for}
 use Rattle.sshworld.proofs.StandsLemmas.{breaks_off, receiver_stands, sender_stands, sent_on, side_replies}
 
 module _ {T E : Type 0} where
-  pub if_ok : {P Q R : T → Type 0} (r : Result T E) → IfOk r P → IfOk r Q → ((x : T) → P x → Q x → R x) → IfOk r R
-  if_ok (Ok x) p q f = f x p q
-  if_ok (Err e) p q f = p
-
   pub on_ok : {P Q : Type 0} (r : Result T E) → OnOk r P → (P → Q) → OnOk r Q
   on_ok (Ok x) p f = f p
   on_ok (Err e) p f = tt
@@ -47,34 +43,46 @@ module _ {S D : Type 0} where
     same_decisions = y.same_decisions ∙ x.same_decisions;
   }
 
-  rounds_push : (n : ℕ) (old mid new : WorldData S D) → Rounds n old mid → Round mid new → Rounds (suc n) old new
-  rounds_push zero old mid new e r = (new, subst (λ (w : WorldData S D). Round w new) e r, refl)
+module _ {S D : Type 0} (meaning : S → Meaning) (policy : D → Policy) where
+  -- a delivery that answered how many bytes it moved
+  pub done : (to : Side) (n k : ℕ) (old new : WorldData S D) → n ≡ k → Delivered to n old new → (HadMemory old → HadMemory new) → IsSameSetup old new → EachReplies meaning policy new
+      → Done meaning policy to k old new
+  done to n k old new count d still setup replies = record {
+    delivered = subst (λ (j : ℕ). Delivered to j old new) count d;
+    still = still;
+    setup = setup;
+    replies = replies;
+  }
+
+  rounds_push : (n : ℕ) (old mid new : WorldData S D) → Rounds meaning policy n old mid → Round meaning policy mid new → Rounds meaning policy (suc n) old new
+  rounds_push zero old mid new e r = (new, subst (λ (w : WorldData S D). Round meaning policy w new) e r, refl)
   rounds_push (suc n) old mid new (next, first, later) r = (next, first, rounds_push n next mid new later r)
 
   -- one round more
-  pub round_more : (n : ℕ) (old mid new : WorldData S D) → Rounds n old mid → Round mid new → Rounds (n + 1) old new
-  round_more n old mid new later r = let one : suc n ≡ n + 1 = omega arith in subst (λ (k : ℕ). Rounds k old new) one (rounds_push n old mid new later r)
+  pub round_more : (n : ℕ) (old mid new : WorldData S D) → Rounds meaning policy n old mid → Round meaning policy mid new → Rounds meaning policy (n + 1) old new
+  round_more n old mid new later r =
+      let one : suc n ≡ n + 1 = omega arith in
+      subst (λ (k : ℕ). Rounds meaning policy k old new) one (rounds_push n old mid new later r)
 
-  runs_push : (ds : List Delivery) (d : Delivery) (old mid new : WorldData S D) → Runs ds old mid → Done d mid new → Runs (ds ++ d ∷ []) old new
-  runs_push [] d old mid new e r = (new, subst (λ (w : WorldData S D). Done d w new) e r, refl)
+  runs_push : (ds : List Delivery) (d : Delivery) (old mid new : WorldData S D) → Runs meaning policy ds old mid → DoneBy meaning policy d mid new → Runs meaning policy (ds ++ d ∷ []) old new
+  runs_push [] d old mid new e r = (new, subst (λ (w : WorldData S D). DoneBy meaning policy d w new) e r, refl)
   runs_push (x ∷ ds) d old mid new (next, first, later) r = (next, first, runs_push ds d next mid new later r)
 
   -- one delivery more
-  pub run_more : (ds : List Delivery) (i n : ℕ) (default : Delivery) (old mid new : WorldData S D) → i < length ds → Runs (take i ds) old mid
-      → n ≡ min (get_or ds i default).count (waiting_for (get_or ds i default).to mid) → Delivered (get_or ds i default).to n mid new → Runs (take (i + 1) ds) old new
-  run_more ds i n default old mid new lt r count d =
-      subst (λ (q : List Delivery). Runs q old new) (sym (take_more ds i default lt))
-      (runs_push (take i ds) (get_or ds i default) old mid new r (subst (λ (k : ℕ). Delivered (get_or ds i default).to k mid new) count d))
+  pub run_more : (ds : List Delivery) (i : ℕ) (default : Delivery) (old mid new : WorldData S D) → i < length ds → Runs meaning policy (take i ds) old mid
+      → DoneBy meaning policy (get_or ds i default) mid new → Runs meaning policy (take (i + 1) ds) old new
+  run_more ds i default old mid new lt r d =
+      subst (λ (q : List Delivery). Runs meaning policy q old new) (sym (take_more ds i default lt))
+      (runs_push (take i ds) (get_or ds i default) old mid new r d)
 
-module _ {S D : Type 0} (meaning : S → Meaning) (policy : D → Policy) where
   -- a round for which memory was wanting
-  pub rounds_into : (rounds n : ℕ) (old mid new : WorldData S D) → n < rounds → Rounds n old mid → RoundInto meaning policy mid new → RoundsInto meaning policy rounds old new
+  pub rounds_into : (rounds n : ℕ) (old mid new : WorldData S D) → n < rounds → Rounds meaning policy n old mid → RoundInto meaning policy mid new → RoundsInto meaning policy rounds old new
   rounds_into zero n old mid new lt before r = absurd (omega arith)
   rounds_into (suc rounds) zero old mid new lt e r = inl (subst (λ (w : WorldData S D). RoundInto meaning policy w new) e r)
   rounds_into (suc rounds) (suc n) old mid new lt (next, first, later) r = inr (next, first, rounds_into rounds n next mid new (omega arith) later r)
 
   -- a delivery for which it was
-  pub runs_into : (ds : List Delivery) (i : ℕ) (default : Delivery) (old mid new : WorldData S D) → i < length ds → Runs (take i ds) old mid
+  pub runs_into : (ds : List Delivery) (i : ℕ) (default : Delivery) (old mid new : WorldData S D) → i < length ds → Runs meaning policy (take i ds) old mid
       → Refused meaning policy (get_or ds i default).to (min (get_or ds i default).count (waiting_for (get_or ds i default).to mid)) mid new → RunsInto meaning policy ds old new
   runs_into [] i default old mid new lt r refusal = absurd (omega arith)
   runs_into (d ∷ ds) zero default old mid new lt e refusal = inl (subst (λ (w : WorldData S D). Refused meaning policy d.to (min d.count (waiting_for d.to w)) w new) e refusal)
@@ -96,13 +104,14 @@ module _ {S D : Type 0} (meaning : S → Meaning) (policy : D → Policy) where
   -- a node that received n bytes
   pub takes_in : (role : Role) (party : Party) (suite : S) (decisions : D) (sent : List ℕ) (old new : Node S D) (n : ℕ)
       → NodeStands meaning policy role party suite decisions old sent → NodeStands meaning policy role party suite decisions new sent → Receives meaning policy sent old new
-      → new.moved ≡ old.moved + n → (n ≡ 0 → new ≡ old) → TakesIn n (half_of old) (half_of new)
-  takes_in role party suite decisions sent old new n s t r moved none = record {
+      → new.moved ≡ old.moved + n → (n ≡ 0 → new ≡ old) → (ending_of old.endpoint ≢ Failed fault.Memory → ending_of new.endpoint ≢ Failed fault.Memory) → TakesIn n (half_of old) (half_of new)
+  takes_in role party suite decisions sent old new n s t r moved none had = record {
     moved_on = moved;
     used_on = used_more r;
     used_within = t.used_within;
     all_used = t.all_used;
     more_sent = sent_on meaning policy sent old new r;
+    had_memory = had;
     by_none = λ z. ap (λ (x : Node S D). half_of x) (none z);
   }
     where
@@ -133,19 +142,21 @@ module _ {S D : Type 0} (meaning : S → Meaning) (policy : D → Policy) (clien
   }
 
   taken : (to : Side) (own their next : Node S D) (n : ℕ) → StandAt to own their → Receives meaning policy their.sent.items own next
-      → next.moved ≡ own.moved + n → (n ≡ 0 → next ≡ own) → TakesIn n (half_of own) (half_of next)
-  taken Client own their next n s r moved none =
-      takes_in meaning policy _ _ suite decisions their.sent.items own next n s.client_stands (received Client own their next s r).client_stands r moved none
-  taken Server own their next n s r moved none =
-      takes_in meaning policy _ _ suite decisions their.sent.items own next n s.server_stands (received Server own their next s r).server_stands r moved none
+      → next.moved ≡ own.moved + n → (n ≡ 0 → next ≡ own) → (ending_of own.endpoint ≢ Failed fault.Memory → ending_of next.endpoint ≢ Failed fault.Memory) → TakesIn n (half_of own) (half_of next)
+  taken Client own their next n s r moved none had =
+      takes_in meaning policy _ _ suite decisions their.sent.items own next n s.client_stands (received Client own their next s r).client_stands r moved none had
+  taken Server own their next n s r moved none had =
+      takes_in meaning policy _ _ suite decisions their.sent.items own next n s.server_stands (received Server own their next s r).server_stands r moved none had
 
   delivered_at : (to : Side) (own their next : Node S D) (n : ℕ) → TakesIn n (half_of own) (half_of next) → Delivered to n (seen_at to own their) (seen_at to next their)
   delivered_at Client own their next n t = record { receiver = t; sender = refl }
   delivered_at Server own their next n t = record { receiver = t; sender = refl }
 
   pub delivered : (to : Side) (own their next : Node S D) (r : Result ℕ Memory) → StandAt to own their → Receives meaning policy their.sent.items own next
-      → IfOk r (λ n. next.moved ≡ own.moved + n) → IfOk r (λ n. n ≡ 0 → next ≡ own) → IfOk r (λ n. Delivered to n (seen_at to own their) (seen_at to next their))
-  delivered to own their next r s x moved none = if_ok r moved none (λ n m z. delivered_at to own their next n (taken to own their next n s x m z))
+      → IfOk r (λ n. next.moved ≡ own.moved + n) → IfOk r (λ n. n ≡ 0 → next ≡ own) → OnOk r (ending_of own.endpoint ≢ Failed fault.Memory → ending_of next.endpoint ≢ Failed fault.Memory)
+      → IfOk r (λ n. Delivered to n (seen_at to own their) (seen_at to next their))
+  delivered to own their next (Ok n) s x moved none had = delivered_at to own their next n (taken to own their next n s x moved none had)
+  delivered to own their next (Err e) s x moved none had = tt
 
   refused_at : (to : Side) (own their next : Node S D) (n : ℕ) → StandAt to own their → BrokenWith meaning policy their.sent.items n own next
       → Refused meaning policy to n (seen_at to own their) (seen_at to next their)

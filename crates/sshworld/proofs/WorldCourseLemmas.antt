@@ -13,7 +13,7 @@ use Rattle.sshworld.specs.declared.node.Node.{Node}
 use Rattle.sshworld.specs.declared.side.Side.{Side}
 use Rattle.sshworld.specs.declared.side.Side.TheVariants.{Client, Server}
 use Rattle.sshworld.specs.CourseHeard.{BothHear, client_partner, server_partner}
-use Rattle.sshworld.specs.Deliveries.{Delivered, DeliveredAll, TakesIn}
+use Rattle.sshworld.specs.Deliveries.{Delivered, TakesIn}
 use Rattle.sshworld.specs.Halves.{BothOnCourse, Partner}
 use Rattle.sshworld.specs.Laws.{Laws}
 use Rattle.sshworld.specs.Rounds.{UnitsHeard, after_rounds}
@@ -87,11 +87,13 @@ module _ {S D : Type 0} (meaning : S → Meaning) (policy : D → Policy) (clien
       (received meaning policy client_config server_config suite decisions Server own their next s r).server_stands whole r)
 
 module _ {S D : Type 0} where
-  -- a delivery of so many bytes as wait
-  pub all_delivered : (to : Side) (n all : ℕ) (old new : WorldData S D) → all ≡ waiting_for to old → n ≡ min all (waiting_for to old) → Delivered to n old new → DeliveredAll to old new
-  all_delivered to n all old new is_all is d =
-      let count : n ≡ waiting_for to old = omega (arith, is_all, is) in
-      subst (λ (k : ℕ). Delivered to k old new) count d
+  -- so many bytes were moved to a side as waited for it
+  abbrev DeliveredAll : Side → WorldData S D → WorldData S D → Type 0
+  DeliveredAll to old new = Delivered to (waiting_for to old) old new
+
+  -- how many bytes were moved where all that wait were to be
+  pub all_moved : (to : Side) (n all : ℕ) (old : WorldData S D) → all ≡ waiting_for to old → n ≡ min all (waiting_for to old) → n ≡ waiting_for to old
+  all_moved to n all old is_all is = omega (arith, is_all, is)
 
   -- a world of the same setup as another
   same_world : (old new : WorldData S D) → IsSameSetup old new → new ≡ record { client_config = old.client_config; server_config = old.server_config; suite = old.suite; decisions = old.decisions; client = new.client; server = new.server }

@@ -1,6 +1,6 @@
 -- What a delivery does, and what several do, one after another.
 
-use Rattle.std.specs.Prelude.{◌≡◌, ◌+◌, ◌≤◌, ◌⊎◌, ℕ, zero, suc, List, [], ◌∷◌, min, take}
+use Rattle.std.specs.Prelude.{◌≡◌, ◌≢◌, ◌+◌, ◌≤◌, ◌⊎◌, ℕ, zero, suc, List, [], ◌∷◌, min, take}
 use Rattle.sshneg.specs.declared.role.Role.{Role}
 use Rattle.sshpacket.specs.Places.{IsPrefix}
 use Rattle.sshpacket.specs.Suite.{Meaning}
@@ -11,16 +11,18 @@ use Rattle.sshcore.specs.Party.{Party, Policy}
 use Rattle.sshworld.specs.declared.side.Delivery.{Delivery}
 use Rattle.sshworld.specs.declared.side.Side.{Side}
 use Rattle.sshworld.specs.declared.side.Side.TheVariants.{Client, Server}
-use Rattle.sshworld.specs.Worlds.{Half, WorldData, half_at, half_opposite, party_at, role_at, waiting_for}
+use Rattle.sshworld.specs.Conversed.{EachReplies}
+use Rattle.sshworld.specs.Worlds.{HadMemory, Half, IsSameSetup, WorldData, half_at, half_opposite, party_at, role_at, waiting_for}
 
 -- The next n bytes were moved to a side: it used all of them, or those up to its end, and what it said stands behind what it had
--- sent. Where none were moved, nothing changed.
+-- sent; and memory wasn't wanting. Where none were moved, nothing changed.
 pub record TakesIn (n : ℕ) (old new : Half) : Type 0 where
   pub moved_on : new.moved ≡ old.moved + n
   pub used_on : old.used ≤ new.used
   pub used_within : new.used ≤ new.moved
   pub all_used : new.end ≡ Open → new.used ≡ new.moved
   pub more_sent : IsPrefix old.sent new.sent
+  pub had_memory : old.end ≢ Failed fault.Memory → new.end ≢ Failed fault.Memory
   pub by_none : n ≡ 0 → new ≡ old
 
 -- A delivery of n bytes to a side; the other doesn't change.
@@ -39,29 +41,37 @@ pub record BreaksOff (m : Meaning) (d : Policy) (role : Role) (party : Party) (n
   pub used_within : used ≤ n
   pub broken_off : BrokenOff m d role party (take (old.used + used) opposite.sent) new.sent
 
--- A delivery of a schedule moves the lesser of its count and what waits.
-abbrev pub Done : {S D : Type 0} → Delivery → WorldData S D → WorldData S D → Type 0
-Done d old new = Delivered d.to (min d.count (waiting_for d.to old)) old new
-
--- the deliveries of a schedule, in order
-abbrev pub Runs : {S D : Type 0} → List Delivery → WorldData S D → WorldData S D → Type 0
-Runs [] old new = new ≡ old
-Runs {S} {D} (d ∷ later) old new = (mid : WorldData S D) × Done d old mid × Runs later mid new
-
--- all waiting bytes were moved to a side
-abbrev pub DeliveredAll : {S D : Type 0} → Side → WorldData S D → WorldData S D → Type 0
-DeliveredAll to old new = Delivered to (waiting_for to old) old new
-
--- A round: all waiting bytes to the server, then all waiting bytes to the client.
-abbrev pub Round : {S D : Type 0} → WorldData S D → WorldData S D → Type 0
-Round {S} {D} old new = (mid : WorldData S D) × DeliveredAll Server old mid × DeliveredAll Client mid new
-
--- so many rounds
-abbrev pub Rounds : {S D : Type 0} → ℕ → WorldData S D → WorldData S D → Type 0
-Rounds zero old new = new ≡ old
-Rounds {S} {D} (suc n) old new = (mid : WorldData S D) × Round old mid × Rounds n mid new
-
 module _ {S D : Type 0} (meaning : S → Meaning) (policy : D → Policy) where
+  -- A delivery of n bytes was done: neither side has failed for want of memory where neither had before, the configs, the suite and
+  -- the decisions are the same, and both sides of the new world have replied to what was moved to them.
+  pub record Done (to : Side) (n : ℕ) (old new : WorldData S D) : Type 0 where
+    pub delivered : Delivered to n old new
+    pub still : HadMemory old → HadMemory new
+    pub setup : IsSameSetup old new
+    pub replies : EachReplies meaning policy new
+
+  -- A delivery of a schedule moves the lesser of its count and what waits.
+  abbrev pub DoneBy : Delivery → WorldData S D → WorldData S D → Type 0
+  DoneBy d old new = Done d.to (min d.count (waiting_for d.to old)) old new
+
+  -- a delivery of so many bytes as wait
+  abbrev pub DoneAll : Side → WorldData S D → WorldData S D → Type 0
+  DoneAll to old new = Done to (waiting_for to old) old new
+
+  -- the deliveries of a schedule, in order
+  abbrev pub Runs : List Delivery → WorldData S D → WorldData S D → Type 0
+  Runs [] old new = new ≡ old
+  Runs (d ∷ later) old new = (mid : WorldData S D) × DoneBy d old mid × Runs later mid new
+
+  -- A round: all waiting bytes to the server, then all waiting bytes to the client.
+  abbrev pub Round : WorldData S D → WorldData S D → Type 0
+  Round old new = (mid : WorldData S D) × DoneAll Server old mid × DoneAll Client mid new
+
+  -- so many rounds
+  abbrev pub Rounds : ℕ → WorldData S D → WorldData S D → Type 0
+  Rounds zero old new = new ≡ old
+  Rounds (suc n) old new = (mid : WorldData S D) × Round old mid × Rounds n mid new
+
   -- A delivery of n bytes for which memory was wanting; the side that doesn't receive doesn't change.
   pub record Refused (to : Side) (n : ℕ) (old new : WorldData S D) : Type 0 where
     pub receiver : BreaksOff (meaning old.suite) (policy old.decisions) (role_at to) (party_at to old) n (half_at to old) (half_at to new) (half_opposite to old)
@@ -74,11 +84,11 @@ module _ {S D : Type 0} (meaning : S → Meaning) (policy : D → Policy) where
   -- the first delivery of a schedule for which it was; those before it were done
   abbrev pub RunsInto : List Delivery → WorldData S D → WorldData S D → Type 0
   RunsInto [] old new = ⊥
-  RunsInto (d ∷ later) old new = Refused d.to (min d.count (waiting_for d.to old)) old new ⊎ ((mid : WorldData S D) × Done d old mid × RunsInto later mid new)
+  RunsInto (d ∷ later) old new = Refused d.to (min d.count (waiting_for d.to old)) old new ⊎ ((mid : WorldData S D) × DoneBy d old mid × RunsInto later mid new)
 
   -- the first delivery of a round for which it was, and the first of so many rounds
   abbrev pub RoundInto : WorldData S D → WorldData S D → Type 0
-  RoundInto old new = RefusedAll Server old new ⊎ ((mid : WorldData S D) × DeliveredAll Server old mid × RefusedAll Client mid new)
+  RoundInto old new = RefusedAll Server old new ⊎ ((mid : WorldData S D) × DoneAll Server old mid × RefusedAll Client mid new)
 
   abbrev pub RoundsInto : ℕ → WorldData S D → WorldData S D → Type 0
   RoundsInto zero old new = ⊥

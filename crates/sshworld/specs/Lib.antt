@@ -18,8 +18,8 @@ pub mod Placed
 pub mod Follows
 pub mod Headline
 pub mod Worlds
-pub mod Deliveries
 pub mod Conversed
+pub mod Deliveries
 pub mod Stands
 pub mod Halves
 pub mod CourseHeard

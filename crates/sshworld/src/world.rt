@@ -3,7 +3,7 @@
 ghost use Rattle.std.specs.Prelude.{◌≡◌, ◌≢◌, ◌↔◌, ◌+◌, ◌≤◌, IfOk, IsTrue, Ok, OnErr, OnOk, length, min};
 ghost use Rattle.sshcore.specs.Ending.{Open, ending};
 ghost use Rattle.sshworld.specs.Conversed.{EachReplies, IsNew};
-ghost use Rattle.sshworld.specs.Deliveries.{Delivered, DeliveredAll, Refused, RefusedAll, Round, RoundInto, Rounds, RoundsInto, Runs, RunsInto};
+ghost use Rattle.sshworld.specs.Deliveries.{Delivered, DoneAll, Refused, RefusedAll, Round, RoundInto, Rounds, RoundsInto, Runs, RunsInto};
 ghost use Rattle.sshworld.specs.WorldCourse.{AreUnderstoodIn, HearsAll, IsOnCourse, KeepsCourse, KeepsHeadline};
 ghost use Rattle.sshworld.specs.WorldRounds.{HearsRound, HearsTurn, Settles};
 ghost use Rattle.sshworld.specs.Worlds.{Complete, HadMemory, IsSameSetup, half_at, waiting_for};
@@ -155,7 +155,7 @@ impl<'a, S: Suite, D: Decisions> World<'a, S, D> {
 
     /// Moves all bytes that wait for a side to it.
     fn move_all(&mut self, to: Side) -> Result<(), Memory>
-        ensures delivered { OnOk result (DeliveredAll to self.old self.new) }
+        ensures done { OnOk result (DoneAll S.meaning D.policy to self.old self.new) }
         ensures refused { OnErr result (RefusedAll S.meaning D.policy to self.old self.new) }
         ensures still { OnOk result (HadMemory self.old → HadMemory self.new) }
         ensures setup { IsSameSetup self.old self.new }
@@ -173,7 +173,7 @@ impl<'a, S: Suite, D: Decisions> World<'a, S, D> {
     /// Does the deliveries of a schedule in order, up to the first one for which memory was wanting;
     /// then it answers `Memory`.
     pub fn run(&mut self, schedule: &[Delivery]) -> Result<(), Memory>
-        ensures runs { OnOk result (Runs schedule.now self.old self.new) }
+        ensures runs { OnOk result (Runs S.meaning D.policy schedule.now self.old self.new) }
         ensures stopped { OnErr result (RunsInto S.meaning D.policy schedule.now self.old self.new) }
         ensures still { OnOk result (HadMemory self.old → HadMemory self.new) }
         ensures setup { IsSameSetup self.old self.new }
@@ -190,7 +190,7 @@ impl<'a, S: Suite, D: Decisions> World<'a, S, D> {
 
     /// All waiting bytes to the server, and then all waiting bytes to the client.
     fn round(&mut self) -> Result<(), Memory>
-        ensures round { OnOk result (Round self.old self.new) }
+        ensures round { OnOk result (Round S.meaning D.policy self.old self.new) }
         ensures stopped { OnErr result (RoundInto S.meaning D.policy self.old self.new) }
         ensures still { OnOk result (HadMemory self.old → HadMemory self.new) }
         ensures setup { IsSameSetup self.old self.new }
@@ -208,7 +208,7 @@ impl<'a, S: Suite, D: Decisions> World<'a, S, D> {
     /// `Memory`. In each round all waiting bytes are moved to the server, and then all waiting bytes to
     /// the client.
     pub fn settle(&mut self, rounds: u32) -> Result<(), Memory>
-        ensures rounds { OnOk result (Rounds rounds self.old self.new) }
+        ensures rounds { OnOk result (Rounds S.meaning D.policy rounds self.old self.new) }
         ensures stopped { OnErr result (RoundsInto S.meaning D.policy rounds self.old self.new) }
         ensures still { OnOk result (HadMemory self.old → HadMemory self.new) }
         ensures setup { IsSameSetup self.old self.new }

@@ -2,7 +2,8 @@ use Rattle.std.proofs.Common.{◌≡◌, ◌∙◌, ap}
 use Rattle.std.proofs.lemmas.Result.{err_from_is_err_and}
 use Rattle.sshlab.specs.ScenarioDrafts.{Drafted, drafted}
 use Rattle.sshlab.specs.ScenarioParts.{some_or}
-use Rattle.sshlab.specs.ScenarioText.{lines, said}
+use Rattle.sshlab.specs.ScenarioText.{said}
+use Rattle.sshlab.specs.TextLines.{lines}
 use Rattle.sshlab.proofs.ScenarioPartLemmas.{client_drafted, rules_drafted, server_drafted, steps_drafted}
 use Rattle.sshlab.proofs.scenario.parts_of_text.Goals as goal
 

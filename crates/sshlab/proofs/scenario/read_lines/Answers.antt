@@ -4,7 +4,8 @@ use Rattle.std.proofs.lemmas.Iterator.Consumers.{YieldsList-end, YieldsList-turn
 use Rattle.std.proofs.lemmas.Iterator.Splits.{YieldsList-from_slice_split}
 use Rattle.std.proofs.lemmas.List.{length_push}
 use Rattle.sshlab.specs.ScenarioDrafts.{drafted}
-use Rattle.sshlab.specs.ScenarioText.{CanBeRead, lines, said}
+use Rattle.sshlab.specs.ScenarioText.{CanBeRead, said}
+use Rattle.sshlab.specs.TextLines.{lines}
 use Rattle.sshlab.proofs.ScenarioReadLemmas.{IsLineAt, drafts_on, line_at, lines_end, lines_few, none_bad, none_given, reads_on, stops_here}
 use Rattle.sshlab.proofs.scenario.read_lines.Goals as goal
 

@@ -1,6 +1,7 @@
 use Rattle.std.proofs.Common.{◌≡◌, length, take}
 use Rattle.sshlab.specs.ScenarioDrafts.{drafted}
-use Rattle.sshlab.specs.ScenarioText.{CanBeRead, lines, said}
+use Rattle.sshlab.specs.ScenarioText.{CanBeRead, said}
+use Rattle.sshlab.specs.TextLines.{lines}
 use Rattle.sshlab.proofs.scenario.read_lines.Given as goal
 
 -- the lines so far can be read, and give the draft

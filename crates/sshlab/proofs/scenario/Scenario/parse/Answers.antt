@@ -4,7 +4,7 @@ use Rattle.sshcore.specs.declared.config_fault.ConfigFault.{ConfigFault}
 use Rattle.sshcore.specs.ConfigData.{ClientData}
 use Rattle.sshcore.specs.ConfigRules.{ClientRule}
 use Rattle.sshcore.specs.ConfigView.{client_data, server_data}
-use Rattle.sshlab.specs.ScenarioText.{lines}
+use Rattle.sshlab.specs.TextLines.{lines}
 use Rattle.sshlab.proofs.ScenarioCauseLemmas.{client_cause, server_cause}
 use Rattle.sshlab.proofs.scenario.Scenario.parse.Goals as goal
 

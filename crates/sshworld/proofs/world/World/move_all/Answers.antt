@@ -1,16 +1,23 @@
 use Rattle.std.proofs.Common.{◌≡◌, arith, min, subst}
 use Rattle.sshworld.specs.Deliveries.{Refused}
 use Rattle.sshworld.specs.Worlds.{waiting_for}
-use Rattle.sshworld.proofs.DeliveryLemmas.{at_err}
-use Rattle.sshworld.proofs.WorldCourseLemmas.{all_delivered, turned}
+use Rattle.sshworld.proofs.DeliveryLemmas.{at_err, done}
+use Rattle.sshworld.proofs.WorldCourseLemmas.{all_moved, turned}
 use Rattle.sshworld.proofs.world.World.move_all.Goals as goal
+
+pub returns-clause-done : goal.returns-clause-done
+returns-clause-done g c =
+    let old = c.args.self.now in
+    let e = c.in_ok-move_bytes.ensures in
+    done g.S.Suite.meaning g.D.Decisions.policy c.args.to c.in_ok-move_bytes.field-0 (waiting_for c.args.to old) old c.move_bytes.new.self
+    (all_moved c.args.to c.in_ok-move_bytes.field-0 c.waiting-all.result old c.waiting-all.ensures e.count) e.delivered e.still e.setup e.replies
 
 pub returns-clause-turn : goal.returns-clause-turn
 returns-clause-turn g c = λ hear had heard counts.
     let old = c.args.self.now in
     let e = c.in_ok-move_bytes.ensures in
     turned g.S.Suite.meaning g.D.Decisions.policy c.below_law.ensures.laws old c.move_bytes.new.self e.setup (g.met.S.Suite.lawful old.suite) c.args.to hear e.was_on e.on_course had (e.still had)
-    (all_delivered c.args.to c.in_ok-move_bytes.field-0 c.waiting-all.result old c.move_bytes.new.self c.waiting-all.ensures e.count e.delivered) heard counts
+    (returns-clause-done g c).delivered heard counts
 
 pub returns-in_err-move_bytes-clause-refused : goal.returns-in_err-move_bytes-clause-refused
 returns-in_err-move_bytes-clause-refused g c =

@@ -18,7 +18,7 @@ pub returns-in-Client-clause-delivered : goal.returns-in-Client-clause-delivered
 returns-in-Client-clause-delivered g c =
     let i = c.self.inside in
     as_seen (λ s w. IfOk c.receive.result (λ n. Delivered s n w (seen i.client_config.now i.server_config.now i.suite.now i.decisions.now c.receive.new.self i.server))) c.args.to Client c.args.self.now (seen i.client_config.now i.server_config.now i.suite.now i.decisions.now i.client i.server) c.in-Client.is c.self.view_is
-    (delivered g.S.Suite.meaning g.D.Decisions.policy i.client_config.now i.server_config.now i.suite.now i.decisions.now Client i.client i.server c.receive.new.self c.receive.result c.self.invariant.nodes (subst (λ q. Receives g.S.Suite.meaning g.D.Decisions.policy q i.client c.receive.new.self) c.deref.ensures.value c.receive.ensures.receives) c.receive.ensures.moved c.receive.ensures.by_none)
+    (delivered g.S.Suite.meaning g.D.Decisions.policy i.client_config.now i.server_config.now i.suite.now i.decisions.now Client i.client i.server c.receive.new.self c.receive.result c.self.invariant.nodes (subst (λ q. Receives g.S.Suite.meaning g.D.Decisions.policy q i.client c.receive.new.self) c.deref.ensures.value c.receive.ensures.receives) c.receive.ensures.moved c.receive.ensures.by_none c.receive.ensures.still)
 
 pub returns-in-Client-clause-refused : goal.returns-in-Client-clause-refused
 returns-in-Client-clause-refused g c =
@@ -48,7 +48,7 @@ pub returns-in-Server-clause-delivered : goal.returns-in-Server-clause-delivered
 returns-in-Server-clause-delivered g c =
     let i = c.self.inside in
     as_seen (λ s w. IfOk c.receive-in-Server.result (λ n. Delivered s n w (seen i.client_config.now i.server_config.now i.suite.now i.decisions.now i.client c.receive-in-Server.new.self))) c.args.to Server c.args.self.now (seen i.client_config.now i.server_config.now i.suite.now i.decisions.now i.client i.server) c.in-Server.is c.self.view_is
-    (delivered g.S.Suite.meaning g.D.Decisions.policy i.client_config.now i.server_config.now i.suite.now i.decisions.now Server i.server i.client c.receive-in-Server.new.self c.receive-in-Server.result c.self.invariant.nodes (subst (λ q. Receives g.S.Suite.meaning g.D.Decisions.policy q i.server c.receive-in-Server.new.self) c.deref-in-Server.ensures.value c.receive-in-Server.ensures.receives) c.receive-in-Server.ensures.moved c.receive-in-Server.ensures.by_none)
+    (delivered g.S.Suite.meaning g.D.Decisions.policy i.client_config.now i.server_config.now i.suite.now i.decisions.now Server i.server i.client c.receive-in-Server.new.self c.receive-in-Server.result c.self.invariant.nodes (subst (λ q. Receives g.S.Suite.meaning g.D.Decisions.policy q i.server c.receive-in-Server.new.self) c.deref-in-Server.ensures.value c.receive-in-Server.ensures.receives) c.receive-in-Server.ensures.moved c.receive-in-Server.ensures.by_none c.receive-in-Server.ensures.still)
 
 pub returns-in-Server-clause-refused : goal.returns-in-Server-clause-refused
 returns-in-Server-clause-refused g c =

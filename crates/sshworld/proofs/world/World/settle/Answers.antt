@@ -8,7 +8,7 @@ loop-preserved g c =
     let e = c.in_ok-round.ensures in
     let i = c.loop.invariant in
     record {
-      rounds = round_more c.loop.counter c.args.self.now c.loop.self c.round.new.self i.rounds e.round;
+      rounds = round_more g.S.Suite.meaning g.D.Decisions.policy c.loop.counter c.args.self.now c.loop.self c.round.new.self i.rounds e.round;
       still = λ m. e.still (i.still m);
       setup = same_then c.args.self.now c.loop.self c.round.new.self i.setup e.setup;
       heard = heard_more g.S.Suite.meaning g.D.Decisions.policy c.args.self.now c.loop.self c.round.new.self c.loop.counter i.setup i.still i.heard e.hears;

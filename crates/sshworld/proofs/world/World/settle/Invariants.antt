@@ -6,7 +6,7 @@ use Rattle.sshworld.proofs.world.World.settle.Given as goal
 -- so many rounds were done, and both have heard what those bring
 abbrev pub invariant-loop : goal.invariant-loop
 invariant-loop g l = record {
-  rounds : Rounds l.counter l.fn.self l.self;
+  rounds : Rounds g.S.Suite.meaning g.D.Decisions.policy l.counter l.fn.self l.self;
   still : HadMemory l.fn.self → HadMemory l.self;
   setup : IsSameSetup l.fn.self l.self;
   heard : HeardAfter g.S.Suite.meaning g.D.Decisions.policy l.fn.self l.self l.counter;
