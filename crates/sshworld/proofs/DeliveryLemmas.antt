@@ -45,11 +45,10 @@ module _ {S D : Type 0} where
 
 module _ {S D : Type 0} (meaning : S → Meaning) (policy : D → Policy) where
   -- a delivery that answered how many bytes it moved
-  pub done : (to : Side) (n k : ℕ) (old new : WorldData S D) → n ≡ k → Delivered to n old new → (HadMemory old → HadMemory new) → IsSameSetup old new → EachReplies meaning policy new
+  pub done : (to : Side) (n k : ℕ) (old new : WorldData S D) → n ≡ k → Delivered to n old new → IsSameSetup old new → EachReplies meaning policy new
       → Done meaning policy to k old new
-  done to n k old new count d still setup replies = record {
+  done to n k old new count d setup replies = record {
     delivered = subst (λ (j : ℕ). Delivered to j old new) count d;
-    still = still;
     setup = setup;
     replies = replies;
   }
