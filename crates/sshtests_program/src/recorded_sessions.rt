@@ -1,11 +1,11 @@
 //! Recorded sessions of the lab, also where packets were put in, left out or changed, and what `show` and
 //! `check` tell of them.
 
-use crate::endpoint_lab::{
+use crate::compare::same_count;
+use crate::recordings::{is_told, put_clear, recording_of};
+use sshtests_helpers::lab::{
     AL, DEFAULTS, GUESSED, LOOSE, LOOSELY_GUESSED, Terms, WHOLE, lab_of, settle, talk_of,
 };
-use crate::helpers::same_count;
-use crate::recordings::{is_told, put_clear, recording_of};
 use std::alloc::Global;
 use std::process::Abort;
 use std::test::Fail;
@@ -21,7 +21,7 @@ struct Sent {
 fn sent_on(rt: &impl Abort, alloc: Global, terms: Terms) -> Result<Sent, Fail> {
     let lab = lab_of(alloc, terms, &AL)?;
     let mut talk = talk_of(alloc, &lab)?;
-    settle(rt, &mut talk, WHOLE)?;
+    settle(&mut talk, WHOLE)?;
     Ok(Sent {
         client: Vec::from_slice(alloc, talk.client.said())?,
         server: Vec::from_slice(alloc, talk.server.said())?,
