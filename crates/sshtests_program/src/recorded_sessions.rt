@@ -18,7 +18,7 @@ struct Sent {
 }
 
 /// What the lab's endpoints sent on these terms, where `al` is let in.
-fn sent_on(rt: &impl Abort, alloc: Global, terms: Terms) -> Result<Sent, Fail> {
+fn sent_on(alloc: Global, terms: Terms) -> Result<Sent, Fail> {
     let lab = lab_of(alloc, terms, &AL)?;
     let mut talk = talk_of(alloc, &lab)?;
     settle(&mut talk, WHOLE)?;
@@ -416,7 +416,7 @@ fn all_told(
     words: &str,
     rows: &[Told],
 ) -> Result<(), Fail> {
-    let sent = sent_on(rt, alloc, terms)?;
+    let sent = sent_on(alloc, terms)?;
     for told in rows {
         tells(rt, alloc, &sent, words, told)?;
     }
@@ -425,7 +425,7 @@ fn all_told(
 
 #[test]
 fn records_a_session_whole(rt: HostRuntime) -> Result<(), Fail> {
-    let sent = sent_on(&rt, rt.alloc(), DEFAULTS)?;
+    let sent = sent_on(rt.alloc(), DEFAULTS)?;
     same_count(&rt, sent.client.len(), 343);
     same_count(&rt, sent.server.len(), 391);
     Ok(())
