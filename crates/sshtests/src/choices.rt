@@ -1,7 +1,8 @@
 //! Choices with the lab suite, where a method whose name begins with `x` needs a host key that
 //! encrypts, and a host key algorithm whose name begins with `e` can.
 
-use crate::helpers::{Lists, has_text, kexinit_of};
+use crate::compare::has_text;
+use crate::kexinits::{Lists, kexinit_of};
 use sshlab::LabSuite;
 use sshneg::{Chosen, NoCommon, choose};
 use std::alloc::Global;

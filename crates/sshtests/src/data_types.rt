@@ -1,6 +1,7 @@
 //! Examples of data types, read and written, and of what their faults print.
 
-use crate::helpers::{behind, has_text, same, same_count};
+use crate::compare::{has_text, same, same_count};
+use sshtests_helpers::bytes::behind;
 use sshwire::{
     BorrowedNameList, Memory, Mpint, NameList, Reader, WireFault, as_name, put_boolean, put_mpint,
     put_string, put_u32,

@@ -4,7 +4,8 @@
 //! the shared number (`00 00 00 02 00 80`), a key begins with S(K, "hash", letter, "session"), goes on
 //! with S(K, "hash", what there is so far), and is cut to its length.
 
-use crate::helpers::{KeyTexts, same};
+use crate::compare::same;
+use crate::keys::KeyTexts;
 use sshlab::LabSuite;
 use sshneg::{Exchange, KeyMaterial, Role, exchange_input, keys_of, signed_request};
 use sshpacket::Keys;

@@ -1,6 +1,6 @@
 //! What two sides hear of each other, where the bytes are any.
 
-use crate::helpers::has_text;
+use crate::compare::has_text;
 use sshlab::{Delivery, Hearing, Side, greet};
 use sshwire::WireFault;
 use std::test::Fail;

@@ -1,6 +1,6 @@
 //! Examples of guesses and of strictness.
 
-use crate::helpers::{Lists, kexinit_of};
+use crate::kexinits::{Lists, kexinit_of};
 use sshmsg::KexInit;
 use sshneg::{Role, guess_right, strict_of};
 use std::alloc::Global;

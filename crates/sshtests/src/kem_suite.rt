@@ -1,12 +1,12 @@
 //! Examples of what the second suite answers, and of its packets. Their bytes were computed by another
 //! program.
 
-use crate::helpers::{
-    Came, brings, filled, is_sealed_as, is_unsealed_as, named_keys, named_wide_keys, newkeys,
-    reader_with, same, same_count, same_if_any, sealed,
-};
+use crate::compare::{brings, is_sealed_as, is_unsealed_as, same, same_count, same_if_any};
+use crate::keys::{named_keys, named_wide_keys, newkeys, reader_with, sealed};
 use sshlab::KemSuite;
 use sshpacket::{Keys, PacketFault, Response, Suite};
+use sshtests_helpers::bytes::filled;
+use sshtests_helpers::pieces::Came;
 use std::alloc::Global;
 use std::process::Abort;
 use std::test::Fail;

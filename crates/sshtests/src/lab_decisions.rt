@@ -1,6 +1,6 @@
 //! Whom the lab's decisions trust and let in, and the configs of the lab's parts.
 
-use crate::helpers::{same_count, same_text};
+use crate::compare::{same_count, same_text};
 use sshcore::{ClientConfig, Credential, Decisions, Proof, ServerConfig};
 use sshlab::{LabDecisions, lab_client_parts, lab_decisions_law, lab_server_parts};
 use std::alloc::Global;

@@ -1,6 +1,7 @@
 //! Examples of what the lab suite answers. Their bytes were computed by another program.
 
-use crate::helpers::{is_sealed_as, is_unsealed_as, named_keys, same, same_count, same_if_any};
+use crate::compare::{is_sealed_as, is_unsealed_as, same, same_count, same_if_any};
+use crate::keys::named_keys;
 use sshlab::LabSuite;
 use sshpacket::{Capability, KeyLens, Need, Suite};
 use std::test::Fail;

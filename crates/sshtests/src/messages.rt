@@ -1,7 +1,8 @@
 //! Examples of payloads.
 
-use crate::helpers::{filled, has_text, prefix_of, same};
+use crate::compare::{has_text, same};
 use sshmsg::{KexInit, Message, Method, MsgFault, OtherMethod, read, read_exchange, write};
+use sshtests_helpers::bytes::{filled, prefix_of};
 use sshwire::{NameList, ShareForm};
 use std::alloc::Global;
 use std::process::Abort;

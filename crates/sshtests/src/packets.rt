@@ -1,11 +1,11 @@
 //! Examples of packets, in clear and sealed with the lab suite, of keys, and of what faults print.
 
-use crate::helpers::{
-    Came, KeyTexts, behind, brings, feed, filled, has_text, narrow_keys, newkeys, prefix_of,
-    reader_with, same, same_count, same_text, sealed, wide_keys,
-};
+use crate::compare::{brings, has_text, same, same_count, same_text};
+use crate::keys::{KeyTexts, narrow_keys, newkeys, reader_with, sealed, wide_keys};
 use sshlab::LabSuite;
 use sshpacket::{KeyParts, Keys, PacketFault, PacketReader, write_clear, write_sealed};
+use sshtests_helpers::bytes::{behind, filled, prefix_of};
+use sshtests_helpers::pieces::{Came, feed};
 use std::alloc::Global;
 use std::process::Abort;
 use std::test::Fail;

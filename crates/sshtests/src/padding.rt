@@ -1,6 +1,6 @@
 //! Examples of how much is padded.
 
-use crate::helpers::same_count;
+use crate::compare::same_count;
 use sshpacket::{padding_len, padding_len_uncounted};
 use std::process::Abort;
 

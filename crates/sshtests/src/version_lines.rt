@@ -1,6 +1,7 @@
 //! Examples of version lines: which are taken, how lines before them are counted, and what is written.
 
-use crate::helpers::{behind, filled, has_text, prefix_of, same};
+use crate::compare::{has_text, same};
+use sshtests_helpers::bytes::{behind, filled, prefix_of};
 use sshwire::{LineReader, LineStep, VersionLine, WireFault};
 use std::alloc::{AllocError, Global};
 use std::process::Abort;

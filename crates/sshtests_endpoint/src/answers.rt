@@ -1,15 +1,15 @@
 //! Answers to a client's attempts, which are made by hand.
 
-use crate::endpoint_by_hand::{
+use crate::by_hand::{
     ByHand, answers, client_by_hand, next_packet, request, request_of_al, signature_in,
     signed_fields,
 };
-use crate::endpoint_lab::{
-    AL, CONNECTION, DEFAULTS, NOBODY, Proving, Try, Users, has_end, holds, lab_of,
-};
-use crate::endpoint_packets::{NONE_OF_AL, SUCCESS, disconnect, packet, sealed_way};
-use crate::helpers::{behind, prefix_of, same, same_count};
+use crate::compare::{same, same_count};
+use crate::packets::{NONE_OF_AL, SUCCESS, disconnect, packet, sealed_way};
+use crate::talks::{has_end, holds};
 use sshneg::Role;
+use sshtests_helpers::bytes::{behind, prefix_of};
+use sshtests_helpers::lab::{AL, CONNECTION, DEFAULTS, NOBODY, Proving, Try, Users, lab_of};
 use std::alloc::Global;
 use std::process::Abort;
 use std::test::Fail;

@@ -1,16 +1,18 @@
 //! What authenticated endpoints hand over.
 
-use crate::endpoint_by_hand::{ByHand, client_by_hand, next_packet, server_by_hand};
-use crate::endpoint_lab::{
-    AL, DEFAULTS, LOOSE, NOBODY, Talk, Talker, Terms, Users, WHOLE, has_end, lab_of, settle,
-    talk_of,
-};
-use crate::endpoint_packets::{LINE, NONE_OF_AL, SUCCESS, disconnect, hash_in, keys_by};
-use crate::helpers::{Came, behind, brings, filled, prefix_of, same, same_count, same_text};
+use crate::by_hand::{ByHand, client_by_hand, next_packet, server_by_hand};
+use crate::compare::{brings, same, same_count, same_text};
+use crate::packets::{LINE, NONE_OF_AL, SUCCESS, disconnect, hash_in, keys_by};
+use crate::talks::has_end;
 use sshcore::{Direction, Session};
 use sshlab::LabSuite;
 use sshneg::Role;
 use sshpacket::{Keys, PacketReader, write_sealed};
+use sshtests_helpers::bytes::{behind, filled, prefix_of};
+use sshtests_helpers::lab::{
+    AL, DEFAULTS, LOOSE, NOBODY, Talk, Talker, Terms, Users, WHOLE, lab_of, settle, talk_of,
+};
+use sshtests_helpers::pieces::Came;
 use std::alloc::Global;
 use std::process::Abort;
 use std::test::Fail;
@@ -36,7 +38,7 @@ fn sessions_on(rt: &impl Abort, alloc: Global, terms: Terms) -> Result<Sessions,
     let lab = lab_of(alloc, terms, &AL)?;
     let mut talk = talk_of(alloc, &lab)?;
     let hash = hash_in(rt, alloc, &talk)?;
-    settle(rt, &mut talk, WHOLE)?;
+    settle(&mut talk, WHOLE)?;
     let Talk { client, server } = talk;
     Ok(Sessions {
         client: session_of(client.into_session())?,
@@ -192,7 +194,7 @@ fn hands_over_behind_the_end_of_the_input(rt: HostRuntime) -> Result<(), Fail> {
     let alloc = rt.alloc();
     let lab = lab_of(alloc, DEFAULTS, &AL)?;
     let mut talk = talk_of(alloc, &lab)?;
-    settle(&rt, &mut talk, WHOLE)?;
+    settle(&mut talk, WHOLE)?;
     let Talk { client, server } = talk;
     let mut client = client;
     client.end_of_input();
@@ -233,7 +235,7 @@ fn hands_nothing_over_of_a_failure(rt: HostRuntime) -> Result<(), Fail> {
     };
     let lab = lab_of(alloc, DEFAULTS, &users)?;
     let mut talk = talk_of(alloc, &lab)?;
-    settle(&rt, &mut talk, WHOLE)?;
+    settle(&mut talk, WHOLE)?;
     has_end(&rt, alloc, &talk.client, "failed F14")?;
     has_end(&rt, alloc, &talk.server, "closed 14")?;
     let Talk { client, server } = talk;

@@ -3,10 +3,11 @@
 
 ghost use Rattle.std.specs.Prelude.{◌≡◌, false};
 
-use crate::helpers::{behind, prefix_of, same, same_count};
+use crate::compare::{same, same_count};
 use crate::program::{LimitedSink, Said, WhenFull, say_at, words_of};
 use sshlab::{Broken, LabSuite, Side, Source, ToolFault, check, piece, show};
 use sshpacket::write_clear;
+use sshtests_helpers::bytes::{behind, prefix_of};
 use std::alloc::Global;
 use std::process::Abort;
 use std::test::Fail;

@@ -1,11 +1,11 @@
 //! Recorded sessions of the lab, also where packets were put in, left out or changed, and what `show` and
 //! `check` tell of them.
 
-use crate::endpoint_lab::{
+use crate::compare::same_count;
+use crate::recordings::{is_told, put_clear, recording_of};
+use sshtests_helpers::lab::{
     AL, DEFAULTS, GUESSED, LOOSE, LOOSELY_GUESSED, Terms, WHOLE, lab_of, settle, talk_of,
 };
-use crate::helpers::same_count;
-use crate::recordings::{is_told, put_clear, recording_of};
 use std::alloc::Global;
 use std::process::Abort;
 use std::test::Fail;
@@ -18,10 +18,10 @@ struct Sent {
 }
 
 /// What the lab's endpoints sent on these terms, where `al` is let in.
-fn sent_on(rt: &impl Abort, alloc: Global, terms: Terms) -> Result<Sent, Fail> {
+fn sent_on(alloc: Global, terms: Terms) -> Result<Sent, Fail> {
     let lab = lab_of(alloc, terms, &AL)?;
     let mut talk = talk_of(alloc, &lab)?;
-    settle(rt, &mut talk, WHOLE)?;
+    settle(&mut talk, WHOLE)?;
     Ok(Sent {
         client: Vec::from_slice(alloc, talk.client.said())?,
         server: Vec::from_slice(alloc, talk.server.said())?,
@@ -416,7 +416,7 @@ fn all_told(
     words: &str,
     rows: &[Told],
 ) -> Result<(), Fail> {
-    let sent = sent_on(rt, alloc, terms)?;
+    let sent = sent_on(alloc, terms)?;
     for told in rows {
         tells(rt, alloc, &sent, words, told)?;
     }
@@ -425,7 +425,7 @@ fn all_told(
 
 #[test]
 fn records_a_session_whole(rt: HostRuntime) -> Result<(), Fail> {
-    let sent = sent_on(&rt, rt.alloc(), DEFAULTS)?;
+    let sent = sent_on(rt.alloc(), DEFAULTS)?;
     same_count(&rt, sent.client.len(), 343);
     same_count(&rt, sent.server.len(), 391);
     Ok(())

@@ -1,15 +1,18 @@
 //! Authentication between two endpoints: how both end, and which messages they say on the way.
 
-use crate::endpoint_lab::{
-    AL, CONNECTION, DEFAULTS, Delivery, GUESSED, LOOSE, NOBODY, Proving, Talk, Terms, Try, Users,
-    WHOLE, ends_so, has_end, lab_of, planning, run, settle, talk_of,
-};
-use crate::endpoint_packets::{hash_in, keys_by};
-use crate::helpers::{Came, behind, feed, filled, same, same_count, same_text};
+use crate::compare::{same, same_count, same_text};
+use crate::packets::{hash_in, keys_by};
+use crate::talks::{Delivery, ends_so, has_end, run};
 use sshcore::{Agreed, End};
 use sshlab::LabSuite;
 use sshneg::Role;
 use sshpacket::PacketReader;
+use sshtests_helpers::bytes::{behind, filled};
+use sshtests_helpers::lab::{
+    AL, CONNECTION, DEFAULTS, GUESSED, LOOSE, NOBODY, Proving, Talk, Terms, Try, Users, WHOLE,
+    lab_of, planning, settle, talk_of,
+};
+use sshtests_helpers::pieces::{Came, feed};
 use std::alloc::Global;
 use std::process::Abort;
 use std::test::Fail;
@@ -55,7 +58,7 @@ fn goes_in_pieces(
     let lab = lab_of(alloc, DEFAULTS, users)?;
     let mut talk = talk_of(alloc, &lab)?;
     let hash = hash_in(rt, alloc, &talk)?;
-    settle(rt, &mut talk, piece_len)?;
+    settle(&mut talk, piece_len)?;
     let client = behind(talk.client.said(), 199);
     let said = sealed_numbers(rt, alloc, &hash, Role::Client, client)?;
     same(rt, &said, course.client_says);
@@ -244,7 +247,7 @@ fn agrees_on(rt: &impl Abort, alloc: Global, terms: Terms, strict: bool) -> Resu
     let lab = lab_of(alloc, terms, &AL)?;
     let mut talk = talk_of(alloc, &lab)?;
     let hash = hash_in(rt, alloc, &talk)?;
-    settle(rt, &mut talk, WHOLE)?;
+    settle(&mut talk, WHOLE)?;
     both_agree(rt, &talk, strict, &hash);
     let (client, server) = lab.predict(alloc)?;
     agrees(rt, &client, strict, &hash);

@@ -1,6 +1,7 @@
 //! What is predicted of two configs, besides the courses of authentication.
 
-use crate::endpoint_lab::{distrusting_lab, ends_so};
+use crate::talks::ends_so;
+use sshtests_helpers::lab::distrusting_lab;
 use std::test::Fail;
 
 #[test]

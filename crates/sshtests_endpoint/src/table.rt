@@ -1,16 +1,18 @@
 //! What each of the 256 numbers is to an endpoint in each place, in each role, strict or not.
 
-use crate::endpoint_lab::{
-    CONNECTION, Lab, NOBODY, Proving, Talk, Talker, Terms, Users, has_end, lab_of, lab_on, run,
-    talk_of, talker_of,
-};
-use crate::endpoint_packets::{
+use crate::compare::{same, same_count};
+use crate::packets::{
     FAILURE, LINE, NONE_OF_AL, Way, clear_way, disconnect, hash_in, init, kexinit_of, kexinit_with,
     packet, reply, sealed_way, service,
 };
-use crate::helpers::{behind, prefix_of, same, same_count};
+use crate::talks::{has_end, run};
 use sshcore::Phase;
 use sshneg::Role;
+use sshtests_helpers::bytes::{behind, prefix_of};
+use sshtests_helpers::lab::{
+    CONNECTION, Lab, NOBODY, Proving, Talk, Talker, Terms, Users, lab_of, lab_on, talk_of,
+    talker_of,
+};
 use std::alloc::Global;
 use std::process::Abort;
 use std::test::Fail;

@@ -1,10 +1,11 @@
 //! Packets that tests put to lab endpoints, and what these are to say.
 
-use crate::endpoint_lab::{Talk, Talker};
-use crate::helpers::{Came, behind, feed};
 use sshlab::LabSuite;
 use sshneg::{Exchange, KeyMaterial, Role, exchange_input, keys_of};
 use sshpacket::{Keys, PacketReader, Suite, write_clear, write_sealed};
+use sshtests_helpers::bytes::behind;
+use sshtests_helpers::lab::{Talk, Talker};
+use sshtests_helpers::pieces::{Came, feed};
 use sshwire::put_string;
 use std::alloc::Global;
 use std::process::Abort;

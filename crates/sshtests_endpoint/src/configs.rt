@@ -1,11 +1,12 @@
 //! Configs at each limit from both sides, and their KEXINITs.
 
-use crate::helpers::{filled, has_text, same, same_count, same_text};
+use crate::compare::{has_text, same, same_count, same_text};
 use sshcore::{
     Attempt, ClientConfig, ClientParts, ConfigFault, Credential, HostKey, ServerConfig,
     ServerParts, SideParts,
 };
 use sshmsg::{KexInit, Message, write};
+use sshtests_helpers::bytes::filled;
 use std::alloc::Global;
 use std::process::Abort;
 use std::test::Fail;

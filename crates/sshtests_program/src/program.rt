@@ -2,9 +2,10 @@
 
 ghost use Rattle.std.specs.Prelude.{◌≡◌, false};
 
-use crate::helpers::{prefix_of, same, same_count};
+use crate::compare::{same, same_count};
 use crate::streams::Breaking;
 use sshlab::{Broken, Sink, StreamSource, refuse_words, tool};
+use sshtests_helpers::bytes::prefix_of;
 use std::alloc::{AllocError, Global};
 use std::io;
 use std::process::Abort;

@@ -1,6 +1,6 @@
 //! Readers and writers of std as sources and sinks, also where they fail.
 
-use crate::helpers::same;
+use crate::compare::same;
 use sshlab::{Broken, Sink, Source, StreamSink, StreamSource};
 use std::io;
 use std::process::Abort;

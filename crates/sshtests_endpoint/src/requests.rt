@@ -1,17 +1,19 @@
 //! Requests that are made by hand, at a server.
 
-use crate::endpoint_by_hand::{
+use crate::by_hand::{
     ByHand, Generous, TO_AUTH, answers, next_packet, request, request_of_al, server_by_hand,
     signature_in, signed_fields,
 };
-use crate::endpoint_lab::{
-    AL, CONNECTION, DEFAULTS, NOBODY, Proving, Talk, Users, has_end, holds, lab_of, run, talk_of,
-};
-use crate::endpoint_packets::{
+use crate::compare::{same, same_count};
+use crate::packets::{
     BLOB, FAILURE, NONE_OF_AL, SUCCESS, disconnect, hash_in, packet, sealed_way, service,
 };
-use crate::helpers::{behind, same, same_count};
+use crate::talks::{has_end, holds, run};
 use sshneg::Role;
+use sshtests_helpers::bytes::behind;
+use sshtests_helpers::lab::{
+    AL, CONNECTION, DEFAULTS, NOBODY, Proving, Talk, Users, lab_of, talk_of,
+};
 use sshwire::put_string;
 use std::alloc::Global;
 use std::process::Abort;

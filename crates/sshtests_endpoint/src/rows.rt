@@ -1,15 +1,17 @@
 //! Rows of endpoints up to the accepted service: what they say, how they end, and what they hold.
 
-use crate::endpoint_lab::{
-    DEFAULTS, Delivery, GUESSED, LOOSE, LOOSELY_GUESSED, Lab, Talk, Talker, Terms, client,
-    distrusting_lab, has_end, holds, lab_on, run, server, takes, talk_of, talker_of,
-};
-use crate::endpoint_packets::{
+use crate::compare::{same, same_count};
+use crate::packets::{
     LINE, clear_way, disconnect, hash_in, hash_of, init, kexinit_of, kexinit_with, packet,
     payload_of, reply, sealed_way, service,
 };
-use crate::helpers::{behind, filled, prefix_of, same, same_count};
+use crate::talks::{Delivery, has_end, holds, run, takes};
 use sshneg::Role;
+use sshtests_helpers::bytes::{behind, filled, prefix_of};
+use sshtests_helpers::lab::{
+    DEFAULTS, GUESSED, LOOSE, LOOSELY_GUESSED, Lab, Talk, Talker, Terms, client, distrusting_lab,
+    lab_on, server, talk_of, talker_of,
+};
 use std::alloc::Global;
 use std::process::Abort;
 use std::test::Fail;

@@ -1,14 +1,14 @@
 //! Endpoints in authentication that are given messages made by hand.
 
-use crate::endpoint_lab::{
-    CONNECTION, Delivery, Lab, Talk, Talker, has_end, run, server_by, talk_of,
-};
-use crate::endpoint_packets::{BLOB, Way, hash_in, packet, sealed_way};
-use crate::helpers::{behind, same, same_count};
+use crate::compare::{same, same_count};
+use crate::packets::{BLOB, Way, hash_in, packet, sealed_way};
+use crate::talks::{Delivery, has_end, run};
 use sshcore::{Decisions, Proof};
 use sshlab::{LabDecisions, LabSuite};
 use sshneg::Role;
 use sshpacket::Suite;
+use sshtests_helpers::bytes::behind;
+use sshtests_helpers::lab::{CONNECTION, Lab, Talk, Talker, server_by, talk_of};
 use sshwire::put_string;
 use std::alloc::Global;
 use std::process::Abort;

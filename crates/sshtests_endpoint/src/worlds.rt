@@ -1,11 +1,12 @@
 //! Worlds of lab endpoints: what deliveries move, and that complete runs end as predicted.
 
-use crate::endpoint_lab::{
-    AL, CONNECTION, DEFAULTS, GUESSED, LOOSE, LOOSELY_GUESSED, Lab, LabWorld, NOBODY, Proving,
-    Terms, Users, distrusting_lab, ends_so, lab_of,
-};
-use crate::helpers::same_text;
+use crate::compare::same_text;
+use crate::talks::ends_so;
 use sshcore::End;
+use sshtests_helpers::lab::{
+    AL, CONNECTION, DEFAULTS, GUESSED, LOOSE, LOOSELY_GUESSED, Lab, LabWorld, NOBODY, Proving,
+    Terms, Users, distrusting_lab, lab_of,
+};
 use sshworld::{Delivery, Side};
 use std::alloc::Global;
 use std::process::Abort;
