@@ -1,5 +1,6 @@
 //! What the deliveries and rounds of a scenario bring, by `tool`, and how much of the input is read.
 
+use crate::helpers::same_count;
 use crate::program::Said;
 use crate::recordings::{READ_FAILED, TextSource, answers};
 use crate::scenarios::{
@@ -272,7 +273,21 @@ fn leaves(
         failed: false,
     };
     answers(rt, alloc, words, &mut source, 0, wanted)?;
-    assert_eq!(rt; source.rest.len(), left);
+    same_count(rt, source.rest.len(), left);
+    Ok(())
+}
+
+/// All words that read input have to be answered so, and to leave so many bytes of the text unread.
+fn all_leave(
+    rt: &impl Abort,
+    alloc: Global,
+    text: &[u8],
+    wanted: Said<'_>,
+    left: usize,
+) -> Result<(), Fail> {
+    for words in READING {
+        leaves(rt, alloc, words, text, wanted, left)?;
+    }
     Ok(())
 }
 
@@ -280,30 +295,21 @@ fn leaves(
 fn reads_nothing_behind_the_first_byte_too_many(rt: HostRuntime) -> Result<(), Fail> {
     let alloc = rt.alloc();
     let text = text_of(alloc, "x", "\n", 1_048_676, "")?;
-    for words in READING {
-        leaves(&rt, alloc, words, &text, TOO_LONG, 100)?;
-    }
-    Ok(())
+    all_leave(&rt, alloc, &text, TOO_LONG, 100)
 }
 
 #[test]
 fn tells_a_failed_read_behind_1048576_bytes(rt: HostRuntime) -> Result<(), Fail> {
     let alloc = rt.alloc();
     let text = text_of(alloc, "x", "\n", 1_048_575, "")?;
-    for words in READING {
-        leaves(&rt, alloc, words, &text, READ_FAILED, 0)?;
-    }
-    Ok(())
+    all_leave(&rt, alloc, &text, READ_FAILED, 0)
 }
 
 #[test]
 fn tells_a_failed_read_and_no_bad_line_before_it(rt: HostRuntime) -> Result<(), Fail> {
     let alloc = rt.alloc();
-    for words in READING {
-        leaves(&rt, alloc, words, b"x\n", READ_FAILED, 0)?;
-        leaves(&rt, alloc, words, b"\n\nx\n\n", READ_FAILED, 0)?;
-    }
-    Ok(())
+    all_leave(&rt, alloc, b"x\n", READ_FAILED, 0)?;
+    all_leave(&rt, alloc, b"\n\nx\n\n", READ_FAILED, 0)
 }
 
 /// Words and a bad text, and what is told of it where the output couldn't be written either.
