@@ -306,6 +306,12 @@ const PREDICTED: &[Predicted] = &[
         "client try al ssh-connection none\nclient try bo ssh-connection password 00\nserver tries 2",
         TRIED_OUT,
     ),
+    // A service of 64 bytes, which a name may have.
+    (
+        "",
+        "client try al ssssssssssssssssssssssssssssssssssssssssssssssssssssssssssssssss none\nallow al none",
+        NO_SERVICE,
+    ),
     ("", "client kex a\nserver kex b\nsettle 5", NO_KEX),
     ("", "client kex x\nserver kex x", NO_HOST_KEY),
     ("", "client hostkey i", NO_HOST_KEY),
@@ -378,6 +384,12 @@ const JUDGED: &[(&str, &str)] = &[
         "client config C2\n",
     ),
     ("server kex ext-info-s", "server config C2\n"),
+    ("server kex a,ext-info-c", "server config C2\n"),
+    ("client kex a,ext-info-s", "client config C2\n"),
+    (
+        "client kex kex-strict-s-v00@openssh.com,a",
+        "client config C2\n",
+    ),
     ("server methods none", "server config C2\n"),
     ("server methods password,,publickey", "server config C2\n"),
     ("server methods publickey", ""),
