@@ -4,7 +4,7 @@ ghost use Rattle.std.specs.Prelude.{◌≡◌, false};
 
 use crate::compare::{same, same_count};
 use crate::streams::Breaking;
-use sshlab::{Broken, Sink, StreamSource, refuse_words, tool};
+use sshlab::{Broken, Sink, Source, StreamSource, refuse_words, tool};
 use sshtests_helpers::bytes::prefix_of;
 use std::alloc::{AllocError, Global};
 use std::io;
@@ -278,6 +278,47 @@ fn refuses_words(rt: HostRuntime) -> Result<(), Fail> {
     Ok(())
 }
 
+/// The words have to be refused with this fault before anything is read.
+fn is_refused_unread(rt: &impl Abort, alloc: Global, words: &str, told: &str) -> Result<(), Fail> {
+    let words = words_of(alloc, words)?;
+    let mut input = StreamSource::new(Breaking { calls: 0 });
+    let mut output = LimitedSink::ample(alloc);
+    let mut faults = LimitedSink::ample(alloc);
+    let status = tool(alloc, &words, &mut input, &mut output, &mut faults);
+    assert!(rt; !input.failed());
+    same_count(rt, usize::from(status), 2);
+    same(rt, &output.bytes, b"");
+    same(rt, &faults.bytes, told.as_bytes());
+    Ok(())
+}
+
+#[test]
+fn judges_words_before_it_reads(rt: HostRuntime) -> Result<(), Fail> {
+    let alloc = rt.alloc();
+    for (words, faults) in REFUSED {
+        is_refused_unread(&rt, alloc, words, faults)?;
+    }
+    Ok(())
+}
+
+#[test]
+fn reads_nothing_for_a_greeting(rt: HostRuntime) -> Result<(), Fail> {
+    let alloc = rt.alloc();
+    let words = words_of(alloc, "greet|a|b|c11")?;
+    let mut input = StreamSource::new(Breaking { calls: 0 });
+    let mut output = LimitedSink::ample(alloc);
+    let mut faults = LimitedSink::ample(alloc);
+    let status = tool(alloc, &words, &mut input, &mut output, &mut faults);
+    assert!(rt; !input.failed());
+    same_count(&rt, usize::from(status), 1);
+    same(
+        &rt,
+        &output.bytes,
+        b"client got SSH-2.0-b\nserver waiting 0\ncomplete no\n",
+    );
+    Ok(())
+}
+
 #[test]
 fn refuses_no_words(rt: HostRuntime) {
     let wanted = Said {
@@ -309,8 +350,8 @@ fn refuses_words_that_are_no_text(rt: HostRuntime) {
     );
 }
 
-/// Words, what there is to read, and what is printed for them.
-type Printed = (&'static str, &'static str, &'static str);
+/// Words, what there is to read, what is printed for them, and the status.
+type Printed = (&'static str, &'static str, &'static str, usize);
 
 /// What is printed by each subcommand.
 const PRINTED: &[Printed] = &[
@@ -318,16 +359,37 @@ const PRINTED: &[Printed] = &[
         "greet|alpha|beta|s5,c99,s99",
         "",
         "client got SSH-2.0-beta\nserver got SSH-2.0-alpha\ncomplete yes\n",
+        0,
     ),
     (
         "run",
         "settle 5",
         "client failed F14\nserver closed 14\ncomplete yes\n",
+        0,
+    ),
+    (
+        "run",
+        "settle 0",
+        "client open\nserver open\ncomplete no\n",
+        1,
     ),
     (
         "predict",
         "settle 5",
         "client failed F14\nserver closed 14\n",
+        0,
+    ),
+    (
+        "show",
+        "c 5353482d322e302d610d0a\nc 0000000c0a1500000000000000000000\nc ffff\n",
+        "client version SSH-2.0-a\nclient 0 21 NEWKEYS 1\nclient sealed 2\nserver partial 0\n",
+        0,
+    ),
+    (
+        "check",
+        "c 5353482d322e302d610d0a\nc 0000000c0a1500000000000000000000\nc ffff\n",
+        "strict unknown\nclient nokexinit\nserver partial\n",
+        1,
     ),
 ];
 
@@ -339,7 +401,7 @@ fn breaks_at(
     room: usize,
     full: WhenFull,
 ) -> Result<(), Fail> {
-    let (words, text, wanted) = printed;
+    let (words, text, wanted, _) = printed;
     let words = words_of(alloc, words)?;
     let mut output = LimitedSink::of(alloc, room, 7, full);
     let mut faults = LimitedSink::ample(alloc);
@@ -353,12 +415,12 @@ fn breaks_at(
 
 /// The output has to be printed whole where there is room for it.
 fn is_whole(rt: &impl Abort, alloc: Global, printed: &Printed) -> Result<(), Fail> {
-    let (words, text, wanted) = printed;
+    let (words, text, wanted, done) = printed;
     let words = words_of(alloc, words)?;
     let mut output = LimitedSink::of(alloc, wanted.len(), 1, WhenFull::Fails);
     let mut faults = LimitedSink::ample(alloc);
     let status = status_at(alloc, &words, text.as_bytes(), &mut output, &mut faults);
-    same_count(rt, usize::from(status), 0);
+    same_count(rt, usize::from(status), *done);
     same(rt, &output.bytes, wanted.as_bytes());
     Ok(())
 }
@@ -402,7 +464,7 @@ fn tells_a_failed_read_behind(
 #[test]
 fn tells_a_failed_read(rt: HostRuntime) -> Result<(), Fail> {
     let alloc = rt.alloc();
-    for words in ["run", "run|--session", "predict"] {
+    for words in ["run", "run|--session", "predict", "show", "check"] {
         tells_a_failed_read_behind(&rt, alloc, words, 0)?;
         tells_a_failed_read_behind(&rt, alloc, words, 3)?;
     }

@@ -150,6 +150,18 @@ const SHOWN: &[Told] = &[
         "client version SSH-2.0-lab_1\nclient 0 2 IGNORE 5\nclient 1 20 KEXINIT 105\nclient 2 30 KEXDH_INIT 38\nclient 3 21 NEWKEYS 1\nclient sealed 144\nserver partial 0\n",
         0,
     ),
+    (
+        &[Own(0, 200)],
+        &[Own(0, 279)],
+        "client version SSH-2.0-lab_1\nclient 0 20 KEXINIT 105\nclient 1 30 KEXDH_INIT 38\nclient 2 21 NEWKEYS 1\nclient sealed 1\nserver version SSH-2.0-lab_1\nserver 0 20 KEXINIT 105\nserver 1 31 KEXDH_REPLY 119\nserver 2 21 NEWKEYS 1\nserver sealed 0\n",
+        0,
+    ),
+    (
+        &[Own(0, 183)],
+        &[Own(0, 278)],
+        "client version SSH-2.0-lab_1\nclient 0 20 KEXINIT 105\nclient 1 30 KEXDH_INIT 38\nclient partial 0\nserver version SSH-2.0-lab_1\nserver 0 20 KEXINIT 105\nserver 1 31 KEXDH_REPLY 119\nserver partial 15\n",
+        0,
+    ),
 ];
 
 /// What is told of sessions on the defaults.
@@ -285,6 +297,37 @@ const CHECKED: &[Told] = &[
         "strict unknown\nclient refused M2 20\nserver ok\n",
         1,
     ),
+    // A refusal is told before a packet that deviates, and so is a stream that ends.
+    (
+        &[Own(0, 135), IGNORE, Bytes(b"\0\0\0\x0b")],
+        &[
+            Own(0, 135),
+            IGNORE,
+            Bytes(b"\0\0\0\x0c\x03\x02\0\0\0\0\0\0\0\0\0\0"),
+        ],
+        "strict yes\nclient refused P1\nserver refused P2\n",
+        1,
+    ),
+    (
+        ALL,
+        &[Own(0, 135), IGNORE, Own(135, 263)],
+        "strict yes\nclient ok\nserver partial\n",
+        1,
+    ),
+    // No packet deviates where one side has no KEXINIT.
+    (
+        &[Own(0, 15), IGNORE, Own(15, END)],
+        &[Own(0, 15), Own(263, END)],
+        "strict unknown\nclient ok\nserver nokexinit\n",
+        1,
+    ),
+    // The first packet that deviates is told.
+    (
+        &[Own(0, 135), IGNORE, IGNORE, Own(183, END)],
+        &[Own(0, 15), IGNORE, Own(15, 135), IGNORE, Own(135, END)],
+        "strict yes\nclient deviates 1 2\nserver deviates 0 2\n",
+        1,
+    ),
     // A stream that ends is told before what it lacks, and that before what it has too much.
     (
         &[Own(0, 15), IGNORE, IGNORE],
@@ -313,6 +356,12 @@ const LOOSELY_CHECKED: &[Told] = &[
         &[Own(0, 103), Own(151, END)],
         &[Own(0, 135)],
         "strict no\nclient ok\nserver partial\n",
+        1,
+    ),
+    (
+        &[Own(0, 103), Bytes(b"\0\0\0\x0d")],
+        &[Own(0, 135), Clear(b"\x15\0")],
+        "strict no\nclient refused P1\nserver refused M2 21\n",
         1,
     ),
 ];

@@ -5,7 +5,7 @@ ghost use Rattle.std.specs.Prelude.{◌≡◌, false};
 
 use crate::compare::{same, same_count};
 use crate::program::{LimitedSink, Said, WhenFull, say_at, words_of};
-use sshlab::{Broken, LabSuite, Side, Source, ToolFault, check, piece, show};
+use sshlab::{Broken, LabSuite, Side, Source, ToolFault, check, piece, show, tool};
 use sshpacket::write_clear;
 use sshtests_helpers::bytes::{behind, prefix_of};
 use std::alloc::Global;
@@ -226,6 +226,28 @@ fn takes_a_mebibyte(rt: HostRuntime) -> Result<(), Fail> {
 }
 
 #[test]
+fn checks_a_mebibyte(rt: HostRuntime) -> Result<(), Fail> {
+    let alloc = rt.alloc();
+    let sealed = long_text(
+        alloc,
+        "c 5353482d322e302d610d0a\nc 0000000c0a1500000000000000000000\nc ",
+        b'7',
+        1_048_514,
+        "",
+    )?;
+    same_count(&rt, sealed.len(), 1_048_576);
+    is_told(&rt, alloc, "check", &sealed, SHORT_CHECKED, 1)
+}
+
+#[test]
+fn checks_a_mebibyte_of_empty_lines(rt: HostRuntime) -> Result<(), Fail> {
+    let alloc = rt.alloc();
+    let empty = long_text(alloc, "", b'\n', 1_048_576, "")?;
+    let told = "strict unknown\nclient partial\nserver partial\n";
+    is_told(&rt, alloc, "check", &empty, told, 1)
+}
+
+#[test]
 fn refuses_more_than_a_mebibyte(rt: HostRuntime) -> Result<(), Fail> {
     let alloc = rt.alloc();
     let empty = long_text(alloc, "", b'\n', 1_048_577, "")?;
@@ -315,6 +337,7 @@ const NAMED: &[(&[u8], &str)] = &[
     (b"\0", "0 UNKNOWN 1"),
     (b"\x08", "8 UNKNOWN 1"),
     (b"\x20abc", "32 UNKNOWN 4"),
+    (b"\x3c\0\0\0\x01h\0\0\0\x01\xaa", "60 UNKNOWN 11"),
     (b"\xff\xff", "255 UNKNOWN 2"),
 ];
 
@@ -322,13 +345,26 @@ const NAMED: &[(&[u8], &str)] = &[
 const MALFORMED: &[(&[u8], &str)] = &[
     (b"\x01", "M2 1"),
     (b"\x02\0\0\0\x01", "M2 2"),
+    (b"\x03\0\0\0", "M2 3"),
+    (b"\x03\0\0\0\0\0", "M2 3"),
+    (b"\x04", "M2 4"),
+    (b"\x05\0\0\0\x02a", "M2 5"),
+    (b"\x06", "M2 6"),
+    (b"\x07\0\0\0\x01", "M2 7"),
     (b"\x14", "M2 20"),
     (b"\x15\0", "M2 21"),
     (b"\x1e\0\0\0\x01\0", "M2 30"),
     (b"\x1e\0\0\0\x02\x00\x01", "M2 30"),
+    (b"\x1f\0\0\0\0\0\0\0\0", "M2 31"),
+    (b"\x32\0\0\0\0\0\0\0\0\0\0\0\x04none\0", "M2 50"),
+    (b"\x32\0\0\0\x01\xff\0\0\0\0\0\0\0\x04none", "M2 50"),
     (b"\x33\0\0\0\x02,a\0", "M2 51"),
     (b"\x34\0", "M2 52"),
+    (b"\x35\0\0\0\0", "M2 53"),
 ];
+
+/// The numbers of messages that have a name.
+const NAMED_NUMBERS: &[u8] = &[1, 2, 3, 4, 5, 6, 7, 20, 21, 30, 31, 50, 51, 52, 53];
 
 /// Appends the clear packet of a payload.
 pub(crate) fn put_clear(
@@ -374,6 +410,23 @@ fn names_messages(rt: HostRuntime) -> Result<(), Fail> {
         };
         let wanted = format!(in alloc; "client 0 {shown}\nclient {end}\n")?;
         shows_packet(&rt, alloc, payload, &wanted)?;
+    }
+    Ok(())
+}
+
+/// A packet of this number alone has to be shown without a name.
+fn is_unknown(rt: &impl Abort, alloc: Global, number: u8) -> Result<(), Fail> {
+    let wanted = format!(in alloc; "client 0 {number} UNKNOWN 1\nclient partial 0\n")?;
+    shows_packet(rt, alloc, &[number], &wanted)
+}
+
+#[test]
+fn names_no_other_number(rt: HostRuntime) -> Result<(), Fail> {
+    let alloc = rt.alloc();
+    for number in 0..=255 {
+        if !NAMED_NUMBERS.contains(&number) {
+            is_unknown(&rt, alloc, number)?;
+        }
     }
     Ok(())
 }
@@ -431,11 +484,11 @@ fn reads_no_other_form_as_a_piece(rt: HostRuntime) -> Result<(), Fail> {
 
 /// A source that gives at most `step` bytes of a text a call, and fails behind it or ends there.
 #[derive(Drop)]
-struct TextSource<'a> {
-    rest: &'a [u8],
-    step: usize,
-    fails: bool,
-    failed: bool,
+pub(crate) struct TextSource<'a> {
+    pub(crate) rest: &'a [u8],
+    pub(crate) step: usize,
+    pub(crate) fails: bool,
+    pub(crate) failed: bool,
 }
 
 impl Source for TextSource<'_> {
@@ -573,4 +626,263 @@ fn moves_bytes_in_any_pieces(rt: HostRuntime) {
         writes(&rt, alloc, Engine::Show, SHORT_SHOWN, step);
         writes(&rt, alloc, Engine::Check, SHORT_CHECKED, step);
     }
+}
+
+/// What is told where a read failed.
+pub(crate) const READ_FAILED: Said<'static> = Said {
+    output: "",
+    faults: "read failed\n",
+    status: 4,
+};
+
+/// The words have to be answered so from this source, with so much room for the output.
+pub(crate) fn answers(
+    rt: &impl Abort,
+    alloc: Global,
+    words: &str,
+    source: &mut TextSource<'_>,
+    room: usize,
+    wanted: Said<'_>,
+) -> Result<(), Fail>
+    requires { source.old.failed ≡ false }
+{
+    let words = words_of(alloc, words)?;
+    let mut output = LimitedSink::of(alloc, room, 7, WhenFull::Fails);
+    let mut faults = LimitedSink::ample(alloc);
+    let status = tool(alloc, &words, source, &mut output, &mut faults);
+    same(rt, &faults.bytes, wanted.faults.as_bytes());
+    same(rt, &output.bytes, wanted.output.as_bytes());
+    same_count(rt, usize::from(status), wanted.status);
+    Ok(())
+}
+
+/// The words have to tell a read that fails behind so many bytes of the short recording.
+fn tells_read_failed(
+    rt: &impl Abort,
+    alloc: Global,
+    words: &str,
+    count: usize,
+) -> Result<(), Fail> {
+    let mut source = TextSource {
+        rest: prefix_of(SHORT.as_bytes(), count),
+        step: 3,
+        fails: true,
+        failed: false,
+    };
+    answers(rt, alloc, words, &mut source, usize::MAX, READ_FAILED)
+}
+
+#[test]
+fn tells_a_failed_read_of_a_recording(rt: HostRuntime) -> Result<(), Fail> {
+    let alloc = rt.alloc();
+    for count in 0..=SHORT.len() {
+        tells_read_failed(&rt, alloc, "show", count)?;
+        tells_read_failed(&rt, alloc, "check", count)?;
+    }
+    Ok(())
+}
+
+/// A stream in hexadecimal digits, what is shown of it before it is refused, and why it is.
+type Refused = (&'static str, &'static str, &'static str);
+
+/// Streams that are refused, whose sender is of no account.
+const REFUSED_STREAMS: &[Refused] = &[
+    ("00", "", "V4"),
+    ("5353482d322e302d610a", "", "V4"),
+    ("5353482d322e302d0d0a", "", "V4"),
+    ("5353482d322e302d612d620d0a", "", "V4"),
+    ("5353482d312e39392d610d0a", "", "V4"),
+    ("5353482d322e302d610d0a0000000b", "version SSH-2.0-a", "P1"),
+    ("5353482d322e302d610d0a0000000d", "version SSH-2.0-a", "P1"),
+    ("5353482d322e302d610d0a000088bc", "version SSH-2.0-a", "P1"),
+    (
+        "5353482d322e302d610d0a0000000c031500000000000000000000",
+        "version SSH-2.0-a",
+        "P2",
+    ),
+    (
+        "5353482d322e302d610d0a0000000c0c1500000000000000000000",
+        "version SSH-2.0-a",
+        "P2",
+    ),
+    (
+        "5353482d322e302d610d0a0000000c0b1500000000000000000000",
+        "version SSH-2.0-a",
+        "P3",
+    ),
+    (
+        "5353482d322e302d610d0a0000000c091500000000000000000000",
+        "version SSH-2.0-a",
+        "M2 21",
+    ),
+    (
+        "5353482d322e302d62206320640d0a0000000c0a1400000000000000000000ffff",
+        "version SSH-2.0-b c d",
+        "M2 20",
+    ),
+];
+
+/// What `show` and `check` have to tell of a recording.
+#[derive(Clone, Copy)]
+struct Findings<'a> {
+    shown: &'a str,
+    checked: &'a str,
+}
+
+/// The recording has to be shown and checked so, by a check that isn't content.
+fn finds(rt: &impl Abort, alloc: Global, text: &str, findings: &Findings<'_>) -> Result<(), Fail> {
+    is_told(rt, alloc, "show", text.as_bytes(), findings.shown, 0)?;
+    is_told(rt, alloc, "check", text.as_bytes(), findings.checked, 1)
+}
+
+/// The stream has to be refused so where the client sent it.
+fn is_refused_of_client(
+    rt: &impl Abort,
+    alloc: Global,
+    digits: &str,
+    shown: &str,
+    code: &str,
+) -> Result<(), Fail> {
+    let text = format!(in alloc; "c {digits}\n")?;
+    let shown = format!(in alloc; "{shown}client refused {code}\nserver partial 0\n")?;
+    let checked = format!(in alloc; "strict unknown\nclient refused {code}\nserver partial\n")?;
+    let findings = Findings {
+        shown: &shown,
+        checked: &checked,
+    };
+    finds(rt, alloc, &text, &findings)
+}
+
+/// The stream has to be refused so where the server sent it.
+fn is_refused_of_server(
+    rt: &impl Abort,
+    alloc: Global,
+    digits: &str,
+    shown: &str,
+    code: &str,
+) -> Result<(), Fail> {
+    let text = format!(in alloc; "s {digits}\n")?;
+    let shown = format!(in alloc; "client partial 0\n{shown}server refused {code}\n")?;
+    let checked = format!(in alloc; "strict unknown\nclient partial\nserver refused {code}\n")?;
+    let findings = Findings {
+        shown: &shown,
+        checked: &checked,
+    };
+    finds(rt, alloc, &text, &findings)
+}
+
+/// The stream has to be refused so, whoever sent it.
+fn is_refused_of_each_side(
+    rt: &impl Abort,
+    alloc: Global,
+    digits: &str,
+    shown: &str,
+    code: &str,
+) -> Result<(), Fail> {
+    if shown.is_empty() {
+        is_refused_of_client(rt, alloc, digits, "", code)?;
+        return is_refused_of_server(rt, alloc, digits, "", code);
+    }
+    let of_client = format!(in alloc; "client {shown}\n")?;
+    is_refused_of_client(rt, alloc, digits, &of_client, code)?;
+    let of_server = format!(in alloc; "server {shown}\n")?;
+    is_refused_of_server(rt, alloc, digits, &of_server, code)
+}
+
+#[test]
+fn tells_refusals_of_each_side(rt: HostRuntime) -> Result<(), Fail> {
+    let alloc = rt.alloc();
+    for (digits, shown, code) in REFUSED_STREAMS {
+        is_refused_of_each_side(&rt, alloc, digits, shown, code)?;
+    }
+    Ok(())
+}
+
+/// These digits, others so many times, and a third text.
+fn digits_of(
+    alloc: Global,
+    before: &str,
+    repeated: &str,
+    count: usize,
+    after: &str,
+) -> Result<String, Fail> {
+    let mut digits = String::from_str(alloc, before)?;
+    for _ in 0..count {
+        digits.push_str(repeated)?;
+    }
+    digits.push_str(after)?;
+    Ok(digits)
+}
+
+#[test]
+fn tells_long_lines_of_each_side(rt: HostRuntime) -> Result<(), Fail> {
+    let alloc = rt.alloc();
+    let line = digits_of(alloc, "", "6e", 255, "")?;
+    is_refused_of_each_side(&rt, alloc, &line, "", "V5")?;
+    let version = digits_of(alloc, "5353482d322e302d", "78", 246, "0d0a")?;
+    is_refused_of_each_side(&rt, alloc, &version, "", "V5")
+}
+
+#[test]
+fn tells_lines_too_many_of_each_side(rt: HostRuntime) -> Result<(), Fail> {
+    let alloc = rt.alloc();
+    is_refused_of_client(&rt, alloc, "6e0d0a", "", "V6")?;
+    let lines = digits_of(alloc, "", "6e0d0a", 21, "")?;
+    let shown = digits_of(alloc, "", "server line 6e0d\n", 20, "")?;
+    is_refused_of_server(&rt, alloc, &lines, &shown, "V6")
+}
+
+#[test]
+fn takes_long_version_lines_of_each_side(rt: HostRuntime) -> Result<(), Fail> {
+    let alloc = rt.alloc();
+    let line = digits_of(alloc, "5353482d322e302d", "78", 245, "0d0a")?;
+    let text = digits_of(alloc, "SSH-2.0-", "x", 245, "")?;
+    let recording = format!(in alloc; "c {line}\ns {line}\n")?;
+    let shown = format!(in alloc;
+        "client version {text}\nclient partial 0\nserver version {text}\nserver partial 0\n"
+    )?;
+    let findings = Findings {
+        shown: &shown,
+        checked: "strict unknown\nclient partial\nserver partial\n",
+    };
+    finds(&rt, alloc, &recording, &findings)
+}
+
+/// Recordings whose sides have no KEXINIT, and what is told of them.
+const WITHOUT_KEXINIT: &[(&str, &str)] = &[
+    (
+        "s 5353482d322e302d610d0a0000000c0a1500000000000000000000ff",
+        "strict unknown\nclient partial\nserver nokexinit\n",
+    ),
+    (
+        "c 5353482d322e302d610d0a0000000c0a1500000000000000000000\ns 610a5353482d322e302d610d0a0000000c0a1500000000000000000000",
+        "strict unknown\nclient nokexinit\nserver nokexinit\n",
+    ),
+    (
+        "s 5353482d322e302d610d0a0000000c0a15000000000000000000",
+        "strict unknown\nclient partial\nserver partial\n",
+    ),
+    (
+        "s 41\nc 41",
+        "strict unknown\nclient partial\nserver partial\n",
+    ),
+    ("", "strict unknown\nclient partial\nserver partial\n"),
+];
+
+#[test]
+fn checks_streams_without_kexinit(rt: HostRuntime) -> Result<(), Fail> {
+    let alloc = rt.alloc();
+    for (text, told) in WITHOUT_KEXINIT {
+        is_told(&rt, alloc, "check", text.as_bytes(), told, 1)?;
+    }
+    Ok(())
+}
+
+#[test]
+fn counts_lines_of_a_mebibyte(rt: HostRuntime) -> Result<(), Fail> {
+    let alloc = rt.alloc();
+    // A line for each five bytes, and one behind them.
+    let lines = digits_of(alloc, "", "s 0a\n", 209_715, "x")?;
+    same_count(&rt, lines.len(), 1_048_576);
+    is_refused(&rt, alloc, lines.as_bytes(), "recording line 209716\n")
 }

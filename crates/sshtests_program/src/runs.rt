@@ -1,6 +1,8 @@
-//! What the deliveries and rounds of a scenario bring, by `tool`.
+//! What the deliveries and rounds of a scenario bring, by `tool`, and how much of the input is read.
 
+use crate::helpers::same_count;
 use crate::program::Said;
+use crate::recordings::{READ_FAILED, TextSource, answers};
 use crate::scenarios::{
     AGREED, AGREED_WITH_SESSION, DISTRUSTED, LET_IN, LET_IN_WITH_SESSION, NO_KEX, NO_SERVICE,
     SECOND_LET_IN, TRIED_OUT, Told, UNTRIED, is_answered, is_run, text_of,
@@ -98,6 +100,31 @@ const COURSES: &[Course] = &[
     (
         "",
         "settle 6\nclient guess yes\nclient kex a,b\nserver kex b,a",
+        LET_IN,
+        true,
+    ),
+    // A banner without bytes is sent all the same: 56 bytes before the last 48.
+    (
+        "",
+        "settle 2\ndeliver server 80\ndeliver client 64\ndeliver server 80\ndeliver client 47",
+        (HALF_IN, AGREED),
+        false,
+    ),
+    (
+        "",
+        "settle 2\ndeliver server 80\ndeliver client 64\ndeliver server 80\ndeliver client 48",
+        LET_IN,
+        true,
+    ),
+    (
+        "",
+        "server banner -\nsettle 2\ndeliver server 80\ndeliver client 64\ndeliver server 80\ndeliver client 103",
+        (HALF_IN, AGREED),
+        false,
+    ),
+    (
+        "",
+        "server banner -\nsettle 2\ndeliver server 80\ndeliver client 64\ndeliver server 80\ndeliver client 104",
         LET_IN,
         true,
     ),
@@ -210,4 +237,130 @@ fn ten_times_the_deliveries_cost_at_most_twelve_times(rt: HostRuntime) -> Result
     }
     assert!(rt; of_many <= of_few.saturating_mul(12));
     Ok(())
+}
+
+/// The words that read input.
+const READING: &[&str] = &[
+    "run",
+    "run|--session",
+    "predict",
+    "predict|--session",
+    "show",
+    "check",
+];
+
+/// What is told of input that is too long.
+const TOO_LONG: Said<'static> = Said {
+    output: "",
+    faults: "input too long\n",
+    status: 2,
+};
+
+/// The words have to be answered so, and to leave so many bytes of the text unread; a read behind the text
+/// fails. There is no room for output, which isn't missed.
+fn leaves(
+    rt: &impl Abort,
+    alloc: Global,
+    words: &str,
+    text: &[u8],
+    wanted: Said<'_>,
+    left: usize,
+) -> Result<(), Fail> {
+    let mut source = TextSource {
+        rest: text,
+        step: 4000,
+        fails: true,
+        failed: false,
+    };
+    answers(rt, alloc, words, &mut source, 0, wanted)?;
+    same_count(rt, source.rest.len(), left);
+    Ok(())
+}
+
+/// All words that read input have to be answered so, and to leave so many bytes of the text unread.
+fn all_leave(
+    rt: &impl Abort,
+    alloc: Global,
+    text: &[u8],
+    wanted: Said<'_>,
+    left: usize,
+) -> Result<(), Fail> {
+    for words in READING {
+        leaves(rt, alloc, words, text, wanted, left)?;
+    }
+    Ok(())
+}
+
+#[test]
+fn reads_nothing_behind_the_first_byte_too_many(rt: HostRuntime) -> Result<(), Fail> {
+    let alloc = rt.alloc();
+    let text = text_of(alloc, "x", "\n", 1_048_676, "")?;
+    all_leave(&rt, alloc, &text, TOO_LONG, 100)
+}
+
+#[test]
+fn tells_a_failed_read_behind_1048576_bytes(rt: HostRuntime) -> Result<(), Fail> {
+    let alloc = rt.alloc();
+    let text = text_of(alloc, "x", "\n", 1_048_575, "")?;
+    all_leave(&rt, alloc, &text, READ_FAILED, 0)
+}
+
+#[test]
+fn tells_a_failed_read_and_no_bad_line_before_it(rt: HostRuntime) -> Result<(), Fail> {
+    let alloc = rt.alloc();
+    all_leave(&rt, alloc, b"x\n", READ_FAILED, 0)?;
+    all_leave(&rt, alloc, b"\n\nx\n\n", READ_FAILED, 0)
+}
+
+/// Words and a bad text, and what is told of it where the output couldn't be written either.
+const BEFORE_WRITING: &[(&str, &str, &str)] = &[
+    ("run", "x", "scenario line 1\n"),
+    ("run", "client kex -", "client config C1\n"),
+    ("predict", "\nx", "scenario line 2\n"),
+    ("predict", "server tries 0", "server config C9\n"),
+    ("show", "x", "recording line 1\n"),
+    ("check", "c 00\nx", "recording line 2\n"),
+];
+
+/// The text has to be told its fault where nothing can be written.
+fn is_judged_unwritten(
+    rt: &impl Abort,
+    alloc: Global,
+    words: &str,
+    text: &str,
+    faults: &str,
+) -> Result<(), Fail> {
+    let mut source = TextSource {
+        rest: text.as_bytes(),
+        step: 1,
+        fails: false,
+        failed: false,
+    };
+    let wanted = Said {
+        output: "",
+        faults,
+        status: 2,
+    };
+    answers(rt, alloc, words, &mut source, 0, wanted)
+}
+
+#[test]
+fn judges_input_before_it_writes(rt: HostRuntime) -> Result<(), Fail> {
+    let alloc = rt.alloc();
+    for (words, text, faults) in BEFORE_WRITING {
+        is_judged_unwritten(&rt, alloc, words, text, faults)?;
+    }
+    Ok(())
+}
+
+#[test]
+fn counts_lines_to_the_end_of_the_longest_text(rt: HostRuntime) -> Result<(), Fail> {
+    let alloc = rt.alloc();
+    let text = text_of(alloc, "", "\n", 1_048_575, "x")?;
+    let refused = Said {
+        output: "",
+        faults: "scenario line 1048576\n",
+        status: 2,
+    };
+    is_answered(&rt, alloc, "predict", &text, refused)
 }

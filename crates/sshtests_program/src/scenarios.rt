@@ -1,4 +1,4 @@
-//! Scenarios that `tool` predicts and runs, and those that it refuses.
+//! Scenarios that `tool` predicts and runs, and those that it refuses: each form and limit of their lines.
 
 use crate::program::{Said, say_at, words_of};
 use std::alloc::Global;
@@ -245,6 +245,24 @@ const PREDICTED: &[Predicted] = &[
     ),
     (
         "",
+        "client try al ssh-connection none\nallow al none\ndeny 0",
+        LET_IN,
+    ),
+    (
+        "",
+        "client try al ssh-connection none\nallow al none\nserver banner -",
+        LET_IN,
+    ),
+    (
+        "",
+        "client try ~! ssh-connection none\nallow ~! none\ndeny 0\nserver tries 1\ndistrust !",
+        (
+            "client authenticated ~! ssh-connection\nserver authenticated ~! ssh-connection\n",
+            AGREED,
+        ),
+    ),
+    (
+        "",
         "client try al ssh-connection none\nallow al none\nserver banner 6869\nserver notice 61\nserver notice -",
         LET_IN,
     ),
@@ -288,6 +306,12 @@ const PREDICTED: &[Predicted] = &[
         "client try al ssh-connection none\nclient try bo ssh-connection password 00\nserver tries 2",
         TRIED_OUT,
     ),
+    // A service of 64 bytes, which a name may have.
+    (
+        "",
+        "client try al ssssssssssssssssssssssssssssssssssssssssssssssssssssssssssssssss none\nallow al none",
+        NO_SERVICE,
+    ),
     ("", "client kex a\nserver kex b\nsettle 5", NO_KEX),
     ("", "client kex x\nserver kex x", NO_HOST_KEY),
     ("", "client hostkey i", NO_HOST_KEY),
@@ -329,11 +353,19 @@ const JUDGED: &[(&str, &str)] = &[
     ("deliver client 00000000000", "scenario line 1\n"),
     ("deliver Client 1", "scenario line 1\n"),
     ("deliver 1", "scenario line 1\n"),
+    ("deliver client 0000000000", ""),
+    ("deliver server 4294967295", ""),
+    ("deliver server 4294967296", "scenario line 1\n"),
+    ("deny 0", ""),
+    ("deny 0000000001", ""),
+    ("deny 00000000001", "scenario line 1\n"),
     ("deny 4294967295", ""),
     ("deny 4294967296", "scenario line 1\n"),
     ("deny -1", "scenario line 1\n"),
     ("server tries 1", ""),
     ("server tries 20", ""),
+    ("server tries 0000000006", ""),
+    ("server tries 00000000006", "scenario line 1\n"),
     ("server tries 0", "server config C9\n"),
     ("server tries 21", "server config C9\n"),
     ("server tries 4294967295", "server config C9\n"),
@@ -352,7 +384,16 @@ const JUDGED: &[(&str, &str)] = &[
         "client config C2\n",
     ),
     ("server kex ext-info-s", "server config C2\n"),
+    ("server kex a,ext-info-c", "server config C2\n"),
+    ("client kex a,ext-info-s", "client config C2\n"),
+    (
+        "client kex kex-strict-s-v00@openssh.com,a",
+        "client config C2\n",
+    ),
     ("server methods none", "server config C2\n"),
+    ("server methods password,,publickey", "server config C2\n"),
+    ("server methods publickey", ""),
+    ("server services ,", "server config C2\n"),
     ("server services a,,b", "server config C2\n"),
     ("server hostkey h,i 00", "server config C2\n"),
     ("client try al odd,even none", "client config C2\n"),
@@ -365,6 +406,11 @@ const JUDGED: &[(&str, &str)] = &[
         "client config C1\n",
     ),
     ("client version a-b", "client config C4\n"),
+    ("server version a-b", "server config C4\n"),
+    ("client version -", "client config C4\n"),
+    ("client version !.,/~", ""),
+    ("server version !.,/~", ""),
+    ("client version a\x7f", "scenario line 1\n"),
     ("server version -", "server config C4\n"),
     ("client version a b", "scenario line 1\n"),
     ("server notice 00", "server config C4\n"),
@@ -382,7 +428,13 @@ const JUDGED: &[(&str, &str)] = &[
     ("client strict Yes", "scenario line 1\n"),
     ("client guess 1", "scenario line 1\n"),
     ("server guess no", "scenario line 1\n"),
+    ("server strict 1", "scenario line 1\n"),
     ("client tries 6", "scenario line 1\n"),
+    ("client services -", "scenario line 1\n"),
+    ("client methods -", "scenario line 1\n"),
+    ("client banner -", "scenario line 1\n"),
+    ("Client guess no", "scenario line 1\n"),
+    ("client Guess no", "scenario line 1\n"),
     ("client notice 61", "scenario line 1\n"),
     ("client hostkey h 00", "scenario line 1\n"),
     ("server hostkey h", "scenario line 1\n"),
@@ -419,6 +471,10 @@ const JUDGED: &[(&str, &str)] = &[
     ("# ~", ""),
     ("settle 1\r\n", "scenario line 1\n"),
     ("client kex -\nx", "scenario line 2\n"),
+    ("settle 1\n\n# none\nsettle 1001", "scenario line 4\n"),
+    ("client guess no\nx\nclient guess no", "scenario line 2\n"),
+    ("client guess no\nclient guess no\nx", "scenario line 2\n"),
+    (EACH_FORM, ""),
     ("settle 1001\nsettle 1001", "scenario line 1\n"),
 ];
 
@@ -513,17 +569,36 @@ const VALUE_LIMITS: &[Long] = &[
     ("client cookie ", "00", 15, "", "client config C10\n"),
     ("client cookie ", "00", 16, "", ""),
     ("client cookie ", "00", 17, "", "client config C10\n"),
+    ("server cookie ", "00", 15, "", "server config C10\n"),
     ("server cookie ", "00", 16, "", ""),
     ("server cookie ", "00", 17, "", "server config C10\n"),
     ("client random ", "00", 31, "", "client config C10\n"),
     ("client random ", "00", 32, "", ""),
     ("client random ", "00", 33, "", "client config C10\n"),
+    ("server random ", "00", 31, "", "server config C10\n"),
     ("server random ", "00", 32, "", ""),
     ("server random ", "00", 33, "", "server config C10\n"),
+    ("client seed ", "00", 31, "", "client config C10\n"),
     ("client seed ", "00", 32, "", ""),
     ("client seed ", "00", 33, "", "client config C10\n"),
     ("server seed ", "00", 31, "", "server config C10\n"),
     ("server seed ", "00", 32, "", ""),
+    ("server seed ", "00", 33, "", "server config C10\n"),
+    ("server services ", "s", 64, "", ""),
+    ("server services ", "s", 65, "", "server config C2\n"),
+    ("server services ssh-connection,", "s", 64, "", ""),
+    (
+        "server services ssh-connection,",
+        "s",
+        65,
+        "",
+        "server config C2\n",
+    ),
+    // What no config has isn't limited but by its line.
+    ("allow al password ", "00", 1025, "", ""),
+    ("allow al publickey h ", "00", 8193, "", ""),
+    ("allow ", "u", 256, " none", ""),
+    ("distrust ", "i", 65, "", ""),
 ];
 
 /// The limit of a list, and of the host keys together.
@@ -729,4 +804,308 @@ fn judges_long_lists(rt: HostRuntime) -> Result<(), Fail> {
 #[test]
 fn judges_long_texts(rt: HostRuntime) -> Result<(), Fail> {
     are_judged(&rt, rt.alloc(), TEXT_LIMITS)
+}
+
+/// A line of a scenario: all of its fields but the last one, and that one.
+type Form = (&'static str, &'static str);
+
+/// A line for each setting, which stands at most once.
+const SETTINGS: &[Form] = &[
+    ("client version", "lab_2"),
+    ("client kex", "a"),
+    ("client cipher_cs", "c"),
+    ("client cipher_sc", "c"),
+    ("client mac_cs", "m"),
+    ("client mac_sc", "m"),
+    ("client strict", "yes"),
+    ("client cookie", "0123456789abcdefABCDEF9876543210"),
+    (
+        "client random",
+        "2222222222222222222222222222222222222222222222222222222222222222",
+    ),
+    (
+        "client seed",
+        "5555555555555555555555555555555555555555555555555555555555555555",
+    ),
+    ("client hostkey", "h"),
+    ("client guess", "no"),
+    ("server version", "lab_2"),
+    ("server kex", "a"),
+    ("server cipher_cs", "c"),
+    ("server cipher_sc", "c"),
+    ("server mac_cs", "m"),
+    ("server mac_sc", "m"),
+    ("server strict", "no"),
+    ("server cookie", "0123456789abcdefABCDEF9876543210"),
+    (
+        "server random",
+        "2222222222222222222222222222222222222222222222222222222222222222",
+    ),
+    (
+        "server seed",
+        "5555555555555555555555555555555555555555555555555555555555555555",
+    ),
+    ("server services", "odd"),
+    ("server methods", "password"),
+    ("server tries", "7"),
+    ("server banner", "-"),
+];
+
+/// A line for each other form, which may stand more than once.
+const REPEATABLE: &[Form] = &[
+    ("client try al ssh-connection", "none"),
+    ("client try al ssh-connection password", "00"),
+    ("client try al ssh-connection publickey h", "00"),
+    ("server hostkey h", "01"),
+    ("server notice", "61"),
+    ("distrust", "i"),
+    ("allow bo", "none"),
+    ("allow bo password", "-"),
+    ("allow bo publickey h", "00"),
+    ("deny", "0"),
+    ("deliver client", "1"),
+    ("deliver server", "1"),
+    ("settle", "1"),
+];
+
+/// What stands before a line, between its last two fields and behind it where it has none of the forms.
+const SPOILT: &[(&str, &str, &str)] = &[
+    ("x", " ", ""),
+    (" ", " ", ""),
+    ("", "", ""),
+    ("", "  ", ""),
+    ("", "\t", ""),
+    ("", " ", " "),
+    ("", " ", " x"),
+    ("", " ", "\r"),
+];
+
+/// A scenario with each form of line.
+const EACH_FORM: &str = "client version lab_2
+client kex a,b
+client cipher_cs c,d
+client cipher_sc c,d
+client mac_cs m,n
+client mac_sc m,n
+client strict yes
+client cookie 0123456789abcdefABCDEF9876543210
+client random 2222222222222222222222222222222222222222222222222222222222222222
+client seed 5555555555555555555555555555555555555555555555555555555555555555
+client hostkey i,h
+client guess yes
+client try al ssh-connection none
+client try al ssh-connection password -
+client try al ssh-connection publickey h 00
+server version lab_3
+server kex a
+server cipher_cs c
+server cipher_sc c
+server mac_cs m
+server mac_sc m
+server strict no
+server cookie 00000000000000000000000000000000
+server random 4444444444444444444444444444444444444444444444444444444444444444
+server seed 6666666666666666666666666666666666666666666666666666666666666666
+server hostkey h 00
+server services odd,ssh-connection
+server methods password,publickey
+server tries 20
+server banner -
+server notice 61
+
+# who is let in
+distrust i
+allow bo none
+allow bo password 00
+allow bo publickey h 00
+deny 0
+deliver client 1
+deliver server 4294967295
+settle 2
+";
+
+/// The line has to be judged so, alone and with others before and behind it.
+fn is_judged_third(
+    rt: &impl Abort,
+    alloc: Global,
+    line: &str,
+    alone: &str,
+    third: &str,
+) -> Result<(), Fail> {
+    is_judged(rt, alloc, line, alone)?;
+    let text = format!(in alloc; "\n# {line}\n{line}\nx")?;
+    is_judged(rt, alloc, &text, third)
+}
+
+/// The line has to be a line of a scenario, and none without its last field.
+fn is_form(rt: &impl Abort, alloc: Global, front: &str, last: &str) -> Result<(), Fail> {
+    let line = format!(in alloc; "{front} {last}")?;
+    is_judged_third(rt, alloc, &line, "", "scenario line 4\n")?;
+    is_judged_third(rt, alloc, front, "scenario line 1\n", "scenario line 3\n")
+}
+
+/// Each line has to be a line of a scenario, and none without its last field.
+fn are_forms(rt: &impl Abort, alloc: Global, forms: &[Form]) -> Result<(), Fail> {
+    for (front, last) in forms {
+        is_form(rt, alloc, front, last)?;
+    }
+    Ok(())
+}
+
+#[test]
+fn takes_each_form(rt: HostRuntime) -> Result<(), Fail> {
+    let alloc = rt.alloc();
+    are_forms(&rt, alloc, SETTINGS)?;
+    are_forms(&rt, alloc, REPEATABLE)
+}
+
+/// The line has to be refused where it is spoilt so.
+fn is_refused_spoilt(
+    rt: &impl Abort,
+    alloc: Global,
+    form: Form,
+    spoilt: (&str, &str, &str),
+) -> Result<(), Fail> {
+    let (front, last) = form;
+    let (before, between, behind) = spoilt;
+    let line = format!(in alloc; "settle 0\n{before}{front}{between}{last}{behind}\nsettle 0")?;
+    is_answered(
+        rt,
+        alloc,
+        "predict",
+        line.as_bytes(),
+        said_of("scenario line 2\n", ""),
+    )
+}
+
+/// The line has to be refused however it is spoilt.
+fn is_refused_however_spoilt(rt: &impl Abort, alloc: Global, form: Form) -> Result<(), Fail> {
+    for spoilt in SPOILT {
+        is_refused_spoilt(rt, alloc, form, *spoilt)?;
+    }
+    Ok(())
+}
+
+/// Each line has to be refused however it is spoilt.
+fn are_refused_spoilt(rt: &impl Abort, alloc: Global, forms: &[Form]) -> Result<(), Fail> {
+    for form in forms {
+        is_refused_however_spoilt(rt, alloc, *form)?;
+    }
+    Ok(())
+}
+
+#[test]
+fn refuses_spoilt_forms(rt: HostRuntime) -> Result<(), Fail> {
+    let alloc = rt.alloc();
+    are_refused_spoilt(&rt, alloc, SETTINGS)?;
+    are_refused_spoilt(&rt, alloc, REPEATABLE)
+}
+
+/// The line has to be judged so where it stands twice.
+fn is_judged_twice(rt: &impl Abort, alloc: Global, form: Form, faults: &str) -> Result<(), Fail> {
+    let (front, last) = form;
+    let text = format!(in alloc; "{front} {last}\n\n# again\n{front} {last}\n")?;
+    is_judged(rt, alloc, &text, faults)
+}
+
+#[test]
+fn takes_settings_once(rt: HostRuntime) -> Result<(), Fail> {
+    let alloc = rt.alloc();
+    for form in SETTINGS {
+        is_judged_twice(&rt, alloc, *form, "scenario line 4\n")?;
+    }
+    Ok(())
+}
+
+#[test]
+fn takes_other_lines_more_than_once(rt: HostRuntime) -> Result<(), Fail> {
+    let alloc = rt.alloc();
+    for form in REPEATABLE {
+        is_judged_twice(&rt, alloc, *form, "")?;
+    }
+    Ok(())
+}
+
+/// The side and the setting of a list that isn't empty, and its name that the other side has too.
+type List = (&'static str, &'static str, &'static str);
+
+/// The lists of both sides.
+const LISTS: &[List] = &[
+    ("client", "kex", "a"),
+    ("client", "hostkey", "h"),
+    ("client", "cipher_cs", "c"),
+    ("client", "cipher_sc", "c"),
+    ("client", "mac_cs", "m"),
+    ("client", "mac_sc", "m"),
+    ("server", "kex", "a"),
+    ("server", "cipher_cs", "c"),
+    ("server", "cipher_sc", "c"),
+    ("server", "mac_cs", "m"),
+    ("server", "mac_sc", "m"),
+];
+
+/// The list with these texts before and behind its name has to be refused so.
+fn is_list_refused(
+    rt: &impl Abort,
+    alloc: Global,
+    list: List,
+    ends: (&str, &str),
+    code: &str,
+) -> Result<(), Fail> {
+    let (side, setting, name) = list;
+    let text = format!(in alloc; "{side} {setting} {}{name}{}", ends.0, ends.1)?;
+    let faults = format!(in alloc; "{side} config {code}\n")?;
+    is_judged(rt, alloc, &text, &faults)
+}
+
+/// The list has to be refused where it is empty, or has an empty name.
+fn has_names(rt: &impl Abort, alloc: Global, list: List) -> Result<(), Fail> {
+    let (side, setting, _) = list;
+    is_list_refused(rt, alloc, (side, setting, "-"), ("", ""), "C1")?;
+    is_list_refused(rt, alloc, list, ("", ",,b"), "C2")?;
+    is_list_refused(rt, alloc, list, (",", ""), "C2")?;
+    is_list_refused(rt, alloc, list, ("", ","), "C2")
+}
+
+#[test]
+fn judges_each_list_by_its_names(rt: HostRuntime) -> Result<(), Fail> {
+    let alloc = rt.alloc();
+    for list in LISTS {
+        has_names(&rt, alloc, *list)?;
+    }
+    Ok(())
+}
+
+/// The list with this text, so many times, behind its name has to be judged so.
+fn is_long_list_judged(
+    rt: &impl Abort,
+    alloc: Global,
+    list: List,
+    more: (&str, &str, usize),
+    faults: &str,
+) -> Result<(), Fail> {
+    let (side, setting, name) = list;
+    let (between, repeated, count) = more;
+    let before = format!(in alloc; "{side} {setting} {name}{between}")?;
+    let text = text_of(alloc, &before, repeated, count, "")?;
+    is_answered(rt, alloc, "predict", &text, said_of(faults, UNTRIED.0))
+}
+
+/// Names of 64 and 65 bytes, and lists of 1000 and 1001.
+fn is_judged_by_length(rt: &impl Abort, alloc: Global, list: List) -> Result<(), Fail> {
+    let long_name = format!(in alloc; "{} config C2\n", list.0)?;
+    let long_list = format!(in alloc; "{} config C3\n", list.0)?;
+    is_long_list_judged(rt, alloc, list, (",", "b", 64), "")?;
+    is_long_list_judged(rt, alloc, list, (",", "b", 65), &long_name)?;
+    is_long_list_judged(rt, alloc, list, (",bb", ",b", 498), "")?;
+    is_long_list_judged(rt, alloc, list, (",b", ",b", 499), &long_list)
+}
+
+#[test]
+fn judges_each_list_by_its_length(rt: HostRuntime) -> Result<(), Fail> {
+    let alloc = rt.alloc();
+    for list in LISTS {
+        is_judged_by_length(&rt, alloc, *list)?;
+    }
+    Ok(())
 }
