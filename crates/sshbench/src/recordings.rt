@@ -19,6 +19,12 @@ const STREAM_LEN: usize = 261_874;
 /// How often a recording is told.
 const ROUNDS: u32 = 100;
 
+/// What `check` writes of sealed streams.
+const FINE: &str = "strict no\nclient ok\nserver ok\n";
+
+/// What it writes of streams without NEWKEYS.
+const PARTIAL: &str = "strict no\nclient partial\nserver partial\n";
+
 /// What both streams have behind the version line and a KEXINIT.
 #[derive(Clone, Copy)]
 enum Filling {
@@ -169,10 +175,8 @@ impl Recording {
     fn judge(&self, engine: Engine, out: &[u8]) -> Result<(), Fault> {
         let is_right = match (engine, self.filling) {
             (Engine::Show, _) => out.split(|byte| *byte == b'\n').count() == self.line_count,
-            (Engine::Check, Filling::Sealed) => out == b"strict no\nclient ok\nserver ok\n",
-            (Engine::Check, Filling::Ignores(_)) => {
-                out == b"strict no\nclient partial\nserver partial\n"
-            }
+            (Engine::Check, Filling::Sealed) => out == FINE.as_bytes(),
+            (Engine::Check, Filling::Ignores(_)) => { out == PARTIAL.as_bytes() }
         };
         if is_right && self.text.len() == TEXT_LIMIT {
             Ok(())

@@ -12,9 +12,11 @@ use std::time::{Duration, Instant};
 /// The simplest scenario without its steps: one attempt, which the server lets in.
 const SIMPLEST: &[u8] = b"client try al ssh-connection none\nallow al none\n";
 
-/// A notice line of 48 bytes, so that 50 are sent.
-const NOTICE: &[u8] =
-    b"server notice 787878787878787878787878787878787878787878787878787878787878787878787878787878787878787878787878\n";
+/// A delivery of a byte to each side.
+const BOTH_BY_BYTE: &[u8] = b"deliver server 1\ndeliver client 1\n";
+
+/// How many bytes a notice line has, so that 250 are sent.
+const NOTICE_LEN: u32 = 248;
 
 /// How many deliveries of a byte to each side are enough for the simplest scenario.
 const DELIVERIES: u32 = 1000;
@@ -39,21 +41,28 @@ pub(crate) fn simplest(alloc: Global, steps: Steps) -> Result<Vec<u8>, Fault> {
     let mut text = SIMPLEST.to_vec(alloc)?;
     match steps {
         Steps::Rounds => text.extend_from_slice(b"settle 6\n")?,
-        Steps::Bytes => put_often(
-            &mut text,
-            b"deliver server 1\ndeliver client 1\n",
-            DELIVERIES,
-        )?,
+        Steps::Bytes => put_often(&mut text, BOTH_BY_BYTE, DELIVERIES)?,
     }
     Ok(text)
 }
 
-/// The text of a scenario in which so many times ten deliveries move a byte of notice lines each.
-pub(crate) fn long(alloc: Global, tens: u32) -> Result<Vec<u8>, Fault> {
+/// The text of a scenario of so many notice lines, all of which are delivered to the client byte by byte;
+/// as often the server is given one byte, if one waits. So there are 500 deliveries for each notice line.
+pub(crate) fn long(alloc: Global, notices: u32) -> Result<Vec<u8>, Fault> {
     let mut text = SIMPLEST.to_vec(alloc)?;
-    put_often(&mut text, NOTICE, tens.checked_div(5).unwrap_or(0))?;
-    put_often(&mut text, b"deliver client 1\n", tens.saturating_mul(10))?;
+    for _ in 0..notices {
+        put_notice(&mut text)?;
+    }
+    put_often(&mut text, BOTH_BY_BYTE, notices.saturating_mul(250))?;
     Ok(text)
+}
+
+/// Appends a notice line.
+fn put_notice(text: &mut Vec<u8>) -> Result<(), Fault> {
+    text.extend_from_slice(b"server notice ")?;
+    put_often(text, b"78", NOTICE_LEN)?;
+    text.extend_from_slice(b"\n")?;
+    Ok(())
 }
 
 /// Appends these lines so often.
@@ -117,8 +126,8 @@ pub(crate) fn check(alloc: Global) -> Result<(), Fault> {
     for steps in [Steps::Rounds, Steps::Bytes] {
         read_and_run(alloc, &simplest(alloc, steps)?, Stand::Authenticated)?;
     }
-    for tens in [100, 1000] {
-        read_and_run(alloc, &long(alloc, tens)?, Stand::Open)?;
+    for notices in [2, 20] {
+        read_and_run(alloc, &long(alloc, notices)?, Stand::Open)?;
     }
     Ok(())
 }
@@ -161,18 +170,18 @@ fn time_whole(rt: &HostRuntime, endpoints: Duration) -> Result<Row, Fault> {
 
 /// Times reads and runs of a scenario of 10,000 deliveries, and of one of 1,000.
 fn time_long(rt: &HostRuntime) -> Result<Row, Fault> {
-    let work = time_deliveries(rt, 1000)?;
+    let work = time_notices(rt, 20)?;
     Ok(Row {
         rounds: LONG_RUNS,
         work,
-        other: time_deliveries(rt, 100)?,
+        other: time_notices(rt, 2)?,
         beside: Beside::Tenth,
     })
 }
 
-/// Times reads and runs of a scenario of so many times ten deliveries.
-fn time_deliveries(rt: &HostRuntime, tens: u32) -> Result<Duration, Fault> {
-    let text = long(rt.alloc(), tens)?;
+/// Times reads and runs of a scenario of so many notice lines.
+fn time_notices(rt: &HostRuntime, notices: u32) -> Result<Duration, Fault> {
+    let text = long(rt.alloc(), notices)?;
     time_text(rt, &text, Stand::Open, LONG_RUNS)
 }
 
