@@ -13,6 +13,9 @@ mod kexinit;
 mod lent;
 mod long;
 mod packets;
+mod recordings;
+mod row;
+mod scripts;
 mod sent;
 mod table;
 mod talk;
@@ -66,6 +69,16 @@ fn check(rt: &HostRuntime) -> Result<(), Fault> {
     writeln!(rt.stdout(), "negotiation ok")?;
     talk::check(alloc, Reach::User)?;
     writeln!(rt.stdout(), "session ok")?;
+    check_programs(rt)
+}
+
+/// Checks the rows of what the program `sshlab` does.
+fn check_programs(rt: &HostRuntime) -> Result<(), Fault> {
+    let alloc = rt.alloc();
+    scripts::check(alloc)?;
+    writeln!(rt.stdout(), "scenarios ok")?;
+    recordings::check(alloc)?;
+    writeln!(rt.stdout(), "recordings ok")?;
     Ok(())
 }
 

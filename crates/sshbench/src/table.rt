@@ -7,8 +7,9 @@ use crate::fault::Fault;
 use crate::kexinit::{copy, read_and_write};
 use crate::lent::{Kind, own, payload, read_only};
 use crate::packets::{Load, PIECE_LENS, Stream};
+use crate::row::{Beside, Row, print_row};
 use crate::talk::{Lab, Reach, WHOLE, talk};
-use std::fmt;
+use crate::{recordings, scripts};
 use std::io::Write;
 use std::time::{Duration, Instant};
 
@@ -32,73 +33,6 @@ const SLOW_READS: u32 = 20;
 
 /// How often two endpoints talk.
 const TALKS: u32 = 5_000;
-
-/// What a row's work stands beside.
-#[derive(Clone, Copy, Debug)]
-pub(crate) enum Beside {
-    /// Copying the same bytes in the same pieces, each behind the one before.
-    Copying,
-    /// Copying the same bytes in the same pieces, each over the one before.
-    CopyingOver,
-    /// Making an owned copy of the same bytes.
-    Owning,
-    /// The digests that the suite needs for the same bytes.
-    Digests,
-    /// Comparing as many names with as many others.
-    Comparing,
-    /// The same work for a tenth of the bytes.
-    Tenth,
-    /// The suite's calls alone, with the same arguments.
-    Calls,
-    /// The same work in pieces that are as large as can be.
-    Whole,
-}
-
-impl fmt::Display for Beside {
-    fn fmt<W: fmt::Write>(&self, f: &mut fmt::Formatter<W>) -> fmt::Result {
-        f.write_str(match self {
-            Beside::Copying => "copying",
-            Beside::CopyingOver => "copying over",
-            Beside::Owning => "owned copy",
-            Beside::Digests => "digests",
-            Beside::Comparing => "comparing names",
-            Beside::Tenth => "a tenth of it",
-            Beside::Calls => "the suite's calls",
-            Beside::Whole => "whole",
-        })
-    }
-}
-
-/// What a row's work took, and what stands beside it took.
-#[derive(Clone, Copy, Debug)]
-pub(crate) struct Row {
-    rounds: u32,
-    work: Duration,
-    other: Duration,
-    beside: Beside,
-}
-
-impl fmt::Display for Row {
-    fn fmt<W: fmt::Write>(&self, f: &mut fmt::Formatter<W>) -> fmt::Result {
-        let work = self.work.as_micros();
-        let other = self.other.as_micros();
-        let hundredths = work.saturating_mul(100).checked_div(other).unwrap_or(0);
-        let whole = hundredths / 100;
-        let rest = hundredths % 100;
-        let rounds = self.rounds;
-        let beside = self.beside;
-        write!(
-            f,
-            "{rounds:>6} {work:>8} {other:>9} {whole:>5}.{rest:02}  {beside}"
-        )
-    }
-}
-
-/// Prints a line of the table.
-fn print_row(rt: &HostRuntime, work: &str, row: &Row) -> Result<(), Fault> {
-    writeln!(rt.stdout(), "{work:<32} {row}")?;
-    Ok(())
-}
 
 /// Times each row and prints the table.
 pub(crate) fn print(rt: &HostRuntime, payload: &[u8]) -> Result<(), Fault> {
@@ -139,7 +73,14 @@ pub(crate) fn print(rt: &HostRuntime, payload: &[u8]) -> Result<(), Fault> {
         )?;
     }
     print_row(rt, "2 MB of clear packets by 1448", &time_ten_times(rt)?)?;
-    print_all_talks(rt)
+    print_all_talks(rt)?;
+    print_programs(rt)
+}
+
+/// Times what the program `sshlab` does with scenarios and recordings, and prints the rows.
+fn print_programs(rt: &HostRuntime) -> Result<(), Fault> {
+    scripts::print(rt)?;
+    recordings::print(rt)
 }
 
 /// Times negotiations and sessions, and prints their rows.

@@ -1,6 +1,6 @@
 //! What the deliveries and rounds of a scenario bring, by `tool`, and how much of the input is read.
 
-use crate::helpers::same_count;
+use crate::compare::same_count;
 use crate::program::Said;
 use crate::recordings::{READ_FAILED, TextSource, answers};
 use crate::scenarios::{
