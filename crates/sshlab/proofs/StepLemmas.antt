@@ -1,14 +1,18 @@
 -- Steps of a scenario, one after another.
 
-use Rattle.std.proofs.Common.{◌≡◌, ◌∙◌, ℕ, zero, suc, ◌+◌, ◌<◌, inl, inr, List, [], ◌∷◌, ◌++◌, length, take, Result, Ok, Err, refl, sym, ap, subst, arith, get_or}
+use Rattle.std.proofs.Common.{◌≡◌, ◌∙◌, ℕ, zero, suc, ◌+◌, ◌<◌, inl, inr, List, [], ◌∷◌, ◌++◌, length, take, min, Result, Ok, Err, refl, sym, ap, subst, arith, get_or}
 use Rattle.std.specs.Result.{OnErr}
 use Rattle.std.proofs.lemmas.List.{length-append, take_more}
 use Rattle.sshpacket.specs.Suite.{Meaning}
 use Rattle.sshcore.specs.ConfigData.{ClientData}
 use Rattle.sshcore.specs.Party.{Policy}
+use Rattle.sshworld.specs.declared.side.Delivery.{Delivery}
+use Rattle.sshworld.specs.Conversed.{EachReplies}
+use Rattle.sshworld.specs.Deliveries.{Delivered}
 use Rattle.sshworld.specs.WorldCourse.{AreUnderstoodIn}
-use Rattle.sshworld.specs.Worlds.{Complete, HadMemory, IsSameSetup, WorldData}
+use Rattle.sshworld.specs.Worlds.{Complete, HadMemory, IsSameSetup, WorldData, waiting_for}
 use Rattle.sshlab.specs.declared.scenario_line.Step.{Step}
+use Rattle.sshlab.specs.declared.scenario_line.Step.TheVariants.{Deliver}
 use Rattle.sshlab.specs.Steps.{EndsSettling, StepDone, StopsInStep, SettlesFor, StepsDone, StopsInSteps}
 
 -- two lists that are the same end alike
@@ -26,6 +30,17 @@ settles_at steps i default least lt e =
     subst (λ (step : Step). SettlesFor least step) (sym one) e.settles
 
 module _ {S D : Type 0} (meaning : S → Meaning) (policy : D → Policy) where
+  -- a delivery that answered how many bytes it moved
+  pub delivery_done : (step : Step) (delivery : Delivery) (n : ℕ) (old new : WorldData S D) → step ≡ Deliver delivery → n ≡ min delivery.count (waiting_for delivery.to old)
+      → Delivered delivery.to n old new → (HadMemory old → HadMemory new) → IsSameSetup old new → EachReplies meaning policy new → StepDone meaning policy step old new
+  delivery_done step delivery n old new is count d still setup replies =
+      subst (λ (s : Step). StepDone meaning policy s old new) (sym is)
+      (record {
+        moves = record { delivered = subst (λ (k : ℕ). Delivered delivery.to k old new) count d; still = still; setup = setup; replies = replies };
+        setup = setup;
+        replies = replies;
+      })
+
   steps_push : (steps : List Step) (step : Step) (old mid new : WorldData S D) → StepsDone meaning policy steps old mid → StepDone meaning policy step mid new
       → StepsDone meaning policy (steps ++ step ∷ []) old new
   steps_push [] step old mid new e s = (new, subst (λ (w : WorldData S D). StepDone meaning policy step w new) e s, refl)
