@@ -32,11 +32,11 @@ settles_at steps i default least lt e =
 module _ {S D : Type 0} (meaning : S → Meaning) (policy : D → Policy) where
   -- a delivery that answered how many bytes it moved
   pub delivery_done : (step : Step) (delivery : Delivery) (n : ℕ) (old new : WorldData S D) → step ≡ Deliver delivery → n ≡ min delivery.count (waiting_for delivery.to old)
-      → Delivered delivery.to n old new → (HadMemory old → HadMemory new) → IsSameSetup old new → EachReplies meaning policy new → StepDone meaning policy step old new
-  delivery_done step delivery n old new is count d still setup replies =
+      → Delivered delivery.to n old new → IsSameSetup old new → EachReplies meaning policy new → StepDone meaning policy step old new
+  delivery_done step delivery n old new is count d setup replies =
       subst (λ (s : Step). StepDone meaning policy s old new) (sym is)
       (record {
-        moves = record { delivered = subst (λ (k : ℕ). Delivered delivery.to k old new) count d; still = still; setup = setup; replies = replies };
+        moves = record { delivered = subst (λ (k : ℕ). Delivered delivery.to k old new) count d; setup = setup; replies = replies };
         setup = setup;
         replies = replies;
       })
