@@ -1,5 +1,6 @@
 //! Scenarios that are read and run: the simplest one whole and byte by byte, and one of many deliveries.
 
+use crate::calls::holds;
 use crate::fault::Fault;
 use crate::row::{Beside, Row, print_row};
 use crate::talk::{Lab, Reach, WHOLE, talk};
@@ -87,8 +88,7 @@ fn read(alloc: Global, text: &[u8]) -> Result<Scenario, Fault> {
 /// Runs a scenario, behind which the sides have to stand so.
 fn run(alloc: Global, scenario: &Scenario, stand: Stand) -> Result<(), Fault> {
     match scenario.run(alloc) {
-        Ok(world) if stand.is_of(&world) => Ok(()),
-        Ok(_) => Err(Fault::Otherwise),
+        Ok(world) => stand.judge(&world),
         Err(_) => Err(Fault::Memory),
     }
 }
@@ -103,6 +103,11 @@ enum Stand {
 }
 
 impl Stand {
+    /// Judges whether both sides of a world stand so.
+    fn judge(self, world: &World<'_, LabSuite, LabDecisions>) -> Result<(), Fault> {
+        holds(self.is_of(world))
+    }
+
     /// Whether both sides of a world stand so.
     fn is_of(self, world: &World<'_, LabSuite, LabDecisions>) -> bool {
         match (self, world.ends()) {
