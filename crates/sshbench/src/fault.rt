@@ -1,7 +1,7 @@
 //! Why there is no answer.
 
 use sshcore::ConfigFault;
-use sshlab::ToolFault;
+use sshlab::{ScenarioFault, ToolFault};
 use sshmsg::MsgFault;
 use sshpacket::PacketFault;
 use sshwire::Memory;
@@ -27,6 +27,9 @@ pub(crate) enum Fault {
     /// The lab's parts were refused.
     #[error("no config: {0}")]
     Config(ConfigFault),
+    /// A scenario of this program's own wasn't read.
+    #[error("not read: {0}")]
+    Scenario(ScenarioFault),
     /// A recording of this program's own wasn't told.
     #[error("not told: {0}")]
     Recording(ToolFault),

@@ -4,16 +4,11 @@ use crate::calls::holds;
 use crate::fault::Fault;
 use crate::row::{Beside, Row, print_row};
 use crate::talk::{Lab, Reach, WHOLE, talk};
-use sshlab::{StreamSink, StreamSource, tool};
+use sshcore::End;
+use sshlab::{LabDecisions, LabSuite, Scenario, TEXT_LIMIT};
+use sshworld::World;
 use std::alloc::Global;
 use std::time::{Duration, Instant};
-
-/// What `run` writes where the simplest scenario is done.
-const DONE: &str =
-    "client authenticated al ssh-connection\nserver authenticated al ssh-connection\ncomplete yes\nkex a\nhostkey h\ncipher_cs c\ncipher_sc c\nmac_cs m\nmac_sc m\nstrict yes\n";
-
-/// What it writes where both sides wait for more.
-const OPEN: &str = "client open\nserver open\ncomplete no\n";
 
 /// The simplest scenario without its steps: one attempt, which the server lets in.
 const SIMPLEST: &[u8] = b"client try al ssh-connection none\nallow al none\n";
@@ -79,46 +74,95 @@ fn put_often(text: &mut Vec<u8>, lines: &[u8], count: u32) -> Result<(), Fault> 
     Ok(())
 }
 
-/// Reads and runs the scenario of a text as the program `sshlab` does, and judges what is written.
-fn run(alloc: Global, text: &[u8], told: &str) -> Result<(), Fault> {
-    let mut words = Vec::new(alloc);
-    words.push(String::from_str(alloc, "run")?)?;
-    let mut out = Vec::new(alloc);
-    run_words(alloc, &words, text, &mut out);
-    holds(out.as_slice() == told.as_bytes())
+/// Reads a scenario.
+fn read(alloc: Global, text: &[u8]) -> Result<Scenario, Fault> {
+    if text.len() > TEXT_LIMIT {
+        return Err(Fault::Otherwise);
+    }
+    match Scenario::parse(alloc, text) {
+        Ok(scenario) => Ok(scenario),
+        Err(fault) => Err(Fault::Scenario(fault)),
+    }
 }
 
-/// Does what the words ask for with this input.
-fn run_words(alloc: Global, words: &[String], text: &[u8], out: &mut Vec<u8>) {
-    let mut input = StreamSource::new(text);
-    let mut output = StreamSink::new(out);
-    let mut faults = StreamSink::new(Vec::new(alloc));
-    let _ = tool(alloc, words, &mut input, &mut output, &mut faults);
+/// Runs a scenario, behind which the sides have to stand so.
+fn run(alloc: Global, scenario: &Scenario, stand: Stand) -> Result<(), Fault> {
+    let world = world_of(alloc, scenario)?;
+    stand.judge(&world)
 }
 
-/// Runs each scenario once.
+/// The world in which the steps of a scenario were done.
+fn world_of(alloc: Global, scenario: &Scenario) -> Result<Box<LabWorld<'_>>, Fault> {
+    match scenario.run(alloc) {
+        Ok(world) => Ok(Box::new(alloc, world)?),
+        Err(_) => Err(Fault::Memory),
+    }
+}
+
+/// A world of the lab.
+type LabWorld<'a> = World<'a, LabSuite, LabDecisions>;
+
+/// How both sides stand behind the last step.
+#[derive(Clone, Copy)]
+enum Stand {
+    /// Both are authenticated, and nothing waits for either.
+    Authenticated,
+    /// Both wait for more.
+    Open,
+}
+
+impl Stand {
+    /// Judges whether both sides of a world stand so.
+    fn judge(self, world: &LabWorld<'_>) -> Result<(), Fault> {
+        holds(self.is_of(world))
+    }
+
+    /// Whether both sides of a world stand so.
+    fn is_of(self, world: &LabWorld<'_>) -> bool {
+        match (self, world.ends()) {
+            (Stand::Authenticated, (End::Authenticated(_), End::Authenticated(_))) => {
+                world.complete()
+            }
+            (Stand::Open, (End::Open, End::Open)) => true,
+            _ => false,
+        }
+    }
+}
+
+/// Reads and runs the scenario of a text.
+fn read_and_run(alloc: Global, text: &[u8], stand: Stand) -> Result<(), Fault> {
+    let scenario = read(alloc, text)?;
+    run(alloc, &scenario, stand)
+}
+
+/// Reads and runs each scenario once.
 pub(crate) fn check(alloc: Global) -> Result<(), Fault> {
     for steps in [Steps::Rounds, Steps::Bytes] {
-        run(alloc, &simplest(alloc, steps)?, DONE)?;
+        read_and_run(alloc, &simplest(alloc, steps)?, Stand::Authenticated)?;
     }
     for notices in [2, 20] {
-        run(alloc, &long(alloc, notices)?, OPEN)?;
+        read_and_run(alloc, &long(alloc, notices)?, Stand::Open)?;
     }
     Ok(())
 }
 
 /// Times the scenarios, and prints their rows.
 pub(crate) fn print(rt: &HostRuntime) -> Result<(), Fault> {
-    let whole = time_simplest(rt, Steps::Rounds)?;
-    let row = of_runs(whole, time_endpoints(rt)?, Beside::Endpoints);
-    print_row(rt, "scenario run", &row)?;
-    let bytes = time_simplest(rt, Steps::Bytes)?;
+    let endpoints = time_endpoints(rt)?;
+    print_row(rt, "scenario read and run", &time_whole(rt, endpoints)?)?;
+    let whole = time_runs(rt, Steps::Rounds)?;
+    print_row(
+        rt,
+        "scenario run",
+        &of_runs(whole, endpoints, Beside::Endpoints),
+    )?;
+    let bytes = time_runs(rt, Steps::Bytes)?;
     print_row(
         rt,
         "scenario run by 1",
         &of_runs(bytes, whole, Beside::Whole),
     )?;
-    print_row(rt, "10000 deliveries run", &time_long(rt)?)
+    print_row(rt, "10000 deliveries read and run", &time_long(rt)?)
 }
 
 /// A row of runs of the simplest scenario.
@@ -131,7 +175,14 @@ fn of_runs(work: Duration, other: Duration, beside: Beside) -> Row {
     }
 }
 
-/// Times runs of a scenario of 10,000 deliveries, and of one of 1,000.
+/// Times reads and runs of the simplest scenario; the two endpoints alone took so long.
+fn time_whole(rt: &HostRuntime, endpoints: Duration) -> Result<Row, Fault> {
+    let text = simplest(rt.alloc(), Steps::Rounds)?;
+    let work = time_text(rt, &text, Stand::Authenticated, RUNS)?;
+    Ok(of_runs(work, endpoints, Beside::Endpoints))
+}
+
+/// Times reads and runs of a scenario of 10,000 deliveries, and of one of 1,000.
 fn time_long(rt: &HostRuntime) -> Result<Row, Fault> {
     let work = time_notices(rt, 20)?;
     Ok(Row {
@@ -142,25 +193,35 @@ fn time_long(rt: &HostRuntime) -> Result<Row, Fault> {
     })
 }
 
-/// Times runs of a scenario of so many notice lines.
+/// Times reads and runs of a scenario of so many notice lines.
 fn time_notices(rt: &HostRuntime, notices: u32) -> Result<Duration, Fault> {
     let text = long(rt.alloc(), notices)?;
-    time_text(rt, &text, OPEN, LONG_RUNS)
+    time_text(rt, &text, Stand::Open, LONG_RUNS)
 }
 
-/// Times runs of the simplest scenario.
-fn time_simplest(rt: &HostRuntime, steps: Steps) -> Result<Duration, Fault> {
-    let text = simplest(rt.alloc(), steps)?;
-    time_text(rt, &text, DONE, RUNS)
-}
-
-/// Times runs of the scenario of a text.
-fn time_text(rt: &HostRuntime, text: &[u8], told: &str, rounds: u32) -> Result<Duration, Fault> {
+/// Times reads and runs of the scenario of a text.
+fn time_text(rt: &HostRuntime, text: &[u8], stand: Stand, rounds: u32) -> Result<Duration, Fault> {
     let start = Instant::now(rt)?;
     for _ in 0..rounds {
-        run(rt.alloc(), text, told)?;
+        read_and_run(rt.alloc(), text, stand)?;
     }
     Ok(start.elapsed(rt)?)
+}
+
+/// Times runs of the simplest scenario, which is read before.
+fn time_runs(rt: &HostRuntime, steps: Steps) -> Result<Duration, Fault> {
+    let scenario = simplest_scenario(rt.alloc(), steps)?;
+    let start = Instant::now(rt)?;
+    for _ in 0..RUNS {
+        run(rt.alloc(), &scenario, Stand::Authenticated)?;
+    }
+    Ok(start.elapsed(rt)?)
+}
+
+/// The simplest scenario with these steps.
+fn simplest_scenario(alloc: Global, steps: Steps) -> Result<Scenario, Fault> {
+    let text = simplest(alloc, steps)?;
+    read(alloc, &text)
 }
 
 /// Times as many talks of two endpoints alone that come as far.
