@@ -1,5 +1,6 @@
 //! Scenarios that are read and run: the simplest one whole and byte by byte, and one of many deliveries.
 
+use crate::calls::holds;
 use crate::fault::Fault;
 use crate::row::{Beside, Row, print_row};
 use crate::talk::{Lab, Reach, WHOLE, talk};
@@ -18,8 +19,8 @@ const BOTH_BY_BYTE: &[u8] = b"deliver server 1\ndeliver client 1\n";
 /// How many bytes a notice line has, so that 250 are sent.
 const NOTICE_LEN: u32 = 248;
 
-/// How many deliveries of a byte to each side are enough for the simplest scenario.
-const DELIVERIES: u32 = 1000;
+/// How many deliveries of a byte to each side the simplest scenario needs.
+const DELIVERIES: u32 = 734;
 
 /// How often the simplest scenario is run.
 const RUNS: u32 = 5_000;
@@ -86,12 +87,20 @@ fn read(alloc: Global, text: &[u8]) -> Result<Scenario, Fault> {
 
 /// Runs a scenario, behind which the sides have to stand so.
 fn run(alloc: Global, scenario: &Scenario, stand: Stand) -> Result<(), Fault> {
+    let world = world_of(alloc, scenario)?;
+    stand.judge(&world)
+}
+
+/// The world in which the steps of a scenario were done.
+fn world_of(alloc: Global, scenario: &Scenario) -> Result<Box<LabWorld<'_>>, Fault> {
     match scenario.run(alloc) {
-        Ok(world) if stand.is_of(&world) => Ok(()),
-        Ok(_) => Err(Fault::Otherwise),
+        Ok(world) => Ok(Box::new(alloc, world)?),
         Err(_) => Err(Fault::Memory),
     }
 }
+
+/// A world of the lab.
+type LabWorld<'a> = World<'a, LabSuite, LabDecisions>;
 
 /// How both sides stand behind the last step.
 #[derive(Clone, Copy)]
@@ -103,8 +112,13 @@ enum Stand {
 }
 
 impl Stand {
+    /// Judges whether both sides of a world stand so.
+    fn judge(self, world: &LabWorld<'_>) -> Result<(), Fault> {
+        holds(self.is_of(world))
+    }
+
     /// Whether both sides of a world stand so.
-    fn is_of(self, world: &World<'_, LabSuite, LabDecisions>) -> bool {
+    fn is_of(self, world: &LabWorld<'_>) -> bool {
         match (self, world.ends()) {
             (Stand::Authenticated, (End::Authenticated(_), End::Authenticated(_))) => {
                 world.complete()
