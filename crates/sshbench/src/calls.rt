@@ -5,9 +5,9 @@
 use crate::fault::Fault;
 use crate::sent::Sent;
 use crate::talk::Said;
-use sshlab::LabSuite;
 use sshneg::{Exchange, Role, exchange_input};
 use sshpacket::{Keys, PacketReader, PacketStep, Suite};
+use sshsuites::LabSuite;
 use sshwire::put_string;
 use std::alloc::Global;
 

@@ -1,9 +1,9 @@
 //! A choice over lists of 50 names of 19 bytes, where the last of each is the one that both have.
 
 use crate::fault::Fault;
-use sshlab::LabSuite;
 use sshmsg::{KexInit, Message, read};
 use sshneg::{Chosen, choose};
+use sshsuites::LabSuite;
 use sshwire::{put_boolean, put_string, put_u32};
 use std::alloc::Global;
 use std::fmt::Write;

@@ -2,9 +2,9 @@
 
 use crate::calls::{HASH_LEN, LIMIT, LINE_LEN, body_of, holds};
 use crate::fault::Fault;
-use sshlab::LabSuite;
 use sshneg::{KeyMaterial, Role, keys_of};
 use sshpacket::{Keys, Suite, leading_uint32};
+use sshsuites::LabSuite;
 use std::alloc::Global;
 
 /// How many packets are in clear: KEXINIT, the share, NEWKEYS. The numbers begin anew behind them.

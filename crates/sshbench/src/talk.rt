@@ -5,7 +5,7 @@ use crate::fault::Fault;
 use sshcore::{
     Attempt, ClientConfig, ClientParts, Credential, End, Endpoint, Fault as Cause, ServerConfig,
 };
-use sshlab::{LabDecisions, LabSuite, lab_client_parts, lab_server_parts};
+use sshsuites::{LabDecisions, LabSuite, lab_client_parts, lab_server_parts};
 use std::alloc::Global;
 
 /// More bytes than either side says.

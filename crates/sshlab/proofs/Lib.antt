@@ -1,7 +1,5 @@
 pub mod ReceiverLemmas
 pub mod StreamLemmas
-pub mod DecisionLemmas
-pub mod DecisionLaws
 pub mod ScenarioFieldLemmas
 pub mod StepLemmas
 pub mod RunLemmas

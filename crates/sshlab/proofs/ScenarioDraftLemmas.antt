@@ -10,8 +10,8 @@ use Rattle.sshworld.specs.declared.side.Side.{Side}
 use Rattle.sshworld.specs.declared.side.Side.TheVariants.{Client, Server}
 use Rattle.sshlab.specs.declared.scenario_line.Step.{Step}
 use Rattle.sshlab.specs.declared.scenario_settings.Setting.{Setting}
-use Rattle.sshlab.specs.LabParties.{lab_client, lab_server}
-use Rattle.sshlab.specs.LabRules.{LabRules}
+use Rattle.sshsuites.specs.LabParties.{lab_client, lab_server}
+use Rattle.sshsuites.specs.LabRules.{LabRules}
 use Rattle.sshlab.specs.ScenarioDrafts.{Drafted, after_line, after_said, drafted, no_lines}
 use Rattle.sshlab.specs.ScenarioSettings.{setting_in}
 use Rattle.sshlab.specs.ScenarioText.{said, said_in, settings}

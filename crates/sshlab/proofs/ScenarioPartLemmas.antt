@@ -7,7 +7,7 @@ use Rattle.std.proofs.lemmas.List.{append-nil, append_assoc}
 use Rattle.sshcore.specs.ConfigData.{ClientData, HostKey, Proving, ServerData}
 use Rattle.sshworld.specs.declared.side.Side.TheVariants.{Client, Server}
 use Rattle.sshlab.specs.declared.scenario_line.Step.{Step}
-use Rattle.sshlab.specs.LabRules.{Allowance, LabRules, proof_by}
+use Rattle.sshsuites.specs.LabRules.{Allowance, LabRules, proof_by}
 use Rattle.sshlab.specs.ScenarioDrafts.{Drafted, drafted, no_lines}
 use Rattle.sshlab.specs.ScenarioParts.{allowance_in, attempt_in, banner_in, can_be_proved, client_of_lines, denied_in, distrusted_in, guess_in, host_key_algorithms_in, host_key_in, methods_in, notice_in, rules_of_lines, server_of_lines, services_in, set_or, side_of_lines, some_or, step_in, steps_of_lines, tries_in}
 use Rattle.sshlab.specs.Scenarios.{Allows, Denies, Distrusts, Does, Holds, Notes, OfClient, OfServer, OfSide, Saying, SetBanner, SetGuess, SetHostKeys, SetMethods, SetServices, SetTries, Tries}

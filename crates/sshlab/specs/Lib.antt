@@ -2,14 +2,6 @@ pub mod Streams
 pub mod Greetings
 pub mod Receivers
 pub mod Statuses
-pub mod Kem
-pub mod KemLaws
-pub mod Lab
-pub mod Masks
-pub mod LabLaws
-pub mod LabRules
-pub mod LabRulesView
-pub mod LabParties
 pub mod ScenarioFields
 pub mod TextLines
 pub mod Scenarios

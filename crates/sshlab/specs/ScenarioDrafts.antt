@@ -6,8 +6,8 @@ use Rattle.sshworld.specs.declared.side.Side.{Side}
 use Rattle.sshworld.specs.declared.side.Side.TheVariants.{Client, Server}
 use Rattle.sshlab.specs.declared.scenario_line.Step.{Step}
 use Rattle.sshlab.specs.declared.scenario_settings.Setting.{Setting}
-use Rattle.sshlab.specs.LabParties.{lab_client, lab_server}
-use Rattle.sshlab.specs.LabRules.{LabRules, proof_by}
+use Rattle.sshsuites.specs.LabParties.{lab_client, lab_server}
+use Rattle.sshsuites.specs.LabRules.{LabRules, proof_by}
 use Rattle.sshlab.specs.ScenarioParts.{can_be_proved}
 use Rattle.sshlab.specs.ScenarioSettings.{setting_in, with_client, with_server, with_side}
 use Rattle.sshlab.specs.ScenarioText.{said_in}

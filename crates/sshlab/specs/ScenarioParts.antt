@@ -7,8 +7,8 @@ use Rattle.sshcore.specs.ConfigData.{Attempt, ByKey, ClientData, HostKey, Provin
 use Rattle.sshworld.specs.declared.side.Side.{Side}
 use Rattle.sshworld.specs.declared.side.Side.TheVariants.{Client, Server}
 use Rattle.sshlab.specs.declared.scenario_line.Step.{Step}
-use Rattle.sshlab.specs.LabParties.{lab_client, lab_server}
-use Rattle.sshlab.specs.LabRules.{Allowance, LabRules, proof_by}
+use Rattle.sshsuites.specs.LabParties.{lab_client, lab_server}
+use Rattle.sshsuites.specs.LabRules.{Allowance, LabRules, proof_by}
 use Rattle.sshlab.specs.ScenarioSettings.{with_side}
 use Rattle.sshlab.specs.Scenarios.{Allows, Denies, Distrusts, Does, Holds, Notes, OfClient, OfServer, OfSide, Saying, SetBanner, SetGuess, SetHostKeys, SetMethods, SetServices, SetTries, SideValue, Tries}
 

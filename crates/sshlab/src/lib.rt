@@ -5,10 +5,6 @@ mod engines;
 mod findings;
 mod greetings;
 mod input;
-mod kem_suite;
-mod lab_decisions;
-mod lab_parts;
-mod lab_suite;
 mod listing;
 mod program;
 mod recorded_stream;
@@ -27,14 +23,14 @@ mod words;
 
 pub use engines::{check, show};
 pub use greetings::{Greeting, Hearing, greet};
-pub use kem_suite::KemSuite;
-pub use lab_decisions::{LabDecisions, lab_decisions_law};
-pub use lab_parts::{lab_client_parts, lab_server_parts};
-pub use lab_suite::{LabSuite, lab_law};
 pub use program::{refuse_words, tool};
 pub use recording::piece;
 pub use scenario::{Scenario, ScenarioFault, TEXT_LIMIT};
 pub use scenario_line::Step;
+pub use sshsuites::{
+    KemSuite, LabDecisions, LabSuite, lab_client_parts, lab_decisions_law, lab_law,
+    lab_server_parts,
+};
 pub use sshworld::{Delivery, Side};
 pub use streams::{Broken, Sink, Source, StreamSink, StreamSource};
 pub use tool_fault::ToolFault;

@@ -4,11 +4,11 @@ ghost use Rattle.std.specs.Prelude.{◌≡◌, ◌≢◌, ◌≤◌, ◌↔◌, 
 ghost use Rattle.std.specs.Io.KnownBytes.{Appends, Keeps};
 ghost use Rattle.std.specs.IoError.{error_kind};
 ghost use Rattle.sshworld.specs.Worlds.{Complete, WorldData};
-ghost use Rattle.sshlab.specs.Lab.{lab};
-ghost use Rattle.sshlab.specs.LabRules.{LabRules, lab_policy};
+ghost use Rattle.sshsuites.specs.Lab.{lab};
+ghost use Rattle.sshsuites.specs.LabRules.{LabRules, lab_policy};
 ghost use Rattle.sshlab.specs.Statuses.{AsksForInput, IsNoToolFault, status_of, words_status};
 ghost use Rattle.sshlab.specs.Steps.{EndsSettling, StepsLeadTo};
-ghost use Rattle.sshlab.specs.declared.lab_suite.LabSuite.{LabSuite};
+ghost use Rattle.sshsuites.specs.declared.lab_suite.LabSuite.{LabSuite};
 ghost use Rattle.sshlab.specs.declared.program.CommandFault.TheVariants as command;
 ghost use Rattle.sshlab.specs.declared.scenario.TheConstants.{TEXT_LIMIT};
 ghost use Rattle.sshlab.specs.declared.tool_fault.ToolFault.TheVariants as fault;

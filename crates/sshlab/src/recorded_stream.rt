@@ -2,9 +2,9 @@
 
 ghost use Rattle.std.specs.Prelude.{◌≤◌, IfOk, IfSome, length};
 
-use crate::lab_suite::LabSuite;
 use sshmsg::{MsgFault, SSH_MSG_KEXINIT, SSH_MSG_NEWKEYS, read};
 use sshpacket::{PacketFault, PacketReader, PacketStep};
+use sshsuites::LabSuite;
 use sshwire::{LineReader, LineStep, Memory, VersionLine, WireFault};
 use std::alloc::Global;
 use std::fmt;

@@ -50,12 +50,11 @@ ghost use Rattle.sshlab.specs.ScenarioText.{CanBeRead, said};
 ghost use Rattle.sshlab.specs.TextLines.{lines};
 ghost use Rattle.sshlab.specs.declared.scenario.TheConstants.{TEXT_LIMIT};
 
-use crate::lab_decisions::LabDecisions;
-use crate::lab_suite::LabSuite;
 use crate::scenario_draft::{Draft, ScenarioParts};
 use crate::scenario_fields::LineFault;
 use crate::scenario_line::Step;
 use sshcore::{ClientConfig, ClientParts, ConfigFault, End, ServerConfig, ServerParts};
+use sshsuites::{LabDecisions, LabSuite};
 use sshwire::Memory;
 use sshworld::predict;
 use std::alloc::Global;
@@ -141,8 +140,8 @@ impl Scenario {
 impl Scenario {
     ghost use Rattle.std.specs.Prelude.{IfOk};
     ghost use Rattle.sshcore.specs.Ending.{ending};
-    ghost use Rattle.sshlab.specs.Lab.{lab};
-    ghost use Rattle.sshlab.specs.LabRules.{lab_policy};
+    ghost use Rattle.sshsuites.specs.Lab.{lab};
+    ghost use Rattle.sshsuites.specs.LabRules.{lab_policy};
     ghost use Rattle.sshworld.specs.Outcome.{outcome};
 
     /// How both sides end, the client's end first, where they use the lab suite and all that either

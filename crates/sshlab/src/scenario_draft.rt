@@ -9,12 +9,11 @@ ghost use Rattle.sshlab.specs.ScenarioText.{CanFollow};
 ghost use Rattle.sshlab.specs.ScenarioView.{saying_of};
 ghost use Rattle.sshlab.specs.declared.scenario_fields.LineFault.TheVariants as fault;
 
-use crate::lab_decisions::LabDecisions;
-use crate::lab_parts::{lab_client_parts, lab_server_parts};
 use crate::scenario_fields::LineFault;
 use crate::scenario_line::{Statement, Step, statement_of};
 use crate::scenario_settings::{Setting, set_client, set_server, set_side, setting_of};
 use sshcore::{ClientParts, Credential, HostKey, ServerParts};
+use sshsuites::{LabDecisions, lab_client_parts, lab_server_parts};
 use sshwire::{Memory, as_name};
 use sshworld::Side;
 use std::alloc::Global;

@@ -6,8 +6,8 @@ ghost use Rattle.std.specs.Prelude.{◌<◌, ◌≤◌, length};
 
 use anyhow::bail;
 use sshcore::{Attempt, ClientConfig, Credential, Direction, Endpoint, ServerConfig, Session};
-use sshlab::{LabDecisions, LabSuite, lab_client_parts, lab_server_parts};
 use sshpacket::{PacketReader, PacketStep, write_sealed};
+use sshsuites::{LabDecisions, LabSuite, lab_client_parts, lab_server_parts};
 use std::alloc::Global;
 
 /// How often each side is given what the other has said.

@@ -3,8 +3,8 @@
 
 use crate::compare::has_text;
 use crate::kexinits::{Lists, kexinit_of};
-use sshlab::LabSuite;
 use sshneg::{Chosen, NoCommon, choose};
+use sshsuites::LabSuite;
 use std::alloc::Global;
 use std::fmt::Write;
 use std::process::Abort;

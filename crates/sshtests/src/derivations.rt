@@ -6,9 +6,9 @@
 
 use crate::compare::same;
 use crate::keys::KeyTexts;
-use sshlab::LabSuite;
 use sshneg::{Exchange, KeyMaterial, Role, exchange_input, keys_of, signed_request};
 use sshpacket::Keys;
+use sshsuites::LabSuite;
 use std::alloc::Global;
 use std::process::Abort;
 use std::test::Fail;

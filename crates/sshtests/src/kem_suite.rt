@@ -3,8 +3,8 @@
 
 use crate::compare::{brings, is_sealed_as, is_unsealed_as, same, same_count, same_if_any};
 use crate::keys::{named_keys, named_wide_keys, newkeys, reader_with, sealed};
-use sshlab::KemSuite;
 use sshpacket::{Keys, PacketFault, Response, Suite};
+use sshsuites::KemSuite;
 use sshtests_helpers::bytes::filled;
 use sshtests_helpers::pieces::Came;
 use std::alloc::Global;

@@ -2,7 +2,7 @@
 
 use crate::compare::{same_count, same_text};
 use sshcore::{ClientConfig, Credential, Decisions, Proof, ServerConfig};
-use sshlab::{LabDecisions, lab_client_parts, lab_decisions_law, lab_server_parts};
+use sshsuites::{LabDecisions, lab_client_parts, lab_decisions_law, lab_server_parts};
 use std::alloc::Global;
 use std::process::Abort;
 use std::test::Fail;

@@ -2,8 +2,8 @@
 
 use crate::compare::{is_sealed_as, is_unsealed_as, same, same_count, same_if_any};
 use crate::keys::named_keys;
-use sshlab::LabSuite;
 use sshpacket::{Capability, KeyLens, Need, Suite};
+use sshsuites::LabSuite;
 use std::test::Fail;
 
 /// A packet of 31 bytes of payload and 4 of padding.

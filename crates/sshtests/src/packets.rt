@@ -2,8 +2,8 @@
 
 use crate::compare::{brings, has_text, same, same_count, same_text};
 use crate::keys::{KeyTexts, narrow_keys, newkeys, reader_with, sealed, wide_keys};
-use sshlab::LabSuite;
 use sshpacket::{KeyParts, Keys, PacketFault, PacketReader, write_clear, write_sealed};
+use sshsuites::LabSuite;
 use sshtests_helpers::bytes::{behind, filled, prefix_of};
 use sshtests_helpers::pieces::{Came, feed};
 use std::alloc::Global;

@@ -4,9 +4,9 @@ use crate::compare::{same, same_count, same_text};
 use crate::packets::{hash_in, keys_by};
 use crate::talks::{Delivery, ends_so, has_end, run};
 use sshcore::{Agreed, End};
-use sshlab::LabSuite;
 use sshneg::Role;
 use sshpacket::PacketReader;
+use sshsuites::LabSuite;
 use sshtests_helpers::bytes::{behind, filled};
 use sshtests_helpers::lab::{
     AL, CONNECTION, DEFAULTS, GUESSED, LOOSE, NOBODY, Proving, Talk, Terms, Try, Users, WHOLE,

@@ -1,8 +1,8 @@
 //! Packets that tests put to lab endpoints, and what these are to say.
 
-use sshlab::LabSuite;
 use sshneg::{Exchange, KeyMaterial, Role, exchange_input, keys_of};
 use sshpacket::{Keys, PacketReader, Suite, write_clear, write_sealed};
+use sshsuites::LabSuite;
 use sshtests_helpers::bytes::behind;
 use sshtests_helpers::lab::{Talk, Talker};
 use sshtests_helpers::pieces::{Came, feed};

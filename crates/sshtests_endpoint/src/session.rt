@@ -5,9 +5,9 @@ use crate::compare::{brings, same, same_count, same_text};
 use crate::packets::{LINE, NONE_OF_AL, SUCCESS, disconnect, hash_in, keys_by};
 use crate::talks::has_end;
 use sshcore::{Direction, Session};
-use sshlab::LabSuite;
 use sshneg::Role;
 use sshpacket::{Keys, PacketReader, write_sealed};
+use sshsuites::LabSuite;
 use sshtests_helpers::bytes::{behind, filled, prefix_of};
 use sshtests_helpers::lab::{
     AL, DEFAULTS, LOOSE, NOBODY, Talk, Talker, Terms, Users, WHOLE, lab_of, settle, talk_of,

@@ -2,8 +2,8 @@
 
 use crate::bytes::{behind, prefix_of};
 use sshcore::{Attempt, ClientConfig, Credential, Decisions, End, Endpoint, ServerConfig, Session};
-use sshlab::{LabDecisions, LabSuite, lab_client_parts, lab_server_parts};
 use sshneg::Role;
+use sshsuites::{LabDecisions, LabSuite, lab_client_parts, lab_server_parts};
 use sshwire::{WireFault, as_name};
 use sshworld::{World, predict};
 use std::alloc::Global;

@@ -5,8 +5,9 @@ ghost use Rattle.std.specs.Prelude.{◌≡◌, false};
 
 use crate::compare::{same, same_count};
 use crate::program::{LimitedSink, Said, WhenFull, say_at, words_of};
-use sshlab::{Broken, LabSuite, Side, Source, ToolFault, check, piece, show, tool};
+use sshlab::{Broken, Side, Source, ToolFault, check, piece, show, tool};
 use sshpacket::write_clear;
+use sshsuites::LabSuite;
 use sshtests_helpers::bytes::{behind, prefix_of};
 use std::alloc::Global;
 use std::process::Abort;

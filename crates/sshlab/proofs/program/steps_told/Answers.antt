@@ -1,7 +1,7 @@
 use Rattle.std.proofs.Common.{◌+◌, length}
 use Rattle.sshworld.specs.Worlds.{Complete}
-use Rattle.sshlab.specs.Lab.{lab}
-use Rattle.sshlab.specs.LabRules.{lab_policy}
+use Rattle.sshsuites.specs.Lab.{lab}
+use Rattle.sshsuites.specs.LabRules.{lab_policy}
 use Rattle.sshlab.specs.Steps.{EndsSettling, StepsLeadTo}
 use Rattle.sshlab.proofs.RunLemmas.{done_by, told_of}
 use Rattle.sshlab.proofs.program.steps_told.Goals as goal

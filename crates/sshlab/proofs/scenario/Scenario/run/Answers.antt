@@ -1,7 +1,7 @@
 use Rattle.std.proofs.Common.{◌∙◌}
-use Rattle.sshlab.specs.Lab.{lab}
-use Rattle.sshlab.specs.LabLaws.{lab_agreeing}
-use Rattle.sshlab.specs.LabRules.{lab_policy}
+use Rattle.sshsuites.specs.Lab.{lab}
+use Rattle.sshsuites.specs.LabLaws.{lab_agreeing}
+use Rattle.sshsuites.specs.LabRules.{lab_policy}
 use Rattle.sshlab.proofs.RunLemmas.{both_predicted, course_of, headline_of, new_had, settled_of}
 use Rattle.sshlab.proofs.scenario.Scenario.run.Goals as goal
 

@@ -1,0 +1,231 @@
+//! A second suite of algorithms for tests, over SHA-256, in the other mode. It is insecure.
+
+ghost use Rattle.std.specs.Prelude.{◌≡◌, ◌^◌, ◌<◌, IfOk, drop, length, take};
+ghost use Rattle.sshsuites.specs.Kem.{crossed, kem, kem_number, kem_tag};
+ghost use Rattle.sshsuites.specs.KemLaws.{kem_agreeing, kem_lawful};
+
+use crate::lab_suite::{LabSuite, masked, xor_with};
+use sha2::{Digest, Sha256};
+use sshpacket::{
+    AgreeingSuite, Capability, KeyLens, Keys, Need, Response, ShareForm, Suite, leading_uint32,
+};
+use sshwire::Memory;
+use std::alloc::Global;
+
+/// How many bytes a tag has.
+const TAG_LEN: usize = 16;
+
+/// A suite for tests alone. **It is insecure.** It is all that [`LabSuite`](crate::LabSuite) isn't:
+/// packet_length stands in clear, is covered by the tag and doesn't count towards the multiple;
+/// shares are bytes, and the server's depends on the client's, as in a key encapsulation. Blocks,
+/// padding, hashes and host keys are `LabSuite`'s.
+#[derive(Clone, Copy, Debug)]
+pub struct KemSuite;
+
+impl Suite for KemSuite {
+    ghost meaning = { λ _. kem };
+
+    fn need(&self, _kex: &str) -> Need {
+        Need::Signature
+    }
+
+    fn can(&self, _host_key: &str) -> Capability {
+        Capability {
+            signature: true,
+            encryption: false,
+        }
+    }
+
+    fn block(&self, cipher: &str) -> u8 {
+        LabSuite.block(cipher)
+    }
+
+    fn tag_len(&self, _cipher: &str, _mac: &str) -> u8 {
+        TAG_LEN as u8
+    }
+
+    fn counts_length(&self, _cipher: &str, _mac: &str) -> bool {
+        false
+    }
+
+    fn key_lens(&self, _cipher: &str, _mac: &str) -> KeyLens {
+        KeyLens {
+            iv: 12,
+            enc: 64,
+            mac: 0,
+        }
+    }
+
+    #[tactic(auto, unfolding(crate::specs::Kem::kem_seal))]
+    fn seal(&self, alloc: Global, keys: &Keys, seq: u32, packet: &[u8]) -> Result<Vec<u8>, Memory> {
+        let mut sealed = crossed(alloc, keys, seq, packet)?;
+        let tag = tag(keys, seq, &sealed);
+        sealed.extend_from_slice(&tag)?;
+        Ok(sealed)
+    }
+
+    fn head(&self, _keys: &Keys, _seq: u32, first: [u8; 4]) -> u32 {
+        leading_uint32(&first)
+    }
+
+    #[tactic(auto, unfolding(crate::specs::Kem::kem_unseal, crate::specs::Kem::kem_checked))]
+    fn unseal(
+        &self,
+        alloc: Global,
+        keys: &Keys,
+        seq: u32,
+        sealed: &[u8],
+    ) -> Result<Option<Vec<u8>>, Memory> {
+        if sealed.len() < 4 + TAG_LEN {
+            return Ok(None);
+        }
+        let (covered, found) = sealed.split_at(sealed.len() - TAG_LEN);
+        if found == tag(keys, seq, covered).as_slice() {
+            Ok(Some(crossed(alloc, keys, seq, covered)?))
+        } else {
+            Ok(None)
+        }
+    }
+
+    fn padding(&self, alloc: Global, seed: &[u8], seq: u32, len: u8) -> Result<Vec<u8>, Memory> {
+        LabSuite.padding(alloc, seed, seq, len)
+    }
+
+    fn share_form(&self, _kex: &str) -> ShareForm {
+        ShareForm::Hybrid
+    }
+
+    fn public(&self, alloc: Global, _kex: &str, random: &[u8]) -> Result<Vec<u8>, Memory> {
+        let mut share = Vec::new(alloc);
+        share.push(2)?;
+        share.extend_from_slice(random)?;
+        Ok(share)
+    }
+
+    #[tactic(auto, unfolding(crate::specs::Kem::kem_shared))]
+    fn shared(
+        &self,
+        alloc: Global,
+        _kex: &str,
+        random: &[u8],
+        peer: &[u8],
+    ) -> Result<Option<Vec<u8>>, Memory> {
+        if peer.len() != 33 || peer[0] != 3 {
+            return Ok(None);
+        }
+        let mut own = Vec::new(alloc);
+        own.push(2)?;
+        own.extend_from_slice(random)?;
+        let mut secret = Vec::from_slice(alloc, &peer[1..])?;
+        xor_with(&mut secret, random);
+        let shared = shared_number(&secret, &own, peer);
+        Ok(Some(Vec::from_slice(alloc, &shared)?))
+    }
+
+    #[tactic(auto, unfolding(crate::specs::Kem::kem_respond))]
+    fn respond(
+        &self,
+        alloc: Global,
+        _kex: &str,
+        random: &[u8],
+        peer: &[u8],
+    ) -> Result<Option<Response>, Memory> {
+        if peer.len() != 33 || peer[0] != 2 {
+            return Ok(None);
+        }
+        let mut masked = Vec::from_slice(alloc, random)?;
+        xor_with(&mut masked, &peer[1..]);
+        let mut share = Vec::new(alloc);
+        share.push(3)?;
+        share.extend_from_slice(&masked)?;
+        let shared = Vec::from_slice(alloc, &shared_number(random, peer, &share))?;
+        Ok(Some(Response { share, shared }))
+    }
+
+    fn digest(&self, alloc: Global, kex: &str, input: &[u8]) -> Result<Vec<u8>, Memory> {
+        LabSuite.digest(alloc, kex, input)
+    }
+
+    fn blob(&self, alloc: Global, alg: &str, secret: &[u8]) -> Result<Vec<u8>, Memory> {
+        LabSuite.blob(alloc, alg, secret)
+    }
+
+    fn sign(
+        &self,
+        alloc: Global,
+        alg: &str,
+        secret: &[u8],
+        input: &[u8],
+    ) -> Result<Vec<u8>, Memory> {
+        LabSuite.sign(alloc, alg, secret, input)
+    }
+
+    fn verify(
+        &self,
+        alloc: Global,
+        alg: &str,
+        blob: &[u8],
+        input: &[u8],
+        found: &[u8],
+    ) -> Result<bool, Memory> {
+        LabSuite.verify(alloc, alg, blob, input, found)
+    }
+
+    ghost lawful = { λ _. kem_lawful };
+}
+
+impl AgreeingSuite for KemSuite {
+    ghost agrees = { λ _. kem_agreeing };
+}
+
+/// The first four bytes as they are, and the others XOR the key stream.
+#[tactic(auto, unfolding(crate::specs::Kem::crossed))]
+fn crossed(alloc: Global, keys: &Keys, seq: u32, bytes: &[u8]) -> Result<Vec<u8>, Memory>
+    requires { length bytes.now < 2 ^ 32 }
+    ensures { IfOk result (λ v. v.items ≡ crossed keys.now seq bytes.now) }
+{
+    let mut crossed = Vec::from_slice(alloc, first_four(bytes))?;
+    crossed.extend_from_slice(&masked(alloc, keys, seq, behind_four(bytes))?)?;
+    Ok(crossed)
+}
+
+/// The first four bytes, or all where there are fewer.
+fn first_four(bytes: &[u8]) -> &[u8]
+    ensures { result.now ≡ take 4 bytes.now }
+{
+    if bytes.len() < 4 { bytes } else { &bytes[..4] }
+}
+
+/// What stands behind them.
+fn behind_four(bytes: &[u8]) -> &[u8]
+    ensures { result.now ≡ drop 4 bytes.now }
+{
+    if bytes.len() < 4 { &[] } else { &bytes[4..] }
+}
+
+/// The tag of a masked packet with this number.
+#[tactic(auto, unfolding(crate::specs::Kem::kem_tag))]
+fn tag(keys: &Keys, seq: u32, covered: &[u8]) -> [u8; 16]
+    ensures { result ≡ kem_tag keys.now seq covered.now }
+{
+    let mut hasher = Sha256::new();
+    hasher.update(keys.enc());
+    hasher.update(seq.to_be_bytes());
+    hasher.update(covered);
+    let digest = hasher.finalize();
+    let mut tag = [0; 16];
+    tag.copy_from_slice(&digest[..16]);
+    tag
+}
+
+/// The shared number.
+#[tactic(auto, unfolding(crate::specs::Kem::kem_number))]
+fn shared_number(random: &[u8], client: &[u8], server: &[u8]) -> [u8; 32]
+    ensures { result ≡ kem_number random.now client.now server.now }
+{
+    let mut hasher = Sha256::new();
+    hasher.update(random);
+    hasher.update(client);
+    hasher.update(server);
+    hasher.finalize()
+}

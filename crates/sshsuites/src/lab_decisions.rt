@@ -1,0 +1,201 @@
+//! Decisions for tests: which host keys are trusted, and who is let in by what.
+
+ghost use Rattle.std.specs.Prelude.{◌≡◌, ◌==◌, ◌++◌, ◌∷◌, ◌↔◌, [], ℕ, false, true, List, Contains, IfOk, OnErr, OnOk, string_bytes};
+ghost use Rattle.std.specs.List.{list_any};
+ghost use Rattle.std.specs.Str.{bytes_eq};
+ghost use Rattle.sshcore.specs.ConfigRules.{IsNamed};
+ghost use Rattle.sshcore.specs.ConfigView.{proving_of};
+ghost use Rattle.sshcore.specs.Party.{ProofData};
+ghost use Rattle.sshcore.specs.PartyView.{proof_of};
+ghost use Rattle.sshsuites.specs.LabRules.{LabRules, is_proof, lab_policy, lets_in, proof_by};
+ghost use Rattle.sshsuites.specs.LabRulesView.{allowance_of, own_proof};
+
+use crate::lab_suite::blob;
+use sshcore::{Credential, Decisions, Proof};
+use sshwire::Memory;
+use std::alloc::Global;
+use std::marker::Model;
+
+/// The decisions of a lab endpoint, by lists that are empty at first.
+///
+/// - A host key is trusted unless its algorithm is distrusted.
+/// - A request lets its user in exactly where user and proof were allowed together and its number
+///   isn't denied. The service doesn't matter.
+///
+/// It has no `Debug`: passwords are never printed.
+#[derive(Drop)]
+pub struct LabDecisions {
+    distrusted: Vec<String>,
+    allowed: Vec<Allowed>,
+    denied: Vec<u32>,
+    alloc: Global,
+}
+
+/// A user, and what lets the user in.
+#[derive(Drop)]
+struct Allowed {
+    user: String,
+    proof: OwnProof,
+}
+
+/// What is to be proved.
+#[derive(Drop)]
+enum OwnProof {
+    None,
+    Password(Vec<u8>),
+    Key { algorithm: String, blob: Vec<u8> },
+}
+
+impl Model for LabDecisions {
+    ghost use Rattle.std.specs.Prelude.{map, string_bytes};
+    ghost use Rattle.sshsuites.specs.LabRules.{LabRules};
+    ghost use Rattle.sshsuites.specs.LabRulesView.{allowance_of};
+
+    ghost Value = { LabRules };
+
+    ghost view = { λ d. record {
+      distrusted = map string_bytes d.distrusted.items;
+      allowed = map allowance_of d.allowed.items;
+      denied = d.denied.items;
+    } };
+}
+
+impl LabDecisions {
+    /// Every host key is trusted, and nobody is let in. Takes no memory.
+    pub fn new(alloc: Global) -> LabDecisions
+        ensures { result ≡ record { distrusted = []; allowed = []; denied = [] } }
+    {
+        LabDecisions {
+            distrusted: Vec::new(alloc),
+            allowed: Vec::new(alloc),
+            denied: Vec::new(alloc),
+            alloc,
+        }
+    }
+
+    /// Host keys of this algorithm aren't trusted. At `Memory` nothing is changed.
+    pub fn distrust(&mut self, algorithm: &str) -> Result<(), Memory>
+        ensures done { OnOk result (self.new ≡ record self.old { distrusted = self.old.distrusted ++ algorithm.now ∷ [] }) }
+        ensures memory { OnErr result (self.new ≡ self.old) }
+    {
+        let algorithm = String::from_str(self.alloc, algorithm)?;
+        self.distrusted.push(algorithm)?;
+        Ok(())
+    }
+
+    /// Whoever proves so to be this user is let in: without a proof, by the password, or by the key
+    /// whose blob the lab suite makes of the private key. The algorithm's name has at most 64 bytes. At
+    /// `Memory` nothing is changed.
+    pub fn allow(&mut self, user: &str, credential: &Credential) -> Result<(), Memory>
+        requires { IsNamed (proving_of credential.now) }
+        ensures done { OnOk result (self.new ≡ record self.old { allowed = self.old.allowed ++ record { user = user.now; proof = proof_by (proving_of credential.now) } ∷ [] }) }
+        ensures memory { OnErr result (self.new ≡ self.old) }
+    {
+        let proof = proof_by(self.alloc, credential)?;
+        let user = String::from_str(self.alloc, user)?;
+        self.allowed.push(Allowed { user, proof })?;
+        Ok(())
+    }
+
+    /// A request with this number, of requests counted from 1, lets nobody in. At `Memory` nothing is
+    /// changed.
+    pub fn deny(&mut self, request_number: u32) -> Result<(), Memory>
+        ensures done { OnOk result (self.new ≡ record self.old { denied = self.old.denied ++ request_number ∷ [] }) }
+        ensures memory { OnErr result (self.new ≡ self.old) }
+    {
+        self.denied.push(request_number)?;
+        Ok(())
+    }
+}
+
+impl Decisions for LabDecisions {
+    ghost use Rattle.sshsuites.specs.LabRules.{lab_policy};
+
+    ghost policy = { lab_policy };
+
+    fn host_key(&self, algorithm: &str, _blob: &[u8]) -> bool {
+        !is_distrusted(&self.distrusted, algorithm)
+    }
+
+    fn user(&self, request_number: u32, user: &str, _service: &str, proof: &Proof<'_>) -> bool {
+        let allowed = is_allowed(&self.allowed, user, proof);
+        let denied = is_denied(&self.denied, request_number);
+        allowed && !denied
+    }
+}
+
+/// What a request proves that is made so.
+fn proof_by(alloc: Global, credential: &Credential) -> Result<OwnProof, Memory>
+    requires { IsNamed (proving_of credential.now) }
+    ensures { IfOk result (λ own. own_proof own ≡ proof_by (proving_of credential.now)) }
+{
+    match credential {
+        Credential::None => Ok(OwnProof::None),
+        Credential::Password(password) => {
+            Ok(OwnProof::Password(Vec::from_slice(alloc, password)?))
+        }
+        Credential::PublicKey {
+            algorithm,
+            private_key,
+        } => Ok(OwnProof::Key {
+            algorithm: String::from_str(alloc, algorithm)?,
+            blob: blob(alloc, algorithm, private_key)?,
+        }),
+    }
+}
+
+/// The law of these decisions: no is said exactly to the host keys of distrusted algorithms, and yes
+/// exactly to the requests whose user and proof are allowed together and whose number isn't denied.
+pub fn lab_decisions_law()
+    ensures host_key { (rules : LabRules) (algorithm blob : List ℕ) → ((lab_policy rules).host_key algorithm blob ≡ false)
+        ↔ Contains rules.distrusted algorithm }
+    ensures user { (rules : LabRules) (number : ℕ) (user service : List ℕ) (proof : ProofData)
+        → ((lab_policy rules).user number user service proof ≡ true)
+        ↔ (Contains rules.allowed (record { user = user; proof = proof }) × (Contains rules.denied number → ⊥)) }
+{}
+
+/// Whether the algorithm is one of these.
+fn is_distrusted(names: &[String], algorithm: &str) -> bool
+    ensures { result ≡ list_any (λ name. bytes_eq (string_bytes name) algorithm.now) names.now }
+{
+    names.iter().any(|name| name.as_str() == algorithm)
+}
+
+/// Whether the number is one of these.
+fn is_denied(numbers: &[u32], request_number: u32) -> bool
+    ensures { result ≡ list_any (λ denied. denied == request_number) numbers.now }
+{
+    numbers.iter().any(|denied| *denied == request_number)
+}
+
+/// Whether user and proof are allowed together.
+fn is_allowed(all: &[Allowed], user: &str, proof: &Proof<'_>) -> bool
+    ensures { result ≡ list_any (λ allowed. lets_in (allowance_of allowed) user.now (proof_of proof.now)) all.now }
+{
+    all.iter().any(|allowed| lets_in(allowed, user, proof))
+}
+
+/// Whether user and proof are these.
+fn lets_in(allowed: &Allowed, user: &str, proof: &Proof<'_>) -> bool
+    ensures { result ≡ lets_in (allowance_of allowed.now) user.now (proof_of proof.now) }
+{
+    allowed.user.as_str() == user && is_proof(&allowed.proof, proof)
+}
+
+/// Whether the proof is this one.
+fn is_proof(own: &OwnProof, proof: &Proof<'_>) -> bool
+    ensures { result ≡ is_proof (own_proof own.now) (proof_of proof.now) }
+{
+    match (own, proof) {
+        (OwnProof::None, Proof::None) => true,
+        (OwnProof::Password(own), Proof::Password(password)) => own.as_slice() == *password,
+        (
+            OwnProof::Key {
+                algorithm: own,
+                blob: own_blob,
+            },
+            Proof::Key { algorithm, blob },
+        ) => own.as_str() == *algorithm && own_blob.as_slice() == *blob,
+        _ => false,
+    }
+}
