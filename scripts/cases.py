@@ -62,8 +62,6 @@ def value_of(text, values):
         return clear_packet(bytes.fromhex(rest)).hex()
     if first == "byte":
         return "%02x" % int(rest)
-    if first == "ascii":
-        return rest.encode().hex()
     raise Bad("nothing is {%s}" % text)
 
 
@@ -94,7 +92,10 @@ def bytes_of(text):
         if escape not in PLAIN:
             raise Bad("no escape: \\%s" % escape.decode())
         return PLAIN[escape]
-    return ESCAPED.sub(byte, text.encode())
+    raw = text.encode()
+    if b"\\\\" not in raw:
+        raw = raw.replace(b"\\n", b"\n")  # what long texts are made of, at once
+    return ESCAPED.sub(byte, raw)
 
 
 def numbers(fields):
