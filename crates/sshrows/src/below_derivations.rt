@@ -1,5 +1,7 @@
 //! Rows of what is hashed, what is signed, and keys.
 
+ghost use Rattle.std.specs.Prelude.{◌<◌, ◌^◌, length};
+
 use crate::below_texts::text_with;
 use crate::names::Names;
 use crate::row::Line;
@@ -10,9 +12,6 @@ use sshneg::{Exchange, KeyMaterial, Role, exchange_input, keys_of, signed_reques
 use sshsuites::LabSuite;
 use sshwire::as_name;
 use std::alloc::Global;
-
-/// More bytes than the terms of these acts have.
-const MANY: usize = 100000;
 
 /// Bytes that terms have named by numbers.
 type Parts = Vec<Vec<u8>>;
@@ -46,7 +45,7 @@ fn add_part(
     terms: &str,
 ) -> Result<(), Stop> {
     let bytes = bytes_of(alloc, names, line, terms)?;
-    if bytes.len() > MANY {
+    if bytes.len() > 1000000 {
         return wrong(alloc, line, "term", "bytes", "too many bytes");
     }
     parts.push(bytes)?;
@@ -58,7 +57,7 @@ fn part(parts: &Parts, number: usize) -> &[u8]
     ensures { length result.now < 2 ^ 20 }
 {
     match parts.get(number) {
-        Some(part) if part.len() <= MANY => part,
+        Some(part) if part.len() < 1048576 => part,
         _ => &[],
     }
 }
@@ -75,7 +74,13 @@ fn judge(
     match word {
         "exchange" => {
             let wanted = bytes_of(alloc, names, line, rest)?;
-            same_bytes(alloc, line, "exchange", &wanted, &exchange_of(alloc, parts)?)
+            same_bytes(
+                alloc,
+                line,
+                "exchange",
+                &wanted,
+                &exchange_of(alloc, parts)?,
+            )
         }
         "signed" => {
             let wanted = bytes_of(alloc, names, line, rest)?;
@@ -142,9 +147,11 @@ fn text_of_keys(
     mac: &str,
 ) -> Result<String, Stop> {
     let kex = as_name(part(parts, 0));
-    let (Some(kex), Some(cipher), Some(mac)) =
-        (kex, as_name(cipher.as_bytes()), as_name(mac.as_bytes()))
-    else {
+    let (Some(kex), Some(cipher), Some(mac)) = (
+        kex,
+        as_name(cipher.as_bytes()),
+        as_name(mac.as_bytes()),
+    ) else {
         return wrong(alloc, line, "keys", "three names", "none");
     };
     let material = KeyMaterial {

@@ -96,17 +96,24 @@ fn judge_written(
     }
     let mut out = Vec::from_slice(alloc, BEFORE)?;
     write(message, &mut out)?;
-    same_bytes(alloc, line, "before what is written", BEFORE, out.get(..BEFORE.len()).unwrap_or(&[]))?;
-    same_bytes(alloc, line, "written", wanted, out.get(BEFORE.len()..).unwrap_or(&[]))
+    same_bytes(
+        alloc,
+        line,
+        "before what is written",
+        BEFORE,
+        out.get(..BEFORE.len()).unwrap_or(&[]),
+    )?;
+    same_bytes(
+        alloc,
+        line,
+        "written",
+        wanted,
+        out.get(BEFORE.len()..).unwrap_or(&[]),
+    )
 }
 
 /// Each beginning that is shorter has to be refused, and the payload with a byte behind it.
-fn judge_cuts(
-    alloc: Global,
-    line: &Line<'_>,
-    payload: &[u8],
-    form: ShareForm,
-) -> Result<(), Stop> {
+fn judge_cuts(alloc: Global, line: &Line<'_>, payload: &[u8], form: ShareForm) -> Result<(), Stop> {
     for len in 0..payload.len() {
         is_malformed(alloc, line, payload.get(..len).unwrap_or(&[]), form)?;
     }
@@ -116,12 +123,7 @@ fn judge_cuts(
 }
 
 /// The bytes have to be refused as a malformed message of their number.
-fn is_malformed(
-    alloc: Global,
-    line: &Line<'_>,
-    bytes: &[u8],
-    form: ShareForm,
-) -> Result<(), Stop> {
+fn is_malformed(alloc: Global, line: &Line<'_>, bytes: &[u8], form: ShareForm) -> Result<(), Stop> {
     let number = bytes.first().copied().unwrap_or(0);
     match read_exchange(alloc, bytes, form).err() {
         Some(MsgFault::Malformed(found)) if found == number => Ok(()),

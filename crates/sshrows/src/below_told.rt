@@ -90,7 +90,12 @@ fn text_of_method(alloc: Global, words: &str, method: &Method<'_>) -> Result<Str
             key,
             signature,
         } => joined(alloc, words, "publickey", &[algorithm, key, signature]),
-        Method::PublicKeyQuery { algorithm, key } => joined(alloc, words, "query", &[algorithm, key]),
+        Method::PublicKeyQuery { algorithm, key } => joined(
+            alloc,
+            words,
+            "query",
+            &[algorithm, key],
+        ),
         Method::Other(other) => joined(alloc, words, "other", &[other.name(), other.fields()]),
     }
 }

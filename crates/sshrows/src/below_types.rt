@@ -12,9 +12,6 @@ use sshwire::{
 };
 use std::alloc::Global;
 
-/// More bytes than a term of these acts has.
-const MANY: usize = 100000;
-
 /// Judges a reader of these bytes by calls.
 pub(crate) fn judge_reading(alloc: Global, bytes: &[u8], lines: &[Line<'_>]) -> Result<(), Stop> {
     let mut reader = Reader::new(bytes);
@@ -117,11 +114,7 @@ fn told_names(alloc: Global, found: Result<NameList, WireFault>) -> Result<Strin
 }
 
 /// Puts values by calls, and judges what was put: `says TERMS`.
-pub(crate) fn judge_putting(
-    alloc: Global,
-    names: &Names,
-    lines: &[Line<'_>],
-) -> Result<(), Stop> {
+pub(crate) fn judge_putting(alloc: Global, names: &Names, lines: &[Line<'_>]) -> Result<(), Stop> {
     let mut out = Vec::new(alloc);
     for line in lines {
         put(alloc, names, line, &mut out)?;
@@ -150,7 +143,7 @@ fn put_bytes(
     bytes: &[u8],
     out: &mut Vec<u8>,
 ) -> Result<(), Stop> {
-    if bytes.len() > MANY {
+    if bytes.len() > 1000000 {
         return wrong(alloc, line, "term", "bytes", "too many bytes");
     }
     match call {
@@ -167,7 +160,7 @@ fn put_bytes(
 
 /// Puts the list of this body.
 fn put_list(alloc: Global, line: &Line<'_>, body: &[u8], out: &mut Vec<u8>) -> Result<(), Stop> {
-    if body.len() > MANY {
+    if body.len() > 1000000 {
         return wrong(alloc, line, "term", "bytes", "too many bytes");
     }
     match NameList::parse(alloc, body) {
@@ -177,11 +170,7 @@ fn put_list(alloc: Global, line: &Line<'_>, body: &[u8], out: &mut Vec<u8>) -> R
 }
 
 /// Judges bytes by themselves, a line each: `KIND ANSWER TERMS`.
-pub(crate) fn judge_parsing(
-    alloc: Global,
-    names: &Names,
-    lines: &[Line<'_>],
-) -> Result<(), Stop> {
+pub(crate) fn judge_parsing(alloc: Global, names: &Names, lines: &[Line<'_>]) -> Result<(), Stop> {
     for line in lines {
         let (kind, rest) = line.text.split_once(' ').unwrap_or((line.text, ""));
         let (wanted, terms) = rest.split_once(' ').unwrap_or((rest, "-"));
@@ -193,13 +182,8 @@ pub(crate) fn judge_parsing(
 }
 
 /// `yes` where the bytes are of this kind, else `no` or the code of the refusal.
-fn parsed(
-    alloc: Global,
-    line: &Line<'_>,
-    kind: &str,
-    bytes: &[u8],
-) -> Result<&'static str, Stop> {
-    if bytes.len() > MANY {
+fn parsed(alloc: Global, line: &Line<'_>, kind: &str, bytes: &[u8]) -> Result<&'static str, Stop> {
+    if bytes.len() > 1000000 {
         return wrong(alloc, line, "term", "bytes", "too many bytes");
     }
     match kind {
