@@ -16,76 +16,170 @@ const ROUNDS: u32 = 4;
 /// What padding is made of, for as long as the program runs.
 const SEED: &[u8] = b"another seed";
 
+/// An endpoint of the lab.
+type LabEndpoint<'a> = Endpoint<'a, LabSuite, LabDecisions>;
+
 fn main(rt: HostRuntime) -> anyhow::Result<()> {
     let alloc = rt.alloc();
-    let (client, server) = authenticate(alloc)?;
+    let theirs = server_config(alloc)?;
+    let (client, server) = connect(alloc, &theirs)?;
+    tell(&rt, &client, &server)?;
+    carry(
+        &rt,
+        "server",
+        b"hello, server",
+        &client.outgoing,
+        server.incoming,
+    )?;
+    carry(
+        &rt,
+        "client",
+        b"hello, client",
+        &server.outgoing,
+        client.incoming,
+    )
+}
+
+/// The client's config: the lab's, with one attempt, by `al`, who needs no proof.
+fn client_config(alloc: Global) -> anyhow::Result<Box<ClientConfig>> {
+    let mut parts = Box::new(alloc, lab_client_parts(alloc)?)?;
+    parts.plan.push(attempt(alloc)?)?;
+    let config = ClientConfig::new(alloc, Box::into_inner(parts))?;
+    Ok(Box::new(alloc, config)?)
+}
+
+/// The one attempt.
+fn attempt(alloc: Global) -> anyhow::Result<Attempt> {
+    let user = String::from_str(alloc, "al")?;
+    let service = String::from_str(alloc, "ssh-connection")?;
+    Ok(Attempt {
+        user,
+        service,
+        credential: Credential::None,
+    })
+}
+
+/// The server's config.
+fn server_config(alloc: Global) -> anyhow::Result<Box<ServerConfig>> {
+    let config = ServerConfig::new(alloc, lab_server_parts(alloc)?)?;
+    Ok(Box::new(alloc, config)?)
+}
+
+/// Decisions that let `al` in, and trust the lab's host key.
+fn decisions(alloc: Global) -> anyhow::Result<LabDecisions> {
+    let mut decisions = LabDecisions::new(alloc);
+    decisions.allow("al", &Credential::None)?;
+    Ok(decisions)
+}
+
+/// What both sides hand over once the user is authenticated.
+fn connect(alloc: Global, theirs: &ServerConfig) -> anyhow::Result<(Session, Session)> {
+    let ours = client_config(alloc)?;
+    let decisions = decisions(alloc)?;
+    authenticate(alloc, &ours, theirs, &decisions)
+}
+
+/// The same with these configs.
+fn authenticate(
+    alloc: Global,
+    ours: &ClientConfig,
+    theirs: &ServerConfig,
+    decisions: &LabDecisions,
+) -> anyhow::Result<(Session, Session)> {
+    let mut to_server = Vec::new(alloc);
+    let mut client = Endpoint::client(alloc, ours, &LabSuite, decisions, &mut to_server)?;
+    let server = serve(alloc, theirs, decisions, &mut client, &mut to_server)?;
+    match client.into_session() {
+        Some(client) => Ok((client, server)),
+        None => bail!("not authenticated"),
+    }
+}
+
+/// What a server hands over that was made for this client.
+fn serve(
+    alloc: Global,
+    config: &ServerConfig,
+    decisions: &LabDecisions,
+    client: &mut LabEndpoint<'_>,
+    to_server: &mut Vec<u8>,
+) -> anyhow::Result<Session> {
+    let mut to_client = Vec::new(alloc);
+    let mut server = Endpoint::server(alloc, config, &LabSuite, decisions, &mut to_client)?;
+    talk(client, &mut server, to_server, &mut to_client)?;
+    match server.into_session() {
+        Some(session) => Ok(session),
+        None => bail!("not authenticated"),
+    }
+}
+
+/// Gives each side what the other has said, in turns.
+fn talk(
+    client: &mut LabEndpoint<'_>,
+    server: &mut LabEndpoint<'_>,
+    to_server: &mut Vec<u8>,
+    to_client: &mut Vec<u8>,
+) -> anyhow::Result<()> {
+    for _ in 0..ROUNDS {
+        hear(server, to_server, to_client)?;
+        hear(client, to_client, to_server)?;
+    }
+    Ok(())
+}
+
+/// Gives a side what waits for it.
+fn hear(
+    side: &mut LabEndpoint<'_>,
+    waiting: &mut Vec<u8>,
+    out: &mut Vec<u8>,
+) -> anyhow::Result<()> {
+    side.feed(waiting, out)?;
+    waiting.clear();
+    Ok(())
+}
+
+/// Says what both sides agreed on.
+fn tell(rt: &HostRuntime, client: &Session, server: &Session) -> anyhow::Result<()> {
     for (side, agreed) in [("client", &client.agreed), ("server", &server.agreed)] {
         let (user, service) = (&agreed.user, &agreed.service);
         println!(rt; "{side} authenticated {user} {service}")?;
     }
     let same = client.agreed.session == server.agreed.session;
     println!(rt; "session identifiers equal {same}")?;
-    let heard = carry(alloc, b"hello, server", &client.outgoing, server.incoming)?;
-    println!(rt; "server read {heard}")?;
-    let heard = carry(alloc, b"hello, client", &server.outgoing, client.incoming)?;
-    println!(rt; "client read {heard}")?;
     Ok(())
 }
 
-/// What both sides hand over once `al`, who needs no proof, is authenticated.
-fn authenticate(alloc: Global) -> anyhow::Result<(Session, Session)> {
-    let mut parts = lab_client_parts(alloc)?;
-    parts.plan.push(Attempt {
-        user: String::from_str(alloc, "al")?,
-        service: String::from_str(alloc, "ssh-connection")?,
-        credential: Credential::None,
-    })?;
-    let ours = ClientConfig::new(alloc, parts)?;
-    let theirs = ServerConfig::new(alloc, lab_server_parts(alloc)?)?;
-    let mut decisions = LabDecisions::new(alloc);
-    decisions.allow("al", &Credential::None)?;
-
-    let (mut to_server, mut to_client) = (Vec::new(alloc), Vec::new(alloc));
-    let mut client = Endpoint::client(alloc, &ours, &LabSuite, &decisions, &mut to_server)?;
-    let mut server = Endpoint::server(alloc, &theirs, &LabSuite, &decisions, &mut to_client)?;
-    talk(&mut client, &mut server, &mut to_server, &mut to_client)?;
-    match (client.into_session(), server.into_session()) {
-        (Some(client), Some(server)) => Ok((client, server)),
-        _ => bail!("not authenticated"),
-    }
-}
-
-/// Gives each side what the other has said, in turns.
-fn talk(
-    client: &mut Endpoint<'_, LabSuite, LabDecisions>,
-    server: &mut Endpoint<'_, LabSuite, LabDecisions>,
-    to_server: &mut Vec<u8>,
-    to_client: &mut Vec<u8>,
-) -> anyhow::Result<()> {
-    for _ in 0..ROUNDS {
-        server.feed(to_server, to_client)?;
-        to_server.clear();
-        client.feed(to_client, to_server)?;
-        to_client.clear();
-    }
-    Ok(())
-}
-
-/// Seals a message on the one side's way out, and reads it on the other's way in.
+/// Seals a message on the one side's way out, and says what the other reads on its way in.
 fn carry(
-    alloc: Global,
+    rt: &HostRuntime,
+    reader: &str,
     message: &[u8],
     outgoing: &Direction,
     incoming: Direction,
-) -> anyhow::Result<String>
+) -> anyhow::Result<()>
+    requires some { 0 < length message.now }
+    requires short { length message.now ≤ 32768 }
+{
+    let packet = seal(rt.alloc(), message, outgoing)?;
+    let heard = open(rt.alloc(), &packet, incoming)?;
+    println!(rt; "{reader} read {heard}")?;
+    Ok(())
+}
+
+/// The packet of a message.
+fn seal(alloc: Global, message: &[u8], outgoing: &Direction) -> anyhow::Result<Vec<u8>>
     requires some { 0 < length message.now }
     requires short { length message.now ≤ 32768 }
 {
     let (keys, number) = (&outgoing.keys, outgoing.sequence_number);
     let mut packet = Vec::new(alloc);
     write_sealed(alloc, &LabSuite, keys, number, message, SEED, &mut packet)?;
+    Ok(packet)
+}
+
+/// The message of a packet.
+fn open(alloc: Global, packet: &[u8], incoming: Direction) -> anyhow::Result<String> {
     let mut reader = PacketReader::with_keys(alloc, incoming.keys, incoming.sequence_number);
-    match reader.next(&LabSuite, &packet)? {
+    match reader.next(&LabSuite, packet)? {
         PacketStep::Payload { payload, .. } => {
             let text = str::from_utf8(payload)?;
             Ok(String::from_str(alloc, text)?)

@@ -1,5 +1,6 @@
 //! The acts of rows.
 
+use crate::configs::judge_config;
 use crate::endpoints::{Subject, talk};
 use crate::names::Names;
 use crate::row::Line;
@@ -13,7 +14,7 @@ use std::alloc::Global;
 
 /// Decisions that say yes to whatever they are asked.
 #[derive(Drop)]
-struct Generous;
+pub(crate) struct Generous;
 
 impl Decisions for Generous {
     ghost use Rattle.std.specs.Prelude.{true};
@@ -45,6 +46,9 @@ pub(crate) fn act(
         return wrong(alloc, row, "row", "a scenario", "too many bytes");
     }
     let (word, role) = line.text.split_once(' ').unwrap_or((line.text, ""));
+    if word == "config" {
+        return judge_config(alloc, names, line, role, rest, piece_len);
+    }
     match Scenario::parse(alloc, text) {
         Ok(scenario) => {
             let scenario = Box::new(alloc, scenario)?;

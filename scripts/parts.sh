@@ -1,0 +1,75 @@
+# For the scripts that run others as parts and add up their counts; `source` it.
+passed=0 failed=0 table=()
+log=$(mktemp)
+trap 'rm -f "$log"' EXIT
+
+# A number of seconds as minutes and seconds.
+clock() { printf '%02d:%02d' $(($1 / 60)) $(($1 % 60)); }
+
+# Sets `worked` to what processors did so far for all that has ended below this shell, in seconds. (In a shell of
+# its own, as in a pipeline, `times` would tell nothing.)
+look_at_processors() {
+  times >"$log.times"
+  worked=$(tail -n 1 "$log.times" | tr 'ms' '  ' | awk '{ printf "%d", $1 * 60 + $2 + $3 * 60 + $4 }')
+  rm "$log.times"
+}
+
+# The memory that can still be had, in MB: by the machine, and by the control group's limit where it has one.
+free_memory() {
+  local free limit=/sys/fs/cgroup/memory.max held
+  free=$(awk '/^MemAvailable:/ { print int($2 / 1024) }' /proc/meminfo)
+  if [ -r "$limit" ] && [ "$(cat "$limit")" != max ]; then
+    held=$(awk '/^anon / { print $2 }' /sys/fs/cgroup/memory.stat)
+    limit=$((($(cat "$limit") - held) / 1048576))
+    [ "$limit" -ge "$free" ] || free=$limit
+  fi
+  echo "$free"
+}
+
+# Puts the time so far before each line.
+with_clock() {
+  local line
+  while IFS= read -r line || [ -n "$line" ]; do
+    printf '[%02d:%02d] %s\n' $((SECONDS / 60)) $((SECONDS % 60)) "$line"
+  done
+}
+
+# Runs a command whose last line is 'N passed, M failed', shows what it prints, and adds its counts. One that
+# ends without that line, or with a bad status and nothing failed, counts as one failed.
+part() {
+  local status=0 counts='^([0-9]+) passed, ([0-9]+) failed$' last begun=$SECONDS before
+  look_at_processors
+  before=$worked
+  echo "== $*"
+  { "$@" || echo "$?" >"$log.status"; } | tee "$log" | with_clock
+  if [ -e "$log.status" ]; then
+    status=$(cat "$log.status")
+    rm "$log.status"
+  fi
+  last=$(tail -n 1 "$log")
+  if [[ $last =~ $counts ]]; then
+    passed=$((passed + BASH_REMATCH[1]))
+    failed=$((failed + BASH_REMATCH[2]))
+    [ "$status" -eq 0 ] || [ "${BASH_REMATCH[2]}" -ne 0 ] || failed=$((failed + 1))
+  else
+    last="ended with status $status and without its counts"
+    echo "check: $* $last"
+    failed=$((failed + 1))
+  fi
+  look_at_processors
+  table+=("$(line_of "$*" $((SECONDS - begun)) $((worked - before)) "$last")")
+  echo "== $* took $(clock $((SECONDS - begun)))"
+}
+
+# A line of the table: a part, its time by the wall and of processors, in minutes and seconds, and its counts.
+line_of() { printf '%-32s %9s %9s   %s' "$1" "$(clock "$2")" "$(clock "$3")" "$4"; }
+
+# Prints the times of all parts, then the counts, and ends.
+sum_up() {
+  look_at_processors
+  printf '\n%-32s %9s %9s   %s\n' part time processor counts
+  printf '%s\n' "${table[@]}" "$(line_of all $SECONDS "$worked" '')"
+  echo "$passed passed, $failed failed"
+  [ "$failed" -eq 0 ] || exit 1
+  exit 0
+}
