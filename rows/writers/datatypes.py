@@ -5,7 +5,7 @@ MPINTS = [b"", bytes.fromhex("09a378f9b2e332a7"), b"\x00\x80", b"\xed\xcc", byte
           b"\x00\xff", b"\x80", b"\xff\x7f"]
 NO_MPINTS = [b"\x00\x7f", b"\x00", b"\xff\x80", b"\x00\x00", b"\x00\x01", b"\xff\xff", b"\x00\x00\x80"]
 LISTS = ["", "zlib", "zlib,none", "a,b,a", "x" * 64, "!", "~", "a" + ",a" * 99]
-NO_LISTS = [",a", "a,", "a,,b", ",", "a b", "a\x7f", " ", "\x00", "a,\x1f", "x" * 65, "a," + "x" * 65]
+NO_LISTS = [",a", "a,", "a,,b", ",", "a b", "a\x7f", " ", "\x00", "a,\x1f", "a,\xc3\xa9", "x" * 65, "a," + "x" * 65]
 
 
 def rows(file):
