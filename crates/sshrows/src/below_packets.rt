@@ -200,28 +200,33 @@ fn judge_written<S: Suite>(
     word: &str,
     rest: &str,
 ) -> Result<(), Stop> {
+    if word == "clear" {
+        return judge_packet(alloc, names, suite, line, None, rest);
+    }
+    let (keys, rest) = keys_of(alloc, names, line, rest)?;
+    judge_packet(alloc, names, suite, line, Some(&keys), rest)
+}
+
+/// Judges what is written with these keys, or in clear: `NUMBER SEED PAYLOAD PACKET`.
+fn judge_packet<S: Suite>(
+    alloc: Global,
+    names: &Names,
+    suite: &S,
+    line: &Line<'_>,
+    keys: Option<&Keys>,
+    words: &str,
+) -> Result<(), Stop> {
     let mut out = Vec::from_slice(alloc, BEFORE)?;
-    let wanted = if word == "clear" {
-        put_packet(alloc, names, suite, line, None, rest, &mut out)?
-    } else {
-        let (keys, rest) = keys_of(alloc, names, line, rest)?;
-        put_packet(alloc, names, suite, line, Some(&keys), rest, &mut out)?
-    };
+    let wanted = put_packet(alloc, names, suite, line, keys, words, &mut out)?;
     let wanted = bytes_of(alloc, names, line, wanted)?;
-    same_bytes(
-        alloc,
-        line,
-        "before what is written",
-        BEFORE,
-        out.get(..BEFORE.len()).unwrap_or(&[]),
-    )?;
-    same_bytes(
-        alloc,
-        line,
-        "written",
-        &wanted,
-        out.get(BEFORE.len()..).unwrap_or(&[]),
-    )
+    stands_behind(alloc, line, &wanted, &out)
+}
+
+/// The bytes have to stand behind what stood there before, and nothing else.
+fn stands_behind(alloc: Global, line: &Line<'_>, wanted: &[u8], out: &[u8]) -> Result<(), Stop> {
+    let (front, written) = out.split_at(BEFORE.len().min(out.len()));
+    same_bytes(alloc, line, "before what is written", BEFORE, front)?;
+    same_bytes(alloc, line, "written", wanted, written)
 }
 
 /// Writes the packet of `NUMBER SEED PAYLOAD`, and answers what stands behind them.

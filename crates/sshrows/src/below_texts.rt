@@ -21,11 +21,13 @@ pub(crate) fn put_digits(alloc: Global, text: &mut String, bytes: &[u8]) -> Resu
 /// Appends a blank, `'`, and the names with commas between.
 pub(crate) fn put_names(text: &mut String, list: &NameList) -> Result<(), Stop> {
     text.push_str(" '")?;
-    let mut between = "";
+    let mut is_first = true;
     for name in list.names() {
-        text.push_str(between)?;
+        if !is_first {
+            text.push_str(",")?;
+        }
         text.push_str(name)?;
-        between = ",";
+        is_first = false;
     }
     Ok(())
 }
