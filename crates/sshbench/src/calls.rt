@@ -148,9 +148,17 @@ impl Calls {
     /// The hashes of the keys of both directions.
     fn derive(&self, alloc: Global) -> Result<(), Fault> {
         for part in self.parts.iter() {
-            holds(digest(alloc, &part.input)?.starts_with(&part.wanted))?;
+            part.make(alloc)?;
         }
         Ok(())
+    }
+}
+
+impl Part {
+    /// The call for it.
+    fn make(&self, alloc: Global) -> Result<(), Fault> {
+        let hash = digest(alloc, &self.input)?;
+        holds(hash.starts_with(&self.wanted))
     }
 }
 
@@ -215,17 +223,35 @@ fn put_key(
 ) -> Result<(), Fault> {
     let mut before: usize = 0;
     for wanted in key.chunks(HASH_LEN) {
-        let mut input = Vec::new(alloc);
-        put_string(&mut input, &body_of(0x22))?;
-        input.extend_from_slice(hash)?;
-        if before == 0 {
-            input.extend_from_slice(&[letter])?;
-            input.extend_from_slice(hash)?;
-        }
-        input.extend_from_slice(key.get(..before).unwrap_or(&[]))?;
-        let wanted = wanted.to_vec(alloc)?;
-        parts.push(Part { input, wanted })?;
+        let start = key.get(..before).unwrap_or(&[]);
+        parts.push(part_of(alloc, hash, letter, start, wanted)?)?;
         before = before.saturating_add(HASH_LEN);
     }
+    Ok(())
+}
+
+/// The hash that these bytes of a key are made of, which follow those at its start.
+fn part_of(
+    alloc: Global,
+    hash: &[u8],
+    letter: u8,
+    start: &[u8],
+    wanted: &[u8],
+) -> Result<Part, Fault> {
+    let mut input = Vec::new(alloc);
+    put_input(&mut input, hash, letter, start)?;
+    let wanted = wanted.to_vec(alloc)?;
+    Ok(Part { input, wanted })
+}
+
+/// Appends what it is made of.
+fn put_input(input: &mut Vec<u8>, hash: &[u8], letter: u8, start: &[u8]) -> Result<(), Fault> {
+    put_string(input, &body_of(0x22))?;
+    input.extend_from_slice(hash)?;
+    if start.is_empty() {
+        input.push(letter)?;
+        input.extend_from_slice(hash)?;
+    }
+    input.extend_from_slice(start)?;
     Ok(())
 }

@@ -1,10 +1,10 @@
 //! A choice over lists of 50 names of 19 bytes, where the last of each is the one that both have.
 
 use crate::fault::Fault;
+use crate::kexinit::payload_of;
 use sshmsg::{KexInit, Message, read};
 use sshneg::{Chosen, choose};
 use sshsuites::LabSuite;
-use sshwire::{put_boolean, put_string, put_u32};
 use std::alloc::Global;
 use std::fmt::Write;
 
@@ -30,15 +30,21 @@ impl Payloads {
 /// The KEXINITs of both sides.
 #[derive(Drop)]
 pub(crate) struct Offers<'a> {
-    client: Message<'a>,
-    server: Message<'a>,
+    client: Box<Message<'a>>,
+    server: Box<Message<'a>>,
+}
+
+/// The message of a payload.
+fn offer(alloc: Global, payload: &[u8]) -> Result<Box<Message<'_>>, Fault> {
+    let message = read(alloc, payload)?;
+    Ok(Box::new(alloc, message)?)
 }
 
 impl<'a> Offers<'a> {
     pub(crate) fn new(alloc: Global, payloads: &'a Payloads) -> Result<Offers<'a>, Fault> {
         Ok(Offers {
-            client: read(alloc, &payloads.client)?,
-            server: read(alloc, &payloads.server)?,
+            client: offer(alloc, &payloads.client)?,
+            server: offer(alloc, &payloads.server)?,
         })
     }
 
@@ -54,7 +60,7 @@ impl<'a> Offers<'a> {
             compression_client_to_server: LAST,
             compression_server_to_client: LAST,
         };
-        match (&self.client, &self.server) {
+        match (&*self.client, &*self.server) {
             (Message::KexInit(client), Message::KexInit(server))
                 if choose(client, server, &LabSuite) == Ok(wanted) => { Ok(()) }
             _ => Err(Fault::Otherwise),
@@ -67,8 +73,8 @@ impl<'a> Offers<'a> {
         let mut equal = 0u32;
         for _ in 0..8 {
             if let (Message::KexInit(client), Message::KexInit(server)) = (
-                &self.client,
-                &self.server,
+                &*self.client,
+                &*self.server,
             ) {
                 equal = equal.saturating_add(count_equal(client, server));
             }
@@ -100,21 +106,8 @@ fn count_equal(client: &KexInit<'_>, server: &KexInit<'_>) -> u32 {
 
 /// The payload of a KEXINIT whose eight lists are 49 names from this number on, and the one that both sides have.
 fn kexinit(alloc: Global, first: u32) -> Result<Vec<u8>, Fault> {
-    let body = body_of(alloc, first)?;
-    let names = body.as_bytes();
-    if names.len() > 1000 {
-        return Err(Fault::Otherwise);
-    }
-    let mut payload = b"\x14cookie of 16 byt".to_vec(alloc)?;
-    for _ in 0..8 {
-        put_string(&mut payload, names)?;
-    }
-    for _ in 0..2 {
-        put_string(&mut payload, b"")?;
-    }
-    put_boolean(&mut payload, false)?;
-    put_u32(&mut payload, 0)?;
-    Ok(payload)
+    let names = body_of(alloc, first)?;
+    payload_of(alloc, names.as_bytes(), b"")
 }
 
 /// The body of a list of 49 names from this number on, and the one that both sides have.

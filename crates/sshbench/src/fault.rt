@@ -1,44 +1,49 @@
 //! Why there is no answer.
 
 use sshcore::ConfigFault;
-use sshlab::{ScenarioFault, ToolFault};
 use sshmsg::MsgFault;
 use sshpacket::PacketFault;
 use sshwire::Memory;
 use std::alloc::{AllocError, AllocFailed};
-use std::io;
-use thiserror::Error;
+use std::{fmt, io};
 
 /// Why a row isn't checked or timed.
-#[derive(Debug, Drop, Error)]
+#[derive(Clone, Copy)]
 pub(crate) enum Fault {
     /// Other words than none, `time`, and `stream` with a number.
-    #[error("bad words")]
     Words,
     /// A growth was refused.
-    #[error("out of memory")]
     Memory,
     /// A payload of this program's own wasn't read.
-    #[error("not read: {0}")]
-    Read(MsgFault),
+    Read,
     /// A stream of packets of this program's own wasn't read.
-    #[error("not read: {0}")]
-    Packet(PacketFault),
+    Packet,
     /// The lab's parts were refused.
-    #[error("no config: {0}")]
-    Config(ConfigFault),
+    Config,
     /// A scenario of this program's own wasn't read.
-    #[error("not read: {0}")]
-    Scenario(ScenarioFault),
+    Scenario,
     /// A recording of this program's own wasn't told.
-    #[error("not told: {0}")]
-    Recording(ToolFault),
+    Recording,
     /// What came out isn't what had to, such as what was written and what was read.
-    #[error("written otherwise than read")]
     Otherwise,
     /// The clock, the words or the output failed.
-    #[error("{0}")]
-    System(io::Error),
+    System,
+}
+
+impl fmt::Display for Fault {
+    fn fmt<W: fmt::Write>(&self, f: &mut fmt::Formatter<W>) -> fmt::Result {
+        f.write_str(match self {
+            Fault::Words => "bad words",
+            Fault::Memory => "out of memory",
+            Fault::Read => "a message wasn't read",
+            Fault::Packet => "a packet wasn't read",
+            Fault::Config => "no config",
+            Fault::Scenario => "a scenario wasn't read",
+            Fault::Recording => "a recording wasn't told",
+            Fault::Otherwise => "written otherwise than read",
+            Fault::System => "the clock, the words or the output failed",
+        })
+    }
 }
 
 impl From<Memory> for Fault {
@@ -60,25 +65,25 @@ impl<T: Drop> From<AllocFailed<T>> for Fault {
 }
 
 impl From<ConfigFault> for Fault {
-    fn from(fault: ConfigFault) -> Fault {
-        Fault::Config(fault)
+    fn from(_: ConfigFault) -> Fault {
+        Fault::Config
     }
 }
 
 impl From<MsgFault> for Fault {
-    fn from(fault: MsgFault) -> Fault {
-        Fault::Read(fault)
+    fn from(_: MsgFault) -> Fault {
+        Fault::Read
     }
 }
 
 impl From<PacketFault> for Fault {
-    fn from(fault: PacketFault) -> Fault {
-        Fault::Packet(fault)
+    fn from(_: PacketFault) -> Fault {
+        Fault::Packet
     }
 }
 
 impl From<io::Error> for Fault {
-    fn from(error: io::Error) -> Fault {
-        Fault::System(error)
+    fn from(_: io::Error) -> Fault {
+        Fault::System
     }
 }

@@ -7,7 +7,7 @@ use std::alloc::Global;
 use std::fmt;
 
 /// What is read.
-#[derive(Clone, Copy, Debug)]
+#[derive(Clone, Copy)]
 pub(crate) enum Kind {
     /// An IGNORE.
     Ignore,

@@ -1,5 +1,6 @@
 //! A long stream that is made piece by piece, so that no more than a batch of it is ever held.
 
+use crate::calls::holds;
 use crate::fault::Fault;
 use crate::packets::{keys, payload, put_packet, read_piece};
 use sshpacket::{Keys, PacketReader};
@@ -50,16 +51,17 @@ impl Long {
     fn read_batch(&mut self, rt: &HostRuntime, number: u32) -> Result<Duration, Fault> {
         self.make_batch(rt, number.wrapping_mul(BATCH))?;
         let start = Instant::now(rt)?;
+        self.read_pieces()?;
+        Ok(start.elapsed(rt)?)
+    }
+
+    /// Reads the batch piece by piece; all of its packets have to come.
+    fn read_pieces(&mut self) -> Result<(), Fault> {
         let mut count: u32 = 0;
         for piece in self.batch.chunks(PIECE_LEN) {
             count = count.saturating_add(read_piece(&mut self.reader, piece, PAYLOAD_LEN)?);
         }
-        let took = start.elapsed(rt)?;
-        if count == BATCH {
-            Ok(took)
-        } else {
-            Err(Fault::Otherwise)
-        }
+        holds(count == BATCH)
     }
 
     /// Makes the packets from this number on.

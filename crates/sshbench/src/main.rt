@@ -19,6 +19,7 @@ mod scripts;
 mod sent;
 mod table;
 mod talk;
+mod work;
 
 use crate::fault::Fault;
 use crate::talk::Reach;
@@ -37,7 +38,7 @@ fn main(rt: HostRuntime) -> ExitCode {
 }
 
 /// What the words ask for.
-#[derive(Clone, Copy, Debug)]
+#[derive(Clone, Copy)]
 enum Job {
     Check,
     Time,

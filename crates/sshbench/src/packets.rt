@@ -34,7 +34,7 @@ pub(crate) fn keys(alloc: Global) -> Result<Keys, Fault> {
 }
 
 /// The packets of a stream.
-#[derive(Clone, Copy, Debug)]
+#[derive(Clone, Copy)]
 pub(crate) struct Load {
     /// Whether they are sealed with the keys; else they are in clear.
     pub(crate) sealed: bool,
@@ -60,7 +60,7 @@ impl Load {
 }
 
 /// A stream of packets, numbered from 0.
-#[derive(Debug, Drop)]
+#[derive(Drop)]
 pub(crate) struct Stream {
     pub(crate) load: Load,
     /// How many packets there are.

@@ -4,11 +4,11 @@ use crate::fault::Fault;
 use crate::kexinit;
 use crate::lent::{self, Kind};
 use crate::packets::{keys, put_packet};
-use crate::row::{Beside, Row, print_row};
+use crate::row::Beside;
+use crate::work::{Work, print_both};
 use sshlab::{StreamSink, StreamSource, TEXT_LIMIT};
 use std::alloc::Global;
 use std::fmt;
-use std::time::{Duration, Instant};
 
 /// How many bytes of a stream a line has, as many as a segment of TCP in Ethernet.
 const PIECE_LEN: usize = 1460;
@@ -48,14 +48,14 @@ impl fmt::Display for Filling {
 
 /// Which engine tells a recording.
 #[derive(Clone, Copy)]
-enum Engine {
+pub(crate) enum Engine {
     Show,
     Check,
 }
 
 /// A recording in which both sides say the same.
 #[derive(Drop)]
-struct Recording {
+pub(crate) struct Recording {
     /// Its lines.
     text: Vec<u8>,
     /// All of their digits.
@@ -156,7 +156,7 @@ impl Recording {
     }
 
     /// Decodes its digits in one call, and judges how many bytes they are.
-    fn decode(&self, alloc: Global) -> Result<(), Fault> {
+    pub(crate) fn decode(&self, alloc: Global) -> Result<(), Fault> {
         match hex::decode(alloc, self.digits.as_slice()) {
             Ok(bytes) if bytes.len() == 2 * STREAM_LEN => Ok(()),
             _ => Err(Fault::Otherwise),
@@ -164,7 +164,12 @@ impl Recording {
     }
 
     /// What an engine tells of it.
-    fn tell(&self, alloc: Global, engine: Engine, out: &mut Vec<u8>) -> Result<(), Fault> {
+    pub(crate) fn tell(
+        &self,
+        alloc: Global,
+        engine: Engine,
+        out: &mut Vec<u8>,
+    ) -> Result<(), Fault> {
         match engine {
             Engine::Show => show(alloc, &self.text, out),
             Engine::Check => check_text(alloc, &self.text, out),
@@ -172,7 +177,7 @@ impl Recording {
     }
 
     /// Judges what an engine told of it.
-    fn judge(&self, engine: Engine, out: &[u8]) -> Result<(), Fault> {
+    pub(crate) fn judge(&self, engine: Engine, out: &[u8]) -> Result<(), Fault> {
         let is_right = match (engine, self.filling) {
             (Engine::Show, _) => out.split(|byte| *byte == b'\n').count() == self.line_count,
             (Engine::Check, Filling::Sealed) => out == FINE.as_bytes(),
@@ -205,7 +210,7 @@ fn show(alloc: Global, text: &[u8], out: &mut Vec<u8>) -> Result<(), Fault> {
     let mut output = StreamSink::new(out);
     match sshlab::show(alloc, &mut input, &mut output) {
         Ok(()) => Ok(()),
-        Err(fault) => Err(Fault::Recording(fault)),
+        Err(_) => Err(Fault::Recording),
     }
 }
 
@@ -216,7 +221,7 @@ fn check_text(alloc: Global, text: &[u8], out: &mut Vec<u8>) -> Result<(), Fault
     let mut output = StreamSink::new(out);
     match sshlab::check(alloc, &mut input, &mut output) {
         Ok(_) => Ok(()),
-        Err(fault) => Err(Fault::Recording(fault)),
+        Err(_) => Err(Fault::Recording),
     }
 }
 
@@ -246,74 +251,27 @@ fn check_engine(alloc: Global, recording: &Recording, engine: Engine) -> Result<
 /// Times the recordings, and prints their rows.
 pub(crate) fn print(rt: &HostRuntime) -> Result<(), Fault> {
     for filling in FILLINGS {
-        let recording = Recording::new(rt.alloc(), filling)?;
-        print_recording(rt, &recording)?;
+        print_filling(rt, filling)?;
     }
     Ok(())
 }
 
 /// Times a recording, and prints its rows.
-fn print_recording(rt: &HostRuntime, recording: &Recording) -> Result<(), Fault> {
-    let show = time_engine(rt, recording, Engine::Show)?;
-    let decoding = time_decoding(rt, recording)?;
-    print_one(
+fn print_filling(rt: &HostRuntime, filling: Filling) -> Result<(), Fault> {
+    let recording = Recording::new(rt.alloc(), filling)?;
+    let (show, check) = (
+        Work::Tell(&recording, Engine::Show),
+        Work::Tell(&recording, Engine::Check),
+    );
+    let name = format!(in rt.alloc(); "show of 1 MiB, {filling}")?;
+    print_both(
         rt,
-        recording,
-        Engine::Show,
-        &row(show, decoding, Beside::Decoding),
+        &name,
+        ROUNDS,
+        show,
+        Work::Decode(&recording),
+        Beside::Decoding,
     )?;
-    let check = time_engine(rt, recording, Engine::Check)?;
-    print_one(
-        rt,
-        recording,
-        Engine::Check,
-        &row(check, show, Beside::Show),
-    )
-}
-
-/// A row of a recording.
-fn row(work: Duration, other: Duration, beside: Beside) -> Row {
-    Row {
-        rounds: ROUNDS,
-        work,
-        other,
-        beside,
-    }
-}
-
-/// Prints a row of a recording.
-fn print_one(
-    rt: &HostRuntime,
-    recording: &Recording,
-    engine: Engine,
-    row: &Row,
-) -> Result<(), Fault> {
-    let filling = recording.filling;
-    let name = match engine {
-        Engine::Show => "show",
-        Engine::Check => "check",
-    };
-    let work = format!(in rt.alloc(); "{name} of 1 MiB, {filling}")?;
-    print_row(rt, &work, row)
-}
-
-/// Times an engine.
-fn time_engine(rt: &HostRuntime, recording: &Recording, engine: Engine) -> Result<Duration, Fault> {
-    let mut out = Vec::new(rt.alloc());
-    let start = Instant::now(rt)?;
-    for _ in 0..ROUNDS {
-        recording.tell(rt.alloc(), engine, &mut out)?;
-    }
-    let took = start.elapsed(rt)?;
-    recording.judge(engine, &out)?;
-    Ok(took)
-}
-
-/// Times the decoding of the same digits.
-fn time_decoding(rt: &HostRuntime, recording: &Recording) -> Result<Duration, Fault> {
-    let start = Instant::now(rt)?;
-    for _ in 0..ROUNDS {
-        recording.decode(rt.alloc())?;
-    }
-    Ok(start.elapsed(rt)?)
+    let name = format!(in rt.alloc(); "check of 1 MiB, {filling}")?;
+    print_both(rt, &name, ROUNDS, check, show, Beside::Show)
 }

@@ -6,7 +6,7 @@ use std::io::Write;
 use std::time::Duration;
 
 /// What a row's work stands beside.
-#[derive(Clone, Copy, Debug)]
+#[derive(Clone, Copy)]
 pub(crate) enum Beside {
     /// Copying the same bytes in the same pieces, each behind the one before.
     Copying,
@@ -51,7 +51,7 @@ impl fmt::Display for Beside {
 }
 
 /// What a row's work took, and what stands beside it took.
-#[derive(Clone, Copy, Debug)]
+#[derive(Clone, Copy)]
 pub(crate) struct Row {
     pub(crate) rounds: u32,
     pub(crate) work: Duration,

@@ -2,14 +2,13 @@
 
 use crate::calls::holds;
 use crate::fault::Fault;
-use crate::row::{Beside, Row, print_row};
-use crate::talk::{Lab, Reach, WHOLE, talk};
-use sshcore::End;
+use crate::row::Beside;
+use crate::talk::{Lab, Reach, WHOLE, is_open, is_user};
+use crate::work::{Work, print_both};
 use sshlab::{Scenario, TEXT_LIMIT};
 use sshsuites::{LabDecisions, LabSuite};
 use sshworld::World;
 use std::alloc::Global;
-use std::time::{Duration, Instant};
 
 /// The simplest scenario without its steps: one attempt, which the server lets in.
 const SIMPLEST: &[u8] = b"client try al ssh-connection none\nallow al none\n";
@@ -76,18 +75,18 @@ fn put_often(text: &mut Vec<u8>, lines: &[u8], count: u32) -> Result<(), Fault> 
 }
 
 /// Reads a scenario.
-fn read(alloc: Global, text: &[u8]) -> Result<Scenario, Fault> {
+fn read(alloc: Global, text: &[u8]) -> Result<Box<Scenario>, Fault> {
     if text.len() > TEXT_LIMIT {
         return Err(Fault::Otherwise);
     }
     match Scenario::parse(alloc, text) {
-        Ok(scenario) => Ok(scenario),
-        Err(fault) => Err(Fault::Scenario(fault)),
+        Ok(scenario) => Ok(Box::new(alloc, scenario)?),
+        Err(_) => Err(Fault::Scenario),
     }
 }
 
 /// Runs a scenario, behind which the sides have to stand so.
-fn run(alloc: Global, scenario: &Scenario, stand: Stand) -> Result<(), Fault> {
+pub(crate) fn run(alloc: Global, scenario: &Scenario, stand: Stand) -> Result<(), Fault> {
     let world = world_of(alloc, scenario)?;
     stand.judge(&world)
 }
@@ -105,7 +104,7 @@ type LabWorld<'a> = World<'a, LabSuite, LabDecisions>;
 
 /// How both sides stand behind the last step.
 #[derive(Clone, Copy)]
-enum Stand {
+pub(crate) enum Stand {
     /// Both are authenticated, and nothing waits for either.
     Authenticated,
     /// Both wait for more.
@@ -120,18 +119,16 @@ impl Stand {
 
     /// Whether both sides of a world stand so.
     fn is_of(self, world: &LabWorld<'_>) -> bool {
-        match (self, world.ends()) {
-            (Stand::Authenticated, (End::Authenticated(_), End::Authenticated(_))) => {
-                world.complete()
-            }
-            (Stand::Open, (End::Open, End::Open)) => true,
-            _ => false,
+        let (client, server) = world.ends();
+        match self {
+            Stand::Authenticated => is_user(client) && is_user(server) && world.complete(),
+            Stand::Open => is_open(client) && is_open(server),
         }
     }
 }
 
 /// Reads and runs the scenario of a text.
-fn read_and_run(alloc: Global, text: &[u8], stand: Stand) -> Result<(), Fault> {
+pub(crate) fn read_and_run(alloc: Global, text: &[u8], stand: Stand) -> Result<(), Fault> {
     let scenario = read(alloc, text)?;
     run(alloc, &scenario, stand)
 }
@@ -149,88 +146,64 @@ pub(crate) fn check(alloc: Global) -> Result<(), Fault> {
 
 /// Times the scenarios, and prints their rows.
 pub(crate) fn print(rt: &HostRuntime) -> Result<(), Fault> {
-    let endpoints = time_endpoints(rt)?;
-    print_row(rt, "scenario read and run", &time_whole(rt, endpoints)?)?;
-    let whole = time_runs(rt, Steps::Rounds)?;
-    print_row(
-        rt,
-        "scenario run",
-        &of_runs(whole, endpoints, Beside::Endpoints),
-    )?;
-    let bytes = time_runs(rt, Steps::Bytes)?;
-    print_row(
-        rt,
-        "scenario run by 1",
-        &of_runs(bytes, whole, Beside::Whole),
-    )?;
-    print_row(rt, "10000 deliveries read and run", &time_long(rt)?)
+    print_simplest(rt)?;
+    print_runs(rt)?;
+    print_long(rt)
 }
 
-/// A row of runs of the simplest scenario.
-fn of_runs(work: Duration, other: Duration, beside: Beside) -> Row {
-    Row {
-        rounds: RUNS,
+/// Times reads and runs of the simplest scenario beside two endpoints alone that come as far.
+fn print_simplest(rt: &HostRuntime) -> Result<(), Fault> {
+    let lab = Lab::new(rt.alloc(), Reach::User)?;
+    let text = simplest(rt.alloc(), Steps::Rounds)?;
+    let other = Work::Talk(&lab, WHOLE);
+    let work = Work::Script(&text, Stand::Authenticated);
+    print_both(
+        rt,
+        "scenario read and run",
+        RUNS,
         work,
         other,
-        beside,
-    }
+        Beside::Endpoints,
+    )?;
+    let scenario = read(rt.alloc(), &text)?;
+    print_both(
+        rt,
+        "scenario run",
+        RUNS,
+        Work::Run(&scenario),
+        other,
+        Beside::Endpoints,
+    )
 }
 
-/// Times reads and runs of the simplest scenario; the two endpoints alone took so long.
-fn time_whole(rt: &HostRuntime, endpoints: Duration) -> Result<Row, Fault> {
-    let text = simplest(rt.alloc(), Steps::Rounds)?;
-    let work = time_text(rt, &text, Stand::Authenticated, RUNS)?;
-    Ok(of_runs(work, endpoints, Beside::Endpoints))
+/// Times runs of the simplest scenario by single bytes, which is read before, beside those in one piece
+/// each way.
+fn print_runs(rt: &HostRuntime) -> Result<(), Fault> {
+    let whole = simplest_scenario(rt.alloc(), Steps::Rounds)?;
+    let bytes = simplest_scenario(rt.alloc(), Steps::Bytes)?;
+    let (work, other) = (Work::Run(&bytes), Work::Run(&whole));
+    print_both(rt, "scenario run by 1", RUNS, work, other, Beside::Whole)
 }
 
 /// Times reads and runs of a scenario of 10,000 deliveries, and of one of 1,000.
-fn time_long(rt: &HostRuntime) -> Result<Row, Fault> {
-    let work = time_notices(rt, 20)?;
-    Ok(Row {
-        rounds: LONG_RUNS,
+fn print_long(rt: &HostRuntime) -> Result<(), Fault> {
+    let (text, tenth) = (long(rt.alloc(), 20)?, long(rt.alloc(), 2)?);
+    let (work, other) = (
+        Work::Script(&text, Stand::Open),
+        Work::Script(&tenth, Stand::Open),
+    );
+    print_both(
+        rt,
+        "10000 deliveries read and run",
+        LONG_RUNS,
         work,
-        other: time_notices(rt, 2)?,
-        beside: Beside::Tenth,
-    })
-}
-
-/// Times reads and runs of a scenario of so many notice lines.
-fn time_notices(rt: &HostRuntime, notices: u32) -> Result<Duration, Fault> {
-    let text = long(rt.alloc(), notices)?;
-    time_text(rt, &text, Stand::Open, LONG_RUNS)
-}
-
-/// Times reads and runs of the scenario of a text.
-fn time_text(rt: &HostRuntime, text: &[u8], stand: Stand, rounds: u32) -> Result<Duration, Fault> {
-    let start = Instant::now(rt)?;
-    for _ in 0..rounds {
-        read_and_run(rt.alloc(), text, stand)?;
-    }
-    Ok(start.elapsed(rt)?)
-}
-
-/// Times runs of the simplest scenario, which is read before.
-fn time_runs(rt: &HostRuntime, steps: Steps) -> Result<Duration, Fault> {
-    let scenario = simplest_scenario(rt.alloc(), steps)?;
-    let start = Instant::now(rt)?;
-    for _ in 0..RUNS {
-        run(rt.alloc(), &scenario, Stand::Authenticated)?;
-    }
-    Ok(start.elapsed(rt)?)
+        other,
+        Beside::Tenth,
+    )
 }
 
 /// The simplest scenario with these steps.
-fn simplest_scenario(alloc: Global, steps: Steps) -> Result<Scenario, Fault> {
+fn simplest_scenario(alloc: Global, steps: Steps) -> Result<Box<Scenario>, Fault> {
     let text = simplest(alloc, steps)?;
     read(alloc, &text)
-}
-
-/// Times as many talks of two endpoints alone that come as far.
-fn time_endpoints(rt: &HostRuntime) -> Result<Duration, Fault> {
-    let lab = Lab::new(rt.alloc(), Reach::User)?;
-    let start = Instant::now(rt)?;
-    for _ in 0..RUNS {
-        talk(rt.alloc(), &lab, WHOLE)?;
-    }
-    Ok(start.elapsed(rt)?)
 }

@@ -4,11 +4,11 @@ use crate::calls::Calls;
 use crate::choices::{Offers, Payloads};
 use crate::digests::digest;
 use crate::fault::Fault;
-use crate::kexinit::{copy, read_and_write};
-use crate::lent::{Kind, own, payload, read_only};
+use crate::lent::{Kind, payload};
 use crate::packets::{Load, PIECE_LENS, Stream};
 use crate::row::{Beside, Row, print_row};
 use crate::talk::{Lab, Reach, WHOLE, talk};
+use crate::work::{Act, Work, print_both};
 use crate::{recordings, scripts};
 use std::io::Write;
 use std::time::{Duration, Instant};
@@ -34,285 +34,186 @@ const SLOW_READS: u32 = 20;
 /// How often two endpoints talk.
 const TALKS: u32 = 5_000;
 
+/// The messages without lists that are read: their kinds, and how many bytes the long field has.
+const MESSAGES: [(Kind, usize); 5] = [
+    (Kind::Ignore, 1019),
+    (Kind::Ignore, 32763),
+    (Kind::KexdhReply, 499),
+    (Kind::Password, 980),
+    (Kind::Banner, 1013),
+];
+
 /// Times each row and prints the table.
-pub(crate) fn print(rt: &HostRuntime, payload: &[u8]) -> Result<(), Fault> {
+pub(crate) fn print(rt: &HostRuntime, kexinit: &[u8]) -> Result<(), Fault> {
     writeln!(
         rt.stdout(),
         "work                             rounds  work us  other us    ratio  other"
     )?;
-    print_row(rt, "kexinit read and written", &time_kexinit(rt, payload)?)?;
-    for (kind, len) in [
-        (Kind::Ignore, 1019),
-        (Kind::Ignore, 32763),
-        (Kind::KexdhReply, 499),
-        (Kind::Password, 980),
-        (Kind::Banner, 1013),
-    ] {
-        let work = format!(in rt.alloc(); "{kind} with {len} bytes read")?;
-        print_row(rt, &work, &time_lent(rt, kind, len)?)?;
-    }
-    print_row(rt, "choice, 50 names a list", &time_choices(rt)?)?;
-    for payload_len in [1, 1024, 32768] {
-        let sealed = false;
-        print_clear(
-            rt,
-            Load {
-                sealed,
-                payload_len,
-            },
-        )?;
-    }
-    for payload_len in [1024, 32768] {
-        let sealed = true;
-        print_sealed(
-            rt,
-            Load {
-                sealed,
-                payload_len,
-            },
-        )?;
-    }
-    print_row(rt, "2 MB of clear packets by 1448", &time_ten_times(rt)?)?;
-    print_all_talks(rt)?;
-    print_programs(rt)
-}
-
-/// Times what the program `sshlab` does with scenarios and recordings, and prints the rows.
-fn print_programs(rt: &HostRuntime) -> Result<(), Fault> {
+    let (work, other) = (Work::Kexinit(kexinit), Work::Copy(kexinit));
+    print_both(
+        rt,
+        "kexinit read and written",
+        ROUNDS,
+        work,
+        other,
+        Beside::Copying,
+    )?;
+    print_messages(rt)?;
+    print_choices(rt)?;
+    print_packets(rt)?;
+    print_talks(rt, Reach::Service, "negotiation", "negotiation by 1")?;
+    print_talks(rt, Reach::User, "session", "session by 1")?;
     scripts::print(rt)?;
     recordings::print(rt)
 }
 
-/// Times negotiations and sessions, and prints their rows.
-fn print_all_talks(rt: &HostRuntime) -> Result<(), Fault> {
-    print_talks(rt, Reach::Service, "negotiation", "negotiation by 1")?;
-    print_talks(rt, Reach::User, "session", "session by 1")
-}
-
-/// Times talks that come so far, whole and by single bytes, and prints a row for each.
-fn print_talks(rt: &HostRuntime, reach: Reach, work: &str, by_bytes: &str) -> Result<(), Fault> {
-    let lab = Lab::new(rt.alloc(), reach)?;
-    let whole = time_talks(rt, &lab, WHOLE)?;
-    let row = Row {
-        rounds: TALKS,
-        work: whole,
-        other: time_calls(rt, &lab)?,
-        beside: Beside::Calls,
-    };
-    print_row(rt, work, &row)?;
-    let bytes = Row {
-        rounds: TALKS,
-        work: time_talks(rt, &lab, 1)?,
-        other: whole,
-        beside: Beside::Whole,
-    };
-    print_row(rt, by_bytes, &bytes)
-}
-
-/// Times reads of packets in clear, and prints the rows.
-fn print_clear(rt: &HostRuntime, load: Load) -> Result<(), Fault> {
-    let alloc = rt.alloc();
-    let stream = Stream::new(alloc, load, load.count(STREAM_LEN))?;
-    for piece_len in PIECE_LENS {
-        let work = format!(in alloc; "{load} by {piece_len}")?;
-        let rounds = if piece_len == 1 { SLOW_READS } else { READS };
-        let row = Row {
-            rounds,
-            work: time_reads(rt, &stream, piece_len, rounds)?,
-            other: time_copies(rt, &stream, piece_len, rounds)?,
-            beside: Beside::Copying,
-        };
-        print_row(rt, &work, &row)?;
-        let over = Row {
-            other: time_copies_over(rt, &stream, piece_len, rounds)?,
-            beside: Beside::CopyingOver,
-            ..row
-        };
-        print_row(rt, &work, &over)?;
+/// Times reads of messages without lists, and prints their rows.
+fn print_messages(rt: &HostRuntime) -> Result<(), Fault> {
+    for (kind, len) in MESSAGES {
+        print_message(rt, kind, len)?;
     }
     Ok(())
 }
 
-/// Times reads of sealed packets in large pieces, and prints the row.
-fn print_sealed(rt: &HostRuntime, load: Load) -> Result<(), Fault> {
-    let alloc = rt.alloc();
-    let stream = Stream::new(alloc, load, load.count(STREAM_LEN))?;
-    let work = format!(in alloc; "{load} by 65536")?;
-    let row = Row {
-        rounds: SLOW_READS,
-        work: time_reads(rt, &stream, 65536, SLOW_READS)?,
-        other: time_digests(rt, &stream, SLOW_READS)?,
-        beside: Beside::Digests,
-    };
-    print_row(rt, &work, &row)
+/// Times reads of such a message beside owned copies of its payload.
+fn print_message(rt: &HostRuntime, kind: Kind, len: usize) -> Result<(), Fault> {
+    let name = format!(in rt.alloc(); "{kind} with {len} bytes read")?;
+    let payload = payload(rt.alloc(), kind, len)?;
+    let (work, other) = (Work::Read(&payload, len), Work::Own(&payload));
+    print_both(rt, &name, QUICK_ROUNDS, work, other, Beside::Owning)
 }
 
-/// Times reads of a long stream of packets in clear, and of one with a tenth of its packets.
-fn time_ten_times(rt: &HostRuntime) -> Result<Row, Fault> {
-    let load = Load {
-        sealed: false,
-        payload_len: 1024,
-    };
-    let tenth = load.count(200_000);
-    let short = Stream::new(rt.alloc(), load, tenth)?;
-    let long = Stream::new(rt.alloc(), load, tenth.saturating_mul(10))?;
-    Ok(Row {
-        rounds: READS,
-        work: time_reads(rt, &long, 1448, READS)?,
-        other: time_reads(rt, &short, 1448, READS)?,
-        beside: Beside::Tenth,
-    })
-}
-
-/// Times reads and writes of the payload of a KEXINIT, and as many copies.
-fn time_kexinit(rt: &HostRuntime, payload: &[u8]) -> Result<Row, Fault> {
-    let alloc = rt.alloc();
-    let mut out = Vec::new(alloc);
-    let start = Instant::now(rt)?;
-    for _ in 0..ROUNDS {
-        read_and_write(alloc, payload, &mut out)?;
-    }
-    let work = start.elapsed(rt)?;
-    let start = Instant::now(rt)?;
-    for _ in 0..ROUNDS {
-        copy(payload, &mut out)?;
-    }
-    Ok(Row {
-        rounds: ROUNDS,
-        work,
-        other: start.elapsed(rt)?,
-        beside: Beside::Copying,
-    })
-}
-
-/// Times reads of a message without lists, and as many owned copies of its payload.
-fn time_lent(rt: &HostRuntime, kind: Kind, len: usize) -> Result<Row, Fault> {
-    let alloc = rt.alloc();
-    let payload = payload(alloc, kind, len)?;
-    let start = Instant::now(rt)?;
-    for _ in 0..QUICK_ROUNDS {
-        read_only(alloc, &payload, len)?;
-    }
-    let work = start.elapsed(rt)?;
-    let start = Instant::now(rt)?;
-    for _ in 0..QUICK_ROUNDS {
-        own(alloc, &payload)?;
-    }
-    Ok(Row {
-        rounds: QUICK_ROUNDS,
-        work,
-        other: start.elapsed(rt)?,
-        beside: Beside::Owning,
-    })
-}
-
-/// Times choices, and as many comparisons of the names of eight lists.
-fn time_choices(rt: &HostRuntime) -> Result<Row, Fault> {
+/// Times choices beside comparisons of the names of eight lists.
+fn print_choices(rt: &HostRuntime) -> Result<(), Fault> {
     let payloads = Payloads::new(rt.alloc())?;
-    time_offers(rt, &Offers::new(rt.alloc(), &payloads)?)
+    let row = time_offers(rt, &Offers::new(rt.alloc(), &payloads)?)?;
+    print_row(rt, "choice, 50 names a list", &row)
 }
 
-/// The same of these offers.
+/// The row of these offers.
 fn time_offers(rt: &HostRuntime, offers: &Offers<'_>) -> Result<Row, Fault> {
-    let start = Instant::now(rt)?;
-    for _ in 0..CHOICES {
-        offers.choose()?;
-    }
-    let work = start.elapsed(rt)?;
-    let start = Instant::now(rt)?;
-    for _ in 0..CHOICES {
-        offers.compare()?;
-    }
+    let work = time_choices(rt, offers)?;
     Ok(Row {
         rounds: CHOICES,
         work,
-        other: start.elapsed(rt)?,
+        other: time_comparisons(rt, offers)?,
         beside: Beside::Comparing,
     })
 }
 
-/// Times reads of a stream in pieces of so many bytes.
-fn time_reads(
-    rt: &HostRuntime,
-    stream: &Stream,
-    piece_len: usize,
-    rounds: u32,
-) -> Result<Duration, Fault> {
+/// Times choices.
+fn time_choices(rt: &HostRuntime, offers: &Offers<'_>) -> Result<Duration, Fault> {
     let start = Instant::now(rt)?;
-    for _ in 0..rounds {
-        stream.read(rt.alloc(), piece_len)?;
+    for _ in 0..CHOICES {
+        offers.choose()?;
     }
     Ok(start.elapsed(rt)?)
 }
 
-/// Times copies of a stream in pieces of so many bytes, each behind the one before.
-fn time_copies(
-    rt: &HostRuntime,
-    stream: &Stream,
-    piece_len: usize,
-    rounds: u32,
-) -> Result<Duration, Fault> {
-    let mut out = Vec::new(rt.alloc());
+/// Times comparisons of the names of eight lists.
+fn time_comparisons(rt: &HostRuntime, offers: &Offers<'_>) -> Result<Duration, Fault> {
     let start = Instant::now(rt)?;
-    for _ in 0..rounds {
-        stream.copy(piece_len, &mut out)?;
-    }
-    let time = start.elapsed(rt)?;
-    if out == stream.bytes {
-        Ok(time)
-    } else {
-        Err(Fault::Otherwise)
-    }
-}
-
-/// Times copies of a stream in pieces of so many bytes, each over the one before.
-fn time_copies_over(
-    rt: &HostRuntime,
-    stream: &Stream,
-    piece_len: usize,
-    rounds: u32,
-) -> Result<Duration, Fault> {
-    let mut out = Vec::new(rt.alloc());
-    let start = Instant::now(rt)?;
-    for _ in 0..rounds {
-        stream.copy_over(piece_len, &mut out)?;
-    }
-    let time = start.elapsed(rt)?;
-    if stream.bytes.ends_with(&out) {
-        Ok(time)
-    } else {
-        Err(Fault::Otherwise)
-    }
-}
-
-/// Times the digests of a stream of sealed packets.
-fn time_digests(rt: &HostRuntime, stream: &Stream, rounds: u32) -> Result<Duration, Fault> {
-    let first = digest(stream);
-    let start = Instant::now(rt)?;
-    for _ in 0..rounds {
-        if digest(stream) != first {
-            return Err(Fault::Otherwise);
-        }
+    for _ in 0..CHOICES {
+        offers.compare()?;
     }
     Ok(start.elapsed(rt)?)
 }
 
-/// Times talks in pieces of so many bytes.
-fn time_talks(rt: &HostRuntime, lab: &Lab, piece_len: usize) -> Result<Duration, Fault> {
-    let start = Instant::now(rt)?;
-    for _ in 0..TALKS {
-        talk(rt.alloc(), lab, piece_len)?;
+/// Times reads of streams of packets, and prints their rows.
+fn print_packets(rt: &HostRuntime) -> Result<(), Fault> {
+    for payload_len in [1, 1024, 32768] {
+        print_clear(rt, clear(payload_len))?;
     }
-    Ok(start.elapsed(rt)?)
+    for payload_len in [1024, 32768] {
+        let sealed = true;
+        let load = Load {
+            sealed,
+            payload_len,
+        };
+        print_sealed(rt, load)?;
+    }
+    print_ten_times(rt)
 }
 
-/// Times the suite's calls of as many talks.
-fn time_calls(rt: &HostRuntime, lab: &Lab) -> Result<Duration, Fault> {
-    let alloc = rt.alloc();
-    let calls = Calls::new(alloc, &talk(alloc, lab, WHOLE)?)?;
-    let start = Instant::now(rt)?;
-    for _ in 0..TALKS {
-        calls.make(alloc)?;
+/// Packets in clear.
+fn clear(payload_len: usize) -> Load {
+    Load {
+        sealed: false,
+        payload_len,
     }
-    Ok(start.elapsed(rt)?)
+}
+
+/// Times reads of packets in clear, and prints the rows.
+fn print_clear(rt: &HostRuntime, load: Load) -> Result<(), Fault> {
+    let stream = Stream::new(rt.alloc(), load, load.count(STREAM_LEN))?;
+    for piece_len in PIECE_LENS {
+        print_pieces(rt, &stream, piece_len)?;
+    }
+    Ok(())
+}
+
+/// Times reads of a stream in pieces of so many bytes beside both ways of copying it.
+fn print_pieces(rt: &HostRuntime, stream: &Stream, piece_len: usize) -> Result<(), Fault> {
+    let load = stream.load;
+    let name = format!(in rt.alloc(); "{load} by {piece_len}")?;
+    let rounds = if piece_len == 1 { SLOW_READS } else { READS };
+    let work = Work::Packets(stream, Act::Read(piece_len));
+    let copy = Work::Packets(stream, Act::Copy(piece_len));
+    print_both(rt, &name, rounds, work, copy, Beside::Copying)?;
+    let over = Work::Packets(stream, Act::CopyOver(piece_len));
+    print_both(rt, &name, rounds, work, over, Beside::CopyingOver)
+}
+
+/// Times reads of sealed packets in large pieces, and prints the row.
+fn print_sealed(rt: &HostRuntime, load: Load) -> Result<(), Fault> {
+    let stream = Stream::new(rt.alloc(), load, load.count(STREAM_LEN))?;
+    let name = format!(in rt.alloc(); "{load} by 65536")?;
+    let work = Work::Packets(&stream, Act::Read(65536));
+    let other = Work::Packets(&stream, Act::Digest(digest(&stream)));
+    print_both(rt, &name, SLOW_READS, work, other, Beside::Digests)
+}
+
+/// Times reads of a long stream of packets in clear, and of one with a tenth of its packets.
+fn print_ten_times(rt: &HostRuntime) -> Result<(), Fault> {
+    let load = clear(1024);
+    let tenth = load.count(200_000);
+    let short = Stream::new(rt.alloc(), load, tenth)?;
+    let long = Stream::new(rt.alloc(), load, tenth.saturating_mul(10))?;
+    let work = Work::Packets(&long, Act::Read(1448));
+    let other = Work::Packets(&short, Act::Read(1448));
+    print_both(
+        rt,
+        "2 MB of clear packets by 1448",
+        READS,
+        work,
+        other,
+        Beside::Tenth,
+    )
+}
+
+/// Times talks that come so far, whole and by single bytes, and prints a row for each.
+fn print_talks(rt: &HostRuntime, reach: Reach, name: &str, by_bytes: &str) -> Result<(), Fault> {
+    let lab = Lab::new(rt.alloc(), reach)?;
+    print_whole(rt, &lab, name)?;
+    print_bytes(rt, &lab, by_bytes)
+}
+
+/// Times whole talks beside the suite's calls alone.
+fn print_whole(rt: &HostRuntime, lab: &Lab, name: &str) -> Result<(), Fault> {
+    let calls = calls_of(rt, lab)?;
+    let (work, other) = (Work::Talk(lab, WHOLE), Work::Calls(&calls));
+    print_both(rt, name, TALKS, work, other, Beside::Calls)
+}
+
+/// Times talks by single bytes beside whole ones.
+fn print_bytes(rt: &HostRuntime, lab: &Lab, name: &str) -> Result<(), Fault> {
+    let (work, other) = (Work::Talk(lab, 1), Work::Talk(lab, WHOLE));
+    print_both(rt, name, TALKS, work, other, Beside::Whole)
+}
+
+/// The suite's calls of such a talk.
+fn calls_of(rt: &HostRuntime, lab: &Lab) -> Result<Box<Calls>, Fault> {
+    let said = talk(rt.alloc(), lab, WHOLE)?;
+    let calls = Calls::new(rt.alloc(), &said)?;
+    Ok(Box::new(rt.alloc(), calls)?)
 }

@@ -32,11 +32,34 @@ impl Reach {
 
     /// Whether both ended as they have to.
     fn is_reached(&self, client: &End, server: &End) -> bool {
-        match (self, client, server) {
-            (Reach::Service, End::Failed(Cause::NoMoreMethods), End::Open) => true,
-            (Reach::User, End::Authenticated(_), End::Authenticated(_)) => true,
-            _ => false,
+        match self {
+            Reach::Service => has_no_attempt(client) && is_open(server),
+            Reach::User => is_user(client) && is_user(server),
         }
+    }
+}
+
+/// Whether a client ended for want of an attempt.
+fn has_no_attempt(end: &End) -> bool {
+    match end {
+        End::Failed(Cause::NoMoreMethods) => true,
+        _ => false,
+    }
+}
+
+/// Whether a side waits for more.
+pub(crate) fn is_open(end: &End) -> bool {
+    match end {
+        End::Open => true,
+        _ => false,
+    }
+}
+
+/// Whether the user is authenticated at a side.
+pub(crate) fn is_user(end: &End) -> bool {
+    match end {
+        End::Authenticated(_) => true,
+        _ => false,
     }
 }
 
@@ -44,38 +67,61 @@ impl Reach {
 /// lets in.
 #[derive(Drop)]
 pub(crate) struct Lab {
-    client: ClientConfig,
-    server: ServerConfig,
+    client: Box<ClientConfig>,
+    server: Box<ServerConfig>,
     decisions: LabDecisions,
     reach: Reach,
 }
 
+/// The one attempt.
+fn attempt_of(alloc: Global) -> Result<Attempt, Fault> {
+    let user = String::from_str(alloc, "al")?;
+    let service = String::from_str(alloc, "ssh-connection")?;
+    Ok(Attempt {
+        user,
+        service,
+        credential: Credential::None,
+    })
+}
+
 /// The client's parts, with one attempt where it has a user.
-fn client_parts(alloc: Global, reach: Reach) -> Result<ClientParts, Fault> {
-    let mut parts = lab_client_parts(alloc)?;
+fn client_parts(alloc: Global, reach: Reach) -> Result<Box<ClientParts>, Fault> {
+    let mut parts = Box::new(alloc, lab_client_parts(alloc)?)?;
     if let Reach::User = reach {
-        let user = String::from_str(alloc, "al")?;
-        let service = String::from_str(alloc, "ssh-connection")?;
-        parts.plan.push(Attempt {
-            user,
-            service,
-            credential: Credential::None,
-        })?;
+        parts.plan.push(attempt_of(alloc)?)?;
     }
     Ok(parts)
+}
+
+/// The client's config.
+fn client_of(alloc: Global, reach: Reach) -> Result<Box<ClientConfig>, Fault> {
+    let parts = client_parts(alloc, reach)?;
+    let config = ClientConfig::new(alloc, Box::into_inner(parts))?;
+    Ok(Box::new(alloc, config)?)
+}
+
+/// The server's config.
+fn server_of(alloc: Global) -> Result<Box<ServerConfig>, Fault> {
+    let config = ServerConfig::new(alloc, lab_server_parts(alloc)?)?;
+    Ok(Box::new(alloc, config)?)
+}
+
+/// Decisions that let `al` in.
+fn decisions_of(alloc: Global) -> Result<LabDecisions, Fault> {
+    let mut decisions = LabDecisions::new(alloc);
+    decisions.allow("al", &Credential::None)?;
+    Ok(decisions)
 }
 
 impl Lab {
     /// The lab whose endpoints come so far.
     pub(crate) fn new(alloc: Global, reach: Reach) -> Result<Lab, Fault> {
-        let client = ClientConfig::new(alloc, client_parts(alloc, reach)?)?;
-        let server = ServerConfig::new(alloc, lab_server_parts(alloc)?)?;
-        let mut decisions = LabDecisions::new(alloc);
-        decisions.allow("al", &Credential::None)?;
+        let client = client_of(alloc, reach)?;
+        let server = server_of(alloc)?;
         Ok(Lab {
             client,
             server,
-            decisions,
+            decisions: decisions_of(alloc)?,
             reach,
         })
     }
@@ -90,10 +136,33 @@ pub(crate) struct Said {
     pub(crate) heard: usize,
 }
 
+/// An endpoint of the lab.
+type LabEndpoint<'a> = Endpoint<'a, LabSuite, LabDecisions>;
+
+/// The client at its making, and what it says then.
+fn client_in<'a>(
+    alloc: Global,
+    lab: &'a Lab,
+    said: &mut Vec<u8>,
+) -> Result<Box<LabEndpoint<'a>>, Fault> {
+    let endpoint = Endpoint::client(alloc, &lab.client, &LabSuite, &lab.decisions, said)?;
+    Ok(Box::new(alloc, endpoint)?)
+}
+
+/// The same of the server.
+fn server_in<'a>(
+    alloc: Global,
+    lab: &'a Lab,
+    said: &mut Vec<u8>,
+) -> Result<Box<LabEndpoint<'a>>, Fault> {
+    let endpoint = Endpoint::server(alloc, &lab.server, &LabSuite, &lab.decisions, said)?;
+    Ok(Box::new(alloc, endpoint)?)
+}
+
 /// An endpoint, all that it has said, and how many of the other's bytes it was given.
 #[derive(Drop)]
 struct Talker<'a> {
-    endpoint: Box<Endpoint<'a, LabSuite, LabDecisions>>,
+    endpoint: Box<LabEndpoint<'a>>,
     said: Vec<u8>,
     given: usize,
 }
@@ -102,9 +171,9 @@ impl<'a> Talker<'a> {
     /// The client at its making.
     fn client(alloc: Global, lab: &'a Lab) -> Result<Talker<'a>, Fault> {
         let mut said = Vec::new(alloc);
-        let endpoint = Endpoint::client(alloc, &lab.client, &LabSuite, &lab.decisions, &mut said)?;
+        let endpoint = client_in(alloc, lab, &mut said)?;
         Ok(Talker {
-            endpoint: Box::new(alloc, endpoint)?,
+            endpoint,
             said,
             given: 0,
         })
@@ -113,9 +182,9 @@ impl<'a> Talker<'a> {
     /// The server at its making.
     fn server(alloc: Global, lab: &'a Lab) -> Result<Talker<'a>, Fault> {
         let mut said = Vec::new(alloc);
-        let endpoint = Endpoint::server(alloc, &lab.server, &LabSuite, &lab.decisions, &mut said)?;
+        let endpoint = server_in(alloc, lab, &mut said)?;
         Ok(Talker {
-            endpoint: Box::new(alloc, endpoint)?,
+            endpoint,
             said,
             given: 0,
         })

@@ -6,8 +6,10 @@ use crate::names::Names;
 use crate::parts::{client_by, server_by};
 use crate::row::Line;
 use crate::stop::Stop;
-use crate::texts::{same_text, shows, wrong};
+use crate::terms::bytes_of;
+use crate::texts::{same_bytes, same_text, shows, wrong};
 use sshcore::{ClientConfig, ConfigFault, Endpoint, ServerConfig};
+use sshmsg::{KexInit, Message, write};
 use sshsuites::LabSuite;
 use std::alloc::Global;
 
@@ -37,7 +39,7 @@ pub(crate) fn judge_config(
         "server" => {
             let parts = server_by(alloc, names, parts)?;
             match ServerConfig::new(alloc, Box::into_inner(parts)) {
-                Ok(config) => accepted_server(alloc, line, &config),
+                Ok(config) => accepted_server(alloc, names, line, &config),
                 Err(fault) => refused(alloc, line, &fault),
             }
         }
@@ -51,7 +53,10 @@ fn is_verdict(text: &str) -> bool {
         Some((word, _)) => word,
         None => text,
     };
-    matches!(word, "refused" | "attempts" | "offered" | "generous")
+    matches!(
+        word,
+        "refused" | "attempts" | "offered" | "kexinit" | "generous"
+    )
 }
 
 /// A config was refused, which has to be what the line says.
@@ -65,7 +70,7 @@ fn refused(alloc: Global, line: &Line<'_>, fault: &ConfigFault) -> Result<(), St
     }
 }
 
-/// A client's config was accepted: `attempts N`, or `generous` and the lines of an endpoint.
+/// A client's config was accepted: `attempts N`, `kexinit TERMS`, or `generous` and the lines of an endpoint.
 fn accepted_client(
     alloc: Global,
     names: &Names,
@@ -80,6 +85,7 @@ fn accepted_client(
             shows(alloc, line, "attempts", rest, &config.attempts())?;
             shows(alloc, line, "plan", rest, &config.parts().plan.len())
         }
+        "kexinit" => judge_kexinit(alloc, names, line, rest, config.kexinit()?),
         "generous" => {
             let mut out = Vec::new(alloc);
             let endpoint = Endpoint::client(alloc, config, &LabSuite, &Generous, &mut out)?;
@@ -96,16 +102,34 @@ fn accepted_client(
     }
 }
 
-/// A server's config was accepted: `offered N`, the number of its services.
-fn accepted_server(alloc: Global, line: &Line<'_>, config: &ServerConfig) -> Result<(), Stop> {
-    match line.text.strip_prefix("offered ") {
-        Some(wanted) => shows(
-            alloc,
-            line,
-            "offered",
-            wanted,
-            &config.parts().services.len(),
-        ),
-        None => wrong(alloc, line, "config", line.text, "accepted"),
+/// A server's config was accepted: `offered N`, the number of its services, or `kexinit TERMS`.
+fn accepted_server(
+    alloc: Global,
+    names: &Names,
+    line: &Line<'_>,
+    config: &ServerConfig,
+) -> Result<(), Stop> {
+    let (word, rest) = line.text.split_once(' ').unwrap_or((line.text, ""));
+    match word {
+        "offered" => shows(alloc, line, "offered", rest, &config.parts().services.len()),
+        "kexinit" => judge_kexinit(alloc, names, line, rest, config.kexinit()?),
+        _ => wrong(alloc, line, "config", line.text, "accepted"),
     }
+}
+
+/// The payload of a config's KEXINIT has to be these bytes.
+fn judge_kexinit(
+    alloc: Global,
+    names: &Names,
+    line: &Line<'_>,
+    terms: &str,
+    kexinit: KexInit<'_>,
+) -> Result<(), Stop> {
+    let message = Message::KexInit(Box::new(alloc, kexinit)?);
+    let wanted = bytes_of(alloc, names, line, terms)?;
+    let mut found = Vec::new(alloc);
+    if message.fits() {
+        write(&message, &mut found)?;
+    }
+    same_bytes(alloc, line, "kexinit", &wanted, &found)
 }

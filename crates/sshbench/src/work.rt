@@ -1,0 +1,150 @@
+//! What is timed, as data.
+
+use crate::calls::{Calls, holds};
+use crate::digests::digest;
+use crate::fault::Fault;
+use crate::kexinit::{copy, read_and_write};
+use crate::lent::{own, read_only};
+use crate::packets::Stream;
+use crate::recordings::{Engine, Recording};
+use crate::row::{Beside, Row, print_row};
+use crate::scripts::{Stand, read_and_run, run};
+use crate::talk::{Lab, talk};
+use sshlab::Scenario;
+use std::alloc::Global;
+use std::time::{Duration, Instant};
+
+/// What one side of a row does.
+#[derive(Clone, Copy)]
+pub(crate) enum Work<'a> {
+    /// Reads the payload of a KEXINIT, and writes it again.
+    Kexinit(&'a [u8]),
+    /// Copies these bytes over those before.
+    Copy(&'a [u8]),
+    /// Reads the payload of a message without lists, whose long field has so many bytes.
+    Read(&'a [u8], usize),
+    /// Makes an owned copy of it.
+    Own(&'a [u8]),
+    /// What is done with a stream of packets.
+    Packets(&'a Stream, Act),
+    /// Two endpoints talk in pieces of so many bytes.
+    Talk(&'a Lab, usize),
+    /// The suite's calls of such a talk.
+    Calls(&'a Calls),
+    /// Reads and runs the scenario of a text.
+    Script(&'a [u8], Stand),
+    /// Runs a scenario, at whose end both sides are authenticated.
+    Run(&'a Scenario),
+    /// An engine tells a recording.
+    Tell(&'a Recording, Engine),
+    /// Decodes the recording's digits in one call.
+    Decode(&'a Recording),
+}
+
+/// What is done with a stream of packets.
+#[derive(Clone, Copy)]
+pub(crate) enum Act {
+    /// It is read in pieces of so many bytes.
+    Read(usize),
+    /// It is copied in such pieces, each behind the one before.
+    Copy(usize),
+    /// It is copied in such pieces, each over the one before.
+    CopyOver(usize),
+    /// The digests of its sealed packets are made, of which this has to come.
+    Digest(u8),
+}
+
+impl Act {
+    /// Does it once.
+    fn once(self, alloc: Global, stream: &Stream, out: &mut Vec<u8>) -> Result<(), Fault> {
+        match self {
+            Act::Read(piece_len) => stream.read(alloc, piece_len),
+            Act::Copy(piece_len) => stream.copy(piece_len, out),
+            Act::CopyOver(piece_len) => stream.copy_over(piece_len, out),
+            Act::Digest(first) => holds(digest(stream) == first),
+        }
+    }
+
+    /// Judges what is left behind the last time.
+    fn judge(self, stream: &Stream, out: &[u8]) -> Result<(), Fault> {
+        match self {
+            Act::Copy(_) => holds(stream.bytes.as_slice() == out),
+            Act::CopyOver(_) => holds(stream.bytes.ends_with(out)),
+            _ => Ok(()),
+        }
+    }
+}
+
+impl Work<'_> {
+    /// Does it once.
+    fn once(self, alloc: Global, out: &mut Vec<u8>) -> Result<(), Fault> {
+        match self {
+            Work::Kexinit(payload) => read_and_write(alloc, payload, out),
+            Work::Copy(payload) => copy(payload, out),
+            Work::Read(payload, len) => read_only(alloc, payload, len),
+            Work::Own(payload) => own(alloc, payload),
+            Work::Packets(stream, act) => act.once(alloc, stream, out),
+            Work::Talk(lab, piece_len) => say(alloc, lab, piece_len),
+            Work::Calls(calls) => calls.make(alloc),
+            Work::Script(text, stand) => read_and_run(alloc, text, stand),
+            Work::Run(scenario) => run(alloc, scenario, Stand::Authenticated),
+            Work::Tell(recording, engine) => recording.tell(alloc, engine, out),
+            Work::Decode(recording) => recording.decode(alloc),
+        }
+    }
+
+    /// Judges what is left behind the last time.
+    fn judge(self, out: &[u8]) -> Result<(), Fault> {
+        match self {
+            Work::Packets(stream, act) => act.judge(stream, out),
+            Work::Tell(recording, engine) => recording.judge(engine, out),
+            _ => Ok(()),
+        }
+    }
+}
+
+/// Lets two endpoints talk.
+fn say(alloc: Global, lab: &Lab, piece_len: usize) -> Result<(), Fault> {
+    talk(alloc, lab, piece_len)?;
+    Ok(())
+}
+
+/// Times a work and what stands beside it, as often, and prints the row.
+pub(crate) fn print_both(
+    rt: &HostRuntime,
+    name: &str,
+    rounds: u32,
+    work: Work<'_>,
+    other: Work<'_>,
+    beside: Beside,
+) -> Result<(), Fault> {
+    let row = Row {
+        rounds,
+        work: time(rt, work, rounds)?,
+        other: time(rt, other, rounds)?,
+        beside,
+    };
+    print_row(rt, name, &row)
+}
+
+/// Times a work, and judges what is left.
+fn time(rt: &HostRuntime, work: Work<'_>, rounds: u32) -> Result<Duration, Fault> {
+    let mut out = Vec::new(rt.alloc());
+    let took = time_over(rt, work, rounds, &mut out)?;
+    work.judge(&out)?;
+    Ok(took)
+}
+
+/// Times a work that writes there.
+fn time_over(
+    rt: &HostRuntime,
+    work: Work<'_>,
+    rounds: u32,
+    out: &mut Vec<u8>,
+) -> Result<Duration, Fault> {
+    let start = Instant::now(rt)?;
+    for _ in 0..rounds {
+        work.once(rt.alloc(), out)?;
+    }
+    Ok(start.elapsed(rt)?)
+}
