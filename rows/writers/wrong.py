@@ -18,3 +18,22 @@ def rows(file):
     file.row("a config with 20 tries is refused", "server tries 20", "refused server config C9")
     file.row("a client without attempts is let in", "predict", "client authenticated al ssh-connection")
     file.row("a world stands still", "world", "rounds 9", "client open", "server open")
+    below(file, t)
+
+
+def below(file, t):
+    """The same of the acts below the endpoint."""
+    file.row("a failure tells the other flag", "message mpint " + hexa(failure()), "tells 51 'password,publickey yes")
+    file.row("a number of two bytes with the first 00 is read", "reads 00000002 007f", "mpint 007f")
+    file.row("a put number has a byte less", "puts", "u32 7", "says 000007")
+    file.row("a name has 65 bytes", "parses", "name yes 65*78")
+    file.row("a line before the version line is taken", "lines 0", feed(b"n\r\n"), "end open")
+    file.row("a payload came and isn't judged", "packets lab", feed(packet(NEWKEYS, 0, SEED[CLIENT])), "held 0", "end open")
+    file.row("a packet is written with the number before", "packets lab",
+             "clear 1 %s 15 %s" % (hexa(SEED[CLIENT]), hexa(packet(NEWKEYS, 0, SEED[CLIENT]))))
+    file.row("a packet of the second suite counts its length", "packets second",
+             "sealed c m %s %s %s 0 %s 15 %s" % (hexa(t.cs.iv), hexa(t.cs.enc), hexa(t.cs.mac_key), hexa(SEED[CLIENT]),
+                                                 hexa(packet(NEWKEYS, 0, SEED[CLIENT], t.cs))))
+    file.row("the client's first host key isn't chosen", "choose %s %s" % (hexa(t.ci), hexa(t.si)), "chosen 0 1 0 0 0 0 0 0")
+    file.row("a client that isn't willing is strict", "choose %s %s" % (hexa(t.ci), hexa(t.si)), "strict client no yes")
+    file.row("an exchange has nine parts' length", "derive", "part 41", "exchange 00000001 41" + " 00000000" * 8)

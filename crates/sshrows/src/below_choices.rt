@@ -1,0 +1,102 @@
+//! Rows of choices, guesses and strictness.
+
+use crate::names::Names;
+use crate::row::Line;
+use crate::stop::Stop;
+use crate::terms::bytes_of;
+use crate::texts::{same_text, wrong, yes_or_no};
+use sshmsg::{KexInit, Message, read};
+use sshneg::{Chosen, Role, choose, guess_right, strict_of};
+use sshsuites::LabSuite;
+use std::alloc::{AllocError, Global};
+
+/// Judges what is chosen over two payloads, the client's first.
+pub(crate) fn judge_choice(
+    alloc: Global,
+    names: &Names,
+    line: &Line<'_>,
+    terms: &str,
+    lines: &[Line<'_>],
+) -> Result<(), Stop> {
+    let (client, server) = terms.split_once(' ').unwrap_or((terms, "-"));
+    let client = bytes_of(alloc, names, line, client)?;
+    let server = bytes_of(alloc, names, line, server)?;
+    let client = kexinit_of(alloc, line, &client)?;
+    let server = kexinit_of(alloc, line, &server)?;
+    for line in lines {
+        judge(alloc, line, &client, &server)?;
+    }
+    Ok(())
+}
+
+/// The KEXINIT that the payload spells.
+fn kexinit_of<'a>(
+    alloc: Global,
+    line: &Line<'_>,
+    payload: &'a [u8],
+) -> Result<Box<KexInit<'a>>, Stop> {
+    match read(alloc, payload) {
+        Ok(Message::KexInit(kexinit)) => Ok(kexinit),
+        _ => wrong(alloc, line, "choose", "a KEXINIT", "none"),
+    }
+}
+
+/// Judges one line: `chosen POSITIONS`, `none FIELD`, `guess YN`, or `strict ROLE YN YN`.
+fn judge(
+    alloc: Global,
+    line: &Line<'_>,
+    client: &KexInit<'_>,
+    server: &KexInit<'_>,
+) -> Result<(), Stop> {
+    let (word, rest) = line.text.split_once(' ').unwrap_or((line.text, ""));
+    match word {
+        "chosen" | "none" => {
+            let found = match choose(client, server, &LabSuite) {
+                Ok(chosen) => text_of_chosen(alloc, &chosen)?,
+                Err(field) => format!(in alloc; "none {field}")?,
+            };
+            same_text(alloc, line, "chosen", line.text, &found)
+        }
+        "guess" => {
+            let found = yes_or_no(guess_right(client, server));
+            same_text(alloc, line, "guess", rest, found)
+        }
+        "strict" => judge_strict(alloc, line, client, server, rest),
+        _ => wrong(alloc, line, "line", "a word of a choice", word),
+    }
+}
+
+/// `ROLE YN YN`: whether a side of this role that is willing, or not, is strict with its peer.
+fn judge_strict(
+    alloc: Global,
+    line: &Line<'_>,
+    client: &KexInit<'_>,
+    server: &KexInit<'_>,
+    rest: &str,
+) -> Result<(), Stop> {
+    let (role, rest) = rest.split_once(' ').unwrap_or((rest, ""));
+    let (willing, wanted) = rest.split_once(' ').unwrap_or((rest, ""));
+    let strict = match role {
+        "client" => strict_of(willing == "yes", Role::Client, server),
+        _ => strict_of(willing == "yes", Role::Server, client),
+    };
+    same_text(alloc, line, "strict", wanted, yes_or_no(strict))
+}
+
+/// The positions, from 0: methods, host key algorithms, ciphers, MACs and compressions, to the server first.
+fn text_of_chosen(alloc: Global, chosen: &Chosen) -> Result<String, AllocError> {
+    let first = format!(in alloc;
+        "chosen {} {} {} {}",
+        chosen.kex,
+        chosen.host_key,
+        chosen.encryption_client_to_server,
+        chosen.encryption_server_to_client
+    )?;
+    format!(in alloc;
+        "{first} {} {} {} {}",
+        chosen.mac_client_to_server,
+        chosen.mac_server_to_client,
+        chosen.compression_client_to_server,
+        chosen.compression_server_to_client
+    )
+}

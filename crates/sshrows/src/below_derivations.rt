@@ -1,0 +1,165 @@
+//! Rows of what is hashed, what is signed, and keys.
+
+ghost use Rattle.std.specs.Prelude.{◌<◌, ◌^◌, length};
+
+use crate::below_texts::text_with;
+use crate::names::Names;
+use crate::row::Line;
+use crate::stop::Stop;
+use crate::terms::bytes_of;
+use crate::texts::{same_bytes, same_text, wrong};
+use sshneg::{Exchange, KeyMaterial, Role, exchange_input, keys_of, signed_request};
+use sshsuites::LabSuite;
+use sshwire::as_name;
+use std::alloc::Global;
+
+/// Bytes that terms have named by numbers.
+type Parts = Vec<Vec<u8>>;
+
+/// Judges derivations by lines: `part TERMS` names the next part, and the other words take all that were
+/// named since the last of them.
+pub(crate) fn judge_derivations(
+    alloc: Global,
+    names: &Names,
+    lines: &[Line<'_>],
+) -> Result<(), Stop> {
+    let mut parts = Vec::new(alloc);
+    for line in lines {
+        let (word, rest) = line.text.split_once(' ').unwrap_or((line.text, ""));
+        if word == "part" {
+            add_part(alloc, names, line, &mut parts, rest)?;
+        } else {
+            judge(alloc, names, line, &parts, word, rest)?;
+            parts.clear();
+        }
+    }
+    Ok(())
+}
+
+/// Names the next part.
+fn add_part(
+    alloc: Global,
+    names: &Names,
+    line: &Line<'_>,
+    parts: &mut Parts,
+    terms: &str,
+) -> Result<(), Stop> {
+    let bytes = bytes_of(alloc, names, line, terms)?;
+    if bytes.len() > 1000000 {
+        return wrong(alloc, line, "term", "bytes", "too many bytes");
+    }
+    parts.push(bytes)?;
+    Ok(())
+}
+
+/// The part of this number, from 0, or no bytes.
+fn part(parts: &Parts, number: usize) -> &[u8]
+    ensures { length result.now < 2 ^ 20 }
+{
+    match parts.get(number) {
+        Some(part) if part.len() < 1048576 => part,
+        _ => &[],
+    }
+}
+
+/// `exchange TERMS`, `signed TERMS` or `keys ROLE CIPHER MAC IV ENC MACKEY`.
+fn judge(
+    alloc: Global,
+    names: &Names,
+    line: &Line<'_>,
+    parts: &Parts,
+    word: &str,
+    rest: &str,
+) -> Result<(), Stop> {
+    match word {
+        "exchange" => {
+            let wanted = bytes_of(alloc, names, line, rest)?;
+            same_bytes(
+                alloc,
+                line,
+                "exchange",
+                &wanted,
+                &exchange_of(alloc, parts)?,
+            )
+        }
+        "signed" => {
+            let wanted = bytes_of(alloc, names, line, rest)?;
+            let found = signed_of(alloc, line, parts)?;
+            same_bytes(alloc, line, "signed", &wanted, &found)
+        }
+        "keys" => judge_keys(alloc, line, parts, rest),
+        _ => wrong(alloc, line, "line", "a word of derivations", word),
+    }
+}
+
+/// What is hashed of eight parts.
+fn exchange_of(alloc: Global, parts: &Parts) -> Result<Vec<u8>, Stop> {
+    let exchange = Exchange {
+        client_version: part(parts, 0),
+        server_version: part(parts, 1),
+        client_kexinit: part(parts, 2),
+        server_kexinit: part(parts, 3),
+        host_key: part(parts, 4),
+        client_share: part(parts, 5),
+        server_share: part(parts, 6),
+        shared: part(parts, 7),
+    };
+    Ok(exchange_input(alloc, &exchange)?)
+}
+
+/// What is signed of five parts: session, user, service, algorithm and key.
+fn signed_of(alloc: Global, line: &Line<'_>, parts: &Parts) -> Result<Vec<u8>, Stop> {
+    let user = std::str::from_utf8(part(parts, 1));
+    let algorithm = as_name(part(parts, 3));
+    match (user, algorithm) {
+        (Ok(user), Some(algorithm)) => Ok(signed_request(
+            alloc,
+            part(parts, 0),
+            user,
+            part(parts, 2),
+            algorithm,
+            part(parts, 4),
+        )?),
+        _ => wrong(alloc, line, "signed", "a user and a name", "none"),
+    }
+}
+
+/// The keys of four parts (method, shared number, hash and session) for a sender, a cipher and a MAC.
+fn judge_keys(alloc: Global, line: &Line<'_>, parts: &Parts, words: &str) -> Result<(), Stop> {
+    let (role, words) = words.split_once(' ').unwrap_or((words, ""));
+    let (cipher, words) = words.split_once(' ').unwrap_or((words, ""));
+    let (mac, _) = words.split_once(' ').unwrap_or((words, ""));
+    let sender = match role {
+        "client" => Role::Client,
+        _ => Role::Server,
+    };
+    let found = text_of_keys(alloc, line, parts, sender, cipher, mac)?;
+    same_text(alloc, line, "keys", words, &found)
+}
+
+/// The MAC, and the keys in digits.
+fn text_of_keys(
+    alloc: Global,
+    line: &Line<'_>,
+    parts: &Parts,
+    sender: Role,
+    cipher: &str,
+    mac: &str,
+) -> Result<String, Stop> {
+    let kex = as_name(part(parts, 0));
+    let (Some(kex), Some(cipher), Some(mac)) = (
+        kex,
+        as_name(cipher.as_bytes()),
+        as_name(mac.as_bytes()),
+    ) else {
+        return wrong(alloc, line, "keys", "three names", "none");
+    };
+    let material = KeyMaterial {
+        kex,
+        shared: part(parts, 1),
+        hash: part(parts, 2),
+        session: part(parts, 3),
+    };
+    let keys = keys_of(alloc, &LabSuite, &material, sender, cipher, mac)?;
+    text_with(alloc, mac, &[keys.iv(), keys.enc(), keys.mac_key()])
+}

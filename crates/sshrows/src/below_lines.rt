@@ -1,0 +1,96 @@
+//! Rows of lines.
+
+use crate::below_texts::{code_of_wire, text_with};
+use crate::names::Names;
+use crate::row::Line;
+use crate::stop::Stop;
+use crate::terms::bytes_of;
+use crate::texts::{same_text, shows, wrong};
+use sshwire::{LineReader, LineStep};
+use std::alloc::Global;
+
+/// A reader of lines that is judged.
+#[derive(Drop)]
+struct Hearer {
+    reader: LineReader,
+    /// How it stands.
+    end: String,
+    /// How many bytes it is given at once, at most.
+    piece_len: usize,
+}
+
+/// Judges a reader that takes so many other lines.
+pub(crate) fn judge_hearing(
+    alloc: Global,
+    names: &Names,
+    line: &Line<'_>,
+    others: &str,
+    lines: &[Line<'_>],
+    piece_len: usize,
+) -> Result<(), Stop> {
+    let Ok(others) = others.parse::<u32>() else {
+        return wrong(alloc, line, "lines", "a number", others);
+    };
+    let end = String::from_str(alloc, "open")?;
+    let mut hearer = Hearer {
+        reader: LineReader::new(alloc, others),
+        end,
+        piece_len,
+    };
+    for line in lines {
+        step(alloc, names, line, &mut hearer)?;
+    }
+    Ok(())
+}
+
+/// Judges one line.
+fn step(alloc: Global, names: &Names, line: &Line<'_>, hearer: &mut Hearer) -> Result<(), Stop> {
+    let (word, rest) = line.text.split_once(' ').unwrap_or((line.text, ""));
+    match word {
+        "feed" => {
+            let piece = bytes_of(alloc, names, line, rest)?;
+            let used = used_of(alloc, hearer, &piece)?;
+            let wanted = format!(in alloc; "{}", piece.len())?;
+            shows(alloc, line, "used", &wanted, &used)
+        }
+        "part" => {
+            let (wanted, terms) = rest.split_once(' ').unwrap_or((rest, "-"));
+            let piece = bytes_of(alloc, names, line, terms)?;
+            let used = used_of(alloc, hearer, &piece)?;
+            shows(alloc, line, "used", wanted, &used)
+        }
+        "held" => shows(alloc, line, "held", rest, &hearer.reader.buffered()),
+        "end" => same_text(alloc, line, "end", rest, &hearer.end),
+        _ => wrong(alloc, line, "line", "a word of lines", word),
+    }
+}
+
+/// Gives the reader the bytes in pieces, up to one that it doesn't use whole, and answers how many it used.
+fn used_of(alloc: Global, hearer: &mut Hearer, piece: &[u8]) -> Result<usize, Stop> {
+    let mut all = 0usize;
+    for part in piece.chunks(hearer.piece_len.max(1)) {
+        let used = hear(alloc, hearer, part)?;
+        all = all.saturating_add(used);
+        if used < part.len() {
+            return Ok(all);
+        }
+    }
+    Ok(all)
+}
+
+/// Gives the reader one piece, and answers how many bytes it used. It has the version line at most once.
+fn hear(alloc: Global, hearer: &mut Hearer, part: &[u8]) -> Result<usize, Stop> {
+    if hearer.reader.is_done() {
+        return Ok(0);
+    }
+    let end = match hearer.reader.feed(part) {
+        Ok(LineStep::More) => return Ok(hearer.reader.taken()),
+        Ok(LineStep::Done { version, .. }) => text_with(alloc, "version", &[version.text()])?,
+        Err(fault) => {
+            let code = code_of_wire(fault)?;
+            format!(in alloc; "refused {code}")?
+        }
+    };
+    hearer.end = end;
+    Ok(hearer.reader.taken())
+}

@@ -1,0 +1,256 @@
+//! Rows of packets: what is read, and what is written.
+
+use crate::below_texts::code_of_packet;
+use crate::names::Names;
+use crate::row::Line;
+use crate::stop::Stop;
+use crate::terms::bytes_of;
+use crate::texts::{same_bytes, same_text, shows, wrong};
+use sshpacket::{KeyParts, Keys, PacketReader, PacketStep, Suite, write_clear, write_sealed};
+use sshwire::{PAYLOAD_LIMIT, as_name};
+use std::alloc::Global;
+
+/// A reader of packets that is judged, and what is written beside it.
+#[derive(Drop)]
+struct Receiver {
+    reader: PacketReader,
+    /// The payloads that came and weren't judged yet, each as a string.
+    came: Vec<u8>,
+    /// What it was refused by.
+    end: &'static str,
+    /// How many bytes it is given at once, at most.
+    piece_len: usize,
+}
+
+/// Judges a reader, and what is written, by lines.
+pub(crate) fn judge_packets<S: Suite>(
+    alloc: Global,
+    names: &Names,
+    suite: &S,
+    lines: &[Line<'_>],
+    piece_len: usize,
+) -> Result<(), Stop> {
+    let mut receiver = Receiver {
+        reader: PacketReader::new(alloc),
+        came: Vec::new(alloc),
+        end: "open",
+        piece_len,
+    };
+    for line in lines {
+        step(alloc, names, suite, line, &mut receiver)?;
+    }
+    match lines.last() {
+        Some(line) => same_bytes(alloc, line, "came and not judged", &[], &receiver.came),
+        None => Ok(()),
+    }
+}
+
+/// Does or judges one line.
+fn step<S: Suite>(
+    alloc: Global,
+    names: &Names,
+    suite: &S,
+    line: &Line<'_>,
+    receiver: &mut Receiver,
+) -> Result<(), Stop> {
+    let (word, rest) = line.text.split_once(' ').unwrap_or((line.text, ""));
+    match word {
+        "feed" => {
+            let piece = bytes_of(alloc, names, line, rest)?;
+            let used = used_of(suite, receiver, &piece)?;
+            let wanted = format!(in alloc; "{}", piece.len())?;
+            shows(alloc, line, "used", &wanted, &used)
+        }
+        "part" => {
+            let (wanted, terms) = rest.split_once(' ').unwrap_or((rest, "-"));
+            let piece = bytes_of(alloc, names, line, terms)?;
+            let used = used_of(suite, receiver, &piece)?;
+            shows(alloc, line, "used", wanted, &used)
+        }
+        "came" => {
+            let wanted = bytes_of(alloc, names, line, rest)?;
+            same_bytes(alloc, line, "came", &wanted, &receiver.came)?;
+            receiver.came.clear();
+            Ok(())
+        }
+        "held" => shows(alloc, line, "held", rest, &receiver.reader.buffered()),
+        "end" => same_text(alloc, line, "end", rest, receiver.end),
+        "keys" => use_keys(alloc, names, line, receiver, rest),
+        "clear" | "sealed" => judge_written(alloc, names, suite, line, word, rest),
+        _ => wrong(alloc, line, "line", "a word of packets", word),
+    }
+}
+
+/// Gives the reader the bytes in pieces, up to one that it doesn't use whole, and answers how many it used.
+fn used_of<S: Suite>(suite: &S, receiver: &mut Receiver, piece: &[u8]) -> Result<usize, Stop> {
+    if piece.is_empty() {
+        return hear(suite, receiver, piece);
+    }
+    let mut all = 0usize;
+    for part in piece.chunks(receiver.piece_len.max(1)) {
+        let used = hear_all(suite, receiver, part)?;
+        all = all.saturating_add(used);
+        if used < part.len() {
+            return Ok(all);
+        }
+    }
+    Ok(all)
+}
+
+/// Gives the reader a piece, packet by packet, up to where it uses nothing more.
+fn hear_all<S: Suite>(suite: &S, receiver: &mut Receiver, part: &[u8]) -> Result<usize, Stop> {
+    let mut all = 0usize;
+    for _ in 0..part.len() {
+        let left = part.get(all..).unwrap_or(&[]);
+        let used = hear(suite, receiver, left)?;
+        all = all.saturating_add(used);
+        if used == 0 || used >= left.len() {
+            return Ok(all);
+        }
+    }
+    Ok(all)
+}
+
+/// Gives the reader what is left of a piece, up to the end of a packet.
+fn hear<S: Suite>(suite: &S, receiver: &mut Receiver, left: &[u8]) -> Result<usize, Stop> {
+    match receiver.reader.next(suite, left) {
+        Ok(PacketStep::More) => {}
+        Ok(PacketStep::Payload { payload, .. }) => {
+            let len = u32::try_from(payload.len()).unwrap_or(u32::MAX);
+            receiver.came.extend_from_slice(&len.to_be_bytes())?;
+            receiver.came.extend_from_slice(payload)?;
+        }
+        Err(fault) => receiver.end = code_of_packet(fault)?,
+    }
+    Ok(receiver.reader.taken())
+}
+
+/// `keys RESET CIPHER MAC IV ENC MACKEY`: the reader has these keys from here on, if it holds nothing.
+fn use_keys(
+    alloc: Global,
+    names: &Names,
+    line: &Line<'_>,
+    receiver: &mut Receiver,
+    rest: &str,
+) -> Result<(), Stop> {
+    let (reset, terms) = rest.split_once(' ').unwrap_or((rest, ""));
+    let (keys, _) = keys_of(alloc, names, line, terms)?;
+    if !receiver.reader.is_idle() {
+        return wrong(alloc, line, "held", "nothing", "a part of a packet");
+    }
+    receiver.reader.use_keys(keys, reset == "yes");
+    Ok(())
+}
+
+/// The keys that five words are, and what stands behind them.
+fn keys_of<'a>(
+    alloc: Global,
+    names: &Names,
+    line: &Line<'_>,
+    words: &'a str,
+) -> Result<(Keys, &'a str), Stop> {
+    let (cipher, words) = words.split_once(' ').unwrap_or((words, ""));
+    let (mac, words) = words.split_once(' ').unwrap_or((words, ""));
+    let (iv, words) = words.split_once(' ').unwrap_or((words, "-"));
+    let (enc, words) = words.split_once(' ').unwrap_or((words, "-"));
+    let (mac_key, words) = words.split_once(' ').unwrap_or((words, "-"));
+    let iv = bytes_of(alloc, names, line, iv)?;
+    let enc = bytes_of(alloc, names, line, enc)?;
+    let mac_key = bytes_of(alloc, names, line, mac_key)?;
+    let keys = keys_with(alloc, line, (cipher, mac), iv, enc, mac_key)?;
+    Ok((keys, words))
+}
+
+/// Keys for a cipher and a MAC, which have to be names.
+fn keys_with(
+    alloc: Global,
+    line: &Line<'_>,
+    algorithms: (&str, &str),
+    iv: Vec<u8>,
+    enc: Vec<u8>,
+    mac_key: Vec<u8>,
+) -> Result<Keys, Stop> {
+    let (Some(cipher), Some(mac)) = (
+        as_name(algorithms.0.as_bytes()),
+        as_name(algorithms.1.as_bytes()),
+    ) else {
+        return wrong(alloc, line, "keys", "two names", "none");
+    };
+    let cipher = String::from_str(alloc, cipher)?;
+    let mac = String::from_str(alloc, mac)?;
+    Ok(Keys::new(KeyParts {
+        cipher,
+        mac,
+        iv,
+        enc,
+        mac_key,
+    }))
+}
+
+/// What is written before each packet.
+const BEFORE: &[u8] = b"before";
+
+/// `clear NUMBER SEED PAYLOAD PACKET` or `sealed CIPHER MAC IV ENC MACKEY NUMBER SEED PAYLOAD PACKET`: the
+/// packet of a payload has to be written as these bytes, behind what stood there.
+fn judge_written<S: Suite>(
+    alloc: Global,
+    names: &Names,
+    suite: &S,
+    line: &Line<'_>,
+    word: &str,
+    rest: &str,
+) -> Result<(), Stop> {
+    if word == "clear" {
+        return judge_packet(alloc, names, suite, line, None, rest);
+    }
+    let (keys, rest) = keys_of(alloc, names, line, rest)?;
+    judge_packet(alloc, names, suite, line, Some(&keys), rest)
+}
+
+/// Judges what is written with these keys, or in clear: `NUMBER SEED PAYLOAD PACKET`.
+fn judge_packet<S: Suite>(
+    alloc: Global,
+    names: &Names,
+    suite: &S,
+    line: &Line<'_>,
+    keys: Option<&Keys>,
+    words: &str,
+) -> Result<(), Stop> {
+    let mut out = Vec::from_slice(alloc, BEFORE)?;
+    let wanted = put_packet(alloc, names, suite, line, keys, words, &mut out)?;
+    let wanted = bytes_of(alloc, names, line, wanted)?;
+    stands_behind(alloc, line, &wanted, &out)
+}
+
+/// The bytes have to stand behind what stood there before, and nothing else.
+fn stands_behind(alloc: Global, line: &Line<'_>, wanted: &[u8], out: &[u8]) -> Result<(), Stop> {
+    let (front, written) = out.split_at(BEFORE.len().min(out.len()));
+    same_bytes(alloc, line, "before what is written", BEFORE, front)?;
+    same_bytes(alloc, line, "written", wanted, written)
+}
+
+/// Writes the packet of `NUMBER SEED PAYLOAD`, and answers what stands behind them.
+fn put_packet<'a, S: Suite>(
+    alloc: Global,
+    names: &Names,
+    suite: &S,
+    line: &Line<'_>,
+    keys: Option<&Keys>,
+    words: &'a str,
+    out: &mut Vec<u8>,
+) -> Result<&'a str, Stop> {
+    let (number, words) = words.split_once(' ').unwrap_or((words, ""));
+    let (seed, words) = words.split_once(' ').unwrap_or((words, "-"));
+    let (payload, words) = words.split_once(' ').unwrap_or((words, "-"));
+    let number = number.parse::<u32>().unwrap_or(0);
+    let seed = bytes_of(alloc, names, line, seed)?;
+    let payload = bytes_of(alloc, names, line, payload)?;
+    if payload.is_empty() || payload.len() > PAYLOAD_LIMIT || seed.len() > PAYLOAD_LIMIT {
+        return wrong(alloc, line, "term", "a payload", "none, or too many bytes");
+    }
+    match keys {
+        None => write_clear(alloc, suite, number, &payload, &seed, out)?,
+        Some(keys) => write_sealed(alloc, suite, keys, number, &payload, &seed, out)?,
+    }
+    Ok(words)
+}

@@ -1,0 +1,205 @@
+//! Rows of data types.
+
+use crate::below_texts::{code_of_wire, put_names, text_with};
+use crate::names::Names;
+use crate::row::Line;
+use crate::stop::Stop;
+use crate::terms::bytes_of;
+use crate::texts::{same_bytes, same_text, wrong, yes_or_no};
+use sshwire::{
+    BorrowedNameList, Mpint, NameList, Reader, VersionLine, WireFault, as_name, put_boolean,
+    put_mpint, put_string, put_u32,
+};
+use std::alloc::Global;
+
+/// Judges a reader of these bytes by calls.
+pub(crate) fn judge_reading(alloc: Global, bytes: &[u8], lines: &[Line<'_>]) -> Result<(), Stop> {
+    let mut reader = Reader::new(bytes);
+    for line in lines {
+        let before = reader.rest();
+        let found = text_of_call(alloc, &mut reader, line)?;
+        same_text(alloc, line, "read", line.text, &found)?;
+        if found.as_bytes().starts_with(b"refused") {
+            same_bytes(alloc, line, "rest", before, reader.rest())?;
+        }
+    }
+    Ok(())
+}
+
+/// Makes the call of the line, `CALL VALUE` or `refused CODE CALL`, and tells what came of it.
+fn text_of_call(alloc: Global, reader: &mut Reader<'_>, line: &Line<'_>) -> Result<String, Stop> {
+    let (first, rest) = line.text.split_once(' ').unwrap_or((line.text, ""));
+    let call = match rest.split_once(' ') {
+        Some((_, call)) if first == "refused" => call,
+        _ => first,
+    };
+    match call {
+        "boolean" => {
+            let found = reader.boolean();
+            told(alloc, "boolean", found.map(|value| yes_or_no(value)))
+        }
+        "u32" => told_number(alloc, reader.u32()),
+        "string" => told_bytes(alloc, "string", reader.string()),
+        "mpint" => told_bytes(alloc, "mpint", reader.mpint().map(|number| number.body())),
+        "rest" => text_with(alloc, "rest", &[reader.rest()]),
+        _ => text_of_list_call(alloc, reader, line, call),
+    }
+}
+
+/// The same of the two calls that read lists.
+fn text_of_list_call(
+    alloc: Global,
+    reader: &mut Reader<'_>,
+    line: &Line<'_>,
+    call: &str,
+) -> Result<String, Stop> {
+    match call {
+        "name_list" => told_names(alloc, reader.name_list(alloc)),
+        "lent_list" => {
+            let found = reader.borrowed_name_list();
+            told_bytes(alloc, "lent_list", found.map(|list| list.body()))
+        }
+        _ => wrong(alloc, line, "line", "a call of a reader", call),
+    }
+}
+
+/// The call and its value, or its refusal.
+fn told(
+    alloc: Global,
+    call: &'static str,
+    found: Result<&'static str, WireFault>,
+) -> Result<String, Stop> {
+    match found {
+        Ok(value) => Ok(format!(in alloc; "{call} {value}")?),
+        Err(fault) => refusal(alloc, call, fault),
+    }
+}
+
+/// The refusal of a call.
+fn refusal(alloc: Global, call: &'static str, fault: WireFault) -> Result<String, Stop> {
+    let code = code_of_wire(fault)?;
+    Ok(format!(in alloc; "refused {code} {call}")?)
+}
+
+/// The same of a uint32.
+fn told_number(alloc: Global, found: Result<u32, WireFault>) -> Result<String, Stop> {
+    match found {
+        Ok(number) => Ok(format!(in alloc; "u32 {number}")?),
+        Err(fault) => refusal(alloc, "u32", fault),
+    }
+}
+
+/// The same of bytes.
+fn told_bytes(
+    alloc: Global,
+    call: &'static str,
+    found: Result<&[u8], WireFault>,
+) -> Result<String, Stop> {
+    match found {
+        Ok(bytes) => text_with(alloc, call, &[bytes]),
+        Err(fault) => refusal(alloc, call, fault),
+    }
+}
+
+/// The same of a list of names.
+fn told_names(alloc: Global, found: Result<NameList, WireFault>) -> Result<String, Stop> {
+    match found {
+        Ok(list) => {
+            let mut text = String::from_str(alloc, "name_list")?;
+            put_names(&mut text, &list)?;
+            Ok(text)
+        }
+        Err(fault) => refusal(alloc, "name_list", fault),
+    }
+}
+
+/// Puts values by calls, and judges what was put: `says TERMS`.
+pub(crate) fn judge_putting(alloc: Global, names: &Names, lines: &[Line<'_>]) -> Result<(), Stop> {
+    let mut out = Vec::new(alloc);
+    for line in lines {
+        put(alloc, names, line, &mut out)?;
+    }
+    Ok(())
+}
+
+/// Puts one value, or judges what was put.
+fn put(alloc: Global, names: &Names, line: &Line<'_>, out: &mut Vec<u8>) -> Result<(), Stop> {
+    let (call, rest) = line.text.split_once(' ').unwrap_or((line.text, ""));
+    match call {
+        "boolean" => Ok(put_boolean(out, rest == "yes")?),
+        "u32" => Ok(put_u32(out, rest.parse::<u32>().unwrap_or(0))?),
+        _ => {
+            let bytes = bytes_of(alloc, names, line, rest)?;
+            put_bytes(alloc, line, call, &bytes, out)
+        }
+    }
+}
+
+/// The same of a value that is bytes.
+fn put_bytes(
+    alloc: Global,
+    line: &Line<'_>,
+    call: &str,
+    bytes: &[u8],
+    out: &mut Vec<u8>,
+) -> Result<(), Stop> {
+    if bytes.len() > 1000000 {
+        return wrong(alloc, line, "term", "bytes", "too many bytes");
+    }
+    match call {
+        "says" => same_bytes(alloc, line, "put", bytes, out),
+        "string" => Ok(put_string(out, bytes)?),
+        "mpint" => match Mpint::new(bytes) {
+            Ok(number) => Ok(put_mpint(out, &number)?),
+            Err(_) => wrong(alloc, line, "mpint", "a number", "none"),
+        },
+        "name_list" => put_list(alloc, line, bytes, out),
+        _ => wrong(alloc, line, "line", "a call that puts", call),
+    }
+}
+
+/// Puts the list of this body.
+fn put_list(alloc: Global, line: &Line<'_>, body: &[u8], out: &mut Vec<u8>) -> Result<(), Stop> {
+    if body.len() > 1000000 {
+        return wrong(alloc, line, "term", "bytes", "too many bytes");
+    }
+    match NameList::parse(alloc, body) {
+        Ok(list) => Ok(list.write(out)?),
+        Err(_) => wrong(alloc, line, "name_list", "names", "none"),
+    }
+}
+
+/// Judges bytes by themselves, a line each: `KIND ANSWER TERMS`.
+pub(crate) fn judge_parsing(alloc: Global, names: &Names, lines: &[Line<'_>]) -> Result<(), Stop> {
+    for line in lines {
+        let (kind, rest) = line.text.split_once(' ').unwrap_or((line.text, ""));
+        let (wanted, terms) = rest.split_once(' ').unwrap_or((rest, "-"));
+        let bytes = bytes_of(alloc, names, line, terms)?;
+        let found = parsed(alloc, line, kind, &bytes)?;
+        same_text(alloc, line, "parsed", wanted, found)?;
+    }
+    Ok(())
+}
+
+/// `yes` where the bytes are of this kind, else `no` or the code of the refusal.
+fn parsed(alloc: Global, line: &Line<'_>, kind: &str, bytes: &[u8]) -> Result<&'static str, Stop> {
+    if bytes.len() > 1000000 {
+        return wrong(alloc, line, "term", "bytes", "too many bytes");
+    }
+    match kind {
+        "name" => Ok(yes_or_no(as_name(bytes).is_some())),
+        "name_list" => answer_of(NameList::parse(alloc, bytes).err()),
+        "lent_list" => answer_of(BorrowedNameList::new(bytes).err()),
+        "mpint" => answer_of(Mpint::new(bytes).err()),
+        "version" => answer_of(VersionLine::parse(alloc, bytes).err()),
+        _ => wrong(alloc, line, "line", "a kind of bytes", kind),
+    }
+}
+
+/// `yes` where nothing is refused.
+fn answer_of(fault: Option<WireFault>) -> Result<&'static str, Stop> {
+    match fault {
+        None => Ok("yes"),
+        Some(fault) => code_of_wire(fault),
+    }
+}

@@ -1,0 +1,148 @@
+"""Packets of both lab suites (RFC 4253 section 6; in the second, packet_length is in clear and isn't counted, as in RFC 5647):
+written, read whole and cut, and refused."""
+from lab import *
+
+IV, ENC, MACKEY = bytes([1]) * 16, bytes([2]) * 48, bytes([3]) * 32
+SEED_TEXT = b"seed"
+
+
+def stream(keys, seq, n):
+    return blocks(keys.enc + keys.iv, seq, n)
+
+
+def sealed_raw(suite, keys, seq, clear):
+    if keys is None:
+        return clear
+    if suite == "lab":
+        return xor(clear, stream(keys, seq, len(clear))) + sha(keys.mac_key, u32(seq), clear)
+    covered = clear[:4] + xor(clear[4:], stream(keys, seq, len(clear) - 4))
+    return covered + sha(keys.enc, u32(seq), covered)[:16]
+
+
+def clear_packet(suite, keys, seq, payload, seed=SEED_TEXT):
+    block = 16 if keys and keys.cipher.endswith("16") else 8
+    counted = 4 if suite == "lab" or keys is None else 0
+    padding = 4
+    while (counted + 1 + len(payload) + padding) % block or counted + 1 + len(payload) + padding < (16 if counted else 8):
+        padding += 1
+    return u32(1 + len(payload) + padding) + bytes([padding]) + payload + blocks(seed, seq, padding)
+
+
+def packet_of(suite, keys, seq, payload, seed=SEED_TEXT):
+    return sealed_raw(suite, keys, seq, clear_packet(suite, keys, seq, payload, seed))
+
+
+def raw(suite, keys, length, padding, seq=0):
+    return sealed_raw(suite, keys, seq, u32(length) + bytes([padding]) + bytes((i * 7) % 256 for i in range(length - 1)))
+
+
+def words(keys):
+    return "%s %s %s %s %s" % (keys.cipher, keys.mac, hexa(keys.iv), hexa(keys.enc), hexa(keys.mac_key))
+
+
+def came(*payloads):
+    return "came " + " ".join("+" + hexa(p) for p in payloads)
+
+
+def keys_for(cipher):
+    return Keys(cipher, "m", IV, ENC, MACKEY)
+
+
+def again(code):
+    return ["part 0 " + hexa(b"more"), "end refused " + code, "held 0", "part 0 " + hexa(packet_of("lab", None, 0, b"\x15"))]
+
+
+def rows(file):
+    for suite in ("lab", "second"):
+        for cipher in (None, "c", "c16"):
+            keys = cipher and keys_for(cipher)
+            name = "%s %s" % (suite, cipher or "in clear")
+            start = ["packets " + suite] + (["keys yes " + words(keys)] if keys else [])
+            lengths(file, suite, keys, name, start)
+            limits(file, suite, keys, name, start)
+            paddings(file, suite, keys, name, start)
+            if keys:
+                tags(file, suite, keys, name, start)
+        behind(file, suite)
+
+
+def lengths(file, suite, keys, name, start):
+    """Payloads of many lengths, written and read again."""
+    for n in list(range(1, 41)) + [255, 256, 1000]:
+        for seq in (0, 7, 4294967295):
+            payload = bytes((n + i) % 256 for i in range(n))
+            data = packet_of(suite, keys, seq, payload)
+            line = "sealed %s %d %s" % (words(keys), seq, hexa(SEED_TEXT)) if keys else "clear %d %s" % (seq, hexa(SEED_TEXT))
+            read = []
+            if seq == 0:
+                read = [feed(data[:-1]), "came -", "held %d" % (len(data) - 1), part(1, data[-1:]), came(payload), "held 0", "end open",
+                        feed(packet_of(suite, keys, 1, b"next"), packet_of(suite, keys, 2, b"third")), came(b"next", b"third")]
+            file.row("packet %s of %d, number %d" % (name, n, seq), start, "%s %s %s" % (line, hexa(payload), hexa(data)), read)
+    biggest = 32768
+    payload = b"\x07" * biggest
+    data = packet_of(suite, keys, 0, payload)
+    file.row("packet %s of %d" % (name, biggest), start, feed(data[:4], data[4:-1]), "held %d" % (len(data) - 1), feed(data[-1:]),
+             came(payload), "held 0")
+
+
+def limit(suite, keys):
+    """The longest packet_length, and what is its multiple."""
+    block = 16 if keys and keys.cipher.endswith("16") else 8
+    counted = 4 if suite == "lab" or keys is None else 0
+    tag = 0 if keys is None else 32 if suite == "lab" else 16
+    longest = max(n for n in range(34900, 35000) if 4 + n + tag <= 35000 and (counted + n) % block == 0)
+    return longest, block, counted
+
+
+def limits(file, suite, keys, name, start):
+    longest, block, counted = limit(suite, keys)
+    shortest = 16 - counted if counted else block
+    clear = lambda n: xor(u32(n), stream(keys, 0, 4)) if keys and suite == "lab" else u32(n)
+    for n in (shortest, shortest + block, longest - block, longest):
+        file.row("packet %s, length %d" % (name, n), start, feed(clear(n)), "held 4", "end open")
+    for n in (0, 1, 4, shortest - 1, shortest + 1, shortest + 2, shortest + block - 1, longest - 1, longest + 1, longest + block, 65536,
+              2147483648, 4294967295):
+        if n + counted < shortest + counted or (n + counted) % block or n > longest:
+            file.row("packet %s, refused length %d" % (name, n), start, feed(clear(n)[:3]), "end open", "held 3",
+                     part(1, clear(n)[3:], bytes(40)), "end refused P1", "held 0", again("P1"))
+
+
+def paddings(file, suite, keys, name, start):
+    _, block, counted = limit(suite, keys)
+    n = 2 * block - counted
+    for padding in (0, 3, n, n + 1, 255, n - 1, 4, n - 2):
+        data = raw(suite, keys, n, padding)
+        code = "P3" if padding == n - 1 else "P2" if not 4 <= padding < n else None
+        if code:
+            file.row("packet %s, refused padding %d" % (name, padding), start, feed(data[:-1]), "end open", part(1, data[-1:], b"m"),
+                     "end refused " + code, "held 0", again(code))
+        else:
+            payload = bytes((i * 7) % 256 for i in range(n - 1 - padding))
+            file.row("packet %s, padding %d" % (name, padding), start, feed(data), came(payload), "held 0", "end open")
+
+
+def tags(file, suite, keys, name, start):
+    data = packet_of(suite, keys, 0, b"payload")
+    for place in range(4, len(data)):
+        bad = data[:place] + bytes([data[place] ^ 1]) + data[place + 1:]
+        file.row("packet %s, byte %d changed" % (name, place), start, feed(bad[:-1]), "end open", part(1, bad[-1:], b"m"), "end refused P4",
+                 "held 0", again("P4"))
+    if suite == "second":
+        data = packet_of(suite, keys, 1, b"payload")
+        file.row("packet %s, another number" % name, start, feed(data), "end refused P4")
+    file.row("packet %s, wrong tag and padding" % name, start, feed(raw(suite, keys, 28 if suite == "lab" else 32, 3)[:-1] + b"\0"),
+             "end refused P4")
+
+
+def behind(file, suite):
+    keys = keys_for("c")
+    for reset in ("yes", "no"):
+        one = 0 if reset == "yes" else 2
+        clear = packet_of(suite, None, 0, b"\x15") + packet_of(suite, None, 1, b"two")
+        sealed = packet_of(suite, keys, one, b"payload") + packet_of(suite, keys, one + 1, b"more")
+        file.row("packets %s, sealed behind clear, reset %s" % (suite, reset), "packets " + suite, feed(clear), came(b"\x15", b"two"),
+                 "keys %s %s" % (reset, words(keys)), feed(sealed), came(b"payload", b"more"), "end open", "held 0")
+    other = Keys("c16", "m", b"iv", b"enc", b"mac")
+    file.row("packets %s, keys behind keys" % suite, "packets " + suite, "keys no " + words(keys), feed(packet_of(suite, keys, 0, b"a")),
+             came(b"a"), "keys no " + words(other), feed(packet_of(suite, other, 1, b"b")), came(b"b"), "keys yes " + words(keys),
+             feed(packet_of(suite, keys, 0, b"c")), came(b"c"))
