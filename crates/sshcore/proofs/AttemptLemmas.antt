@@ -10,11 +10,16 @@ use Rattle.sshmsg.specs.Written.{written_message}
 use Rattle.sshneg.specs.ChoiceReadings.{is_in}
 use Rattle.sshpacket.specs.Suite.{Meaning}
 use Rattle.sshcore.specs.declared.config_parts.Attempt as attempt_parts
-use Rattle.sshcore.specs.Attempts.{request_of}
-use Rattle.sshcore.specs.ConfigData.{Attempt}
+use Rattle.sshcore.specs.declared.end.Fault.TheVariants as fault
+use Rattle.sshmsg.specs.declared.numbers.TheConstants.{SSH_MSG_USERAUTH_PK_OK}
+use Rattle.sshcore.specs.Attempts.{attempt_reply, confirmed_by, is_asked, request_of, success_by}
+use Rattle.sshcore.specs.ConfigData.{Attempt, ByKey, ByNothing, ByPassword, Proving}
 use Rattle.sshcore.specs.ConfigRules.{IsAttempt}
 use Rattle.sshcore.specs.ConfigView.{attempt_of, proving_of}
-use Rattle.sshcore.specs.Plan.{next_listed, proving_name}
+use Rattle.sshcore.specs.Ending.{Reply, fails, goes}
+use Rattle.sshcore.specs.Kept.{left_of}
+use Rattle.sshcore.specs.Known.{Known}
+use Rattle.sshcore.specs.Plan.{behind_query, first_made, next_behind, next_listed, proving_name, unasked}
 
 -- whether the method of an attempt is listed
 abbrev pub is_listed : List (List ℕ) → attempt_parts.Attempt → Bool
@@ -109,3 +114,55 @@ first_some (x ∷ later) first a at is =
 pub quiet_request : (m : Meaning) (session : List ℕ) (a : Attempt) → (kind (request_of m session a) == 21) ≡ false
 unfolding written_message
 quiet_request m session a = refl
+
+-- what is left, of which the first attempt may be confirmed
+pub left_none : (b : Bool) (attempts : List Attempt) → attempts ≡ [] → left_of b attempts ≡ []
+left_none true attempts e = rw e refl
+left_none false attempts e = e
+
+pub left_some : (b : Bool) (attempts : List Attempt) (a : Attempt) (later : List Attempt) → attempts ≡ a ∷ later → left_of b attempts ≡ first_made b a ∷ later
+left_some true attempts a later e = rw e refl
+left_some false attempts a later e = e
+
+-- behind a FAILURE it is the same
+pub left_next : (b : Bool) (listed : List (List ℕ)) (attempts : List Attempt) → next_behind listed attempts ≡ next_behind listed (left_of b attempts)
+left_next true listed [] = refl
+left_next true listed (a ∷ later) = refl
+left_next false listed attempts = refl
+
+-- and at SUCCESS
+pub left_success : (b : Bool) (known : Known) (attempts : List Attempt) (a : Attempt) (later : List Attempt) → attempts ≡ a ∷ later
+    → success_by known (a ∷ later) ≡ success_by known (left_of b attempts)
+left_success true known attempts a later e = rw e refl
+left_success false known attempts a later e = rw e refl
+
+-- at PK_OK: none is left, the key isn't the one that was asked about, and it is
+module _ (m : Meaning) (known : Known) (algorithm key : List ℕ) (b : Bool) (attempts : List Attempt) where
+  pub none_asked : attempts ≡ [] → fails (fault.Unexpected SSH_MSG_USERAUTH_PK_OK) ≡ confirmed_by m known algorithm key (left_of b attempts)
+  none_asked e = ap (confirmed_by m known algorithm key) (sym (left_none b attempts e))
+
+  module _ (a : Attempt) (later : List Attempt) (e : attempts ≡ a ∷ later) where
+    pub other_asked : is_asked m (first_made b a).proving algorithm key ≡ false
+        → fails (fault.Unexpected SSH_MSG_USERAUTH_PK_OK) ≡ confirmed_by m known algorithm key (left_of b attempts)
+    other_asked off = let made : fails (fault.Unexpected SSH_MSG_USERAUTH_PK_OK) ≡ confirmed_by m known algorithm key (first_made b a ∷ later) = rw off refl in
+        made ∙ ap (confirmed_by m known algorithm key) (sym (left_some b attempts a later e))
+
+    pub this_asked : b ≡ false → is_asked m a.proving algorithm key ≡ true
+        → goes (request_of m known.session (behind_query a) ∷ []) ≡ confirmed_by m known algorithm key (left_of b attempts)
+    this_asked none on = let made : goes (request_of m known.session (behind_query a) ∷ []) ≡ confirmed_by m known algorithm key (a ∷ later) = rw on refl in
+        made ∙ ap (confirmed_by m known algorithm key) (sym e) ∙ rw none refl
+
+-- the attempt itself asks nothing
+pub unasked_off : (m : Meaning) (a : Attempt) (algorithm key : List ℕ) → is_asked m (behind_query a).proving algorithm key ≡ false
+unasked_off m a algorithm key = off a.proving where
+  off : (p : Proving) → is_asked m (unasked p) algorithm key ≡ false
+  off ByNothing = refl
+  off (ByPassword password) = refl
+  off (ByKey name secret ask) = refl
+
+pub asked_off : (m : Meaning) (b : Bool) (a : Attempt) (algorithm key : List ℕ) → b ≡ true → is_asked m (first_made b a).proving algorithm key ≡ false
+asked_off m b a algorithm key e = rw e (unasked_off m a algorithm key)
+
+pub asked_other : (m : Meaning) (b : Bool) (a : Attempt) (algorithm key : List ℕ) → b ≡ false → is_asked m a.proving algorithm key ≡ false
+    → is_asked m (first_made b a).proving algorithm key ≡ false
+asked_other m b a algorithm key e off = rw e off

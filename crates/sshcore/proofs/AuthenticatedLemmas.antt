@@ -5,10 +5,10 @@ use Rattle.std.specs.Prelude.{◌&&◌, not}
 use Rattle.std.specs.Str.{bytes_eq}
 use Rattle.std.proofs.lemmas.Bool.{not-true, true≢false}
 use Rattle.sshmsg.specs.declared.fault.MsgFault.{MsgFault}
-use Rattle.sshmsg.specs.Content.{Content, Disconnect, KexEcdhInit, KexEcdhReply, KexInit, KexdhInit, KexdhReply, Method, NewKeys, Offer, ServiceAccept, ServiceRequest, UserauthFailure, UserauthRequest, UserauthSuccess}
+use Rattle.sshmsg.specs.Content.{Content, Disconnect, KexEcdhInit, KexEcdhReply, KexInit, KexdhInit, KexdhReply, Method, NewKeys, Offer, ServiceAccept, ServiceRequest, UserauthFailure, UserauthPkOk, UserauthRequest, UserauthSuccess}
 use Rattle.sshmsg.specs.Messages.{message_in}
 use Rattle.sshmsg.specs.Numbers.{kind}
-use Rattle.sshmsg.specs.Written.{written_message}
+use Rattle.sshmsg.specs.Written.{method_name, written_message}
 use Rattle.sshneg.specs.declared.choice.NoCommon.{NoCommon}
 use Rattle.sshneg.specs.declared.role.Role.{Role}
 use Rattle.sshneg.specs.ChoiceReadings.{is_in}
@@ -23,7 +23,7 @@ use Rattle.sshcore.specs.declared.table.Line.{Line}
 use Rattle.sshcore.specs.declared.table.Line.TheVariants as line
 use Rattle.sshcore.specs.declared.table.Phase.{Phase}
 use Rattle.sshcore.specs.declared.table.Phase.TheVariants as phase
-use Rattle.sshcore.specs.Attempts.{agreed_by, attempt_reply, success_by}
+use Rattle.sshcore.specs.Attempts.{agreed_by, attempt_reply, confirmed_by, is_asked, request_of, success_by}
 use Rattle.sshcore.specs.Authenticated.{IsAuthenticated, IsLetIn, LetsIn, WasLetIn}
 use Rattle.sshcore.specs.Before.{expects_guess, stood, strict_at, strict_towards}
 use Rattle.sshcore.specs.ConfigData.{Attempt}
@@ -31,17 +31,21 @@ use Rattle.sshcore.specs.Counting.{number_in}
 use Rattle.sshcore.specs.Directions.{payloads_in}
 use Rattle.sshcore.specs.Ending.{AgreedData, Authenticated, Closed, Ending, Failed, Open, Reply, fails, goes}
 use Rattle.sshcore.specs.Exchange.{answer_with, choice_with, exchange_with}
-use Rattle.sshcore.specs.Known.{Known, known_at}
+use Rattle.sshcore.specs.Known.{Known, known_at, waits_at}
 use Rattle.sshcore.specs.Party.{Party, Policy}
 use Rattle.sshcore.specs.Phases.{leaving, past_newkeys, phase_at}
-use Rattle.sshcore.specs.Plan.{next_behind}
+use Rattle.sshcore.specs.Plan.{behind_query, next_behind}
 use Rattle.sshcore.specs.Replies.{Ends, end_at, ended, goes_on, line_reply, read_reply, refusal_reply}
-use Rattle.sshcore.specs.Requests.{is_good, is_last_try, request_reply}
+use Rattle.sshcore.specs.Reached.{Reached, Tried, are_reached, is_complete, nothing_reached, reached_after, reached_behind}
+use Rattle.sshcore.specs.Requests.{completes, is_good, request_reply}
+use Rattle.sshcore.specs.Tries.{tried_at, tried_with}
 use Rattle.sshcore.specs.Standing.{Tied}
 use Rattle.sshcore.specs.Table.{line_by}
 use Rattle.sshcore.specs.Work.{answered_by, banner_by, chosen_reply, init_reply, kexinit_reply, reply_reply, signed_by, userauth, work}
+use Rattle.sshcore.proofs.AnswerLemmas.{Elsewhere, IsAnswered, Last, More, Succeeds, answered}
 use Rattle.sshcore.proofs.Below.{Below}
 use Rattle.sshcore.proofs.PhaseLemmas.{tied_leaves, tied_phase}
+use Rattle.sshcore.proofs.ReachedLemmas.{complete_sound}
 use Rattle.sshcore.proofs.ReadsLemmas.{Reads, reads, success_read, user_request_read}
 use Rattle.sshcore.proofs.StrictLaws.{begun_none, past_parts, stands}
 use Rattle.sshcore.proofs.StrictSteps.{line_is}
@@ -75,7 +79,8 @@ early_cond false r o x y = y
 pub data WorkEnds (m : Meaning) (d : Policy) (party : Party) (known : Known) (c : Content) (end : Ending) : Type 0 where
   Early : IsEarly end → WorkEnds m d party known c end
   Requested : (user service : List ℕ) (method : Method) → c ≡ UserauthRequest user service method → is_in party.services service ≡ true
-      → is_good m d party known user service method ≡ true → end ≡ Authenticated (agreed_by known user service) → WorkEnds m d party known c end
+      → is_good m d party known user service method ≡ true → completes party known user service method true ≡ true
+      → end ≡ Authenticated (agreed_by known user service) → WorkEnds m d party known c end
   Succeeded : (made : Attempt) (later : List Attempt) → c ≡ UserauthSuccess → known.left ≡ made ∷ later
       → end ≡ Authenticated (agreed_by known made.user made.service) → WorkEnds m d party known c end
 
@@ -118,22 +123,23 @@ module _ (m : Meaning) (d : Policy) (role : Role) (party : Party) where
   -- a request is answered by whether the service is unknown, the request good, and the try the last
   request_ends : (known : Known) (user service : List ℕ) (method : Method)
       → WorkEnds m d party known (UserauthRequest user service method) (request_reply m d party known user service method).end
-  unfolding request_reply
-  request_ends known user service method =
-      by (is_in party.services service) (is_good m d party known user service method) (is_last_try party known) refl refl
+  request_ends known user service method = by (answered m d party known user service method)
     where
-      by : (has good last : Bool) → is_in party.services service ≡ has → is_good m d party known user service method ≡ good
-          → WorkEnds m d party known (UserauthRequest user service method) (cond (not has) (fails fault.Service)
-          (cond good (record { answers = written_message UserauthSuccess ∷ []; end = Authenticated (agreed_by known user service) })
-          (cond last (fails fault.TooManyTries) (goes (written_message (UserauthFailure party.methods false) ∷ []))))).end
-      by false good last has_is good_is = Early refl
-      by true true last has_is good_is = Requested user service method refl has_is good_is refl
-      by true false true has_is good_is = Early refl
-      by true false false has_is good_is = Early refl
+      by : IsAnswered m d party known user service method (request_reply m d party known user service method)
+          → WorkEnds m d party known (UserauthRequest user service method) (request_reply m d party known user service method).end
+      by (Elsewhere has is) = Early (ap (λ (r : Reply). is_early r.end) is)
+      by (Succeeds has good done is) = Requested user service method refl has good done (ap (λ (r : Reply). r.end) is)
+      by (Last last is) = Early (ap (λ (r : Reply). is_early r.end) is)
+      by (More x refusal more is) = Early (ap (λ (r : Reply). is_early r.end) is)
 
   success_ends : (known : Known) (left : List Attempt) → known.left ≡ left → WorkEnds m d party known UserauthSuccess (success_by known left).end
   success_ends known [] e = Early refl
   success_ends known (a ∷ later) e = Succeeded a later refl e refl
+
+  early_confirmed : (known : Known) (algorithm key : List ℕ) (left : List Attempt) → IsEarly (confirmed_by m known algorithm key left).end
+  early_confirmed known algorithm key [] = refl
+  early_confirmed known algorithm key (a ∷ later) =
+      early_cond (is_asked m a.proving algorithm key) (goes (request_of m known.session (behind_query a) ∷ [])) (fails (fault.Unexpected 60)) refl refl
 
   pub work_ends : (known : Known) (c : Content) → WorkEnds m d party known c (work m d role party known c).end
   unfolding work
@@ -150,6 +156,7 @@ module _ (m : Meaning) (d : Policy) (role : Role) (party : Party) where
   work_ends known (UserauthRequest user service method) = request_ends known user service method
   work_ends known (UserauthFailure listed partial) = Early (early_attempt known.session (next_behind listed known.left))
   work_ends known UserauthSuccess = success_ends known known.left refl
+  work_ends known (UserauthPkOk algorithm key) = Early (early_confirmed known algorithm key known.left)
   work_ends known _ = Early refl
 
 -- what is agreed has the user and the service that it was made with
@@ -160,11 +167,12 @@ same_agreed : (x y : AgreedData) → Authenticated x ≡ Authenticated y → x �
 same_agreed x y e = cc
 
 -- what lets in the user that is agreed on
-lets_in : (m : Meaning) (d : Policy) (party : Party) (known : Known) (payload user service : List ℕ) (method : Method) (a : AgreedData) → agreed_by known user service ≡ a
+lets_in : (m : Meaning) (d : Policy) (party : Party) (known : Known) (tried : List Tried) (payload user service : List ℕ) (method : Method) (a : AgreedData) → agreed_by known user service ≡ a
     → message_in known.shares payload ≡ Ok (UserauthRequest user service method) → is_in party.services service ≡ true
-    → is_good m d party known user service method ≡ true → LetsIn m d party known payload a
-lets_in m d party known payload user service method a e requests has good =
-    subst (LetsIn m d party known payload) e (record { method = method; requests = requests; has_service = has; good = good })
+    → is_good m d party known user service method ≡ true → are_reached party.required user service (tried ++ tried_with user service method true ∷ []) ≡ true
+    → LetsIn m d party known tried payload a
+lets_in m d party known tried payload user service method a e requests has good reached =
+    subst (LetsIn m d party known tried payload) e (record { method = method; requests = requests; has_service = has; good = good; reached = reached })
 
 was_let_in : (known : Known) (payload : List ℕ) (made : Attempt) (later : List Attempt) (a : AgreedData) → agreed_by known made.user made.service ≡ a
     → message_in known.shares payload ≡ Ok UserauthSuccess → known.left ≡ made ∷ later → WasLetIn known payload a
@@ -172,12 +180,12 @@ was_let_in known payload made later a e succeeds left =
     subst (WasLetIn known payload) e (record { succeeds = succeeds; made = made; later = later; left_are = left; user_is = refl; service_is = refl })
 
 -- an endpoint that agreed on this at a payload in this phase
-record Agrees (m : Meaning) (d : Policy) (role : Role) (party : Party) (p : Phase) (guess : Bool) (known : Known) (payload : List ℕ) (a : AgreedData) : Type 0 where
+record Agrees (m : Meaning) (d : Policy) (role : Role) (party : Party) (p : Phase) (guess : Bool) (known : Known) (tried : List Tried) (payload : List ℕ) (a : AgreedData) : Type 0 where
   at : p ≡ phase.Auth
   none_due : guess ≡ false
   leaves : kind payload ≡ leaving role phase.Auth
   agreed_is : a ≡ agreed_by known a.user a.service
-  let_in : IsLetIn m d role party known payload a
+  let_in : IsLetIn m d role party known tried payload a
 
 pub none_refused : (r : Option Refusal) (a : AgreedData) → Authenticated a ≡ (refusal_reply r).end → ⊥
 none_refused None a e = cc
@@ -185,10 +193,10 @@ none_refused (Some r) a e = cc
 
 module _ (below : Below) (m : Meaning) (d : Policy) (role : Role) (party : Party) where
   -- a good request is read at a server, and a SUCCESS at a client
-  requested : (p : Phase) (guess : Bool) (known : Known) (payload user service : List ℕ) (method : Method) (a : AgreedData) → Reads role p guess (kind payload)
+  requested : (p : Phase) (guess : Bool) (known : Known) (tried : List Tried) (payload user service : List ℕ) (method : Method) (a : AgreedData) → Reads role p guess (kind payload)
       → message_in known.shares payload ≡ Ok (UserauthRequest user service method) → is_in party.services service ≡ true → is_good m d party known user service method ≡ true
-      → agreed_by known user service ≡ a → Agrees m d role party p guess known payload a
-  requested p guess known payload user service method a r requests has good e =
+      → completes party known user service method true ≡ true → known.reached ≡ reached_after nothing_reached tried → agreed_by known user service ≡ a → Agrees m d role party p guess known tried payload a
+  requested p guess known tried payload user service method a r requests has good done kept e =
       let is : kind payload ≡ 50 = below.numbers known.shares payload (UserauthRequest user service method) requests in
       let at = user_request_read role p guess (subst (Reads role p guess) is r) in
       record {
@@ -196,12 +204,14 @@ module _ (below : Below) (m : Meaning) (d : Policy) (role : Role) (party : Party
         none_due = at.none_due;
         leaves = is ∙ ap (λ side. leaving side phase.Auth) (sym at.side_is);
         agreed_is = agrees_by known user service a e;
-        let_in = subst (λ (side : Role). IsLetIn m d side party known payload a) (sym at.side_is) (lets_in m d party known payload user service method a e requests has good);
+        let_in = subst (λ (side : Role). IsLetIn m d side party known tried payload a) (sym at.side_is) (lets_in m d party known tried payload user service method a e requests has good
+            (complete_sound tried (tried_with user service method true) (method_name method) refl party.required
+            (ap (λ (q : Reached). is_complete party.required (reached_behind q (tried_with user service method true))) (sym kept) ∙ done)));
       }
 
-  succeeded : (p : Phase) (guess : Bool) (known : Known) (payload : List ℕ) (made : Attempt) (later : List Attempt) (a : AgreedData) → Reads role p guess (kind payload)
-      → message_in known.shares payload ≡ Ok UserauthSuccess → known.left ≡ made ∷ later → agreed_by known made.user made.service ≡ a → Agrees m d role party p guess known payload a
-  succeeded p guess known payload made later a r succeeds left e =
+  succeeded : (p : Phase) (guess : Bool) (known : Known) (tried : List Tried) (payload : List ℕ) (made : Attempt) (later : List Attempt) (a : AgreedData) → Reads role p guess (kind payload)
+      → message_in known.shares payload ≡ Ok UserauthSuccess → known.left ≡ made ∷ later → agreed_by known made.user made.service ≡ a → Agrees m d role party p guess known tried payload a
+  succeeded p guess known tried payload made later a r succeeds left e =
       let is : kind payload ≡ 52 = below.numbers known.shares payload UserauthSuccess succeeds in
       let at = success_read role p guess (subst (Reads role p guess) is r) in
       record {
@@ -209,40 +219,40 @@ module _ (below : Below) (m : Meaning) (d : Policy) (role : Role) (party : Party
         none_due = at.none_due;
         leaves = is ∙ ap (λ side. leaving side phase.Auth) (sym at.side_is);
         agreed_is = agrees_by known made.user made.service a e;
-        let_in = subst (λ (side : Role). IsLetIn m d side party known payload a) (sym at.side_is) (was_let_in known payload made later a e succeeds left);
+        let_in = subst (λ (side : Role). IsLetIn m d side party known tried payload a) (sym at.side_is) (was_let_in known payload made later a e succeeds left);
       }
 
   -- a message that is read
-  by_read : (p : Phase) (strict guess : Bool) (known : Known) (payload : List ℕ) → line_by role p strict guess (kind payload) ≡ line.Reads → (a : AgreedData)
+  by_read : (p : Phase) (strict guess waits : Bool) (known : Known) (tried : List Tried) (payload : List ℕ) → known.reached ≡ reached_after nothing_reached tried → line_by role p strict guess waits (kind payload) ≡ line.Reads → (a : AgreedData)
       → (r : Result Content MsgFault) → message_in known.shares payload ≡ r → (read_reply m d role party known (kind payload) r).end ≡ Authenticated a
-      → Agrees m d role party p guess known payload a
-  by_read p strict guess known payload reads_it a (Err f) e end = absurd cc
-  by_read p strict guess known payload reads_it a (Ok c) e end = by (work_ends m d role party known c)
+      → Agrees m d role party p guess known tried payload a
+  by_read p strict guess waits known tried payload kept reads_it a (Err f) e end = absurd cc
+  by_read p strict guess waits known tried payload kept reads_it a (Ok c) e end = by (work_ends m d role party known c)
     where
-      by : WorkEnds m d party known c (work m d role party known c).end → Agrees m d role party p guess known payload a
+      by : WorkEnds m d party known c (work m d role party known c).end → Agrees m d role party p guess known tried payload a
       by (Early h) = absurd (true≢false (sym h ∙ ap is_early end))
-      by (Requested user service method same has good is) = requested p guess known payload user service method a (reads role p strict (kind payload) guess reads_it)
-          (e ∙ ap Ok same) has good (same_agreed (agreed_by known user service) a (sym is ∙ end))
-      by (Succeeded made later same left is) = succeeded p guess known payload made later a (reads role p strict (kind payload) guess reads_it)
+      by (Requested user service method same has good done is) = requested p guess known tried payload user service method a (reads role p strict waits (kind payload) guess reads_it)
+          (e ∙ ap Ok same) has good done kept (same_agreed (agreed_by known user service) a (sym is ∙ end))
+      by (Succeeded made later same left is) = succeeded p guess known tried payload made later a (reads role p strict waits (kind payload) guess reads_it)
           (e ∙ ap Ok same) left (same_agreed (agreed_by known made.user made.service) a (sym is ∙ end))
 
-  by_line : (p : Phase) (strict guess : Bool) (known : Known) (packet : ℕ) (payload : List ℕ) (l : Line) → line_by role p strict guess (kind payload) ≡ l → (a : AgreedData)
-      → (line_reply m d role party known packet l payload).end ≡ Authenticated a → Agrees m d role party p guess known payload a
+  by_line : (p : Phase) (strict guess waits : Bool) (known : Known) (tried : List Tried) (packet : ℕ) (payload : List ℕ) (l : Line) → known.reached ≡ reached_after nothing_reached tried → line_by role p strict guess waits (kind payload) ≡ l → (a : AgreedData)
+      → (line_reply m d role party known packet l payload).end ≡ Authenticated a → Agrees m d role party p guess known tried payload a
   unfolding line_reply
-  by_line p strict guess known packet payload line.Reads is a end = by_read p strict guess known payload is a (message_in known.shares payload) refl end
-  by_line p strict guess known packet payload line.Drops is a end = absurd cc
-  by_line p strict guess known packet payload line.Deviates is a end = absurd cc
-  by_line p strict guess known packet payload line.Unknown is a end = absurd cc
-  by_line p strict guess known packet payload line.Unexpected is a end = absurd cc
+  by_line p strict guess waits known tried packet payload line.Reads kept is a end = by_read p strict guess waits known tried payload kept is a (message_in known.shares payload) refl end
+  by_line p strict guess waits known tried packet payload line.Drops kept is a end = absurd cc
+  by_line p strict guess waits known tried packet payload line.Deviates kept is a end = absurd cc
+  by_line p strict guess waits known tried packet payload line.Unknown kept is a end = absurd cc
+  by_line p strict guess waits known tried packet payload line.Unexpected kept is a end = absurd cc
 
   -- at an endpoint that stood open before
   at_last : (version : List ℕ) (before : Units) (payload : List ℕ) (p : Phase) → Tied role party.offer before p → (a : AgreedData)
       → end_at m d role party (version ∷ before) payload ≡ Authenticated a
-      → Agrees m d role party p (expects_guess role party.offer before) (known_at m role party version before) payload a
+      → Agrees m d role party p (expects_guess role party.offer before) (known_at m d role party version before) (tried_at m d role party version before) payload a
   at_last version before payload p t a end =
-      let l = line_by role p (strict_at role party before) (expects_guess role party.offer before) (kind payload) in
-      by_line p (strict_at role party before) (expects_guess role party.offer before) (known_at m role party version before) (number_in role party before) payload l refl a
-      (ap (λ (l : Line). (line_reply m d role party (known_at m role party version before) (number_in role party before) l payload).end) (line_is below m d role party version before payload p t) ∙ end)
+      let l = line_by role p (strict_at role party before) (expects_guess role party.offer before) (waits_at role party before) (kind payload) in
+      by_line p (strict_at role party before) (expects_guess role party.offer before) (waits_at role party before) (known_at m d role party version before) (tried_at m d role party version before) (number_in role party before) payload l refl refl a
+      (ap (λ (l : Line). (line_reply m d role party (known_at m d role party version before) (number_in role party before) l payload).end) (line_is below m d role party version before payload p t) ∙ end)
 
   pub last_tied : (version : List ℕ) (before : Units) (last : List ℕ) (p : Phase) → Tied role party.offer before p → (a : AgreedData)
       → end_at m d role party (version ∷ before) last ≡ Authenticated a → Tied role party.offer before phase.Auth

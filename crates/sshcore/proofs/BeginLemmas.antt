@@ -68,12 +68,12 @@ module _ (below : Below) (streams : Streams) (m : Meaning) (d : Policy) (role : 
         history = subst (λ (l : List ℕ). History m d role party [] [] None first Open [] l) (sym bytes) begin;
         ends = AsHeard (ap (λ (k : Kept). k.end) is);
         inside = λ o. record {
-          sits = subst (λ (p : Phase). Sits m role party [] [] p new.guess new.known) (sym phase_is)
-              (subst (λ (b : Bool). Sits m role party [] [] phase.KexInit b new.known) (sym (ap (λ (k : Kept). k.guess) is))
-              (subst (λ (k : Known). Sits m role party [] [] phase.KexInit false k) (sym (ap (λ (k : Kept). k.known) is)) (standing.begins m role party [])));
+          sits = subst (λ (p : Phase). Sits m d role party [] [] p new.guess new.known) (sym phase_is)
+              (subst (λ (b : Bool). Sits m d role party [] [] phase.KexInit b new.known) (sym (ap (λ (k : Kept). k.guess) is))
+              (subst (λ (k : Known). Sits m d role party [] [] phase.KexInit false k) (sym (ap (λ (k : Kept). k.known) is)) (standing.begins m d role party [])));
           form = record {
             form = λ past. absurd (not_past new.phase phase_is past);
-            clear = λ not. clear_before m role party [] first phase.KexInit new.sending ((standing.begins m role party []).tied.exchange) speaks begin.keyed refl;
+            clear = λ not. clear_before m role party [] first phase.KexInit new.sending ((standing.begins m d role party []).tied.exchange) speaks begin.keyed refl;
           };
           reads = first_input m role party i reads;
           pending = ap (λ (k : Kept). k.pending) is ∙ ap (λ (p : Phase). pending_at p (keys_at m role party [] [] (other role))) (sym phase_is);

@@ -19,6 +19,7 @@ use Rattle.sshcore.specs.Brings.{Brings, Drops, Gives, Stays, Works, heard_one}
 use Rattle.sshcore.specs.Ending.{Open, fails, goes}
 use Rattle.sshcore.specs.Kept.{Kept}
 use Rattle.sshcore.specs.Party.{Party, Policy}
+use Rattle.sshcore.specs.Plan.{is_waiting}
 use Rattle.sshcore.specs.Phases.{leaving}
 use Rattle.sshcore.specs.Replies.{line_reply, read_reply}
 use Rattle.sshcore.specs.Standing.{LeavesNone}
@@ -28,12 +29,13 @@ use Rattle.sshcore.proofs.TableLemmas.{Closing, Dropped, Leaving, OffGuess, OffP
 use Rattle.sshcore.proofs.WorksLemmas.{failed_ends, silent}
 
 -- the line that the code has found
-pub line_is : (l : Line) (role same_role : Role) (p : Phase) (strict guess : Bool) (n same_number : ℕ) → same_role ≡ role → same_number ≡ n
-    → l ≡ line_by same_role p strict guess same_number → line_by role p strict guess n ≡ l
-line_is l role same_role p strict guess n same_number r k e =
-    sym (e ∙ (ap (λ (x : Role). line_by x p strict guess same_number) r ∙ ap (λ (x : ℕ). line_by role p strict guess x) k))
+pub line_is : (l : Line) (role same_role : Role) (p : Phase) (strict guess waits same_waits : Bool) (n same_number : ℕ) → same_role ≡ role → same_waits ≡ waits
+    → same_number ≡ n → l ≡ line_by same_role p strict guess same_waits same_number → line_by role p strict guess waits n ≡ l
+line_is l role same_role p strict guess waits same_waits n same_number r w k e =
+    sym (e ∙ (ap (λ (x : Role). line_by x p strict guess same_waits same_number) r ∙ (ap (λ (x : Bool). line_by role p strict guess x same_number) w
+    ∙ ap (λ (x : ℕ). line_by role p strict guess waits x) k)))
 
-module _ (role : Role) (p : Phase) (strict guess : Bool) (n : ℕ) where
+module _ (role : Role) (p : Phase) (strict guess waits : Bool) (n : ℕ) where
   -- what holds where a packet is dropped, and where its number is unknown
   dropped : (l : Line) → Sees role p strict guess n l → l ≡ line.Drops → (guess ≡ true) × ((n == 1) ≡ false)
   dropped l (Closing is e) q = absurd cc
@@ -54,7 +56,7 @@ module _ (role : Role) (p : Phase) (strict guess : Bool) (n : ℕ) where
   unknown l (Useless none off h e) q = absurd cc
 
   -- an unknown number has no meaning here
-  meaningless : line_by role p strict guess n ≡ line.Unknown → is_unknown n ≡ true
+  meaningless : line_by role p strict guess waits n ≡ line.Unknown → is_unknown n ≡ true
   unfolding line_by
   meaningless = elim (cases_Bool (n == 1)) [
     | inl a ↦ rw a (λ e. absurd cc)
@@ -66,7 +68,7 @@ module _ (role : Role) (p : Phase) (strict guess : Bool) (n : ℕ) where
           | inl h ↦ rw h (λ e. absurd cc)
           | inr h ↦ rw h (elim (cases_Bool (n == leaving role p)) [
             | inl i ↦ rw i (λ e. absurd cc)
-            | inr i ↦ rw i (elim (cases_Bool (is_of_auth role p n)) [
+            | inr i ↦ rw i (elim (cases_Bool (is_of_auth role p waits n)) [
               | inl j ↦ rw j (λ e. absurd cc)
               | inr j ↦ rw j (elim (cases_Bool (is_ignored n)) [
                 | inl k ↦ rw k (λ e. absurd cc)
@@ -86,62 +88,62 @@ module _ (role : Role) (p : Phase) (strict guess : Bool) (n : ℕ) where
   ]
 
 -- no message of authentication is unknown
-not_unknown : (n : ℕ) → is_unknown n ≡ true → (n ≢ 50) × (n ≢ 51)
-not_unknown n e = (λ q. absurd (true≢false (sym e ∙ rw q refl)), λ q. absurd (true≢false (sym e ∙ rw q refl)))
+not_unknown : (n : ℕ) → is_unknown n ≡ true → (n ≢ 50) × (n ≢ 51) × (n ≢ 60)
+not_unknown n e = (λ q. absurd (true≢false (sym e ∙ rw q refl)), λ q. absurd (true≢false (sym e ∙ rw q refl)), λ q. absurd (true≢false (sym e ∙ rw q refl)))
 
 module _ (m : Meaning) (d : Policy) (role : Role) (party : Party) (old new : Kept) (packet : ℕ) (payload before after : List ℕ) where
-  pub reads_brings : line_by role old.phase old.known.strict old.guess (kind payload) ≡ line.Reads
-      → Works m role party old new payload before after (read_reply m d role party old.known (kind payload) (message_in old.known.shares payload))
+  pub reads_brings : line_by role old.phase old.known.strict old.guess (is_waiting old.known.left) (kind payload) ≡ line.Reads
+      → Works m d role party old new payload before after (read_reply m d role party old.known (kind payload) (message_in old.known.shares payload))
       → Brings m d role party old new packet payload before after
   unfolding line_reply
   reads_brings is works = rw is works
 
   -- it fails, so nothing goes on
-  fails_works : (f : Fault) → ((strict : Bool) (next : KeyData) → Gives m party.seed strict next old new before after (fails f)) → Works m role party old new payload before after (fails f)
+  fails_works : (f : Fault) → ((strict : Bool) (next : KeyData) → Gives m party.seed strict next old new before after (fails f)) → Works m d role party old new payload before after (fails f)
   fails_works f gives = record { gives = gives _ _; moves = λ goes_on. absurd (failed_ends new.end f (gives false (record { cipher = []; mac = []; iv = []; enc = []; mac_key = [] })).ends goes_on) }
 
-  pub deviates_brings : (n : ℕ) → n ≡ kind payload → line_by role old.phase old.known.strict old.guess (kind payload) ≡ line.Deviates
+  pub deviates_brings : (n : ℕ) → n ≡ kind payload → line_by role old.phase old.known.strict old.guess (is_waiting old.known.left) (kind payload) ≡ line.Deviates
       → ((strict : Bool) (next : KeyData) → Gives m party.seed strict next old new before after (fails (fault.Strict n)))
       → Brings m d role party old new packet payload before after
   unfolding line_reply
   deviates_brings n same is gives = rw (is, ← same) (fails_works (fault.Strict n) gives)
 
-  pub unexpected_brings : (n : ℕ) → n ≡ kind payload → line_by role old.phase old.known.strict old.guess (kind payload) ≡ line.Unexpected
+  pub unexpected_brings : (n : ℕ) → n ≡ kind payload → line_by role old.phase old.known.strict old.guess (is_waiting old.known.left) (kind payload) ≡ line.Unexpected
       → ((strict : Bool) (next : KeyData) → Gives m party.seed strict next old new before after (fails (fault.Unexpected n)))
       → Brings m d role party old new packet payload before after
   unfolding line_reply
   unexpected_brings n same is gives = rw (is, ← same) (fails_works (fault.Unexpected n) gives)
 
-  pub unknown_brings : line_by role old.phase old.known.strict old.guess (kind payload) ≡ line.Unknown
+  pub unknown_brings : line_by role old.phase old.known.strict old.guess (is_waiting old.known.left) (kind payload) ≡ line.Unknown
       → ((strict : Bool) (next : KeyData) → Gives m party.seed strict next old new before after (goes (written_message (Unimplemented packet) ∷ [])))
       → new ≡ record old { known = heard_one old.known; sending = new.sending }
       → Brings m d role party old new packet payload before after
   unfolding line_reply
   unknown_brings is gives stays =
-      let seen = unknown role old.phase old.known.strict old.guess (kind payload) _ (sees role old.phase old.known.strict (kind payload) old.guess) is in
+      let seen = unknown role old.phase old.known.strict old.guess (is_waiting old.known.left) (kind payload) _ (sees role old.phase old.known.strict (is_waiting old.known.left) (kind payload) old.guess) is in
       let none : old.guess ≡ false = seen.0 in
-      let other = not_unknown (kind payload) (meaningless role old.phase old.known.strict old.guess (kind payload) is) in
-      let works : Works m role party old new payload before after (goes (written_message (Unimplemented packet) ∷ [])) = record {
+      let other = not_unknown (kind payload) (meaningless role old.phase old.known.strict old.guess (is_waiting old.known.left) (kind payload) is) in
+      let works : Works m d role party old new payload before after (goes (written_message (Unimplemented packet) ∷ [])) = record {
         gives = gives _ _;
         moves = λ goes_on. Stays none seen.1
             (ap (λ (k : Kept). k.pending) stays)
             (record {
               phase_is = ap (λ (k : Kept). k.phase) stays;
               guess_is = ap (λ (k : Kept). k.guess) stays ∙ none;
-              known_is = ap (λ (k : Kept). k.known) stays ∙ sym (heard_behind old.known payload other.0 other.1);
+              known_is = ap (λ (k : Kept). k.known) stays ∙ sym (heard_behind m d party old.known payload other.0 other.1 other.2);
             });
       } in
       rw is works
 
 -- the packet of a wrong guess is dropped, and nothing is said
 pub drops_brings : (m : Meaning) (d : Policy) (role : Role) (party : Party) (old new : Kept) (packet : ℕ) (payload before : List ℕ)
-    → line_by role old.phase old.known.strict old.guess (kind payload) ≡ line.Drops → old.end ≡ Open
+    → line_by role old.phase old.known.strict old.guess (is_waiting old.known.left) (kind payload) ≡ line.Drops → old.end ≡ Open
     → new ≡ record old { guess = false; known = heard_one old.known }
     → Brings m d role party old new packet payload before before
 unfolding line_reply
 drops_brings m d role party old new packet payload before is stays next =
-    let seen = dropped role old.phase old.known.strict old.guess (kind payload) _ (sees role old.phase old.known.strict (kind payload) old.guess) is in
-    let works : Works m role party old new payload before before (goes []) = record {
+    let seen = dropped role old.phase old.known.strict old.guess (is_waiting old.known.left) (kind payload) _ (sees role old.phase old.known.strict (is_waiting old.known.left) (kind payload) old.guess) is in
+    let works : Works m d role party old new payload before before (goes []) = record {
       gives = silent m party.seed old.known.strict _ old new before Open (ap (λ (k : Kept). k.end) next ∙ stays) (ap (λ (k : Kept). k.sending) next);
       moves = λ goes_on. Drops seen.0 seen.1
           (ap (λ (k : Kept). k.pending) next)

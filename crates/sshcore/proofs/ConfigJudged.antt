@@ -1,7 +1,7 @@
 -- The tests of configs decide their rules, and the first that fails is the least.
 
 use Rattle.std.proofs.Common.{◌≡◌, ℕ, ◌≤◌, Bool, true, not, ◌&&◌, List, [], ◌∷◌, length, map, Option, None, Some, IfSome, refl, ap, arith, eqb, leb, ◌↔◌, string_bytes, String, Vec}
-use Rattle.std.specs.Prelude.{codes, option_map}
+use Rattle.std.specs.Prelude.{Contains, codes, option_map}
 use Rattle.std.specs.Bool.{Decides}
 use Rattle.std.specs.List.{AllByRecursion, list_all, starts_with}
 use Rattle.std.specs.Str.{bytes_eq}
@@ -14,6 +14,8 @@ use Rattle.sshwire.specs.Reading.{is_version_text}
 use Rattle.sshwire.specs.TypeReadings.{is_name}
 use Rattle.sshwire.specs.Types.{AreNames, IsName, names_body}
 use Rattle.sshneg.specs.Markers.{is_marker}
+use Rattle.sshneg.specs.ChoiceReadings.{is_in}
+use Rattle.sshneg.proofs.FirstLemmas.{contains_in, in_contains}
 use Rattle.sshcore.specs.declared.config_fault.ConfigFault.{ConfigFault}
 use Rattle.sshcore.specs.declared.config_fault.ConfigFault.TheVariants as fault
 use Rattle.sshcore.specs.declared.config_parts.Attempt as attempt_parts
@@ -24,8 +26,8 @@ use Rattle.sshcore.specs.declared.config_parts.HostKey as host_key_parts
 use Rattle.sshcore.specs.declared.config_parts.ServerParts.{ServerParts}
 use Rattle.sshcore.specs.declared.config_parts.SideParts.{SideParts}
 use Rattle.sshcore.specs.ConfigData.{Attempt, HostKey, key_algorithms}
-use Rattle.sshcore.specs.ConfigRules.{ClientRule, HasLengths, HasShortKey, HasShortPassword, IsListed, IsUnmarked, IsNamed, IsNotice, IsNoticeByte, IsShortList, IsSome, ServerRule, lists_of}
-use Rattle.sshcore.specs.ConfigTests.{are_methods, are_names, are_notices, client_test, has_lengths, has_short_key, has_short_password, host_keys_are_named, host_keys_are_short, is_attempt_named, is_listed, is_named, is_notice, is_notice_byte, is_short_banner, is_some, lists_are_names, lists_are_short, lists_are_some, server_test, text_is_short}
+use Rattle.sshcore.specs.ConfigRules.{AreDistinct, ClientRule, HasLengths, HasShortKey, HasShortPassword, IsListed, IsUnmarked, IsNamed, IsNotice, IsNoticeByte, IsShortList, IsSome, ServerRule, lists_of}
+use Rattle.sshcore.specs.ConfigTests.{are_distinct, are_methods, are_names, are_notices, are_required, client_test, has_lengths, has_short_key, has_short_password, host_keys_are_named, host_keys_are_short, is_attempt_named, is_listed, is_named, is_notice, is_notice_byte, is_short_banner, is_some, lists_are_names, lists_are_short, lists_are_some, server_test, text_is_short}
 use Rattle.sshcore.specs.ConfigView.{attempt_of, client_data, host_key_of, proving_of, server_data, side_data}
 
 -- of a list that is seen as data
@@ -104,17 +106,17 @@ lists_named_decided law side host_keys b h =
 named_decided : NameLaw → (c : Credential) → Decides (is_named c) (IsNamed (proving_of c))
 named_decided law credential.None = true_decided
 named_decided law (credential.Password password) = true_decided
-named_decided law (credential.PublicKey algorithm private_key) = law (string_bytes algorithm)
+named_decided law (credential.PublicKey algorithm private_key ask) = law (string_bytes algorithm)
 
 password_decided : (c : Credential) → Decides (has_short_password c) (HasShortPassword (proving_of c))
 password_decided credential.None = true_decided
 password_decided (credential.Password password) = leb_decided (length password.items) 1024
-password_decided (credential.PublicKey algorithm private_key) = true_decided
+password_decided (credential.PublicKey algorithm private_key ask) = true_decided
 
 key_decided : (c : Credential) → Decides (has_short_key c) (HasShortKey (proving_of c))
 key_decided credential.None = true_decided
 key_decided (credential.Password password) = true_decided
-key_decided (credential.PublicKey algorithm private_key) = leb_decided (length private_key.items) 8192
+key_decided (credential.PublicKey algorithm private_key ask) = leb_decided (length private_key.items) 8192
 
 lengths_decided : (side : SideParts) → Decides (has_lengths side) (HasLengths (side_data side))
 lengths_decided side =
@@ -149,6 +151,7 @@ client_decided names versions parts fault.Plan =
 client_decided names versions parts fault.Tries = true_decided
 client_decided names versions parts fault.Random = lengths_decided parts.side
 client_decided names versions parts fault.Memory = true_decided
+client_decided names versions parts fault.Required = true_decided
 
 pub host_keys_mapped : (keys : List host_key_parts.HostKey) → key_algorithms (map host_key_of keys) ≡ map (λ (k : host_key_parts.HostKey). string_bytes k.algorithm) keys
 host_keys_mapped [] = refl
@@ -165,13 +168,32 @@ host_keys_some_decided keys = rw (host_keys_mapped keys) (some_decided (λ (k : 
 host_keys_short_decided : (keys : List host_key_parts.HostKey) → Decides (host_keys_are_short keys) (IsShortList (key_algorithms (map host_key_of keys)))
 host_keys_short_decided keys = rw (host_keys_mapped keys) (short_decided (map (λ (k : host_key_parts.HostKey). string_bytes k.algorithm) keys))
 
--- of eight facts in a row, where the first six are one test
-two_more : {A B C D E F G H : Type 0} (a b c : Bool) → Decides a (A × (B × (C × (D × (E × (F × Unit {0})))))) → Decides b G → Decides c H
-    → Decides (a && (b && c)) (A × (B × (C × (D × (E × (F × (G × (H × Unit {0}))))))))
-two_more a b c p q r =
-    Decides-like (a && (b && c)) (λ h. (h.0.0, (h.0.1.0, (h.0.1.1.0, (h.0.1.1.1.0, (h.0.1.1.1.1.0, (h.0.1.1.1.1.1.0, (h.1, (h.2, tt)))))))))
-    (λ h. ((h.0, (h.1.0, (h.1.1.0, (h.1.1.1.0, (h.1.1.1.1.0, (h.1.1.1.1.1.0, tt)))))), h.1.1.1.1.1.1.0, h.1.1.1.1.1.1.1.0))
-    (three a b c p q r)
+-- of nine facts in a row, where the first six are one test
+three_more : {A B C D E F G H I : Type 0} (a b c d : Bool) → Decides a (A × (B × (C × (D × (E × (F × Unit {0})))))) → Decides b G → Decides c H → Decides d I
+    → Decides (a && (b && (c && d))) (A × (B × (C × (D × (E × (F × (G × (H × (I × Unit {0})))))))))
+three_more a b c d p q r t =
+    Decides-like (a && (b && (c && d))) (λ h. (h.0.0, (h.0.1.0, (h.0.1.1.0, (h.0.1.1.1.0, (h.0.1.1.1.1.0, (h.0.1.1.1.1.1.0, (h.1, (h.2.0, (h.2.1, tt))))))))))
+    (λ h. ((h.0, (h.1.0, (h.1.1.0, (h.1.1.1.0, (h.1.1.1.1.0, (h.1.1.1.1.1.0, tt)))))), h.1.1.1.1.1.1.0, (h.1.1.1.1.1.1.1.0, h.1.1.1.1.1.1.1.1.0)))
+    (three a b (c && d) p q (Decides-and c d r t))
+
+four : {A B C D : Type 0} (a b c d : Bool) → Decides a A → Decides b B → Decides c C → Decides d D → Decides (a && (b && (c && d))) (A × B × C × D)
+four a b c d p q r t =
+    Decides-like (a && (b && (c && d))) (λ h. (h.0, h.1.0, h.1.1.0, h.1.1.1)) (λ h. (h.0, (h.1, (h.2, h.3))))
+    (Decides-and a (b && (c && d)) p (Decides-and b (c && d) q (Decides-and c d r t)))
+
+contains_decided : (names : List (List ℕ)) (name : List ℕ) → Decides (is_in names name) (Contains names name)
+contains_decided names name = (contains_in names name, in_contains names name)
+
+distinct_decided : (names : List (List ℕ)) → Decides (are_distinct names) (AreDistinct names)
+distinct_decided [] = true_decided
+distinct_decided (name ∷ names) = Decides-and _ _ (Decides-not (is_in names name) (contains_decided names name)) (distinct_decided names)
+
+all_in_decided : (methods required : List (List ℕ)) → Decides (list_all (is_in methods) required) (AllByRecursion (Contains methods) required)
+all_in_decided methods [] = true_decided
+all_in_decided methods (name ∷ required) = Decides-and (is_in methods name) _ (contains_decided methods name) (all_in_decided methods required)
+
+required_decided : (methods required : List (List ℕ)) → Decides (are_required methods required) (AllByRecursion (Contains methods) required × AreDistinct required)
+required_decided methods required = Decides-and _ _ (all_in_decided methods required) (distinct_decided required)
 
 notice_byte_decided : (b : ℕ) → Decides (is_notice_byte b) (IsNoticeByte b)
 notice_byte_decided b =
@@ -203,13 +225,15 @@ pub server_decided : NameLaw → VersionLaw → (parts : ServerParts) (code : Co
 server_decided names versions parts fault.EmptyList =
     lists_some_decided parts.side (key_algorithms (map host_key_of parts.host_keys.items)) _ (host_keys_some_decided parts.host_keys.items)
 server_decided names versions parts fault.Name =
-    three _ _ _ (two_more _ _ _ (lists_named_decided names parts.side (key_algorithms (map host_key_of parts.host_keys.items)) _
-    (host_keys_named_decided names parts.host_keys.items)) (names_decided names parts.services.items) (names_decided names parts.methods.items))
+    four _ _ _ _ (three_more _ _ _ _ (lists_named_decided names parts.side (key_algorithms (map host_key_of parts.host_keys.items)) _
+    (host_keys_named_decided names parts.host_keys.items)) (names_decided names parts.services.items) (names_decided names parts.methods.items)
+    (names_decided names parts.required.items))
     (methods_decided parts.side.kex_algorithms.items)
     (each_decided (λ name. is_listed (string_bytes name)) IsListed string_bytes (λ name. listed_decided (string_bytes name)) parts.methods.items)
+    (each_decided (λ name. is_listed (string_bytes name)) IsListed string_bytes (λ name. listed_decided (string_bytes name)) parts.required.items)
 server_decided names versions parts fault.ListTooLong =
-    two_more _ _ _ (lists_short_decided parts.side (key_algorithms (map host_key_of parts.host_keys.items)) _ (host_keys_short_decided parts.host_keys.items))
-    (short_decided (map string_bytes parts.services.items)) (short_decided (map string_bytes parts.methods.items))
+    three_more _ _ _ _ (lists_short_decided parts.side (key_algorithms (map host_key_of parts.host_keys.items)) _ (host_keys_short_decided parts.host_keys.items))
+    (short_decided (map string_bytes parts.services.items)) (short_decided (map string_bytes parts.methods.items)) (short_decided (map string_bytes parts.required.items))
 server_decided names versions parts fault.Line =
     three _ _ _ (versions _) (count_decided (λ line. line.items) parts.notice_lines.items 20) (notices_decided parts.notice_lines.items)
 server_decided names versions parts fault.User = true_decided
@@ -222,3 +246,4 @@ server_decided names versions parts fault.Plan = true_decided
 server_decided names versions parts fault.Tries = Decides-and _ _ (leb_decided 1 parts.tries) (leb_decided parts.tries 20)
 server_decided names versions parts fault.Random = lengths_decided parts.side
 server_decided names versions parts fault.Memory = true_decided
+server_decided names versions parts fault.Required = required_decided (map string_bytes parts.methods.items) (map string_bytes parts.required.items)

@@ -13,16 +13,19 @@ IsIn : ConfigFault → List ConfigFault → Type 0
 IsIn code [] = ⊥
 IsIn code (x ∷ xs) = (code ≡ x) ⊎ IsIn code xs
 
--- their numbers follow one another, from n on
+-- their numbers ascend, from n on
 AreNumbered : ℕ → List ConfigFault → Type 0
 AreNumbered n [] = Unit {0}
-AreNumbered n (x ∷ xs) = (rule_number x ≡ n) × AreNumbered (n + 1) xs
+AreNumbered n (x ∷ xs) = (n ≤ rule_number x) × AreNumbered (rule_number x + 1) xs
 
 from_first : (n : ℕ) (xs : List ConfigFault) → AreNumbered n xs → (code : ConfigFault) → IsIn code xs → n ≤ rule_number code
 unfolding IsIn AreNumbered
 from_first n [] h code i = elim i [ ]
-from_first n (x ∷ xs) h code (inl e) = let is : rule_number code ≡ rule_number x = ap rule_number e in let first : rule_number x ≡ n = h.0 in omega arith
-from_first n (x ∷ xs) h code (inr i) = let later : n + 1 ≤ rule_number code = from_first (n + 1) xs h.1 code i in omega arith
+from_first n (x ∷ xs) h code (inl e) = let is : rule_number code ≡ rule_number x = ap rule_number e in let first : n ≤ rule_number x = h.0 in omega arith
+from_first n (x ∷ xs) h code (inr i) =
+    let first : n ≤ rule_number x = h.0 in
+    let later : rule_number x + 1 ≤ rule_number code = from_first (rule_number x + 1) xs h.1 code i in
+    omega arith
 
 record IsFirst (test : ConfigFault → Bool) (xs : List ConfigFault) (code : ConfigFault) : Type 0 where
   fails : test code ≡ false
@@ -44,16 +47,15 @@ first_failing test n [] h code e = absurd cc
 first_failing test n (x ∷ xs) h code e = elim (cases_Bool (test x)) [
   | inl t ↦
       let rest : find (λ c. not (test c)) xs ≡ Some code = rw t at e in
-      let first : IsFirst test xs code = first_failing test (n + 1) xs h.1 code rest in
+      let first : IsFirst test xs code = first_failing test (rule_number x + 1) xs h.1 code rest in
       record { fails = first.fails; least = later test x xs code t first }
   | inr f ↦
       let here : Some x ≡ Some code = rw f at e in
       let is : x ≡ code = some_same x code here in
-      let first : rule_number x ≡ n = h.0 in
       let same : rule_number x ≡ rule_number code = ap rule_number is in
       record {
         fails = ap test (sym is) ∙ f;
-        least = λ other i less. let after : n ≤ rule_number other = from_first n (x ∷ xs) h other i in absurd (omega arith);
+        least = λ other i less. let after : rule_number x ≤ rule_number other = from_first (rule_number x) (x ∷ xs) (omega arith, h.1) other i in absurd (omega arith);
       }
 ]
 
@@ -82,10 +84,11 @@ among fault.Plan = inr (inr (inr (inr (inr (inr (inr (inr (inl refl))))))))
 among fault.Tries = inr (inr (inr (inr (inr (inr (inr (inr (inr (inl refl)))))))))
 among fault.Random = inr (inr (inr (inr (inr (inr (inr (inr (inr (inr (inl refl))))))))))
 among fault.Memory = inl refl
+among fault.Required = inr (inr (inr (inr (inr (inr (inr (inr (inr (inr (inr (inl refl)))))))))))
 
 numbered : AreNumbered 1 judged
 unfolding AreNumbered
-numbered = (refl, (refl, (refl, (refl, (refl, (refl, (refl, (refl, (refl, (refl, tt))))))))))
+numbered = (omega arith, (omega arith, (omega arith, (omega arith, (omega arith, (omega arith, (omega arith, (omega arith, (omega arith, (omega arith, (omega arith, tt)))))))))))
 
 -- the refusal that is told is broken, and no lesser one is
 pub refused : (Rule : ConfigFault → Type 0) (test : ConfigFault → Bool) → ((code : ConfigFault) → Decides (test code) (Rule code))

@@ -29,6 +29,7 @@ use Rattle.sshcore.specs.Kept.{Kept, keys_due, keys_left}
 use Rattle.sshcore.specs.Known.{Known}
 use Rattle.sshcore.specs.Output.{Sending, Speaks, said_from, sending_from}
 use Rattle.sshcore.specs.Party.{Party, Policy}
+use Rattle.sshcore.specs.Plan.{is_waiting}
 use Rattle.sshcore.specs.Phases.{leaving, past_exchange, past_kexinit}
 use Rattle.sshcore.specs.Replies.{Ends, answers_at, end_at, ended, fault_of, goes_on, line_reply, reply_at}
 use Rattle.sshcore.specs.Standing.{Sits, exchange_heard}
@@ -91,7 +92,7 @@ clear_before m role party units answers p o exchange speaks keyed not_past = eli
 ]
 
 clear_at : (m : Meaning) (d : Policy) (role : Role) (party : Party) (version : List ℕ) (before : Units) (payload : List ℕ) (last : Kept)
-    → Sits m role party version (before ++ payload ∷ []) last.phase last.guess last.known → {behind : Units} → behind ≡ version ∷ (before ++ payload ∷ [])
+    → Sits m d role party version (before ++ payload ∷ []) last.phase last.guess last.known → {behind : Units} → behind ≡ version ∷ (before ++ payload ∷ [])
     → (answers : Units) → Speaks m role party behind answers last.sending → (switched_out answers ≡ true → IsReady role party (payloads_in behind))
     → past_exchange last.phase ≡ false → last.sending.keys ≡ None
 clear_at m d role party version before payload last s {behind} is answers speaks keyed not_past =
@@ -109,7 +110,7 @@ module _ (below : Below) (streams : Streams) (m : Meaning) (d : Policy) (role : 
   open_history = subst (λ (r : Option Refusal). History m d role party a.units a.rest r a.answers Open h s) none
       (subst (λ (e : Ending). History m d role party a.units a.rest a.refusal a.answers e h s) heard_is a.history)
 
-  pub within : IsInside m role party a.units a.answers a.rest kept i
+  pub within : IsInside m d role party a.units a.answers a.rest kept i
   within = a.inside (inl is)
 
   -- more bytes of an unfinished unit
@@ -160,15 +161,15 @@ module _ (below : Below) (streams : Streams) (m : Meaning) (d : Policy) (role : 
     abbrev more : Units
     more = answers_at m d role party a.units payload
 
-    sits : Sits m role party version before_units kept.phase kept.guess kept.known
-    sits = subst (λ (us : Units). Sits m role party (version_in us) (payloads_in us) kept.phase kept.guess kept.known) units_are within.sits
+    sits : Sits m d role party version before_units kept.phase kept.guess kept.known
+    sits = subst (λ (us : Units). Sits m d role party (version_in us) (payloads_in us) kept.phase kept.guess kept.known) units_are within.sits
 
     abbrev reply : Reply
-    reply = line_reply m d role party kept.known packet (line_by role kept.phase kept.known.strict kept.guess (kind payload)) payload
+    reply = line_reply m d role party kept.known packet (line_by role kept.phase kept.known.strict kept.guess (is_waiting kept.known.left) (kind payload)) payload
 
     reply_is : reply ≡ reply_at m d role party version before_units payload
-    reply_is = ap (λ n. line_reply m d role party kept.known n (line_by role kept.phase kept.known.strict kept.guess (kind payload)) payload) number
-        ∙ sym (standing.replies m role party version before_units payload d kept.phase kept.guess kept.known sits)
+    reply_is = ap (λ n. line_reply m d role party kept.known n (line_by role kept.phase kept.known.strict kept.guess (is_waiting kept.known.left) (kind payload)) payload) number
+        ∙ sym (standing.replies m d role party version before_units payload kept.phase kept.guess kept.known sits)
 
     answers_are : reply.answers ≡ more
     answers_are = ap (λ (r : Reply). r.answers) reply_is ∙ ap (λ (us : Units). answers_at m d role party us payload) (sym units_are)
@@ -201,14 +202,14 @@ module _ (below : Below) (streams : Streams) (m : Meaning) (d : Policy) (role : 
 
     exchange_told : IsExchangePlace role party before_units payload kept.phase → Spoken
     exchange_told e =
-        let s0 : Sits m role party version before_units phase.Exchange false kept.known =
-        subst (λ (g : Bool). Sits m role party version before_units phase.Exchange g kept.known) (sym sits.due ∙ e.none_due)
-        (subst (λ (p : Phase). Sits m role party version before_units p kept.guess kept.known) e.at sits) in
-        let t0 = standing.exchanges m role party version before_units payload kept.known s0 e.leaves in
+        let s0 : Sits m d role party version before_units phase.Exchange false kept.known =
+        subst (λ (g : Bool). Sits m d role party version before_units phase.Exchange g kept.known) (sym sits.due ∙ e.none_due)
+        (subst (λ (p : Phase). Sits m d role party version before_units p kept.guess kept.known) e.at sits) in
+        let t0 = standing.exchanges m d role party version before_units payload kept.known s0 e.leaves in
         let strict_is : kept.known.strict ≡ strict_at role party (payloads_in behind) =
         sym (ap (λ (k : Known). k.strict) t0.knows) ∙ ap (λ (us : Units). strict_at role party (payloads_in us)) (sym behind_is) in
         let keys_are : next ≡ keys_at m role party (version_in behind) (payloads_in behind) role =
-        sym (standing.makes_keys m role party version before_units payload kept.known s0 e.leaves role)
+        sym (standing.makes_keys m d role party version before_units payload kept.known s0 e.leaves role)
         ∙ ap (λ (us : Units). keys_at m role party (version_in us) (payloads_in us) role) (sym behind_is) in
         said_is m role party behind kept.known.strict next a.answers more kept.sending strict_is keys_are speaks_on
 
@@ -221,24 +222,24 @@ module _ (below : Below) (streams : Streams) (m : Meaning) (d : Policy) (role : 
     end_new : last.end ≡ end_at m d role party a.units payload
     end_new = same_end ∙ brings.gives.ends ∙ end_is
 
-    inside_new : IsOngoing last.end → IsInside m role party behind (a.answers ++ more) [] last j
+    inside_new : IsOngoing last.end → IsInside m d role party behind (a.answers ++ more) [] last j
     inside_new ongoing =
         let moves = brings.moves (subst IsOngoing same_end ongoing) in
-        let s1 : Sits m role party version (before_units ++ payload ∷ []) new.phase new.guess new.known = sits_behind below m role party version before_units payload kept new sits moves in
-        let s2 : Sits m role party version (before_units ++ payload ∷ []) last.phase last.guess last.known =
-        subst (λ (k : Known). Sits m role party version (before_units ++ payload ∷ []) last.phase last.guess k) (sym same_known)
-        (subst (λ (g : Bool). Sits m role party version (before_units ++ payload ∷ []) last.phase g new.known) (sym same_guess)
-        (subst (λ (p : Phase). Sits m role party version (before_units ++ payload ∷ []) p new.guess new.known) (sym same_phase) s1)) in
+        let s1 : Sits m d role party version (before_units ++ payload ∷ []) new.phase new.guess new.known = sits_behind below m d role party version before_units payload kept new sits moves in
+        let s2 : Sits m d role party version (before_units ++ payload ∷ []) last.phase last.guess last.known =
+        subst (λ (k : Known). Sits m d role party version (before_units ++ payload ∷ []) last.phase last.guess k) (sym same_known)
+        (subst (λ (g : Bool). Sits m d role party version (before_units ++ payload ∷ []) last.phase g new.known) (sym same_guess)
+        (subst (λ (p : Phase). Sits m d role party version (before_units ++ payload ∷ []) p new.guess new.known) (sym same_phase) s1)) in
         let pending : kept.pending ≡ pending_at kept.phase (keys_at m role party version before_units (other role)) =
         within.pending ∙ ap (λ (us : Units). pending_at kept.phase (keys_at m role party (version_in us) (payloads_in us) (other role))) units_are in
-        let t = turned below m role party version before_units payload kept new sits pending moves in
+        let t = turned below m d role party version before_units payload kept new sits pending moves in
         let speaks : Speaks m role party behind (a.answers ++ more) last.sending =
         subst (λ (o : Sending). Speaks m role party behind (a.answers ++ more) o)
         (sym (same_sending ∙ brings.gives.sends ∙ ap (λ (us : Units). sending_from kept.known.strict next kept.sending us) answers_are)) spoken.1 in
         record {
-          sits = subst (λ (us : Units). Sits m role party (version_in us) (payloads_in us) last.phase last.guess last.known) (sym behind_is) s2;
+          sits = subst (λ (us : Units). Sits m d role party (version_in us) (payloads_in us) last.phase last.guess last.known) (sym behind_is) s2;
           form = record {
-            form = λ past. form_new (form_behind below m role party version before_units payload kept new sits pending within.form.form moves) past;
+            form = λ past. form_new (form_behind below m d role party version before_units payload kept new sits pending within.form.form moves) past;
             clear = λ not_past. clear_at m d role party version before_units payload last s2 behind_is (a.answers ++ more) speaks done.keyed not_past;
           };
           reads = reads t.keys t.number;

@@ -13,6 +13,7 @@ use Rattle.sshcore.specs.declared.table.Line.TheVariants as line
 use Rattle.sshcore.specs.declared.table.Phase.TheVariants as phase
 use Rattle.sshcore.specs.Known.{Known}
 use Rattle.sshcore.specs.Party.{Party, Policy}
+use Rattle.sshcore.specs.Plan.{is_waiting}
 use Rattle.sshcore.specs.Replies.{line_reply, read_reply}
 use Rattle.sshcore.specs.Table.{line_by}
 use Rattle.sshcore.specs.Requests.{request_reply}
@@ -61,7 +62,7 @@ module _ (below : Below) (m : Meaning) (d : Policy) (role : Role) (party : Party
   alike_line known packet payload form strict line.Unexpected s = refl
 
   pub formless : (known : Known) (packet : ℕ) (payload : List ℕ) (form : ShareForm)
-      → line_reply m d role party (record known { shares = form }) packet (line_by role phase.KexInit known.strict false (kind payload)) payload
-      ≡ line_reply m d role party known packet (line_by role phase.KexInit known.strict false (kind payload)) payload
+      → line_reply m d role party (record known { shares = form }) packet (line_by role phase.KexInit known.strict false (is_waiting known.left) (kind payload)) payload
+      ≡ line_reply m d role party known packet (line_by role phase.KexInit known.strict false (is_waiting known.left) (kind payload)) payload
   formless known packet payload form =
-      alike_line known packet payload form known.strict (line_by role phase.KexInit known.strict false (kind payload)) (sees role phase.KexInit known.strict (kind payload) false)
+      alike_line known packet payload form known.strict (line_by role phase.KexInit known.strict false (is_waiting known.left) (kind payload)) (sees role phase.KexInit known.strict (is_waiting known.left) (kind payload) false)

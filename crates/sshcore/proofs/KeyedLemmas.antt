@@ -1,13 +1,13 @@
 -- NEWKEYS is said in answer to the exchange message alone.
 
-use Rattle.std.proofs.Common.{◌≡◌, ◌≢◌, ◌⊎◌, inl, inr, ℕ, ◌==◌, Bool, true, false, cond, List, [], ◌∷◌, ◌++◌, Option, None, Some, Result, Ok, Err, refl, sym, ap, ◌∙◌, arith}
+use Rattle.std.proofs.Common.{◌≡◌, ◌≢◌, ◌⊎◌, inl, inr, ℕ, ◌==◌, Bool, true, false, cond, List, [], ◌∷◌, ◌++◌, Option, None, Some, Result, Ok, Err, refl, sym, ap, subst, ◌∙◌, arith}
 use Rattle.std.specs.Prelude.{◌&&◌, not}
 use Rattle.std.specs.Str.{bytes_eq}
 use Rattle.std.proofs.lemmas.Bool.{cases_Bool, eq-eqb, eqb-true, true≢false}
 use Rattle.sshwire.specs.declared.share_form.ShareForm.{ShareForm}
 use Rattle.sshwire.specs.declared.share_form.ShareForm.TheVariants.{Hybrid, Mpint, OctetString}
 use Rattle.sshmsg.specs.declared.fault.MsgFault.{MsgFault}
-use Rattle.sshmsg.specs.Content.{Content, KexEcdhInit, KexEcdhReply, KexInit, KexdhInit, KexdhReply, Method, Offer, ServiceAccept, ServiceRequest, UserauthFailure, UserauthRequest, UserauthSuccess}
+use Rattle.sshmsg.specs.Content.{Content, KexEcdhInit, KexEcdhReply, KexInit, KexdhInit, KexdhReply, Method, Offer, ServiceAccept, ServiceRequest, UserauthFailure, UserauthPkOk, UserauthRequest, UserauthSuccess}
 use Rattle.sshmsg.specs.Messages.{message_in}
 use Rattle.sshmsg.specs.Numbers.{kind, number_of}
 use Rattle.sshmsg.specs.Written.{written_message}
@@ -25,22 +25,23 @@ use Rattle.sshcore.specs.declared.table.Line.{Line}
 use Rattle.sshcore.specs.declared.table.Line.TheVariants as line
 use Rattle.sshcore.specs.declared.table.Phase.{Phase}
 use Rattle.sshcore.specs.declared.table.Phase.TheVariants as phase
-use Rattle.sshcore.specs.Attempts.{agreed_by, attempt_reply, success_by}
+use Rattle.sshcore.specs.Attempts.{attempt_reply, confirmed_by, is_asked, request_of, success_by}
 use Rattle.sshcore.specs.Before.{expects_guess, kept, offered, stood, strict_at, strict_towards}
 use Rattle.sshcore.specs.ConfigData.{Attempt}
 use Rattle.sshcore.specs.Counting.{number_in, switched_out}
 use Rattle.sshcore.specs.Ending.{AgreedData, Authenticated, Reply, disconnect_by, fails, goes, reason_of}
 use Rattle.sshcore.specs.Exchange.{choice_with, own_kexinit}
 use Rattle.sshcore.specs.History.{IsReady}
-use Rattle.sshcore.specs.Known.{Known, known_at}
+use Rattle.sshcore.specs.Known.{Known, known_at, waits_at}
 use Rattle.sshcore.specs.Party.{Party, Policy}
 use Rattle.sshcore.specs.Phases.{leaving}
-use Rattle.sshcore.specs.Plan.{next_behind}
+use Rattle.sshcore.specs.Plan.{behind_query, next_behind}
 use Rattle.sshcore.specs.Replies.{answers_at, line_reply, read_reply}
-use Rattle.sshcore.specs.Requests.{is_good, is_last_try, request_reply}
+use Rattle.sshcore.specs.Requests.{request_reply}
 use Rattle.sshcore.specs.Standing.{Tied}
 use Rattle.sshcore.specs.Table.{line_by}
 use Rattle.sshcore.specs.Work.{accept_reply, banner_by, chosen_reply, guess_of, guessed_method, init_for, init_in, kexinit_reply, making, opening, service_reply, userauth, work}
+use Rattle.sshcore.proofs.AnswerLemmas.{Confirmed, Elsewhere, IsAnswered, IsRefusal, Last, More, Refused, Succeeds, answered}
 use Rattle.sshcore.proofs.Below.{Below}
 use Rattle.sshcore.proofs.PhaseLemmas.{kept_free, offered_push, stood_push}
 use Rattle.sshcore.proofs.StreamLemmas.{newkeys_anywhere}
@@ -127,20 +128,30 @@ still_success : (known : Known) (left : List Attempt) → IsStill (success_by kn
 still_success known [] = still_fails (fault.Unexpected 52)
 still_success known (a ∷ later) = still_none
 
--- the answer to a request, by whether the service is unknown, the request good, and the try the last
-still_answer : (party : Party) (agreed : AgreedData) (unknown good last : Bool) → IsStill (cond unknown (fails fault.Service)
-    (cond good (record { answers = written_message UserauthSuccess ∷ []; end = Authenticated agreed })
-    (cond last (fails fault.TooManyTries) (goes (written_message (UserauthFailure party.methods false) ∷ []))))).answers
+-- the answer to a request
+still_refusal : (m : Meaning) (d : Policy) (party : Party) (known : Known) (user service : List ℕ) (x : Content) → IsRefusal d party known user service x → IsStill (written_message x ∷ [])
 unfolding switched_out written_message
-still_answer party agreed true good last = still_fails fault.Service
-still_answer party agreed false true last = refl
-still_answer party agreed false false true = still_fails fault.TooManyTries
-still_answer party agreed false false false = refl
+still_refusal m d party known user service x (Refused partial is) = rw is refl
+still_refusal m d party known user service x (Confirmed algorithm key would is) = rw is refl
+
+still_let_in : IsStill (written_message UserauthSuccess ∷ [])
+unfolding switched_out written_message
+still_let_in = refl
 
 still_request : (m : Meaning) (d : Policy) (party : Party) (known : Known) (user service : List ℕ) (method : Method) → IsStill (request_reply m d party known user service method).answers
-unfolding request_reply
-still_request m d party known user service method =
-    still_answer party (agreed_by known user service) (not (is_in party.services service)) (is_good m d party known user service method) (is_last_try party known)
+still_request m d party known user service method = by (answered m d party known user service method)
+  where
+    by : IsAnswered m d party known user service method (request_reply m d party known user service method) → IsStill (request_reply m d party known user service method).answers
+    by (Elsewhere has is) = subst (λ (r : Reply). IsStill r.answers) (sym is) (still_fails fault.Service)
+    by (Succeeds has good done is) = subst (λ (r : Reply). IsStill r.answers) (sym is) still_let_in
+    by (Last last is) = subst (λ (r : Reply). IsStill r.answers) (sym is) (still_fails fault.TooManyTries)
+    by (More x refusal more is) = subst (λ (r : Reply). IsStill r.answers) (sym is) (still_refusal m d party known user service x refusal)
+
+still_confirmed : (m : Meaning) (known : Known) (algorithm key : List ℕ) (left : List Attempt) → IsStill (confirmed_by m known algorithm key left).answers
+still_confirmed m known algorithm key [] = still_fails (fault.Unexpected 60)
+still_confirmed m known algorithm key (a ∷ later) =
+    still_cond (is_asked m a.proving algorithm key) (goes (request_of m known.session (behind_query a) ∷ [])) (fails (fault.Unexpected 60))
+    (still_attempt m known.session (behind_query a ∷ [])) (still_fails (fault.Unexpected 60))
 
 -- at this place the exchange message comes
 pub record IsExchangePlace (role : Role) (party : Party) (before : Units) (payload : List ℕ) (p : Phase) : Type 0 where
@@ -162,6 +173,7 @@ module _ (below : Below) (m : Meaning) (d : Policy) (role : Role) (party : Party
   still_work known (UserauthRequest user service method) a b = still_request m d party known user service method
   still_work known (UserauthFailure listed partial) a b = still_attempt m known.session (next_behind listed known.left)
   still_work known UserauthSuccess a b = still_success known known.left
+  still_work known (UserauthPkOk algorithm key) a b = still_confirmed m known algorithm key known.left
   still_work known _ a b = still_none
 
   still_read : (known : Known) (packet : ℕ) (payload : List ℕ) → kind payload ≢ 30 → kind payload ≢ 31 → IsStill (line_reply m d role party known packet line.Reads payload).answers
@@ -255,10 +267,10 @@ module _ (below : Below) (m : Meaning) (d : Policy) (role : Role) (party : Party
     -- NEWKEYS is answered at the exchange message alone
     pub told_at : (p : Phase) → Tied role party.offer before p → switched_out (answers_at m d role party (version ∷ before) payload) ≡ true → IsExchangePlace role party before payload p
     told_at p t on =
-        by_line (known_at m role party version before) (number_in role party before) p t
-        (line_by role p (strict_at role party before) (expects_guess role party.offer before) (kind payload))
-        (sees role p (strict_at role party before) (kind payload) (expects_guess role party.offer before))
-        (ap (λ (l : Line). switched_out (line_reply m d role party (known_at m role party version before) (number_in role party before) l payload).answers)
+        by_line (known_at m d role party version before) (number_in role party before) p t
+        (line_by role p (strict_at role party before) (expects_guess role party.offer before) (waits_at role party before) (kind payload))
+        (sees role p (strict_at role party before) (waits_at role party before) (kind payload) (expects_guess role party.offer before))
+        (ap (λ (l : Line). switched_out (line_reply m d role party (known_at m d role party version before) (number_in role party before) l payload).answers)
         (line_is below m d role party version before payload p t) ∙ on)
 
     pub keyed : (p : Phase) → Tied role party.offer before p → switched_out (answers_at m d role party (version ∷ before) payload) ≡ true → IsReady role party (before ++ payload ∷ [])

@@ -18,21 +18,23 @@ use Rattle.sshcore.specs.declared.table.Phase.TheVariants as phase
 use Rattle.sshcore.specs.Before.{all_kept, count_kept, expects_guess, first_kept, kept, kexinit, offered, stood, strict_towards}
 use Rattle.sshcore.specs.ConfigData.{Attempt}
 use Rattle.sshcore.specs.Exchange.{algorithms_at, choice_with, chosen_or, exchange_message, exchange_with, keys_at, keys_by, session_at, shares_by}
-use Rattle.sshcore.specs.Known.{Known, known_at}
-use Rattle.sshcore.specs.Party.{Party}
+use Rattle.sshcore.specs.Known.{Known, known_at, left_at}
+use Rattle.sshcore.specs.Party.{Party, Policy}
 use Rattle.sshcore.specs.Phases.{leaving}
 use Rattle.sshcore.specs.Plan.{left_after}
+use Rattle.sshcore.specs.Reached.{Reached, nothing_reached, reached_after}
+use Rattle.sshcore.specs.Tries.{tried_at}
 use Rattle.sshcore.specs.Standing.{behind_exchange, behind_offer, behind_payload, exchange_heard, nothing_known}
 use Rattle.sshcore.proofs.GuessLemmas.{first_kexinit, none_stood}
 use Rattle.sshcore.proofs.PhaseLemmas.{kexinit_push, stood_push}
-use Rattle.sshcore.proofs.PlanLemmas.{kept_exchange, kept_kind, left_more, left_stays, requests_more, requests_stay}
+use Rattle.sshcore.proofs.PlanLemmas.{kept_exchange, kept_kind, left_more, left_stays, reached_more, reached_stays, requests_more, requests_stay, unanswered_exchange, unanswered_from}
 
-abbrev known_with : List ℕ → List ℕ → Algorithms → ShareForm → List ℕ → ℕ → List Attempt → Bool → Bool → Known
-known_with v k a f s r l t i = record { version = v; kexinit = k; algorithms = a; shares = f; session = s; request = r; left = l; strict = t; first = i }
+abbrev known_with : List ℕ → List ℕ → Algorithms → ShareForm → List ℕ → ℕ → List Attempt → Reached → Bool → Bool → Known
+known_with v k a f s r l g t i = record { version = v; kexinit = k; algorithms = a; shares = f; session = s; request = r; left = l; reached = g; strict = t; first = i }
 
-known_same : (v k k' : List ℕ) (a a' : Algorithms) (f f' : ShareForm) (s s' : List ℕ) (r r' : ℕ) (l l' : List Attempt) (t t' i i' : Bool)
-    → k ≡ k' → a ≡ a' → f ≡ f' → s ≡ s' → r ≡ r' → l ≡ l' → t ≡ t' → i ≡ i' → known_with v k a f s r l t i ≡ known_with v k' a' f' s' r' l' t' i'
-known_same v k k' a a' f f' s s' r r' l l' t t' i i' ek ea ef es er el et ei = cc
+known_same : (v k k' : List ℕ) (a a' : Algorithms) (f f' : ShareForm) (s s' : List ℕ) (r r' : ℕ) (l l' : List Attempt) (g g' : Reached) (t t' i i' : Bool)
+    → k ≡ k' → a ≡ a' → f ≡ f' → s ≡ s' → r ≡ r' → l ≡ l' → g ≡ g' → t ≡ t' → i ≡ i' → known_with v k a f s r l g t i ≡ known_with v k' a' f' s' r' l' g' t' i'
+known_same v k k' a a' f f' s s' r r' l l' g g' t t' i i' ek ea ef es er el eg et ei = cc
 
 pub kexinit_stays : (before : Units) (payload : List ℕ) → offered before ≡ true → kexinit (before ++ payload ∷ []) ≡ kexinit before
 kexinit_stays before payload is = kexinit_push before payload ∙ rw is refl
@@ -96,22 +98,14 @@ module _ (m : Meaning) (role : Role) (party : Party) (version : List ℕ) where
         ap (λ (k : List ℕ). session_by_payloads k (exchange_message role party (before ++ payload ∷ []))) (kexinit_stays before payload is)
         ∙ ap (λ (l : List ℕ). session_by_payloads (kexinit before) l) message_is
 
-    pub keys_are : (sender : Role) → keys_at m role party version (before ++ payload ∷ []) sender
-        ≡ keys_by m (algorithms_at m role party before) (exchange_heard m role party (known_at m role party version before) payload) sender
-    keys_are sender =
+    pub keys_are : (d : Policy) (sender : Role) → keys_at m role party version (before ++ payload ∷ []) sender
+        ≡ keys_by m (algorithms_at m role party before) (exchange_heard m role party (known_at m d role party version before) payload) sender
+    keys_are d sender =
         ap (λ (k : List ℕ). keys_by_payloads sender k (exchange_message role party (before ++ payload ∷ []))) (kexinit_stays before payload is)
         ∙ ap (λ (l : List ℕ). keys_by_payloads sender (kexinit before) l) message_is
 
     stood_on : stood role party.offer (leaving role phase.Exchange) (before ++ payload ∷ []) ≡ true
     stood_on = stood_push role party.offer before payload (leaving role phase.Exchange) ∙ rw (none, here) refl
-
-    pub known_exchanged : known_at m role party version (before ++ payload ∷ []) ≡ behind_exchange m role party (known_at m role party version before) payload
-    known_exchanged =
-        let k : kexinit (before ++ payload ∷ []) ≡ kexinit before = kexinit_stays before payload is in
-        known_same version _ _ _ _ _ _ _ _ _ _ _ _ _ _ _ _ k (ap algorithms_of k) (ap shares_of k) (rw stood_on session_is)
-        (ap (λ (n : ℕ). n + 1) (requests_stay role party.offer before payload (kept_exchange role party.offer before payload 50 (λ q. omega arith) (λ q. omega arith) here)))
-        (left_stays role party.offer before payload party.plan (kept_exchange role party.offer before payload 51 (λ q. omega arith) (λ q. omega arith) here))
-        (ap (λ (x : List ℕ). strict_towards role party.strict (offer_in x)) k) (one_more before payload ∙ sym (some_stood before is))
 
   -- a payload that is neither the first KEXINIT nor the first exchange message
   module _ (before : Units) (payload : List ℕ)
@@ -136,37 +130,58 @@ module _ (m : Meaning) (role : Role) (party : Party) (version : List ℕ) where
             let now : stood role party.offer (leaving role phase.Exchange) (before ++ payload ∷ []) ≡ false = stood_push role party.offer before payload (leaving role phase.Exchange) ∙ rw (off, not_kept) refl in
             rw (off, now) refl
 
-    pub known_kept : (request : ℕ) (left : List Attempt) → count_kept role party.offer 50 (before ++ payload ∷ []) + 1 ≡ request
-        → left_after party.plan (all_kept role party.offer 51 (before ++ payload ∷ [])) ≡ left
-        → known_at m role party version (before ++ payload ∷ []) ≡ record (known_at m role party version before) { request = request; left = left; first = false }
-    known_kept request left er el =
-        known_same version _ _ _ _ _ _ _ _ _ _ _ _ _ _ _ _ same (ap algorithms_of same) (ap shares_of same) session_kept er el
+-- what is known
+module _ (m : Meaning) (d : Policy) (role : Role) (party : Party) (version : List ℕ) where
+  module _ (before : Units) (payload : List ℕ) (is : offered before ≡ true) (none : stood role party.offer (leaving role phase.Exchange) before ≡ false)
+      (here : kept role party.offer (leaving role phase.Exchange) before payload ≡ true) where
+    pub known_exchanged : known_at m d role party version (before ++ payload ∷ []) ≡ behind_exchange m role party (known_at m d role party version before) payload
+    known_exchanged =
+        let k : kexinit (before ++ payload ∷ []) ≡ kexinit before = kexinit_stays before payload is in
+        known_same version _ _ _ _ _ _ _ _ _ _ _ _ _ _ _ _ _ _ k (ap (algorithms_of m role party version) k) (ap (shares_of m role party version) k)
+        (rw (stood_on m role party version before payload is none here) (session_is m role party version before payload is none here))
+        (ap (λ (n : ℕ). n + 1) (requests_stay role party.offer before payload (kept_exchange role party.offer before payload 50 (λ q. omega arith) (λ q. omega arith) here)))
+        (left_stays role party before payload (unanswered_exchange role party.offer before payload here))
+        (reached_stays m d role party version before payload (kept_exchange role party.offer before payload 50 (λ q. omega arith) (λ q. omega arith) here))
+        (ap (λ (x : List ℕ). strict_towards role party.strict (offer_in x)) k) (one_more before payload ∙ sym (some_stood before is))
+
+  module _ (before : Units) (payload : List ℕ)
+      (same : kexinit (before ++ payload ∷ []) ≡ kexinit before)
+      (side : ((offered before ≡ true) × (stood role party.offer (leaving role phase.Exchange) before ≡ true))
+      ⊎ ((stood role party.offer (leaving role phase.Exchange) before ≡ false) × (kept role party.offer (leaving role phase.Exchange) before payload ≡ false))) where
+    pub known_kept : (request : ℕ) (left : List Attempt) (reached : Reached) → count_kept role party.offer 50 (before ++ payload ∷ []) + 1 ≡ request
+        → left_at role party (before ++ payload ∷ []) ≡ left
+        → reached_after nothing_reached (tried_at m d role party version (before ++ payload ∷ [])) ≡ reached
+        → known_at m d role party version (before ++ payload ∷ []) ≡ record (known_at m d role party version before) { request = request; left = left; reached = reached; first = false }
+    known_kept request left reached er el eg =
+        known_same version _ _ _ _ _ _ _ _ _ _ _ _ _ _ _ _ _ _ same (ap (algorithms_of m role party version) same) (ap (shares_of m role party version) same) (session_kept m role party version before payload same side) er el eg
         (ap (λ (x : List ℕ). strict_towards role party.strict (offer_in x)) same) (one_more before payload)
 
     -- one that is dropped, and one that isn't
     pub known_dropped : ((k : ℕ) → kept role party.offer k before payload ≡ false)
-        → known_at m role party version (before ++ payload ∷ []) ≡ record (known_at m role party version before) { first = false }
+        → known_at m d role party version (before ++ payload ∷ []) ≡ record (known_at m d role party version before) { first = false }
     known_dropped none =
-        known_kept _ _ (ap (λ (n : ℕ). n + 1) (requests_stay role party.offer before payload (none 50))) (left_stays role party.offer before payload party.plan (none 51))
+        known_kept _ _ _ (ap (λ (n : ℕ). n + 1) (requests_stay role party.offer before payload (none 50))) (left_stays role party before payload (unanswered_from role party.offer before payload (none 51) (none 60)))
+        (reached_stays m d role party version before payload (none 50))
 
     pub known_behind : expects_guess role party.offer before ≡ false
-        → known_at m role party version (before ++ payload ∷ []) ≡ behind_payload (known_at m role party version before) payload
-    known_behind none = known_kept _ _ (requests_more role party.offer before payload none) (left_more role party.offer before payload party.plan none)
+        → known_at m d role party version (before ++ payload ∷ []) ≡ behind_payload m d party (known_at m d role party version before) payload
+    known_behind none = known_kept _ _ _ (requests_more role party.offer before payload none) (left_more role party before payload none) (reached_more m d role party version before payload none)
 
-  pub known_none : known_at m role party version [] ≡ nothing_known party version
-  unfolding kexinit stood message_in all_kept count_kept left_after
+  pub known_none : known_at m d role party version [] ≡ nothing_known party version
+  unfolding kexinit stood message_in all_kept count_kept left_after tried_at
   known_none = refl
 
   -- the first KEXINIT
   pub known_offered : (before : Units) (payload : List ℕ) (peer : Offer) → offered before ≡ false → kind payload ≡ 20 → offer_in payload ≡ Some peer
       → stood role party.offer (leaving role phase.Exchange) before ≡ false → stood role party.offer (leaving role phase.Exchange) (before ++ payload ∷ []) ≡ false
-      → known_at m role party version (before ++ payload ∷ []) ≡ behind_offer m role party (known_at m role party version before) payload peer
+      → known_at m d role party version (before ++ payload ∷ []) ≡ behind_offer m role party (known_at m d role party version before) payload peer
   known_offered before payload peer none is offers off now =
       let k : kexinit (before ++ payload ∷ []) ≡ payload = first_kexinit before payload none is in
       let not_kept : (n : ℕ) → 20 ≢ n → kept role party.offer n before payload ≡ false = λ n other. kept_kind role party.offer before payload 20 n other is in
-      known_same version _ _ _ _ _ _ _ _ _ _ _ _ _ _ _ _ k
-      (ap algorithms_of k ∙ ap (λ o. chosen_or (choice_with m role party.offer o)) offers)
-      (ap shares_of k ∙ ap (λ o. shares_by m (choice_with m role party.offer o)) offers) (rw (off, now) refl)
+      known_same version _ _ _ _ _ _ _ _ _ _ _ _ _ _ _ _ _ _ k
+      (ap (algorithms_of m role party version) k ∙ ap (λ o. chosen_or (choice_with m role party.offer o)) offers)
+      (ap (shares_of m role party version) k ∙ ap (λ o. shares_by m (choice_with m role party.offer o)) offers) (rw (off, now) refl)
       (ap (λ (n : ℕ). n + 1) (requests_stay role party.offer before payload (not_kept 50 (λ q. omega arith))))
-      (left_stays role party.offer before payload party.plan (not_kept 51 (λ q. omega arith)))
+      (left_stays role party before payload (unanswered_from role party.offer before payload (not_kept 51 (λ q. omega arith)) (not_kept 60 (λ q. omega arith))))
+      (reached_stays m d role party version before payload (not_kept 50 (λ q. omega arith)))
       (ap (λ (x : List ℕ). strict_towards role party.strict (offer_in x)) k ∙ ap (λ o. strict_towards role party.strict o) offers) (one_more before payload)

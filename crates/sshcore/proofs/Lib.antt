@@ -48,6 +48,8 @@ pub mod CallLemmas
 pub mod LineLemmas
 pub mod AuthenticatedLemmas
 pub mod UncutLemmas
+pub mod ReachedLemmas
+pub mod AnswerLemmas
 pub mod TriesLemmas
 pub mod SessionLemmas
 pub mod EndpointLemmas

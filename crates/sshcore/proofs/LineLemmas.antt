@@ -68,14 +68,14 @@ keys_none : (m : Meaning) (role : Role) (party : Party) (version : List ℕ) →
 keys_none m role party version = rw ((tied_none role party.offer).newkeys) refl
 
 -- where an endpoint stands that has heard no line
-first_phase : (m : Meaning) (role : Role) (party : Party) (p : Phase) (g : Bool) (k : Known) → Sits m role party [] [] p g k → p ≡ phase.KexInit
-first_phase m role party p g k s = sym (tied_phase role party.offer [] p s.tied) ∙ tied_phase role party.offer [] phase.KexInit (tied_none role party.offer)
+first_phase : (m : Meaning) (d : Policy) (role : Role) (party : Party) (p : Phase) (g : Bool) (k : Known) → Sits m d role party [] [] p g k → p ≡ phase.KexInit
+first_phase m d role party p g k s = sym (tied_phase role party.offer [] p s.tied) ∙ tied_phase role party.offer [] phase.KexInit (tied_none role party.offer)
 
-first_guess : (m : Meaning) (role : Role) (party : Party) (p : Phase) (g : Bool) (k : Known) → Sits m role party [] [] p g k → g ≡ false
-first_guess m role party p g k s = sym s.due ∙ (standing.begins m role party []).due
+first_guess : (m : Meaning) (d : Policy) (role : Role) (party : Party) (p : Phase) (g : Bool) (k : Known) → Sits m d role party [] [] p g k → g ≡ false
+first_guess m d role party p g k s = sym s.due ∙ (standing.begins m d role party []).due
 
-first_known : (m : Meaning) (role : Role) (party : Party) (p : Phase) (g : Bool) (k : Known) → Sits m role party [] [] p g k → k ≡ nothing_known party []
-first_known m role party p g k s = sym s.knows ∙ (standing.begins m role party []).knows
+first_known : (m : Meaning) (d : Policy) (role : Role) (party : Party) (p : Phase) (g : Bool) (k : Known) → Sits m d role party [] [] p g k → k ≡ nothing_known party []
+first_known m d role party p g k s = sym s.knows ∙ (standing.begins m d role party []).knows
 
 -- a version line is answered by nothing
 module _ (below : Below) (streams : Streams) (m : Meaning) (d : Policy) (role : Role) (party : Party) (h s : List ℕ) where
@@ -126,10 +126,10 @@ module _ (laws : LineLaws) (below : Below) (streams : Streams) (m : Meaning) (d 
       lines_are (a.rest ++ piece) ∙ ap (λ (l : List ℕ). preamble_parser (others_of role) l) (sym all)
       ∙ laws.preamble (others_of role) version bytes (drop used piece) preamble ∙ ap (λ n. whole version n) size in
       let w = within below streams m d role party kept i h s is a in
-      let sits : Sits m role party [] [] kept.phase kept.guess kept.known = subst (λ (us : Units). Sits m role party (version_in us) (payloads_in us) kept.phase kept.guess kept.known) none w.sits in
-      let p = first_phase m role party kept.phase kept.guess kept.known sits in
-      let g = first_guess m role party kept.phase kept.guess kept.known sits in
-      let k = first_known m role party kept.phase kept.guess kept.known sits in
+      let sits : Sits m d role party [] [] kept.phase kept.guess kept.known = subst (λ (us : Units). Sits m d role party (version_in us) (payloads_in us) kept.phase kept.guess kept.known) none w.sits in
+      let p = first_phase m d role party kept.phase kept.guess kept.known sits in
+      let g = first_guess m d role party kept.phase kept.guess kept.known sits in
+      let k = first_known m d role party kept.phase kept.guess kept.known sits in
       let behind : a.units ++ version ∷ [] ≡ version ∷ [] = ap (λ (us : Units). us ++ version ∷ []) none in
       record {
         added = [];
@@ -143,10 +143,10 @@ module _ (laws : LineLaws) (below : Below) (streams : Streams) (m : Meaning) (d 
           history = version_history below streams m d role party h s a.units a.rest a.answers none (open_history below streams m d role party kept i h s is a) piece version used low seen;
           ends = AsHeard is;
           inside = λ o. record {
-            sits = subst (λ (us : Units). Sits m role party (version_in us) (payloads_in us) kept.phase kept.guess (record kept.known { version = version })) (sym behind)
-                (subst (λ (x : Phase). Sits m role party version [] x kept.guess (record kept.known { version = version })) (sym p)
-                (subst (λ (x : Bool). Sits m role party version [] phase.KexInit x (record kept.known { version = version })) (sym g)
-                (subst (λ (x : Known). Sits m role party version [] phase.KexInit false (record x { version = version })) (sym k) (standing.begins m role party version))));
+            sits = subst (λ (us : Units). Sits m d role party (version_in us) (payloads_in us) kept.phase kept.guess (record kept.known { version = version })) (sym behind)
+                (subst (λ (x : Phase). Sits m d role party version [] x kept.guess (record kept.known { version = version })) (sym p)
+                (subst (λ (x : Bool). Sits m d role party version [] phase.KexInit x (record kept.known { version = version })) (sym g)
+                (subst (λ (x : Known). Sits m d role party version [] phase.KexInit false (record x { version = version })) (sym k) (standing.begins m d role party version))));
             form = record { form = w.form.form; clear = w.form.clear };
             reads = (
               version,

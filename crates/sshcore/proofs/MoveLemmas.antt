@@ -23,7 +23,7 @@ use Rattle.sshcore.specs.Exchange.{keys_at}
 use Rattle.sshcore.specs.Inputs.{pending_at}
 use Rattle.sshcore.specs.Kept.{Kept, keys_due, keys_left}
 use Rattle.sshcore.specs.Known.{Known}
-use Rattle.sshcore.specs.Party.{Party}
+use Rattle.sshcore.specs.Party.{Party, Policy}
 use Rattle.sshcore.specs.Phases.{behind, leaving, past_exchange, past_kexinit, past_newkeys}
 use Rattle.sshcore.specs.Standing.{Sits, behind_exchange, behind_offer, behind_payload}
 use Rattle.sshcore.proofs.Below.{Below}
@@ -45,7 +45,7 @@ exchange_number : (role : Role) (n : ℕ) → n ≡ leaving role phase.Exchange 
 exchange_number Client n e = rw e refl
 exchange_number Server n e = rw e refl
 
-module _ (below : Below) (m : Meaning) (role : Role) (party : Party) (version : List ℕ) (before : Units) (payload : List ℕ) where
+module _ (below : Below) (m : Meaning) (d : Policy) (role : Role) (party : Party) (version : List ℕ) (before : Units) (payload : List ℕ) where
   -- the keys of what is heard from the peer: before, and behind the payload
   abbrev pub keys_so_far : KeyData
   keys_so_far = keys_at m role party version before (other role)
@@ -53,35 +53,35 @@ module _ (below : Below) (m : Meaning) (role : Role) (party : Party) (version : 
   abbrev pub keys_behind : KeyData
   keys_behind = keys_at m role party version (before ++ payload ∷ []) (other role)
 
-  as_known : (us : Units) (p q : Phase) (b c : Bool) (k l : Known) → p ≡ q → b ≡ c → k ≡ l → Sits m role party version us p b k → Sits m role party version us q c l
+  as_known : (us : Units) (p q : Phase) (b c : Bool) (k l : Known) → p ≡ q → b ≡ c → k ≡ l → Sits m d role party version us p b k → Sits m d role party version us q c l
   as_known us p q b c k l e f g s =
-      subst (λ (x : Known). Sits m role party version us q c x) g (subst (λ (x : Bool). Sits m role party version us q x k) f (subst (λ (x : Phase). Sits m role party version us x b k) e s))
+      subst (λ (x : Known). Sits m d role party version us q c x) g (subst (λ (x : Bool). Sits m d role party version us q x k) f (subst (λ (x : Phase). Sits m d role party version us x b k) e s))
 
-  stands_new : (new : Kept) (p : Phase) (b : Bool) (k : Known) → StandsAt new p b k → Sits m role party version (before ++ payload ∷ []) p b k
-      → Sits m role party version (before ++ payload ∷ []) new.phase new.guess new.known
+  stands_new : (new : Kept) (p : Phase) (b : Bool) (k : Known) → StandsAt new p b k → Sits m d role party version (before ++ payload ∷ []) p b k
+      → Sits m d role party version (before ++ payload ∷ []) new.phase new.guess new.known
   stands_new new p b k st s = as_known (before ++ payload ∷ []) p new.phase b new.guess k new.known (sym st.phase_is) (sym st.guess_is) (sym st.known_is) s
 
-  keys_in_at : (us : Units) (p : Phase) (b : Bool) (k : Known) → Sits m role party version us p b k
+  keys_in_at : (us : Units) (p : Phase) (b : Bool) (k : Known) → Sits m d role party version us p b k
       → keys_in m role party version us ≡ cond (past_newkeys p) (Some (keys_at m role party version us (other role))) None
   keys_in_at us p b k s = rw (s.tied.newkeys) refl
 
-  module _ (old new : Kept) (s : Sits m role party version before old.phase old.guess old.known) where
-    pub sits_behind : Moves m role party payload old new → Sits m role party version (before ++ payload ∷ []) new.phase new.guess new.known
+  module _ (old new : Kept) (s : Sits m d role party version before old.phase old.guess old.known) where
+    pub sits_behind : Moves m d role party payload old new → Sits m d role party version (before ++ payload ∷ []) new.phase new.guess new.known
     sits_behind (Offers peer at none is same form st) =
         stands_new new phase.Exchange (wrong_guess role party.offer (Some peer)) (behind_offer m role party old.known payload peer) st
-        (standing.offers m role party version before payload below peer old.known (as_known before old.phase phase.KexInit old.guess false old.known old.known at none refl s) is)
+        (standing.offers m d role party version before payload below peer old.known (as_known before old.phase phase.KexInit old.guess false old.known old.known at none refl s) is)
     sits_behind (Drops due one same st) =
         stands_new new old.phase false (heard_one old.known) st
-        (standing.drops m role party version before payload old.phase old.known (as_known before old.phase old.phase old.guess true old.known old.known refl due refl s) one)
+        (standing.drops m d role party version before payload old.phase old.known (as_known before old.phase old.phase old.guess true old.known old.known refl due refl s) one)
     sits_behind (Exchanges at none is same st) =
         stands_new new phase.NewKeys false (behind_exchange m role party old.known payload) st
-        (standing.exchanges m role party version before payload old.known (as_known before old.phase phase.Exchange old.guess false old.known old.known at none refl s) is)
+        (standing.exchanges m d role party version before payload old.known (as_known before old.phase phase.Exchange old.guess false old.known old.known at none refl s) is)
     sits_behind (Leaves none past is same st) =
-        stands_new new (behind old.phase) false (behind_payload old.known payload) st
-        (standing.leaves m role party version before payload old.phase old.known (as_known before old.phase old.phase old.guess false old.known old.known refl none refl s) past is)
+        stands_new new (behind old.phase) false (behind_payload m d party old.known payload) st
+        (standing.leaves m d role party version before payload old.phase old.known (as_known before old.phase old.phase old.guess false old.known old.known refl none refl s) past is)
     sits_behind (Stays none calm same st) =
-        stands_new new old.phase false (behind_payload old.known payload) st
-        (standing.stays m role party version before payload old.phase old.known (as_known before old.phase old.phase old.guess false old.known old.known refl none refl s) calm)
+        stands_new new old.phase false (behind_payload m d party old.known payload) st
+        (standing.stays m d role party version before payload old.phase old.known (as_known before old.phase old.phase old.guess false old.known old.known refl none refl s) calm)
 
   -- what is set behind a payload, and what is left
   pub record Turned (q : Phase) (pending : Option KeyData) (strict : Bool) : Type 0 where
@@ -94,45 +94,45 @@ module _ (below : Below) (m : Meaning) (role : Role) (party : Party) (version : 
       subst (λ (z : Bool). Turned r y z) (sym g) (subst (λ (z : Option KeyData). Turned r z b) (sym f) (subst (λ (z : Phase). Turned z x b) (sym e) t))
 
   -- a payload that is no NEWKEYS, and stays in the phase
-  calm_turn : (p : Phase) (guess b : Bool) (known next : Known) (strict : Bool) → Sits m role party version before p guess known → Sits m role party version (before ++ payload ∷ []) p b next
+  calm_turn : (p : Phase) (guess b : Bool) (known next : Known) (strict : Bool) → Sits m d role party version before p guess known → Sits m d role party version (before ++ payload ∷ []) p b next
       → (kept role party.offer 21 before payload ≡ false) → Turned p (pending_at p keys_so_far) strict
   calm_turn phase.KexInit guess b known next strict s t none = record {
     left = refl;
     keys = keys_in_at (before ++ payload ∷ []) phase.KexInit b next t ∙ sym (keys_in_at before phase.KexInit guess known s);
-    number = standing.counts_on m role party version before payload phase.KexInit guess known s (inr none);
+    number = standing.counts_on m d role party version before payload phase.KexInit guess known s (inr none);
   }
   calm_turn phase.Exchange guess b known next strict s t none = record {
     left = refl;
     keys = keys_in_at (before ++ payload ∷ []) phase.Exchange b next t ∙ sym (keys_in_at before phase.Exchange guess known s);
-    number = standing.counts_on m role party version before payload phase.Exchange guess known s (inr none);
+    number = standing.counts_on m d role party version before payload phase.Exchange guess known s (inr none);
   }
   calm_turn phase.NewKeys guess b known next strict s t none = record {
-    left = ap Some (sym (standing.keeps_keys m role party version before payload phase.NewKeys guess known s refl (other role)));
+    left = ap Some (sym (standing.keeps_keys m d role party version before payload phase.NewKeys guess known s refl (other role)));
     keys = keys_in_at (before ++ payload ∷ []) phase.NewKeys b next t ∙ sym (keys_in_at before phase.NewKeys guess known s);
-    number = standing.counts_on m role party version before payload phase.NewKeys guess known s (inr none);
+    number = standing.counts_on m d role party version before payload phase.NewKeys guess known s (inr none);
   }
   calm_turn phase.Service guess b known next strict s t none = record {
     left = refl;
     keys = keys_in_at (before ++ payload ∷ []) phase.Service b next t
-        ∙ ap Some (standing.keeps_keys m role party version before payload phase.Service guess known s refl (other role)) ∙ sym (keys_in_at before phase.Service guess known s);
-    number = standing.counts_on m role party version before payload phase.Service guess known s (inr none);
+        ∙ ap Some (standing.keeps_keys m d role party version before payload phase.Service guess known s refl (other role)) ∙ sym (keys_in_at before phase.Service guess known s);
+    number = standing.counts_on m d role party version before payload phase.Service guess known s (inr none);
   }
   calm_turn phase.Auth guess b known next strict s t none = record {
     left = refl;
     keys = keys_in_at (before ++ payload ∷ []) phase.Auth b next t
-        ∙ ap Some (standing.keeps_keys m role party version before payload phase.Auth guess known s refl (other role)) ∙ sym (keys_in_at before phase.Auth guess known s);
-    number = standing.counts_on m role party version before payload phase.Auth guess known s (inr none);
+        ∙ ap Some (standing.keeps_keys m d role party version before payload phase.Auth guess known s refl (other role)) ∙ sym (keys_in_at before phase.Auth guess known s);
+    number = standing.counts_on m d role party version before payload phase.Auth guess known s (inr none);
   }
 
   -- a message that leaves a phase behind the exchange
-  leaving_turn : (p : Phase) (b : Bool) (known next : Known) → Sits m role party version before p false known → Sits m role party version (before ++ payload ∷ []) (behind p) b next
+  leaving_turn : (p : Phase) (b : Bool) (known next : Known) → Sits m d role party version before p false known → Sits m d role party version (before ++ payload ∷ []) (behind p) b next
       → past_exchange p ≡ true → kind payload ≡ leaving role p → Turned (behind p) (pending_at p keys_so_far) known.strict
   leaving_turn phase.KexInit b known next s t past is = absurd (true≢false (sym past))
   leaving_turn phase.Exchange b known next s t past is = absurd (true≢false (sym past))
   leaving_turn phase.NewKeys b known next s t past is = record {
     left = refl;
-    keys = keys_in_at (before ++ payload ∷ []) phase.Service b next t ∙ ap Some (standing.keeps_keys m role party version before payload phase.NewKeys false known s refl (other role));
-    number = standing.counts_anew m role party version before payload known s (newkeys_kind role (kind payload) is);
+    keys = keys_in_at (before ++ payload ∷ []) phase.Service b next t ∙ ap Some (standing.keeps_keys m d role party version before payload phase.NewKeys false known s refl (other role));
+    number = standing.counts_anew m d role party version before payload known s (newkeys_kind role (kind payload) is);
   }
     where
       newkeys_kind : (role : Role) (n : ℕ) → n ≡ leaving role phase.NewKeys → n ≡ 21
@@ -141,14 +141,14 @@ module _ (below : Below) (m : Meaning) (role : Role) (party : Party) (version : 
   leaving_turn phase.Service b known next s t past is = record {
     left = refl;
     keys = keys_in_at (before ++ payload ∷ []) phase.Auth b next t
-        ∙ ap Some (standing.keeps_keys m role party version before payload phase.Service false known s refl (other role)) ∙ sym (keys_in_at before phase.Service false known s);
-    number = standing.counts_on m role party version before payload phase.Service false known s (inl refl);
+        ∙ ap Some (standing.keeps_keys m d role party version before payload phase.Service false known s refl (other role)) ∙ sym (keys_in_at before phase.Service false known s);
+    number = standing.counts_on m d role party version before payload phase.Service false known s (inl refl);
   }
   leaving_turn phase.Auth b known next s t past is = record {
     left = refl;
     keys = keys_in_at (before ++ payload ∷ []) phase.Auth b next t
-        ∙ ap Some (standing.keeps_keys m role party version before payload phase.Auth false known s refl (other role)) ∙ sym (keys_in_at before phase.Auth false known s);
-    number = standing.counts_on m role party version before payload phase.Auth false known s (inl refl);
+        ∙ ap Some (standing.keeps_keys m d role party version before payload phase.Auth false known s refl (other role)) ∙ sym (keys_in_at before phase.Auth false known s);
+    number = standing.counts_on m d role party version before payload phase.Auth false known s (inl refl);
   }
 
   as_old : (old new : Kept) (k : Known) → (past_kexinit old.phase ≡ true → old.known.shares ≡ m.share_form old.known.algorithms.kex) → new.known ≡ k
@@ -156,52 +156,52 @@ module _ (below : Below) (m : Meaning) (role : Role) (party : Party) (version : 
   as_old old new k form e f g past =
       ap (λ (x : Known). x.shares) e ∙ f ∙ form past ∙ ap (λ (a : Algorithms). m.share_form a.kex) (sym g) ∙ ap (λ (x : Known). m.share_form x.algorithms.kex) (sym e)
 
-  module _ (old new : Kept) (s : Sits m role party version before old.phase old.guess old.known) (pending : old.pending ≡ pending_at old.phase keys_so_far) where
-    pub turned : Moves m role party payload old new → Turned new.phase new.pending new.known.strict
+  module _ (old new : Kept) (s : Sits m d role party version before old.phase old.guess old.known) (pending : old.pending ≡ pending_at old.phase keys_so_far) where
+    pub turned : Moves m d role party payload old new → Turned new.phase new.pending new.known.strict
     turned (Offers peer at none is same form st) =
-        let s0 : Sits m role party version before phase.KexInit false old.known = as_known before old.phase phase.KexInit old.guess false old.known old.known at none refl s in
-        let t0 : Sits m role party version (before ++ payload ∷ []) phase.Exchange (wrong_guess role party.offer (Some peer)) (behind_offer m role party old.known payload peer) =
-        standing.offers m role party version before payload below peer old.known s0 is in
+        let s0 : Sits m d role party version before phase.KexInit false old.known = as_known before old.phase phase.KexInit old.guess false old.known old.known at none refl s in
+        let t0 : Sits m d role party version (before ++ payload ∷ []) phase.Exchange (wrong_guess role party.offer (Some peer)) (behind_offer m role party old.known payload peer) =
+        standing.offers m d role party version before payload below peer old.known s0 is in
         let twenty : kind payload ≡ 20 = below.numbers Mpint payload (KexInit peer) (read_offer payload peer is) in
         let unkept : kept role party.offer 21 before payload ≡ false = kept_free role party.offer before payload 21 s0.due ∙ rw twenty refl in
         turned_as phase.Exchange new.phase None new.pending new.known.strict new.known.strict st.phase_is (same ∙ pending ∙ ap (λ (p : Phase). pending_at p keys_so_far) at) refl (record {
           left = refl;
           keys = keys_in_at (before ++ payload ∷ []) phase.Exchange (wrong_guess role party.offer (Some peer)) (behind_offer m role party old.known payload peer) t0
               ∙ sym (keys_in_at before phase.KexInit false old.known s0);
-          number = standing.counts_on m role party version before payload phase.KexInit false old.known s0 (inr unkept);
+          number = standing.counts_on m d role party version before payload phase.KexInit false old.known s0 (inr unkept);
         })
     turned (Drops due one same st) =
-        let s0 : Sits m role party version before old.phase true old.known = as_known before old.phase old.phase old.guess true old.known old.known refl due refl s in
-        let t0 : Sits m role party version (before ++ payload ∷ []) old.phase false (heard_one old.known) = standing.drops m role party version before payload old.phase old.known s0 one in
+        let s0 : Sits m d role party version before old.phase true old.known = as_known before old.phase old.phase old.guess true old.known old.known refl due refl s in
+        let t0 : Sits m d role party version (before ++ payload ∷ []) old.phase false (heard_one old.known) = standing.drops m d role party version before payload old.phase old.known s0 one in
         turned_as old.phase new.phase (pending_at old.phase keys_so_far) new.pending new.known.strict new.known.strict st.phase_is (same ∙ pending) refl
         (calm_turn old.phase true false old.known (heard_one old.known) new.known.strict s0 t0 (kept_dropped role party.offer before payload 21 s0.due one))
     turned (Exchanges at none is same st) =
-        let s0 : Sits m role party version before phase.Exchange false old.known = as_known before old.phase phase.Exchange old.guess false old.known old.known at none refl s in
-        let t0 : Sits m role party version (before ++ payload ∷ []) phase.NewKeys false (behind_exchange m role party old.known payload) =
-        standing.exchanges m role party version before payload old.known s0 is in
+        let s0 : Sits m d role party version before phase.Exchange false old.known = as_known before old.phase phase.Exchange old.guess false old.known old.known at none refl s in
+        let t0 : Sits m d role party version (before ++ payload ∷ []) phase.NewKeys false (behind_exchange m role party old.known payload) =
+        standing.exchanges m d role party version before payload old.known s0 is in
         let unkept : kept role party.offer 21 before payload ≡ false = kept_free role party.offer before payload 21 s0.due ∙ exchange_number role (kind payload) is in
         turned_as phase.NewKeys new.phase (Some keys_behind) new.pending new.known.strict new.known.strict st.phase_is
-        (same ∙ ap Some (sym (standing.makes_keys m role party version before payload old.known s0 is (other role)))) refl (record {
+        (same ∙ ap Some (sym (standing.makes_keys m d role party version before payload old.known s0 is (other role)))) refl (record {
           left = refl;
           keys = keys_in_at (before ++ payload ∷ []) phase.NewKeys false (behind_exchange m role party old.known payload) t0 ∙ sym (keys_in_at before phase.Exchange false old.known s0);
-          number = standing.counts_on m role party version before payload phase.Exchange false old.known s0 (inr unkept);
+          number = standing.counts_on m d role party version before payload phase.Exchange false old.known s0 (inr unkept);
         })
     turned (Leaves none past is same st) =
-        let s0 : Sits m role party version before old.phase false old.known = as_known before old.phase old.phase old.guess false old.known old.known refl none refl s in
-        let t0 : Sits m role party version (before ++ payload ∷ []) (behind old.phase) false (behind_payload old.known payload) = standing.leaves m role party version before payload old.phase old.known s0 past is in
+        let s0 : Sits m d role party version before old.phase false old.known = as_known before old.phase old.phase old.guess false old.known old.known refl none refl s in
+        let t0 : Sits m d role party version (before ++ payload ∷ []) (behind old.phase) false (behind_payload m d party old.known payload) = standing.leaves m d role party version before payload old.phase old.known s0 past is in
         turned_as (behind old.phase) new.phase (pending_at old.phase keys_so_far) new.pending old.known.strict new.known.strict st.phase_is (same ∙ pending) (ap (λ (k : Known). k.strict) st.known_is)
-        (leaving_turn old.phase false old.known (behind_payload old.known payload) s0 t0 past is)
+        (leaving_turn old.phase false old.known (behind_payload m d party old.known payload) s0 t0 past is)
     turned (Stays none calm same st) =
-        let s0 : Sits m role party version before old.phase false old.known = as_known before old.phase old.phase old.guess false old.known old.known refl none refl s in
-        let t0 : Sits m role party version (before ++ payload ∷ []) old.phase false (behind_payload old.known payload) = standing.stays m role party version before payload old.phase old.known s0 calm in
+        let s0 : Sits m d role party version before old.phase false old.known = as_known before old.phase old.phase old.guess false old.known old.known refl none refl s in
+        let t0 : Sits m d role party version (before ++ payload ∷ []) old.phase false (behind_payload m d party old.known payload) = standing.stays m d role party version before payload old.phase old.known s0 calm in
         turned_as old.phase new.phase (pending_at old.phase keys_so_far) new.pending new.known.strict new.known.strict st.phase_is (same ∙ pending) refl
-        (calm_turn old.phase false false old.known (behind_payload old.known payload) new.known.strict s0 t0 (kept_free role party.offer before payload 21 s0.due ∙ calm.newkeys))
+        (calm_turn old.phase false false old.known (behind_payload m d party old.known payload) new.known.strict s0 t0 (kept_free role party.offer before payload 21 s0.due ∙ calm.newkeys))
 
     -- the form of shares stays that of the method
-    pub form_behind : (past_kexinit old.phase ≡ true → old.known.shares ≡ m.share_form old.known.algorithms.kex) → Moves m role party payload old new
+    pub form_behind : (past_kexinit old.phase ≡ true → old.known.shares ≡ m.share_form old.known.algorithms.kex) → Moves m d role party payload old new
         → past_kexinit new.phase ≡ true → new.known.shares ≡ m.share_form new.known.algorithms.kex
     form_behind form (Offers peer at none is same has st) past = has
     form_behind form (Drops due one same st) past = as_old old new (heard_one old.known) form st.known_is refl refl (ap past_kexinit (sym st.phase_is) ∙ past)
     form_behind form (Exchanges at none is same st) past = as_old old new (behind_exchange m role party old.known payload) form st.known_is refl refl (ap past_kexinit at)
-    form_behind form (Leaves none gone is same st) past = as_old old new (behind_payload old.known payload) form st.known_is refl refl (standing.past_past old.phase gone)
-    form_behind form (Stays none calm same st) past = as_old old new (behind_payload old.known payload) form st.known_is refl refl (ap past_kexinit (sym st.phase_is) ∙ past)
+    form_behind form (Leaves none gone is same st) past = as_old old new (behind_payload m d party old.known payload) form st.known_is refl refl (standing.past_past old.phase gone)
+    form_behind form (Stays none calm same st) past = as_old old new (behind_payload m d party old.known payload) form st.known_is refl refl (ap past_kexinit (sym st.phase_is) ∙ past)

@@ -36,6 +36,7 @@ some_written (content.UserauthRequest user service _) = omega arith
 some_written (content.UserauthFailure methods partial) = omega arith
 some_written content.UserauthSuccess = omega arith
 some_written (content.UserauthBanner text language) = omega arith
+some_written (content.UserauthPkOk algorithm key) = omega arith
 
 -- what was written for a message that fits is made
 pub made : (m : Content) (items : List ℕ) → items ≡ written_message m → length (written_message m) ≤ 32768 → IsBytes items → IsMade (written_message m) items

@@ -14,7 +14,7 @@ use Rattle.sshcore.specs.Before.{expects_guess, is_kexinit, kept, kexinit, offer
 use Rattle.sshcore.specs.Phases.{behind, leaving, past_exchange, past_kexinit, past_newkeys, past_service, phase_at, phase_by}
 use Rattle.sshcore.specs.Standing.{LeavesNone, Tied}
 
-and_true : (x : Bool) → (x && true) ≡ x
+pub and_true : (x : Bool) → (x && true) ≡ x
 and_true true = refl
 and_true false = refl
 

@@ -1,6 +1,7 @@
 -- What is known of requests and of the plan, with one payload more.
 
-use Rattle.std.proofs.Common.{◌≡◌, ◌≢◌, ℕ, ◌+◌, ◌==◌, Bool, true, false, cond, List, [], ◌∷◌, ◌++◌, refl, sym, ap, ◌∙◌}
+use Rattle.std.proofs.Common.{◌≡◌, ◌≢◌, ℕ, ◌+◌, ◌==◌, Bool, true, false, cond, List, [], ◌∷◌, ◌++◌, refl, sym, ap, ◌∙◌, arith}
+use Rattle.std.specs.Prelude.{◌&&◌, ◌||◌, not}
 use Rattle.std.proofs.lemmas.Bool.{and_parts, eqb-true, ne_eqb}
 use Rattle.std.proofs.lemmas.List.{append-nil}
 use Rattle.sshmsg.specs.Content.{Offer}
@@ -8,13 +9,18 @@ use Rattle.sshmsg.specs.Numbers.{kind}
 use Rattle.sshneg.specs.declared.role.Role.{Role}
 use Rattle.sshneg.specs.declared.role.Role.TheVariants.{Client, Server}
 use Rattle.sshpacket.specs.Stream.{Units}
+use Rattle.sshpacket.specs.Suite.{Meaning}
 use Rattle.sshpacket.proofs.Places.{count-push, flat-push}
 use Rattle.sshcore.specs.declared.table.Phase.TheVariants as phase
-use Rattle.sshcore.specs.Before.{all_kept, count_kept, expects_guess, kept}
+use Rattle.sshcore.specs.Before.{all_kept, count_kept, dropped, expects_guess, kept}
 use Rattle.sshcore.specs.ConfigData.{Attempt}
+use Rattle.sshcore.specs.Known.{left_at}
+use Rattle.sshcore.specs.Party.{Party, Policy}
 use Rattle.sshcore.specs.Phases.{leaving}
-use Rattle.sshcore.specs.Plan.{left_after, left_behind}
-use Rattle.sshcore.proofs.PhaseLemmas.{kept_free}
+use Rattle.sshcore.specs.Plan.{is_answer, left_after, left_behind}
+use Rattle.sshcore.specs.Reached.{Reached, Tried, nothing_reached, reached_after, reached_behind}
+use Rattle.sshcore.specs.Tries.{session_known, tried_at, tried_in, tried_place}
+use Rattle.sshcore.proofs.PhaseLemmas.{and_true, kept_free}
 
 left_push : (plan : List Attempt) (us : Units) (u : List ℕ) → left_after plan (us ++ u ∷ []) ≡ left_behind (left_after plan us) u
 unfolding left_after
@@ -26,9 +32,10 @@ module _ (role : Role) (own : Offer) (before : Units) (payload : List ℕ) where
   unfolding count_kept
   count_push k = count-push (kept role own k) [] before payload
 
-  all_push : (k : ℕ) → all_kept role own k (before ++ payload ∷ []) ≡ all_kept role own k before ++ cond (kept role own k before payload) (payload ∷ []) []
+  all_push : (test : ℕ → Bool) → all_kept role own test (before ++ payload ∷ [])
+      ≡ all_kept role own test before ++ cond (test (kind payload) && not (dropped role own before payload)) (payload ∷ []) []
   unfolding all_kept
-  all_push k = flat-push (λ b u. cond (kept role own k b u) (u ∷ []) []) [] before payload
+  all_push test = flat-push (λ b u. cond (test (kind u) && not (dropped role own b u)) (u ∷ []) []) [] before payload
 
   -- a message of another number
   pub kept_kind : (k j : ℕ) → k ≢ j → kind payload ≡ k → kept role own j before payload ≡ false
@@ -45,9 +52,20 @@ module _ (role : Role) (own : Offer) (before : Units) (payload : List ℕ) where
   pub requests_stay : kept role own 50 before payload ≡ false → count_kept role own 50 (before ++ payload ∷ []) ≡ count_kept role own 50 before
   requests_stay none = count_push 50 ∙ rw none refl
 
-  pub left_stays : (plan : List Attempt) → kept role own 51 before payload ≡ false
-      → left_after plan (all_kept role own 51 (before ++ payload ∷ [])) ≡ left_after plan (all_kept role own 51 before)
-  left_stays plan none = ap (left_after plan) (all_push 51 ∙ rw none (append-nil (all_kept role own 51 before)))
+  -- no answer is a message that isn't a FAILURE and isn't a PK_OK
+  abbrev pub is_answered : Bool
+  is_answered = is_answer (kind payload) && not (dropped role own before payload)
+
+  pub unanswered_from : kept role own 51 before payload ≡ false → kept role own 60 before payload ≡ false → is_answered ≡ false
+  unanswered_from a b = by (kind payload == 51) (kind payload == 60) (not (dropped role own before payload)) a b
+    where
+      by : (x y z : Bool) → (x && z) ≡ false → (y && z) ≡ false → ((x || y) && z) ≡ false
+      by true y z a b = a
+      by false y z a b = b
+
+  pub unanswered_exchange : kept role own (leaving role phase.Exchange) before payload ≡ true → is_answered ≡ false
+  unanswered_exchange is =
+      unanswered_from (kept_exchange 51 (λ q. omega arith) (λ q. omega arith) is) (kept_exchange 60 (λ q. omega arith) (λ q. omega arith) is)
 
   -- and one that may be
   pub requests_more : expects_guess role own before ≡ false
@@ -58,13 +76,54 @@ module _ (role : Role) (own : Offer) (before : Units) (payload : List ℕ) where
       by true = refl
       by false = refl
 
-  pub left_more : (plan : List Attempt) → expects_guess role own before ≡ false
-      → left_after plan (all_kept role own 51 (before ++ payload ∷ []))
-      ≡ cond (kind payload == 51) (left_behind (left_after plan (all_kept role own 51 before)) payload) (left_after plan (all_kept role own 51 before))
-  left_more plan none =
-      ap (left_after plan) (all_push 51 ∙ ap (λ (b : Bool). all_kept role own 51 before ++ cond b (payload ∷ []) []) (kept_free role own before payload 51 none)) ∙ by (kind payload == 51)
+-- what is left of the plan
+module _ (role : Role) (party : Party) (before : Units) (payload : List ℕ) where
+  pub left_stays : is_answered role party.offer before payload ≡ false → left_at role party (before ++ payload ∷ []) ≡ left_at role party before
+  left_stays none = ap (left_after party.plan) (all_push role party.offer before payload is_answer ∙ rw none (append-nil (all_kept role party.offer is_answer before)))
+
+  pub left_more : expects_guess role party.offer before ≡ false
+      → left_at role party (before ++ payload ∷ []) ≡ cond (is_answer (kind payload)) (left_behind (left_at role party before) payload) (left_at role party before)
+  left_more none =
+      ap (left_after party.plan) (all_push role party.offer before payload is_answer ∙ ap (λ (b : Bool). all_kept role party.offer is_answer before ++ cond b (payload ∷ []) []) free)
+      ∙ by (is_answer (kind payload))
     where
-      by : (b : Bool) → left_after plan (all_kept role own 51 before ++ cond b (payload ∷ []) [])
-          ≡ cond b (left_behind (left_after plan (all_kept role own 51 before)) payload) (left_after plan (all_kept role own 51 before))
-      by true = left_push plan (all_kept role own 51 before) payload
-      by false = ap (left_after plan) (append-nil (all_kept role own 51 before))
+      free : is_answered role party.offer before payload ≡ is_answer (kind payload)
+      free = rw none (and_true (is_answer (kind payload)))
+
+      by : (b : Bool) → left_after party.plan (all_kept role party.offer is_answer before ++ cond b (payload ∷ []) [])
+          ≡ cond b (left_behind (left_at role party before) payload) (left_at role party before)
+      by true = left_push party.plan (all_kept role party.offer is_answer before) payload
+      by false = ap (left_after party.plan) (append-nil (all_kept role party.offer is_answer before))
+
+-- what is reached
+pub reached_push : (r : Reached) (xs ys : List Tried) → reached_after r (xs ++ ys) ≡ reached_after (reached_after r xs) ys
+reached_push r [] ys = refl
+reached_push r (x ∷ xs) ys = reached_push (reached_behind r x) xs ys
+
+module _ (m : Meaning) (d : Policy) (role : Role) (party : Party) (version : List ℕ) (before : Units) (payload : List ℕ) where
+  tried_push : tried_at m d role party version (before ++ payload ∷ []) ≡ tried_at m d role party version before ++ tried_place m d role party version before payload
+  unfolding tried_at
+  tried_push = flat-push (tried_place m d role party version) [] before payload
+
+  reached_so : reached_after nothing_reached (tried_at m d role party version (before ++ payload ∷ []))
+      ≡ reached_after (reached_after nothing_reached (tried_at m d role party version before)) (tried_place m d role party version before payload)
+  reached_so = ap (reached_after nothing_reached) tried_push ∙ reached_push nothing_reached (tried_at m d role party version before) (tried_place m d role party version before payload)
+
+  pub reached_stays : kept role party.offer 50 before payload ≡ false
+      → reached_after nothing_reached (tried_at m d role party version (before ++ payload ∷ [])) ≡ reached_after nothing_reached (tried_at m d role party version before)
+  reached_stays none = reached_so ∙ rw none refl
+
+  pub reached_more : expects_guess role party.offer before ≡ false
+      → reached_after nothing_reached (tried_at m d role party version (before ++ payload ∷ []))
+      ≡ cond (kind payload == 50) (reached_after (reached_after nothing_reached (tried_at m d role party version before))
+      (tried_in m d party (session_known m role party version before) (count_kept role party.offer 50 before + 1) payload))
+      (reached_after nothing_reached (tried_at m d role party version before))
+  reached_more none = reached_so ∙ rw (kept_free role party.offer before payload 50 none) (by (kind payload == 50))
+    where
+      by : (b : Bool) → reached_after (reached_after nothing_reached (tried_at m d role party version before))
+          (cond b (tried_in m d party (session_known m role party version before) (count_kept role party.offer 50 before + 1) payload) [])
+          ≡ cond b (reached_after (reached_after nothing_reached (tried_at m d role party version before))
+          (tried_in m d party (session_known m role party version before) (count_kept role party.offer 50 before + 1) payload))
+          (reached_after nothing_reached (tried_at m d role party version before))
+      by true = refl
+      by false = refl

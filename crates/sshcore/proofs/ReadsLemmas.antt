@@ -20,26 +20,30 @@ pub record IsCalm (n : ℕ) : Type 0 where
   pub request : n ≢ 5
   pub accept : n ≢ 6
 
--- the messages of authentication: a request at a server, a FAILURE or a BANNER at a client
+-- the messages of authentication: a request at a server; a FAILURE, a BANNER or a PK_OK at a client
 pub data IsOfAuth (role : Role) (p : Phase) (n : ℕ) : Type 0 where
   Request : role ≡ Server → p ≡ phase.Auth → n ≡ 50 → IsOfAuth role p n
   Failure : role ≡ Client → p ≡ phase.Auth → n ≡ 51 → IsOfAuth role p n
   Banner : role ≡ Client → p ≡ phase.Auth → n ≡ 53 → IsOfAuth role p n
+  Confirmation : role ≡ Client → p ≡ phase.Auth → n ≡ 60 → IsOfAuth role p n
 
-pub of_auth : (role : Role) (p : Phase) (n : ℕ) → is_of_auth role p n ≡ true → IsOfAuth role p n
-of_auth Server phase.Auth n h = Request refl refl (eqb-true n 50 h)
-of_auth Client phase.Auth n h = elim (or_cases _ _ h) [
+pub of_auth : (role : Role) (p : Phase) (waits : Bool) (n : ℕ) → is_of_auth role p waits n ≡ true → IsOfAuth role p n
+of_auth Server phase.Auth waits n h = Request refl refl (eqb-true n 50 h)
+of_auth Client phase.Auth waits n h = elim (or_cases _ _ h) [
   | inl a ↦ Failure refl refl (eqb-true n 51 a)
-  | inr b ↦ Banner refl refl (eqb-true n 53 b)
+  | inr b ↦ elim (or_cases _ _ b) [
+    | inl c ↦ Banner refl refl (eqb-true n 53 c)
+    | inr c ↦ Confirmation refl refl (eqb-true n 60 (and_parts _ _ c).1)
+  ]
 ]
-of_auth Client phase.KexInit n h = absurd cc
-of_auth Server phase.KexInit n h = absurd cc
-of_auth Client phase.Exchange n h = absurd cc
-of_auth Server phase.Exchange n h = absurd cc
-of_auth Client phase.NewKeys n h = absurd cc
-of_auth Server phase.NewKeys n h = absurd cc
-of_auth Client phase.Service n h = absurd cc
-of_auth Server phase.Service n h = absurd cc
+of_auth Client phase.KexInit waits n h = absurd cc
+of_auth Server phase.KexInit waits n h = absurd cc
+of_auth Client phase.Exchange waits n h = absurd cc
+of_auth Server phase.Exchange waits n h = absurd cc
+of_auth Client phase.NewKeys waits n h = absurd cc
+of_auth Server phase.NewKeys waits n h = absurd cc
+of_auth Client phase.Service waits n h = absurd cc
+of_auth Server phase.Service waits n h = absurd cc
 
 -- What is read: a DISCONNECT; and where no guess is due, what leaves the phase, what is of authentication and what is calm.
 pub data Reads (role : Role) (p : Phase) (guess : Bool) (n : ℕ) : Type 0 where
@@ -59,14 +63,14 @@ extension n h =
     let same : n ≡ 7 = eqb-true n 7 h in
     record { least = omega arith; most = omega arith; request = λ q. omega arith; accept = λ q. omega arith }
 
-module _ (role : Role) (p : Phase) (strict : Bool) (n : ℕ) where
+module _ (role : Role) (p : Phase) (strict waits : Bool) (n : ℕ) where
   -- no guess is due, and strictness rules nothing
-  free : (n == 1) ≡ false → is_ruled p strict ≡ false → line_by role p strict false n ≡ line.Reads → Reads role p false n
+  free : (n == 1) ≡ false → is_ruled p strict ≡ false → line_by role p strict false waits n ≡ line.Reads → Reads role p false n
   unfolding line_by
   free one off = rw (one, off) (elim (cases_Bool (n == leaving role p)) [
     | inl h ↦ λ e. Leaves refl (eqb-true n (leaving role p) h)
-    | inr h ↦ rw h (elim (cases_Bool (is_of_auth role p n)) [
-      | inl a ↦ λ e. OfAuth refl (of_auth role p n a)
+    | inr h ↦ rw h (elim (cases_Bool (is_of_auth role p waits n)) [
+      | inl a ↦ λ e. OfAuth refl (of_auth role p waits n a)
       | inr a ↦ rw a (elim (cases_Bool (is_ignored n)) [
         | inl b ↦ λ e. Stays refl (ignored n b)
         | inr b ↦ rw b (elim (cases_Bool ((n == 7) && takes_extensions p)) [
@@ -80,14 +84,14 @@ module _ (role : Role) (p : Phase) (strict : Bool) (n : ℕ) where
     ])
   ])
 
-  ruled : (n == 1) ≡ false → is_ruled p strict ≡ true → line_by role p strict false n ≡ line.Reads → Reads role p false n
+  ruled : (n == 1) ≡ false → is_ruled p strict ≡ true → line_by role p strict false waits n ≡ line.Reads → Reads role p false n
   unfolding line_by
   ruled one on = rw (one, on) (elim (cases_Bool (n == leaving role p)) [
     | inl h ↦ λ e. Leaves refl (eqb-true n (leaving role p) h)
     | inr h ↦ rw h (λ e. absurd cc)
   ])
 
-  due : (n == 1) ≡ false → line_by role p strict true n ≡ line.Reads → Reads role p true n
+  due : (n == 1) ≡ false → line_by role p strict true waits n ≡ line.Reads → Reads role p true n
   unfolding line_by
   due one = rw one (elim (cases_Bool (is_ruled p strict)) [
     | inl on ↦ rw on (elim (cases_Bool (is_of_method n)) [
@@ -97,13 +101,13 @@ module _ (role : Role) (p : Phase) (strict : Bool) (n : ℕ) where
     | inr off ↦ rw off (λ e. absurd cc)
   ])
 
-  pub reads : (guess : Bool) → line_by role p strict guess n ≡ line.Reads → Reads role p guess n
+  pub reads : (guess : Bool) → line_by role p strict guess waits n ≡ line.Reads → Reads role p guess n
   reads guess e = elim (cases_Bool (n == 1)) [
     | inl one ↦ Closes (eqb-true n 1 one)
     | inr one ↦ by_guess guess one e
   ]
     where
-      by_guess : (g : Bool) → (n == 1) ≡ false → line_by role p strict g n ≡ line.Reads → Reads role p g n
+      by_guess : (g : Bool) → (n == 1) ≡ false → line_by role p strict g waits n ≡ line.Reads → Reads role p g n
       by_guess true one is = due one is
       by_guess false one is = elim (cases_Bool (is_ruled p strict)) [
         | inl on ↦ ruled one on is
@@ -226,6 +230,16 @@ failure_at Server phase.Service e = omega arith
 failure_at Client phase.Auth e = omega arith
 failure_at Server phase.Auth e = omega arith
 
+confirmation_at : (role : Role) (p : Phase) → 60 ≡ leaving role p → ⊥
+confirmation_at role phase.KexInit e = omega arith
+confirmation_at Client phase.Exchange e = omega arith
+confirmation_at Server phase.Exchange e = omega arith
+confirmation_at role phase.NewKeys e = omega arith
+confirmation_at Client phase.Service e = omega arith
+confirmation_at Server phase.Service e = omega arith
+confirmation_at Client phase.Auth e = omega arith
+confirmation_at Server phase.Auth e = omega arith
+
 -- a number that neither closes nor leaves a phase, and is answered nowhere
 pub record IsPlain (n : ℕ) : Type 0 where
   pub closing : n ≢ 1
@@ -238,6 +252,7 @@ pub record IsPlain (n : ℕ) : Type 0 where
   pub user_request : n ≢ 50
   pub failure : n ≢ 51
   pub success : n ≢ 52
+  pub confirmation : n ≢ 60
 
 pub plain_calm : (n : ℕ) → 1 < n → n < 5 → IsPlain n
 plain_calm n least most = record {
@@ -251,6 +266,7 @@ plain_calm n least most = record {
   user_request = λ q. omega arith;
   failure = λ q. omega arith;
   success = λ q. omega arith;
+  confirmation = λ q. omega arith;
 }
 
 pub plain_other : (n : ℕ) → (n ≡ 7) ⊎ (n ≡ 53) → IsPlain n
@@ -265,6 +281,7 @@ plain_other n (inl seven) = record {
   user_request = λ q. omega arith;
   failure = λ q. omega arith;
   success = λ q. omega arith;
+  confirmation = λ q. omega arith;
 }
 plain_other n (inr banner) = record {
   closing = λ q. omega arith;
@@ -277,6 +294,7 @@ plain_other n (inr banner) = record {
   user_request = λ q. omega arith;
   failure = λ q. omega arith;
   success = λ q. omega arith;
+  confirmation = λ q. omega arith;
 }
 
 none_at : (role : Role) (p : Phase) (n : ℕ) → n ≡ leaving role p → IsPlain n → ⊥
@@ -294,6 +312,7 @@ early : (role : Role) (p : Phase) (n : ℕ) → n < 50 → IsOfAuth role p n →
 early role p n least (Request side at is) = omega arith
 early role p n least (Failure side at is) = omega arith
 early role p n least (Banner side at is) = omega arith
+early role p n least (Confirmation side at is) = omega arith
 
 -- no number behind those of the exchange leaves a phase before authentication
 pub late_leaves : (role : Role) (n : ℕ) → 31 < n → LeavesNone role n
@@ -354,6 +373,7 @@ module _ (role : Role) (p : Phase) (guess : Bool) where
   user_request_read (OfAuth none (Request side at is)) = record { side_is = side; phase_is = at; none_due = none }
   user_request_read (OfAuth none (Failure side at is)) = absurd (omega arith)
   user_request_read (OfAuth none (Banner side at is)) = absurd (omega arith)
+  user_request_read (OfAuth none (Confirmation side at is)) = absurd (omega arith)
   user_request_read (Stays none calm) = let most : 50 ≤ 7 = calm.most in absurd (omega arith)
 
   pub success_read : Reads role p guess 52 → IsAt role Client p phase.Auth guess
@@ -362,6 +382,7 @@ module _ (role : Role) (p : Phase) (guess : Bool) where
   success_read (OfAuth none (Request side at is)) = absurd (omega arith)
   success_read (OfAuth none (Failure side at is)) = absurd (omega arith)
   success_read (OfAuth none (Banner side at is)) = absurd (omega arith)
+  success_read (OfAuth none (Confirmation side at is)) = absurd (omega arith)
   success_read (Stays none calm) = let most : 52 ≤ 7 = calm.most in absurd (omega arith)
 
   -- a FAILURE is read at a client in phase auth
@@ -371,7 +392,17 @@ module _ (role : Role) (p : Phase) (guess : Bool) where
   failure_read (OfAuth none (Request side at is)) = absurd (omega arith)
   failure_read (OfAuth none (Failure side at is)) = record { side_is = side; phase_is = at; none_due = none }
   failure_read (OfAuth none (Banner side at is)) = absurd (omega arith)
+  failure_read (OfAuth none (Confirmation side at is)) = absurd (omega arith)
   failure_read (Stays none calm) = let most : 51 ≤ 7 = calm.most in absurd (omega arith)
+
+  pub confirmation_read : Reads role p guess 60 → IsAt role Client p phase.Auth guess
+  confirmation_read (Closes e) = absurd (omega arith)
+  confirmation_read (Leaves none e) = absurd (confirmation_at role p e)
+  confirmation_read (OfAuth none (Request side at is)) = absurd (omega arith)
+  confirmation_read (OfAuth none (Failure side at is)) = absurd (omega arith)
+  confirmation_read (OfAuth none (Banner side at is)) = absurd (omega arith)
+  confirmation_read (OfAuth none (Confirmation side at is)) = record { side_is = side; phase_is = at; none_due = none }
+  confirmation_read (Stays none calm) = let most : 60 ≤ 7 = calm.most in absurd (omega arith)
 
   -- of the plain numbers the calm ones and banners are read
   pub plain_read : (n : ℕ) → IsPlain n → Reads role p guess n → (guess ≡ false) × LeavesNone role n
@@ -380,4 +411,5 @@ module _ (role : Role) (p : Phase) (guess : Bool) where
   plain_read n plain (OfAuth none (Request side at is)) = absurd (plain.user_request is)
   plain_read n plain (OfAuth none (Failure side at is)) = absurd (plain.failure is)
   plain_read n plain (OfAuth none (Banner side at is)) = (none, late_leaves role n (omega arith))
+  plain_read n plain (OfAuth none (Confirmation side at is)) = absurd (plain.confirmation is)
   plain_read n plain (Stays none calm) = (none, calm_leaves role n calm)

@@ -1,22 +1,27 @@
 -- What a request of authentication proves, and how it is answered.
 
-use Rattle.std.proofs.Common.{◌≡◌, ◌↔◌, Bor, ℕ, ◌≤◌, Bool, true, false, List, [], ◌∷◌, length, map, Option, None, Some, option_map, inl, inr, refl, ap, arith, if◌then◌else◌}
+use Rattle.std.proofs.Common.{◌≡◌, ◌↔◌, Bor, ℕ, ◌≤◌, Bool, true, false, List, [], ◌∷◌, length, map, Option, None, Some, option_map, inl, inr, refl, sym, ap, ◌∙◌, arith, if◌then◌else◌}
 use Rattle.std.specs.Prelude.{nat_le}
 use Rattle.std.proofs.lemmas.Bool.{cases_Bool}
 use Rattle.std.proofs.lemmas.List.{length-map}
 use Rattle.sshwire.specs.TypeReadings.{is_name}
 use Rattle.sshwire.specs.Types.{IsName, names_body}
-use Rattle.sshmsg.specs.Content.{Method, UserauthFailure, UserauthSuccess}
-use Rattle.sshmsg.specs.Written.{written_message}
+use Rattle.sshmsg.specs.declared.message.Method as message_method
+use Rattle.sshmsg.specs.Content.{Content, Method, NoMethod, OtherMethod, Password, PasswordChange, PublicKey, PublicKeyQuery, UserauthFailure, UserauthPkOk, UserauthSuccess}
+use Rattle.sshmsg.specs.View.{method_of}
+use Rattle.sshmsg.specs.Written.{method_name, written_message}
 use Rattle.sshneg.specs.ChoiceReadings.{is_in}
 use Rattle.sshneg.specs.Derivations.{signed_text}
 use Rattle.sshpacket.specs.Suite.{Meaning}
 use Rattle.sshcore.specs.declared.end.Fault.TheVariants as fault
 use Rattle.sshcore.specs.Attempts.{agreed_by}
-use Rattle.sshcore.specs.Ending.{Authenticated, Reply, fails, goes}
+use Rattle.sshcore.specs.Ending.{Authenticated, Ending, Reply, fails, goes}
+use Rattle.sshcore.specs.Kept.{Kept}
 use Rattle.sshcore.specs.Known.{Known}
 use Rattle.sshcore.specs.Party.{KeyProof, Party, Policy, ProofData}
-use Rattle.sshcore.specs.Requests.{is_good, request_reply, signed_proof}
+use Rattle.sshcore.specs.Requests.{completes, is_good, method_reply, more_reply, query_answer, request_reply, tried_reply, would_do}
+use Rattle.sshcore.specs.Reached.{Reached, good_reached, is_complete, kept_reached, reached_behind}
+use Rattle.sshcore.specs.Tries.{proof_in, signed_proof, tried_with}
 use Rattle.sshcore.proofs.ConfigLemmas.{BodyLaw}
 use Rattle.sshcore.proofs.ConfigOffers.{few_names}
 
@@ -52,12 +57,12 @@ abbrev pub FindsService : Party → List ℕ → Option (Bor (List ℕ)) → Typ
 FindsService party name found = option_map (λ (own : Bor (List ℕ)). own.now) found ≡ (if is_in party.services name then Some name else None)
 
 -- it has none of them, or this one
-missed : (has : Bool) (name : List ℕ) (found : Option (Bor (List ℕ))) → option_map (λ (own : Bor (List ℕ)). own.now) found ≡ (if has then Some name else None)
+pub missed : (has : Bool) (name : List ℕ) (found : Option (Bor (List ℕ))) → option_map (λ (own : Bor (List ℕ)). own.now) found ≡ (if has then Some name else None)
     → found ≡ None → has ≡ false
 missed true name found e is = absurd cc
 missed false name found e is = refl
 
-had : (has : Bool) (name : List ℕ) (found : Option (Bor (List ℕ))) (own : Bor (List ℕ))
+pub had : (has : Bool) (name : List ℕ) (found : Option (Bor (List ℕ))) (own : Bor (List ℕ))
     → option_map (λ (own : Bor (List ℕ)). own.now) found ≡ (if has then Some name else None) → found ≡ Some own → (has ≡ true) × (own.now ≡ name)
 had true name found own e is = (refl, cc)
 had false name found own e is = absurd cc
@@ -74,26 +79,95 @@ module _ (m : Meaning) (d : Policy) (party : Party) (known : Known) (user servic
     both : (is_in party.services service ≡ true) × (own.now ≡ service)
     both = had (is_in party.services service) service found own e is
 
-    -- of a service that it has, to a good request
-    pub reply_good : is_good m d party known user own.now method ≡ true
-        → ◌≡◌ {A = Reply} (record { answers = written_message UserauthSuccess ∷ []; end = Authenticated (agreed_by known user own.now) }) (request_reply m d party known user service method)
+    -- of a service that it has, to a query
+    pub reply_query : (algorithm key : List ℕ) → method ≡ PublicKeyQuery algorithm key
+        → more_reply party known (query_answer d party known user own.now algorithm key) ≡ request_reply m d party known user service method
     unfolding request_reply
-    reply_good good =
-        let here : is_good m d party known user service method ≡ true = rw both.1 at good in
-        rw (both.0, here, both.1) refl
+    reply_query algorithm key query = rw (query, both.0, both.1) refl
 
-    -- to the last that is granted
-    pub reply_last : is_good m d party known user own.now method ≡ false → nat_le party.tries known.request ≡ true
-        → fails fault.TooManyTries ≡ request_reply m d party known user service method
+    -- to another request
+    pub reply_other : (good : Bool) → (method_reply m d party known user service method ≡ tried_reply party known user service method (is_good m d party known user service method))
+        → is_good m d party known user own.now method ≡ good
+        → tried_reply party known user own.now method good ≡ request_reply m d party known user service method
     unfolding request_reply
-    reply_last bad last =
-        let here : is_good m d party known user service method ≡ false = rw both.1 at bad in
-        rw (both.0, here, last) refl
+    reply_other good other is_so =
+        let here : is_good m d party known user service method ≡ good = rw both.1 at is_so in
+        rw (both.0, other, here, both.1) refl
 
-    -- and to any other
-    pub reply_more : is_good m d party known user own.now method ≡ false → nat_le party.tries known.request ≡ false
-        → goes (written_message (UserauthFailure party.methods false) ∷ []) ≡ request_reply m d party known user service method
-    unfolding request_reply
-    reply_more bad more =
-        let here : is_good m d party known user service method ≡ false = rw both.1 at bad in
-        rw (both.0, here, more) refl
+-- the answer to a request that ends nothing, as the last that is granted and before it
+pub more_last : (party : Party) (known : Known) (x : Content) → nat_le party.tries known.request ≡ true → fails fault.TooManyTries ≡ more_reply party known x
+more_last party known x last = rw last refl
+
+pub more_goes : (party : Party) (known : Known) (x : Content) → nat_le party.tries known.request ≡ false → goes (written_message x ∷ []) ≡ more_reply party known x
+more_goes party known x more = rw more refl
+
+-- a request that isn't a query is tried
+pub tried_method : (m : Meaning) (d : Policy) (party : Party) (known : Known) (user service : List ℕ) (method : Method)
+    → ((algorithm key : List ℕ) → method ≡ PublicKeyQuery algorithm key → ⊥)
+    → method_reply m d party known user service method ≡ tried_reply party known user service method (is_good m d party known user service method)
+tried_method m d party known user service NoMethod none = refl
+tried_method m d party known user service (Password password) none = refl
+tried_method m d party known user service (PasswordChange old new) none = refl
+tried_method m d party known user service (PublicKey algorithm key signature) none = refl
+tried_method m d party known user service (PublicKeyQuery algorithm key) none = absurd (none algorithm key refl)
+tried_method m d party known user service (OtherMethod name fields) none = refl
+
+-- what is kept besides changes no answer to a query
+module _ (d : Policy) (party : Party) (k other : Known) (reached : Reached) (same : other ≡ record k { reached = reached }) (user service algorithm key : List ℕ) where
+  pub query_refused : would_do d party other user service algorithm key ≡ false
+      → more_reply party other (UserauthFailure party.methods false) ≡ more_reply party k (query_answer d party k user service algorithm key)
+  query_refused off =
+      let none : would_do d party k user service algorithm key ≡ false = ap (λ (x : Known). would_do d party x user service algorithm key) (sym same) ∙ off in
+      ap (λ (x : Known). more_reply party x (UserauthFailure party.methods false)) same ∙ rw none refl
+
+  pub query_confirmed : (name : List ℕ) → name ≡ algorithm → would_do d party other user service algorithm key ≡ true
+      → more_reply party other (UserauthPkOk name key) ≡ more_reply party k (query_answer d party k user service algorithm key)
+  query_confirmed name e on =
+      let would : would_do d party k user service algorithm key ≡ true = ap (λ (x : Known). would_do d party x user service algorithm key) (sym same) ∙ on in
+      ap (λ (x : Known). more_reply party x (UserauthPkOk name key)) same ∙ rw (would, e) refl
+
+-- what is kept behind a good request
+module _ (party : Party) (k mid other : Known) (user service : List ℕ) (method : Method)
+    (forgot : mid ≡ record k { reached = kept_reached k.reached (record { user = user; service = service; good = None }) })
+    (reached : other ≡ record mid { reached = good_reached mid.reached (tried_with user service method true) (Some (method_name method)) }) where
+  good_known : other ≡ record k { reached = reached_behind k.reached (tried_with user service method true) }
+  good_known = reached ∙ ap (λ (x : Known). record x { reached = good_reached x.reached (tried_with user service method true) (Some (method_name method)) }) forgot
+
+  good_complete : (b : Bool) → is_complete party.required other.reached ≡ b → completes party k user service method true ≡ b
+  good_complete b e = ap (λ (x : Known). is_complete party.required x.reached) (sym good_known) ∙ e
+
+  pub good_done : is_complete party.required other.reached ≡ true
+      → ◌≡◌ {A = Reply} (record { answers = written_message UserauthSuccess ∷ []; end = Authenticated (agreed_by other user service) }) (tried_reply party k user service method true)
+  good_done done =
+      ap (λ (x : Known). record { answers = written_message UserauthSuccess ∷ []; end = Authenticated (agreed_by x user service) }) good_known
+      ∙ sym (rw (good_complete true done) refl)
+
+  pub good_more : is_complete party.required other.reached ≡ false → more_reply party other (UserauthFailure party.methods true) ≡ tried_reply party k user service method true
+  good_more none =
+      ap (λ (x : Known). more_reply party x (UserauthFailure party.methods true)) good_known ∙ sym (rw (good_complete false none) refl)
+
+-- a method of the code that is no query
+pub no_query : (x : message_method.Method) → ((algorithm key : Bor (List ℕ)) → x ≡ message_method.TheVariants.PublicKeyQuery algorithm key → ⊥)
+    → (algorithm key : List ℕ) → method_of x ≡ PublicKeyQuery algorithm key → ⊥
+no_query message_method.TheVariants.None other algorithm key e = absurd cc
+no_query (message_method.TheVariants.Password password) other algorithm key e = absurd cc
+no_query (message_method.TheVariants.PasswordChange old new) other algorithm key e = absurd cc
+no_query (message_method.TheVariants.PublicKey name blob signature) other algorithm key e = absurd cc
+no_query (message_method.TheVariants.PublicKeyQuery name blob) other algorithm key e = other name blob refl
+no_query (message_method.TheVariants.Other x) other algorithm key e = absurd cc
+
+-- what is kept behind a request, as the endpoint goes on
+module _ (old new : Kept) where
+  pub with_end : (known : Known) → new ≡ record old { known = known; sending = new.sending } → new ≡ record old { end = new.end; known = known; sending = new.sending }
+  with_end known e = e ∙ ap (λ (x : Ending). record old { end = x; known = known; sending = new.sending }) (sym (ap (λ (k : Kept). k.end) e))
+
+module _ (m : Meaning) (d : Policy) (party : Party) (known : Known) (user service own : List ℕ) (method : Method) (same : own ≡ service) where
+  -- a query, which is never good
+  pub query_tried : (algorithm key : List ℕ) → method ≡ PublicKeyQuery algorithm key
+      → tried_with user own (PublicKeyQuery algorithm key) false ≡ tried_with user service method (is_good m d party known user service method)
+  unfolding proof_in
+  query_tried algorithm key query = rw (same, query) refl
+
+  -- and any other
+  pub other_tried : (good : Bool) → is_good m d party known user own method ≡ good → tried_with user own method good ≡ tried_with user service method (is_good m d party known user service method)
+  other_tried good is_so = let here : is_good m d party known user service method ≡ good = rw same at is_so in rw (same, here) refl

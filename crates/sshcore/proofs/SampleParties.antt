@@ -66,6 +66,7 @@ party_of role strict kex follows = record {
   host_keys = record { algorithm = codes "h"; secret = 0 ∷ [] } ∷ [];
   services = [];
   methods = [];
+  required = [];
   tries = 6;
   banner = None;
 }

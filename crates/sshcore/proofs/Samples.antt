@@ -29,8 +29,9 @@ use Rattle.sshcore.specs.Party.{KeyProof, NoProof, Party, PasswordProof, Policy,
 use Rattle.sshcore.specs.Phases.{phase_at}
 use Rattle.sshcore.specs.Plan.{left_after, listed_in, next_listed}
 use Rattle.sshcore.specs.Replies.{answers_at, end_at, line_reply, unit_reply}
-use Rattle.sshcore.specs.Requests.{proof_in, request_reply}
+use Rattle.sshcore.specs.Requests.{request_reply}
 use Rattle.sshcore.specs.Table.{line_by}
+use Rattle.sshcore.specs.Tries.{proof_in, tried_at, tried_in}
 use Rattle.sshcore.specs.Work.{guessed_method, init_reply, kexinit_reply, making, reply_reply, userauth, work}
 use Rattle.sshcore.proofs.SampleParties.{a, ab, ba, kexinit_of, o, offer_of, party_of, toy, trusting, wary}
 
@@ -87,7 +88,7 @@ server_says d v = (refl, refl, refl, refl, refl, refl)
 
 -- what a client says, up to the end that an empty plan has
 client_says : (v : List ℕ) → (making toy Client client ≡ hello true ∷ []) × (unit_reply toy trusting Client client (v ∷ []) (welcome true) ≡ goes (init ∷ [])) × (unit_reply toy trusting Client client (v ∷ welcome true ∷ []) reply ≡ goes ((21 ∷ []) ∷ request ∷ [])) × (unit_reply toy trusting Client client (v ∷ welcome true ∷ reply ∷ []) (21 ∷ []) ≡ goes []) × (unit_reply toy trusting Client client (v ∷ welcome true ∷ reply ∷ (21 ∷ []) ∷ []) accept ≡ fails fault.NoMoreMethods) × (answers_at toy trusting Client client (v ∷ welcome true ∷ reply ∷ (21 ∷ []) ∷ []) accept ≡ (1 ∷ 0 ∷ 0 ∷ 0 ∷ 14 ∷ 0 ∷ 0 ∷ 0 ∷ 0 ∷ 0 ∷ 0 ∷ 0 ∷ 0 ∷ []) ∷ [])
-unfolding toy offer_of party_of kexinit_of a ab ba o trusting wary written_message offered kexinit since_offer expects_guess stood first_kept since line_by line_reply work kexinit_reply init_reply reply_reply secret_of choice choice_of_directions exchange_with exchange_by exchange_text number_out switched_out derived key message_in messages.form_of messages.disconnect messages.ignore messages.unimplemented messages.debug messages.service_request messages.service_accept messages.ext_info messages.extensions messages.kexinit messages.newkeys messages.kexdh_init messages.kexdh_reply messages.kex_ecdh_init messages.kex_ecdh_reply readings.string_at readings.uint32_at readings.names_at readings.names_in readings.mpint_at readings.mpint_in ignore server client hello init reply request accept welcome all_kept count_kept left_after next_listed listed_in proof_in request_reply signed_text messages.password messages.publickey messages.userauth_request messages.userauth_failure messages.userauth_success messages.userauth_banner utf8_at
+unfolding toy offer_of party_of kexinit_of a ab ba o trusting wary written_message offered kexinit since_offer expects_guess stood first_kept since line_by line_reply work kexinit_reply init_reply reply_reply secret_of choice choice_of_directions exchange_with exchange_by exchange_text number_out switched_out derived key message_in messages.form_of messages.disconnect messages.ignore messages.unimplemented messages.debug messages.service_request messages.service_accept messages.ext_info messages.extensions messages.kexinit messages.newkeys messages.kexdh_init messages.kexdh_reply messages.kex_ecdh_init messages.kex_ecdh_reply readings.string_at readings.uint32_at readings.names_at readings.names_in readings.mpint_at readings.mpint_in ignore server client hello init reply request accept welcome all_kept count_kept left_after next_listed listed_in proof_in tried_in tried_at request_reply signed_text messages.password messages.publickey messages.userauth_request messages.userauth_failure messages.userauth_success messages.userauth_banner messages.userauth_pk_ok utf8_at
 client_says v = (refl, refl, refl, refl, refl, refl)
 
 -- both sides hash the same: versions, KEXINITs, host key, shares and the shared number
@@ -153,12 +154,12 @@ unknown_numbers m d v = (refl, refl, refl, refl, refl, refl)
 
 -- in phase auth a server reads 50 and a client 51 to 53; a SUCCESS that answers no attempt has no use
 auth_numbers : (m : Meaning) (d : Policy) (v : List ℕ) → (unit_reply m d Server (party_of Server true a false) (v ∷ kexinit_of Client true a false ∷ init ∷ (21 ∷ []) ∷ request ∷ []) (50 ∷ []) ≡ fails (fault.Malformed 50)) × (unit_reply m d Server (party_of Server true a false) (v ∷ kexinit_of Client true a false ∷ init ∷ (21 ∷ []) ∷ request ∷ []) (51 ∷ []) ≡ fails (fault.Unexpected 51)) × (unit_reply m d Server (party_of Server true a false) (v ∷ kexinit_of Client true a false ∷ init ∷ (21 ∷ []) ∷ request ∷ []) (52 ∷ []) ≡ fails (fault.Unexpected 52)) × (unit_reply m d Server (party_of Server true a false) (v ∷ kexinit_of Client true a false ∷ init ∷ (21 ∷ []) ∷ request ∷ []) (53 ∷ []) ≡ fails (fault.Unexpected 53)) × (unit_reply m d Client (party_of Client true a false) (v ∷ kexinit_of Server true a false ∷ reply ∷ (21 ∷ []) ∷ accept ∷ []) (50 ∷ []) ≡ fails (fault.Unexpected 50)) × (unit_reply m d Client (party_of Client true a false) (v ∷ kexinit_of Server true a false ∷ reply ∷ (21 ∷ []) ∷ accept ∷ []) (51 ∷ []) ≡ fails (fault.Malformed 51)) × (unit_reply m d Client (party_of Client true a false) (v ∷ kexinit_of Server true a false ∷ reply ∷ (21 ∷ []) ∷ accept ∷ []) (52 ∷ []) ≡ fails (fault.Unexpected 52)) × (unit_reply m d Client (party_of Client true a false) (v ∷ kexinit_of Server true a false ∷ reply ∷ (21 ∷ []) ∷ accept ∷ []) (53 ∷ []) ≡ fails (fault.Malformed 53))
-unfolding toy offer_of party_of kexinit_of a ab ba o trusting wary written_message offered kexinit since_offer expects_guess stood first_kept since line_by line_reply work kexinit_reply init_reply reply_reply secret_of choice choice_of_directions exchange_with exchange_by exchange_text number_out switched_out derived key message_in messages.form_of messages.disconnect messages.ignore messages.unimplemented messages.debug messages.service_request messages.service_accept messages.ext_info messages.extensions messages.kexinit messages.newkeys messages.kexdh_init messages.kexdh_reply messages.kex_ecdh_init messages.kex_ecdh_reply readings.string_at readings.uint32_at readings.names_at readings.names_in readings.mpint_at readings.mpint_in ignore server client hello init reply request accept welcome to_server to_client guessing other_server guesser loose all_kept count_kept left_after next_listed listed_in proof_in request_reply signed_text messages.password messages.publickey messages.userauth_request messages.userauth_failure messages.userauth_success messages.userauth_banner utf8_at
+unfolding toy offer_of party_of kexinit_of a ab ba o trusting wary written_message offered kexinit since_offer expects_guess stood first_kept since line_by line_reply work kexinit_reply init_reply reply_reply secret_of choice choice_of_directions exchange_with exchange_by exchange_text number_out switched_out derived key message_in messages.form_of messages.disconnect messages.ignore messages.unimplemented messages.debug messages.service_request messages.service_accept messages.ext_info messages.extensions messages.kexinit messages.newkeys messages.kexdh_init messages.kexdh_reply messages.kex_ecdh_init messages.kex_ecdh_reply readings.string_at readings.uint32_at readings.names_at readings.names_in readings.mpint_at readings.mpint_in ignore server client hello init reply request accept welcome to_server to_client guessing other_server guesser loose all_kept count_kept left_after next_listed listed_in proof_in tried_in tried_at request_reply signed_text messages.password messages.publickey messages.userauth_request messages.userauth_failure messages.userauth_success messages.userauth_banner messages.userauth_pk_ok utf8_at
 auth_numbers m d v = (refl, refl, refl, refl, refl, refl, refl, refl)
 
 -- behind NEWKEYS: EXT_INFO is ignored, and before it is not; IGNORE is; a service that is not there; an answer for another service
 behind_newkeys : (m : Meaning) (d : Policy) (v : List ℕ) → (unit_reply m d Server server (v ∷ hello true ∷ init ∷ (21 ∷ []) ∷ []) (7 ∷ 0 ∷ 0 ∷ 0 ∷ 0 ∷ []) ≡ goes []) × (unit_reply m d Server server (v ∷ hello false ∷ init ∷ []) (7 ∷ 0 ∷ 0 ∷ 0 ∷ 0 ∷ []) ≡ fails (fault.Unexpected 7)) × (unit_reply m d Server server (v ∷ hello true ∷ init ∷ []) ignore ≡ fails (fault.Strict 2)) × (unit_reply m d Server server (v ∷ hello true ∷ init ∷ (21 ∷ []) ∷ []) ignore ≡ goes []) × (unit_reply m d Server server (v ∷ hello true ∷ init ∷ (21 ∷ []) ∷ []) (2 ∷ []) ≡ fails (fault.Malformed 2)) × (unit_reply m d Server server (v ∷ hello true ∷ init ∷ (21 ∷ []) ∷ []) (hello true) ≡ fails (fault.Unexpected 20)) × (unit_reply m d Server server (v ∷ hello true ∷ init ∷ (21 ∷ []) ∷ []) (written_message (ServiceRequest (codes "ssh-connection"))) ≡ fails fault.Service) × (unit_reply m d Client client (v ∷ welcome true ∷ reply ∷ (21 ∷ []) ∷ []) (written_message (ServiceAccept (codes "ssh-connection"))) ≡ fails (fault.Unexpected 6))
-unfolding toy offer_of party_of kexinit_of a ab ba o trusting wary written_message offered kexinit since_offer expects_guess stood first_kept since line_by line_reply work kexinit_reply init_reply reply_reply secret_of choice choice_of_directions exchange_with exchange_by exchange_text number_out switched_out derived key message_in messages.form_of messages.disconnect messages.ignore messages.unimplemented messages.debug messages.service_request messages.service_accept messages.ext_info messages.extensions messages.kexinit messages.newkeys messages.kexdh_init messages.kexdh_reply messages.kex_ecdh_init messages.kex_ecdh_reply readings.string_at readings.uint32_at readings.names_at readings.names_in readings.mpint_at readings.mpint_in ignore server client hello init reply request accept welcome to_server to_client guessing other_server guesser loose all_kept count_kept left_after next_listed listed_in proof_in request_reply signed_text messages.password messages.publickey messages.userauth_request messages.userauth_failure messages.userauth_success messages.userauth_banner utf8_at
+unfolding toy offer_of party_of kexinit_of a ab ba o trusting wary written_message offered kexinit since_offer expects_guess stood first_kept since line_by line_reply work kexinit_reply init_reply reply_reply secret_of choice choice_of_directions exchange_with exchange_by exchange_text number_out switched_out derived key message_in messages.form_of messages.disconnect messages.ignore messages.unimplemented messages.debug messages.service_request messages.service_accept messages.ext_info messages.extensions messages.kexinit messages.newkeys messages.kexdh_init messages.kexdh_reply messages.kex_ecdh_init messages.kex_ecdh_reply readings.string_at readings.uint32_at readings.names_at readings.names_in readings.mpint_at readings.mpint_in ignore server client hello init reply request accept welcome to_server to_client guessing other_server guesser loose all_kept count_kept left_after next_listed listed_in proof_in tried_in tried_at request_reply signed_text messages.password messages.publickey messages.userauth_request messages.userauth_failure messages.userauth_success messages.userauth_banner messages.userauth_pk_ok utf8_at
 behind_newkeys m d v = (refl, refl, refl, refl, refl, refl, refl, refl)
 
 -- a server with a banner
@@ -224,6 +225,10 @@ change_fields = 0 ∷ 0 ∷ 0 ∷ 8 ∷ (codes "password" ++ 1 ∷ 0 ∷ 0 ∷ 0
 query_fields : List ℕ
 query_fields = 0 ∷ 0 ∷ 0 ∷ 9 ∷ (codes "publickey" ++ 0 ∷ 0 ∷ 0 ∷ 0 ∷ 1 ∷ (codes "k" ++ 0 ∷ 0 ∷ 0 ∷ 2 ∷ 66 ∷ 5 ∷ []))
 
+-- the answer to it where the key would do
+would_do : List ℕ
+would_do = 60 ∷ 0 ∷ 0 ∷ 0 ∷ 1 ∷ (codes "k" ++ 0 ∷ 0 ∷ 0 ∷ 2 ∷ 66 ∷ 5 ∷ [])
+
 key_front : List ℕ
 key_front = 0 ∷ 0 ∷ 0 ∷ 9 ∷ (codes "publickey" ++ 1 ∷ 0 ∷ 0 ∷ 0 ∷ 1 ∷ (codes "k" ++ 0 ∷ 0 ∷ 0 ∷ 2 ∷ 66 ∷ 5 ∷ []))
 
@@ -263,7 +268,7 @@ agreed user = record {
 planner : Party
 planner = record client {
   plan = record { user = codes "u"; service = codes "s"; proving = ByNothing }
-      ∷ record { user = codes "k"; service = codes "s"; proving = ByKey (codes "k") (5 ∷ []) }
+      ∷ record { user = codes "k"; service = codes "s"; proving = ByKey (codes "k") (5 ∷ []) false }
       ∷ record { user = codes "p"; service = codes "s"; proving = ByPassword (codes "pw") } ∷ [];
 }
 
@@ -277,17 +282,17 @@ mirror = record toy { sign = λ alg secret input. input }
 -- A client makes its attempts in order: the first behind SERVICE_ACCEPT, the next whose method is listed behind a FAILURE.
 -- An attempt that was skipped isn't made later, and without one it fails.
 attempts : (v : List ℕ) → (unit_reply toy trusting Client planner (v ∷ seen) accept ≡ goes (asks (codes "u") none_fields ∷ [])) × (unit_reply toy trusting Client planner (v ∷ (seen ++ accept ∷ [])) (lists (codes "publickey,password")) ≡ goes (asks (codes "k") (key_fields (83 ∷ 5 ∷ [])) ∷ [])) × (unit_reply toy trusting Client planner (v ∷ (seen ++ accept ∷ [])) (lists (codes "password")) ≡ goes (asks (codes "p") password_fields ∷ [])) × (unit_reply toy trusting Client planner (v ∷ (seen ++ accept ∷ lists (codes "password") ∷ [])) (lists (codes "publickey,password")) ≡ fails fault.NoMoreMethods) × (unit_reply toy trusting Client planner (v ∷ (seen ++ accept ∷ [])) (lists []) ≡ fails fault.NoMoreMethods) × (answers_at toy trusting Client planner (v ∷ (seen ++ accept ∷ [])) (lists []) ≡ (1 ∷ 0 ∷ 0 ∷ 0 ∷ 14 ∷ 0 ∷ 0 ∷ 0 ∷ 0 ∷ 0 ∷ 0 ∷ 0 ∷ 0 ∷ []) ∷ []) × (unit_reply toy trusting Client planner (v ∷ (seen ++ accept ∷ [])) (51 ∷ 0 ∷ 0 ∷ 0 ∷ 8 ∷ (codes "password" ++ 1 ∷ [])) ≡ goes (asks (codes "p") password_fields ∷ []))
-unfolding toy offer_of party_of kexinit_of a ab ba o trusting wary written_message offered kexinit since_offer expects_guess stood first_kept since line_by line_reply work kexinit_reply init_reply reply_reply secret_of choice choice_of_directions exchange_with exchange_by exchange_text number_out switched_out derived key message_in messages.form_of messages.disconnect messages.ignore messages.unimplemented messages.debug messages.service_request messages.service_accept messages.ext_info messages.extensions messages.kexinit messages.newkeys messages.kexdh_init messages.kexdh_reply messages.kex_ecdh_init messages.kex_ecdh_reply readings.string_at readings.uint32_at readings.names_at readings.names_in readings.mpint_at readings.mpint_in ignore server client hello init reply request accept welcome all_kept count_kept left_after next_listed listed_in proof_in request_reply signed_text messages.password messages.publickey messages.userauth_request messages.userauth_failure messages.userauth_success messages.userauth_banner utf8_at is_utf8 chars encode_utf8 none_fields password_fields change_fields query_fields key_front key_fields other_fields asks lists agreed planner seen mirror
+unfolding toy offer_of party_of kexinit_of a ab ba o trusting wary written_message offered kexinit since_offer expects_guess stood first_kept since line_by line_reply work kexinit_reply init_reply reply_reply secret_of choice choice_of_directions exchange_with exchange_by exchange_text number_out switched_out derived key message_in messages.form_of messages.disconnect messages.ignore messages.unimplemented messages.debug messages.service_request messages.service_accept messages.ext_info messages.extensions messages.kexinit messages.newkeys messages.kexdh_init messages.kexdh_reply messages.kex_ecdh_init messages.kex_ecdh_reply readings.string_at readings.uint32_at readings.names_at readings.names_in readings.mpint_at readings.mpint_in ignore server client hello init reply request accept welcome all_kept count_kept left_after next_listed listed_in proof_in tried_in tried_at request_reply signed_text messages.password messages.publickey messages.userauth_request messages.userauth_failure messages.userauth_success messages.userauth_banner messages.userauth_pk_ok utf8_at is_utf8 chars encode_utf8 none_fields password_fields change_fields query_fields would_do key_front key_fields other_fields asks lists agreed planner seen mirror
 attempts v = (refl, refl, refl, refl, refl, refl, refl)
 
 -- what a publickey attempt signs: the session identifier and the request up to the signature
 signed_attempt : (unit_reply mirror trusting Client planner (server.version ∷ (seen ++ accept ∷ [])) (lists (codes "publickey,password")) ≡ goes (asks (codes "k") (key_fields (0 ∷ 0 ∷ 0 ∷ 1 ∷ 1 ∷ asks (codes "k") key_front)) ∷ []))
-unfolding toy offer_of party_of kexinit_of a ab ba o trusting wary written_message offered kexinit since_offer expects_guess stood first_kept since line_by line_reply work kexinit_reply init_reply reply_reply secret_of choice choice_of_directions exchange_with exchange_by exchange_text number_out switched_out derived key message_in messages.form_of messages.disconnect messages.ignore messages.unimplemented messages.debug messages.service_request messages.service_accept messages.ext_info messages.extensions messages.kexinit messages.newkeys messages.kexdh_init messages.kexdh_reply messages.kex_ecdh_init messages.kex_ecdh_reply readings.string_at readings.uint32_at readings.names_at readings.names_in readings.mpint_at readings.mpint_in ignore server client hello init reply request accept welcome all_kept count_kept left_after next_listed listed_in proof_in request_reply signed_text messages.password messages.publickey messages.userauth_request messages.userauth_failure messages.userauth_success messages.userauth_banner utf8_at is_utf8 chars encode_utf8 none_fields password_fields change_fields query_fields key_front key_fields other_fields asks lists agreed planner seen mirror
+unfolding toy offer_of party_of kexinit_of a ab ba o trusting wary written_message offered kexinit since_offer expects_guess stood first_kept since line_by line_reply work kexinit_reply init_reply reply_reply secret_of choice choice_of_directions exchange_with exchange_by exchange_text number_out switched_out derived key message_in messages.form_of messages.disconnect messages.ignore messages.unimplemented messages.debug messages.service_request messages.service_accept messages.ext_info messages.extensions messages.kexinit messages.newkeys messages.kexdh_init messages.kexdh_reply messages.kex_ecdh_init messages.kex_ecdh_reply readings.string_at readings.uint32_at readings.names_at readings.names_in readings.mpint_at readings.mpint_in ignore server client hello init reply request accept welcome all_kept count_kept left_after next_listed listed_in proof_in tried_in tried_at request_reply signed_text messages.password messages.publickey messages.userauth_request messages.userauth_failure messages.userauth_success messages.userauth_banner messages.userauth_pk_ok utf8_at is_utf8 chars encode_utf8 none_fields password_fields change_fields query_fields would_do key_front key_fields other_fields asks lists agreed planner seen mirror
 signed_attempt = refl
 
 -- a SUCCESS authenticates the user of the attempt that was made last; a banner is ignored; before the service a SUCCESS has no use
 successes : (unit_reply toy trusting Client planner (server.version ∷ (seen ++ accept ∷ [])) (52 ∷ []) ≡ record { answers = []; end = Authenticated (agreed (codes "u")) }) × (unit_reply toy trusting Client planner (server.version ∷ (seen ++ accept ∷ lists (codes "password") ∷ [])) (52 ∷ []) ≡ record { answers = []; end = Authenticated (agreed (codes "p")) }) × (unit_reply toy trusting Client planner (server.version ∷ (seen ++ accept ∷ [])) (53 ∷ 0 ∷ 0 ∷ 0 ∷ 2 ∷ 104 ∷ 105 ∷ 0 ∷ 0 ∷ 0 ∷ 0 ∷ []) ≡ goes []) × (unit_reply toy trusting Client planner (server.version ∷ seen) (52 ∷ []) ≡ fails (fault.Unexpected 52))
-unfolding toy offer_of party_of kexinit_of a ab ba o trusting wary written_message offered kexinit since_offer expects_guess stood first_kept since line_by line_reply work kexinit_reply init_reply reply_reply secret_of choice choice_of_directions exchange_with exchange_by exchange_text number_out switched_out derived key message_in messages.form_of messages.disconnect messages.ignore messages.unimplemented messages.debug messages.service_request messages.service_accept messages.ext_info messages.extensions messages.kexinit messages.newkeys messages.kexdh_init messages.kexdh_reply messages.kex_ecdh_init messages.kex_ecdh_reply readings.string_at readings.uint32_at readings.names_at readings.names_in readings.mpint_at readings.mpint_in ignore server client hello init reply request accept welcome all_kept count_kept left_after next_listed listed_in proof_in request_reply signed_text messages.password messages.publickey messages.userauth_request messages.userauth_failure messages.userauth_success messages.userauth_banner utf8_at is_utf8 chars encode_utf8 none_fields password_fields change_fields query_fields key_front key_fields other_fields asks lists agreed planner seen mirror
+unfolding toy offer_of party_of kexinit_of a ab ba o trusting wary written_message offered kexinit since_offer expects_guess stood first_kept since line_by line_reply work kexinit_reply init_reply reply_reply secret_of choice choice_of_directions exchange_with exchange_by exchange_text number_out switched_out derived key message_in messages.form_of messages.disconnect messages.ignore messages.unimplemented messages.debug messages.service_request messages.service_accept messages.ext_info messages.extensions messages.kexinit messages.newkeys messages.kexdh_init messages.kexdh_reply messages.kex_ecdh_init messages.kex_ecdh_reply readings.string_at readings.uint32_at readings.names_at readings.names_in readings.mpint_at readings.mpint_in ignore server client hello init reply request accept welcome all_kept count_kept left_after next_listed listed_in proof_in tried_in tried_at request_reply signed_text messages.password messages.publickey messages.userauth_request messages.userauth_failure messages.userauth_success messages.userauth_banner messages.userauth_pk_ok utf8_at is_utf8 chars encode_utf8 none_fields password_fields change_fields query_fields would_do key_front key_fields other_fields asks lists agreed planner seen mirror
 successes = (refl, refl, refl, refl)
 
 -- a server with one service and so many tries, and one with two methods
@@ -323,14 +328,14 @@ checker = record toy { verify = λ alg blob input signature. bytes_eq signature 
 -- At a server: an unknown service; a request that is decided yes; one that is decided no, as the last try and before it.
 -- Requests are counted from 1.
 requests : (unit_reply toy trusting Server server (server.version ∷ entered) (asks (codes "u") none_fields) ≡ fails fault.Service) × (answers_at toy trusting Server server (server.version ∷ entered) (asks (codes "u") none_fields) ≡ (1 ∷ 0 ∷ 0 ∷ 0 ∷ 7 ∷ 0 ∷ 0 ∷ 0 ∷ 0 ∷ 0 ∷ 0 ∷ 0 ∷ 0 ∷ []) ∷ []) × (unit_reply toy trusting Server (keeper 1) (server.version ∷ entered) (asks (codes "u") none_fields) ≡ record { answers = (52 ∷ []) ∷ []; end = Authenticated (agreed (codes "u")) }) × (unit_reply toy refusing Server (keeper 1) (server.version ∷ entered) (asks (codes "u") none_fields) ≡ fails fault.TooManyTries) × (unit_reply toy refusing Server (keeper 2) (server.version ∷ entered) (asks (codes "u") none_fields) ≡ goes ((51 ∷ 0 ∷ 0 ∷ 0 ∷ 0 ∷ 0 ∷ []) ∷ [])) × (unit_reply toy refusing Server (keeper 2) (server.version ∷ (entered ++ asks (codes "u") none_fields ∷ [])) (asks (codes "u") none_fields) ≡ fails fault.TooManyTries) × (unit_reply toy second Server (keeper 2) (server.version ∷ entered) (asks (codes "u") none_fields) ≡ goes ((51 ∷ 0 ∷ 0 ∷ 0 ∷ 0 ∷ 0 ∷ []) ∷ [])) × (unit_reply toy second Server (keeper 2) (server.version ∷ (entered ++ asks (codes "u") none_fields ∷ [])) (asks (codes "u") none_fields) ≡ record { answers = (52 ∷ []) ∷ []; end = Authenticated (agreed (codes "u")) })
-unfolding toy offer_of party_of kexinit_of a ab ba o trusting wary written_message offered kexinit since_offer expects_guess stood first_kept since line_by line_reply work kexinit_reply init_reply reply_reply secret_of choice choice_of_directions exchange_with exchange_by exchange_text number_out switched_out derived key message_in messages.form_of messages.disconnect messages.ignore messages.unimplemented messages.debug messages.service_request messages.service_accept messages.ext_info messages.extensions messages.kexinit messages.newkeys messages.kexdh_init messages.kexdh_reply messages.kex_ecdh_init messages.kex_ecdh_reply readings.string_at readings.uint32_at readings.names_at readings.names_in readings.mpint_at readings.mpint_in ignore server client hello init reply request accept welcome all_kept count_kept left_after next_listed listed_in proof_in request_reply signed_text messages.password messages.publickey messages.userauth_request messages.userauth_failure messages.userauth_success messages.userauth_banner utf8_at is_utf8 chars encode_utf8 none_fields password_fields change_fields query_fields key_front key_fields other_fields asks lists agreed keeper lister entered refusing second knows knowing checker
+unfolding toy offer_of party_of kexinit_of a ab ba o trusting wary written_message offered kexinit since_offer expects_guess stood first_kept since line_by line_reply work kexinit_reply init_reply reply_reply secret_of choice choice_of_directions exchange_with exchange_by exchange_text number_out switched_out derived key message_in messages.form_of messages.disconnect messages.ignore messages.unimplemented messages.debug messages.service_request messages.service_accept messages.ext_info messages.extensions messages.kexinit messages.newkeys messages.kexdh_init messages.kexdh_reply messages.kex_ecdh_init messages.kex_ecdh_reply readings.string_at readings.uint32_at readings.names_at readings.names_in readings.mpint_at readings.mpint_in ignore server client hello init reply request accept welcome all_kept count_kept left_after next_listed listed_in proof_in tried_in tried_at request_reply signed_text messages.password messages.publickey messages.userauth_request messages.userauth_failure messages.userauth_success messages.userauth_banner messages.userauth_pk_ok utf8_at is_utf8 chars encode_utf8 none_fields password_fields change_fields query_fields would_do key_front key_fields other_fields asks lists agreed keeper lister entered refusing second knows knowing checker
 requests = (refl, refl, refl, refl, refl, refl, refl, refl)
 
--- A query, a change of the password, a method with no meaning here and a method that isn't listed prove nothing. A password
+-- A query is answered by whether its key would do. A change of the password, a method with no meaning here and a method that isn't listed prove nothing. A password
 -- and a key are decided on; a signature is verified first.
-method_proofs : (unit_reply toy trusting Server lister (server.version ∷ entered) (asks (codes "u") query_fields) ≡ goes (lists (codes "publickey,password") ∷ [])) × (unit_reply toy trusting Server lister (server.version ∷ entered) (asks (codes "u") change_fields) ≡ goes (lists (codes "publickey,password") ∷ [])) × (unit_reply toy trusting Server lister (server.version ∷ entered) (asks (codes "u") other_fields) ≡ goes (lists (codes "publickey,password") ∷ [])) × (unit_reply toy trusting Server (keeper 6) (server.version ∷ entered) (asks (codes "u") password_fields) ≡ goes ((51 ∷ 0 ∷ 0 ∷ 0 ∷ 0 ∷ 0 ∷ []) ∷ [])) × (unit_reply toy trusting Server (keeper 6) (server.version ∷ entered) (asks (codes "u") (key_fields (83 ∷ 0 ∷ []))) ≡ goes ((51 ∷ 0 ∷ 0 ∷ 0 ∷ 0 ∷ 0 ∷ []) ∷ [])) × (unit_reply toy knowing Server lister (server.version ∷ entered) (asks (codes "u") password_fields) ≡ record { answers = (52 ∷ []) ∷ []; end = Authenticated (agreed (codes "u")) }) × (unit_reply toy knowing Server lister (server.version ∷ entered) (asks (codes "u") none_fields) ≡ goes (lists (codes "publickey,password") ∷ [])) × (unit_reply toy knowing Server lister (server.version ∷ entered) (asks (codes "u") (key_fields (83 ∷ 0 ∷ []))) ≡ record { answers = (52 ∷ []) ∷ []; end = Authenticated (agreed (codes "u")) }) × (unit_reply toy knowing Server lister (server.version ∷ entered) (asks (codes "u") (key_fields (83 ∷ 1 ∷ []))) ≡ goes (lists (codes "publickey,password") ∷ [])) × (unit_reply checker knowing Server lister (server.version ∷ entered) (asks (codes "u") (key_fields (0 ∷ 0 ∷ 0 ∷ 1 ∷ 1 ∷ asks (codes "u") key_front))) ≡ record { answers = (52 ∷ []) ∷ []; end = Authenticated (agreed (codes "u")) }) × (unit_reply checker knowing Server lister (server.version ∷ entered) (asks (codes "u") (key_fields (0 ∷ 0 ∷ 0 ∷ 1 ∷ 1 ∷ asks (codes "k") key_front))) ≡ goes (lists (codes "publickey,password") ∷ []))
-unfolding toy offer_of party_of kexinit_of a ab ba o trusting wary written_message offered kexinit since_offer expects_guess stood first_kept since line_by line_reply work kexinit_reply init_reply reply_reply secret_of choice choice_of_directions exchange_with exchange_by exchange_text number_out switched_out derived key message_in messages.form_of messages.disconnect messages.ignore messages.unimplemented messages.debug messages.service_request messages.service_accept messages.ext_info messages.extensions messages.kexinit messages.newkeys messages.kexdh_init messages.kexdh_reply messages.kex_ecdh_init messages.kex_ecdh_reply readings.string_at readings.uint32_at readings.names_at readings.names_in readings.mpint_at readings.mpint_in ignore server client hello init reply request accept welcome all_kept count_kept left_after next_listed listed_in proof_in request_reply signed_text messages.password messages.publickey messages.userauth_request messages.userauth_failure messages.userauth_success messages.userauth_banner utf8_at is_utf8 chars encode_utf8 none_fields password_fields change_fields query_fields key_front key_fields other_fields asks lists agreed keeper lister entered refusing second knows knowing checker
-method_proofs = (refl, refl, refl, refl, refl, refl, refl, refl, refl, refl, refl)
+method_proofs : (unit_reply toy trusting Server lister (server.version ∷ entered) (asks (codes "u") query_fields) ≡ goes (would_do ∷ [])) × (unit_reply toy refusing Server lister (server.version ∷ entered) (asks (codes "u") query_fields) ≡ goes (lists (codes "publickey,password") ∷ [])) × (unit_reply toy trusting Server lister (server.version ∷ entered) (asks (codes "u") change_fields) ≡ goes (lists (codes "publickey,password") ∷ [])) × (unit_reply toy trusting Server lister (server.version ∷ entered) (asks (codes "u") other_fields) ≡ goes (lists (codes "publickey,password") ∷ [])) × (unit_reply toy trusting Server (keeper 6) (server.version ∷ entered) (asks (codes "u") password_fields) ≡ goes ((51 ∷ 0 ∷ 0 ∷ 0 ∷ 0 ∷ 0 ∷ []) ∷ [])) × (unit_reply toy trusting Server (keeper 6) (server.version ∷ entered) (asks (codes "u") (key_fields (83 ∷ 0 ∷ []))) ≡ goes ((51 ∷ 0 ∷ 0 ∷ 0 ∷ 0 ∷ 0 ∷ []) ∷ [])) × (unit_reply toy knowing Server lister (server.version ∷ entered) (asks (codes "u") password_fields) ≡ record { answers = (52 ∷ []) ∷ []; end = Authenticated (agreed (codes "u")) }) × (unit_reply toy knowing Server lister (server.version ∷ entered) (asks (codes "u") none_fields) ≡ goes (lists (codes "publickey,password") ∷ [])) × (unit_reply toy knowing Server lister (server.version ∷ entered) (asks (codes "u") (key_fields (83 ∷ 0 ∷ []))) ≡ record { answers = (52 ∷ []) ∷ []; end = Authenticated (agreed (codes "u")) }) × (unit_reply toy knowing Server lister (server.version ∷ entered) (asks (codes "u") (key_fields (83 ∷ 1 ∷ []))) ≡ goes (lists (codes "publickey,password") ∷ [])) × (unit_reply checker knowing Server lister (server.version ∷ entered) (asks (codes "u") (key_fields (0 ∷ 0 ∷ 0 ∷ 1 ∷ 1 ∷ asks (codes "u") key_front))) ≡ record { answers = (52 ∷ []) ∷ []; end = Authenticated (agreed (codes "u")) }) × (unit_reply checker knowing Server lister (server.version ∷ entered) (asks (codes "u") (key_fields (0 ∷ 0 ∷ 0 ∷ 1 ∷ 1 ∷ asks (codes "k") key_front))) ≡ goes (lists (codes "publickey,password") ∷ []))
+unfolding toy offer_of party_of kexinit_of a ab ba o trusting wary written_message offered kexinit since_offer expects_guess stood first_kept since line_by line_reply work kexinit_reply init_reply reply_reply secret_of choice choice_of_directions exchange_with exchange_by exchange_text number_out switched_out derived key message_in messages.form_of messages.disconnect messages.ignore messages.unimplemented messages.debug messages.service_request messages.service_accept messages.ext_info messages.extensions messages.kexinit messages.newkeys messages.kexdh_init messages.kexdh_reply messages.kex_ecdh_init messages.kex_ecdh_reply readings.string_at readings.uint32_at readings.names_at readings.names_in readings.mpint_at readings.mpint_in ignore server client hello init reply request accept welcome all_kept count_kept left_after next_listed listed_in proof_in tried_in tried_at request_reply signed_text messages.password messages.publickey messages.userauth_request messages.userauth_failure messages.userauth_success messages.userauth_banner messages.userauth_pk_ok utf8_at is_utf8 chars encode_utf8 none_fields password_fields change_fields query_fields would_do key_front key_fields other_fields asks lists agreed keeper lister entered refusing second knows knowing checker
+method_proofs = (refl, refl, refl, refl, refl, refl, refl, refl, refl, refl, refl, refl)
 
 -- the reasons of the DISCONNECTs that failures send, and the failures that send none
 reasons : (disconnect fault.Length ≡ (1 ∷ 0 ∷ 0 ∷ 0 ∷ 2 ∷ 0 ∷ 0 ∷ 0 ∷ 0 ∷ 0 ∷ 0 ∷ 0 ∷ 0 ∷ []) ∷ []) × (disconnect fault.Padding ≡ (1 ∷ 0 ∷ 0 ∷ 0 ∷ 2 ∷ 0 ∷ 0 ∷ 0 ∷ 0 ∷ 0 ∷ 0 ∷ 0 ∷ 0 ∷ []) ∷ []) × (disconnect fault.Mac ≡ (1 ∷ 0 ∷ 0 ∷ 0 ∷ 5 ∷ 0 ∷ 0 ∷ 0 ∷ 0 ∷ 0 ∷ 0 ∷ 0 ∷ 0 ∷ []) ∷ []) × (disconnect fault.Exchange ≡ (1 ∷ 0 ∷ 0 ∷ 0 ∷ 3 ∷ 0 ∷ 0 ∷ 0 ∷ 0 ∷ 0 ∷ 0 ∷ 0 ∷ 0 ∷ []) ∷ []) × (disconnect fault.HostKey ≡ (1 ∷ 0 ∷ 0 ∷ 0 ∷ 9 ∷ 0 ∷ 0 ∷ 0 ∷ 0 ∷ 0 ∷ 0 ∷ 0 ∷ 0 ∷ []) ∷ []) × (disconnect fault.Signature ≡ (1 ∷ 0 ∷ 0 ∷ 0 ∷ 3 ∷ 0 ∷ 0 ∷ 0 ∷ 0 ∷ 0 ∷ 0 ∷ 0 ∷ 0 ∷ []) ∷ []) × (disconnect fault.Service ≡ (1 ∷ 0 ∷ 0 ∷ 0 ∷ 7 ∷ 0 ∷ 0 ∷ 0 ∷ 0 ∷ 0 ∷ 0 ∷ 0 ∷ 0 ∷ []) ∷ []) × (disconnect fault.TooManyTries ≡ (1 ∷ 0 ∷ 0 ∷ 0 ∷ 14 ∷ 0 ∷ 0 ∷ 0 ∷ 0 ∷ 0 ∷ 0 ∷ 0 ∷ 0 ∷ []) ∷ []) × (disconnect fault.NoMoreMethods ≡ (1 ∷ 0 ∷ 0 ∷ 0 ∷ 14 ∷ 0 ∷ 0 ∷ 0 ∷ 0 ∷ 0 ∷ 0 ∷ 0 ∷ 0 ∷ []) ∷ []) × (disconnect (fault.Malformed 20) ≡ (1 ∷ 0 ∷ 0 ∷ 0 ∷ 2 ∷ 0 ∷ 0 ∷ 0 ∷ 0 ∷ 0 ∷ 0 ∷ 0 ∷ 0 ∷ []) ∷ []) × (disconnect (fault.Unexpected 80) ≡ (1 ∷ 0 ∷ 0 ∷ 0 ∷ 2 ∷ 0 ∷ 0 ∷ 0 ∷ 0 ∷ 0 ∷ 0 ∷ 0 ∷ 0 ∷ []) ∷ []) × (disconnect (fault.Strict 20) ≡ (1 ∷ 0 ∷ 0 ∷ 0 ∷ 2 ∷ 0 ∷ 0 ∷ 0 ∷ 0 ∷ 0 ∷ 0 ∷ 0 ∷ 0 ∷ []) ∷ []) × (disconnect (fault.NoCommon field.Kex) ≡ (1 ∷ 0 ∷ 0 ∷ 0 ∷ 3 ∷ 0 ∷ 0 ∷ 0 ∷ 0 ∷ 0 ∷ 0 ∷ 0 ∷ 0 ∷ []) ∷ []) × (disconnect fault.Version ≡ []) × (disconnect fault.Memory ≡ []) × (disconnect fault.Cut ≡ [])

@@ -43,7 +43,7 @@ use Rattle.sshcore.specs.Ending.{AgreedData, Authenticated, Ending, Failed, Open
 use Rattle.sshcore.specs.Exchange.{answer_with, exchange_with, keys_at, secret_of}
 use Rattle.sshcore.specs.Inputs.{AsHeard, CutOff, IsInside, Stands, StandsSo}
 use Rattle.sshcore.specs.Kept.{Kept}
-use Rattle.sshcore.specs.Known.{Known, known_at}
+use Rattle.sshcore.specs.Known.{Known, known_at, waits_at}
 use Rattle.sshcore.specs.Output.{Sending}
 use Rattle.sshcore.specs.Party.{Party, Policy}
 use Rattle.sshcore.specs.Phases.{leaving}
@@ -160,11 +160,11 @@ module _ (below : Below) (m : Meaning) (d : Policy) (role : Role) (party : Party
     heard_switches p t is_open off on =
         let k = leaving role phase.Exchange in
         let here : kept role party.offer k before payload ≡ true = sym (stood_push role party.offer before payload k ∙ rw off refl) ∙ on in
-        let l = line_by role p (strict_at role party before) (expects_guess role party.offer before) (kind payload) in
+        let l = line_by role p (strict_at role party before) (expects_guess role party.offer before) (waits_at role party before) (kind payload) in
         let same = line_is below m d role party version before payload p t in
-        let known = known_at m role party version before in
+        let known = known_at m d role party version before in
         ap (λ (l : Line). switched_out (line_reply m d role party known (number_in role party before) l payload).answers) (sym same)
-        ∙ by_line known (number_in role party before) p l (sees role p (strict_at role party before) (kind payload) (expects_guess role party.offer before)) here
+        ∙ by_line known (number_in role party before) p l (sees role p (strict_at role party before) (waits_at role party before) (kind payload) (expects_guess role party.offer before)) here
         (eqb-true (kind payload) k (and_parts _ _ here).0)
         (ap (λ (l : Line). (line_reply m d role party known (number_in role party before) l payload).end) same ∙ is_open)
 
@@ -241,7 +241,7 @@ module _ (below : Below) (m : Meaning) (d : Policy) (role : Role) (party : Party
     ended_so : IsAuthenticated m d role party p.units a
     ended_so = authenticated below m d role party p.units p.refusal a replies.ends
 
-    inside : IsInside m role party p.units p.answers p.rest kept i
+    inside : IsInside m d role party p.units p.answers p.rest kept i
     inside = p.inside (inr (a, is))
 
     -- nothing stands behind the bytes that it used

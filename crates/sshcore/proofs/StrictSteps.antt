@@ -20,7 +20,7 @@ use Rattle.sshcore.specs.declared.table.Phase.TheVariants as phase
 use Rattle.sshcore.specs.Before.{expects_guess, offered, strict_at, strict_towards}
 use Rattle.sshcore.specs.Counting.{number_in}
 use Rattle.sshcore.specs.Ending.{Ending, Failed, Open}
-use Rattle.sshcore.specs.Known.{Known, known_at}
+use Rattle.sshcore.specs.Known.{Known, known_at, waits_at}
 use Rattle.sshcore.specs.Party.{Party, Policy}
 use Rattle.sshcore.specs.Phases.{leaving, past_exchange}
 use Rattle.sshcore.specs.Replies.{end_at, line_at, line_reply, read_reply}
@@ -118,7 +118,7 @@ module _ (below : Below) (m : Meaning) (d : Policy) (role : Role) (party : Party
 
   module _ (version : List ℕ) (before : Units) (payload : List ℕ) where
     leaves_kexinit : Follows role party before phase.KexInit → expects_guess role party.offer before ≡ false → kind payload ≡ 20
-        → Step role party before payload (line_reply m d role party (known_at m role party version before) (number_in role party before) line.Reads payload).end
+        → Step role party before payload (line_reply m d role party (known_at m d role party version before) (number_in role party before) line.Reads payload).end
     leaves_kexinit f none is = elim (cases_Bool (strict_towards role party.strict (offer_in payload))) [
       | inl s ↦ elim (cases_Bool (length before == 0)) [
         | inl first ↦ Goes phase.Exchange (record {
@@ -126,7 +126,7 @@ module _ (below : Below) (m : Meaning) (d : Policy) (role : Role) (party : Party
           none_due = λ e. absurd (true≢false (sym e));
           so_far = λ _. ([], opens role party before payload below (shown role party.strict payload s).0 (first_none before first) f.tied.offer is (shown role party.strict payload s).1);
         })
-        | inr not_first ↦ Off (AsStrict (late (known_at m role party version before) (number_in role party before) payload is s (none_chosen m role party before f.tied.offer) not_first))
+        | inr not_first ↦ Off (AsStrict (late (known_at m d role party version before) (number_in role party before) payload is s (none_chosen m role party before f.tied.offer) not_first))
       ]
       | inr s ↦ Goes phase.Exchange (record {
         tied = tied_leaves role party.offer before payload phase.KexInit f.tied none (is ∙ sym (leaving_kexinit role));
@@ -136,7 +136,7 @@ module _ (below : Below) (m : Meaning) (d : Policy) (role : Role) (party : Party
     ]
 
     leaves : (p : Phase) → Follows role party before p → expects_guess role party.offer before ≡ false → kind payload ≡ leaving role p
-        → Step role party before payload (line_reply m d role party (known_at m role party version before) (number_in role party before) line.Reads payload).end
+        → Step role party before payload (line_reply m d role party (known_at m d role party version before) (number_in role party before) line.Reads payload).end
     leaves phase.KexInit f none is = leaves_kexinit f none (is ∙ leaving_kexinit role)
     leaves phase.Exchange f none is = Goes phase.NewKeys (record {
       tied = tied_leaves role party.offer before payload phase.Exchange f.tied none is;
@@ -160,9 +160,9 @@ module _ (below : Below) (m : Meaning) (d : Policy) (role : Role) (party : Party
     })
 
     by_line : (p : Phase) → Follows role party before p → (l : Line) → Sees role p (strict_at role party before) (expects_guess role party.offer before) (kind payload) l
-        → Step role party before payload (line_reply m d role party (known_at m role party version before) (number_in role party before) l payload).end
+        → Step role party before payload (line_reply m d role party (known_at m d role party version before) (number_in role party before) l payload).end
     unfolding line_reply
-    by_line p f l (Closing one is) = rw is (Off (closing (known_at m role party version before) (number_in role party before) payload one))
+    by_line p f l (Closing one is) = rw is (Off (closing (known_at m d role party version before) (number_in role party before) payload one))
     by_line p f l (Dropped one due ruled is) = Goes p (drops before payload p f due one ruled)
     by_line p f l (OffGuess one due ruled out is) = rw is (Off (AsStrict refl))
     by_line p f l (OffPhase one none ruled out is) = rw is (Off (AsStrict refl))
@@ -171,10 +171,10 @@ module _ (below : Below) (m : Meaning) (d : Policy) (role : Role) (party : Party
     by_line p f l (Useless none off not_here is) = rw is (Fails (λ e. absurd cc) (λ s. useless before payload p f p refl off not_here s))
 
     pub line_is : (p : Phase) → Tied role party.offer before p
-        → line_by role p (strict_at role party before) (expects_guess role party.offer before) (kind payload) ≡ line_at role party before payload
-    line_is p t = ap (λ q. line_by role q (strict_at role party before) (expects_guess role party.offer before) (kind payload)) (sym (tied_phase role party.offer before p t))
+        → line_by role p (strict_at role party before) (expects_guess role party.offer before) (waits_at role party before) (kind payload) ≡ line_at role party before payload
+    line_is p t = ap (λ q. line_by role q (strict_at role party before) (expects_guess role party.offer before) (waits_at role party before) (kind payload)) (sym (tied_phase role party.offer before p t))
 
     pub step : (p : Phase) → Follows role party before p → Step role party before payload (end_at m d role party (version ∷ before) payload)
-    step p f = subst (λ (l : Line). Step role party before payload (line_reply m d role party (known_at m role party version before) (number_in role party before) l payload).end) (line_is p f.tied)
-        (by_line p f (line_by role p (strict_at role party before) (expects_guess role party.offer before) (kind payload))
-        (sees role p (strict_at role party before) (kind payload) (expects_guess role party.offer before)))
+    step p f = subst (λ (l : Line). Step role party before payload (line_reply m d role party (known_at m d role party version before) (number_in role party before) l payload).end) (line_is p f.tied)
+        (by_line p f (line_by role p (strict_at role party before) (expects_guess role party.offer before) (waits_at role party before) (kind payload))
+        (sees role p (strict_at role party before) (waits_at role party before) (kind payload) (expects_guess role party.offer before)))

@@ -79,39 +79,46 @@ module _ (role : Role) (n : ℕ) where
       | inl b ↦ range 22 29 (inr (inr (inl (omega arith, omega arith)))) b
       | inr b ↦ elim (or_cases _ _ b) [
         | inl c ↦ range 32 49 (inr (inr (inr (omega arith)))) c
-        | inr c ↦ range 54 79 (inr (inr (inr (omega arith)))) c
+        | inr c ↦ elim (or_cases _ _ c) [
+          | inl d ↦ range 54 59 (inr (inr (inr (omega arith)))) d
+          | inr d ↦ range 61 79 (inr (inr (inr (omega arith)))) d
+        ]
       ]
     ]
   ]
 
 -- the messages of authentication leave no earlier phase
-auth_leaves : (role : Role) (p : Phase) (n : ℕ) → is_of_auth role p n ≡ true → IsQuiet role n
-auth_leaves Server phase.Auth n h =
+auth_leaves : (role : Role) (p : Phase) (waits : Bool) (n : ℕ) → is_of_auth role p waits n ≡ true → IsQuiet role n
+auth_leaves Server phase.Auth waits n h =
     let same : n ≡ 50 = eqb-true n 50 h in
     none_from Server n (λ q. omega arith) (λ q. omega arith) (λ q. omega arith) (λ q. omega arith) (λ q. omega arith) (λ q. omega arith)
-auth_leaves Client phase.Auth n h = elim (or_cases _ _ h) [
+auth_leaves Client phase.Auth waits n h = elim (or_cases _ _ h) [
   | inl a ↦ let same : n ≡ 51 = eqb-true n 51 a in
       none_from Client n (λ q. omega arith) (λ q. omega arith) (λ q. omega arith) (λ q. omega arith) (λ q. omega arith) (λ q. omega arith)
-  | inr b ↦ let same : n ≡ 53 = eqb-true n 53 b in
-      none_from Client n (λ q. omega arith) (λ q. omega arith) (λ q. omega arith) (λ q. omega arith) (λ q. omega arith) (λ q. omega arith)
+  | inr b ↦ elim (or_cases _ _ b) [
+    | inl c ↦ let same : n ≡ 53 = eqb-true n 53 c in
+        none_from Client n (λ q. omega arith) (λ q. omega arith) (λ q. omega arith) (λ q. omega arith) (λ q. omega arith) (λ q. omega arith)
+    | inr c ↦ let same : n ≡ 60 = eqb-true n 60 (and_parts waits (n == 60) c).1 in
+        none_from Client n (λ q. omega arith) (λ q. omega arith) (λ q. omega arith) (λ q. omega arith) (λ q. omega arith) (λ q. omega arith)
+  ]
 ]
-auth_leaves Client phase.KexInit n h = absurd cc
-auth_leaves Server phase.KexInit n h = absurd cc
-auth_leaves Client phase.Exchange n h = absurd cc
-auth_leaves Server phase.Exchange n h = absurd cc
-auth_leaves Client phase.NewKeys n h = absurd cc
-auth_leaves Server phase.NewKeys n h = absurd cc
-auth_leaves Client phase.Service n h = absurd cc
-auth_leaves Server phase.Service n h = absurd cc
+auth_leaves Client phase.KexInit waits n h = absurd cc
+auth_leaves Server phase.KexInit waits n h = absurd cc
+auth_leaves Client phase.Exchange waits n h = absurd cc
+auth_leaves Server phase.Exchange waits n h = absurd cc
+auth_leaves Client phase.NewKeys waits n h = absurd cc
+auth_leaves Server phase.NewKeys waits n h = absurd cc
+auth_leaves Client phase.Service waits n h = absurd cc
+auth_leaves Server phase.Service waits n h = absurd cc
 
-module _ (role : Role) (p : Phase) (strict : Bool) (n : ℕ) where
+module _ (role : Role) (p : Phase) (strict waits : Bool) (n : ℕ) where
   -- no guess is due, and strictness rules nothing
-  free : (n == 1) ≡ false → is_ruled p strict ≡ false → Sees role p strict false n (line_by role p strict false n)
+  free : (n == 1) ≡ false → is_ruled p strict ≡ false → Sees role p strict false n (line_by role p strict false waits n)
   unfolding line_by
   free one off = rw (one, off) (elim (cases_Bool (n == leaving role p)) [
     | inl h ↦ rw h (Leaving refl (eqb-true n (leaving role p) h) refl)
-    | inr h ↦ rw h (elim (cases_Bool (is_of_auth role p n)) [
-      | inl a ↦ rw a (Staying refl off h (auth_leaves role p n a) (λ e. absurd cc))
+    | inr h ↦ rw h (elim (cases_Bool (is_of_auth role p waits n)) [
+      | inl a ↦ rw a (Staying refl off h (auth_leaves role p waits n a) (λ e. absurd cc))
       | inr a ↦ rw a (elim (cases_Bool (is_ignored n)) [
         | inl b ↦ rw b (Staying refl off h (range role n 2 4 (inl (omega arith, omega arith)) b) (λ e. absurd cc))
         | inr b ↦ rw b (elim (cases_Bool ((n == 7) && takes_extensions p)) [
@@ -125,14 +132,14 @@ module _ (role : Role) (p : Phase) (strict : Bool) (n : ℕ) where
     ])
   ])
 
-  ruled : (n == 1) ≡ false → is_ruled p strict ≡ true → Sees role p strict false n (line_by role p strict false n)
+  ruled : (n == 1) ≡ false → is_ruled p strict ≡ true → Sees role p strict false n (line_by role p strict false waits n)
   unfolding line_by
   ruled one on = rw (one, on) (elim (cases_Bool (n == leaving role p)) [
     | inl h ↦ rw h (Leaving refl (eqb-true n (leaving role p) h) refl)
     | inr h ↦ rw h (OffPhase one refl on h refl)
   ])
 
-  due : (n == 1) ≡ false → Sees role p strict true n (line_by role p strict true n)
+  due : (n == 1) ≡ false → Sees role p strict true n (line_by role p strict true waits n)
   unfolding line_by
   due one = rw one (elim (cases_Bool (is_ruled p strict)) [
     | inl on ↦ rw on (elim (cases_Bool (is_of_method n)) [
@@ -142,17 +149,17 @@ module _ (role : Role) (p : Phase) (strict : Bool) (n : ℕ) where
     | inr off ↦ rw off (Dropped one refl (λ on. absurd (true≢false (sym on ∙ off))) refl)
   ])
 
-  closing : (guess : Bool) → (n == 1) ≡ true → Sees role p strict guess n (line_by role p strict guess n)
+  closing : (guess : Bool) → (n == 1) ≡ true → Sees role p strict guess n (line_by role p strict guess waits n)
   unfolding line_by
   closing guess one = rw one (Closing (eqb-true n 1 one) refl)
 
-  pub sees : (guess : Bool) → Sees role p strict guess n (line_by role p strict guess n)
+  pub sees : (guess : Bool) → Sees role p strict guess n (line_by role p strict guess waits n)
   sees guess = elim (cases_Bool (n == 1)) [
     | inl one ↦ closing guess one
     | inr one ↦ by_guess guess one
   ]
     where
-      by_guess : (g : Bool) → (n == 1) ≡ false → Sees role p strict g n (line_by role p strict g n)
+      by_guess : (g : Bool) → (n == 1) ≡ false → Sees role p strict g n (line_by role p strict g waits n)
       by_guess true one = due one
       by_guess false one = elim (cases_Bool (is_ruled p strict)) [
         | inl on ↦ ruled one on
@@ -160,9 +167,9 @@ module _ (role : Role) (p : Phase) (strict : Bool) (n : ℕ) where
       ]
 
 -- a number that is read or unknown, and neither closes nor leaves the phase, leaves none
-pub quiet : (role : Role) (p : Phase) (strict : Bool) (n : ℕ) → (n == 1) ≡ false → (n == leaving role p) ≡ false
-    → (line_by role p strict false n ≡ line.Reads) ⊎ (line_by role p strict false n ≡ line.Unknown) → LeavesNone role n
-quiet role p strict n one not_here side = by (line_by role p strict false n) (sees role p strict n false) side
+pub quiet : (role : Role) (p : Phase) (strict waits : Bool) (n : ℕ) → (n == 1) ≡ false → (n == leaving role p) ≡ false
+    → (line_by role p strict false waits n ≡ line.Reads) ⊎ (line_by role p strict false waits n ≡ line.Unknown) → LeavesNone role n
+quiet role p strict waits n one not_here side = by (line_by role p strict false waits n) (sees role p strict waits n false) side
   where
     by : (l : Line) → Sees role p strict false n l → (l ≡ line.Reads) ⊎ (l ≡ line.Unknown) → LeavesNone role n
     by l (Closing is e) side = absurd (true≢false (sym (eq-eqb n 1 is) ∙ one))

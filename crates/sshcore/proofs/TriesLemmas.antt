@@ -1,16 +1,13 @@
 -- How many requests a server grants.
 
 use Rattle.std.proofs.Common.{◌≡◌, ◌⊎◌, inl, inr, ℕ, ◌+◌, ◌<◌, ◌≤◌, Bool, true, false, cond, List, [], ◌∷◌, ◌++◌, Result, Ok, Err, refl, sym, ap, ◌∙◌, subst, append_assoc, arith}
-use Rattle.std.specs.Prelude.{not}
 use Rattle.std.proofs.lemmas.Bool.{and_parts, cases_Bool, eqb-true, leb-false, ne_eqb, true≢false}
 use Rattle.std.proofs.lemmas.List.{append-nil}
 use Rattle.sshmsg.specs.declared.fault.MsgFault.{MsgFault}
-use Rattle.sshmsg.specs.Content.{Content, Method, UserauthFailure, UserauthRequest, UserauthSuccess}
+use Rattle.sshmsg.specs.Content.{Content, Method, UserauthRequest}
 use Rattle.sshmsg.specs.Messages.{message_in}
 use Rattle.sshmsg.specs.Numbers.{kind, number_of}
-use Rattle.sshmsg.specs.Written.{written_message}
 use Rattle.sshneg.specs.declared.role.Role.TheVariants.{Server}
-use Rattle.sshneg.specs.ChoiceReadings.{is_in}
 use Rattle.sshpacket.specs.Places.{EachPlace}
 use Rattle.sshpacket.specs.Stream.{Units}
 use Rattle.sshpacket.specs.Suite.{Meaning}
@@ -22,14 +19,15 @@ use Rattle.sshcore.specs.declared.table.Phase.TheVariants as phase
 use Rattle.sshcore.specs.Attempts.{agreed_by}
 use Rattle.sshcore.specs.Before.{count_kept, expects_guess, kept, strict_at}
 use Rattle.sshcore.specs.Counting.{number_in}
-use Rattle.sshcore.specs.Ending.{Authenticated, Open, fails, goes}
-use Rattle.sshcore.specs.Known.{Known, known_at}
+use Rattle.sshcore.specs.Ending.{Authenticated, Failed, Open, Reply}
+use Rattle.sshcore.specs.Known.{Known, known_at, waits_at}
 use Rattle.sshcore.specs.Party.{Party, Policy}
 use Rattle.sshcore.specs.Phases.{phase_at}
 use Rattle.sshcore.specs.Replies.{StaysOpen, end_at, line_at, line_reply, read_reply}
-use Rattle.sshcore.specs.Requests.{is_good, is_last_try, request_reply}
+use Rattle.sshcore.specs.Requests.{is_last_try, request_reply}
 use Rattle.sshcore.specs.Table.{line_by}
 use Rattle.sshcore.specs.Work.{work}
+use Rattle.sshcore.proofs.AnswerLemmas.{Elsewhere, IsAnswered, Last, More, Succeeds, answered}
 use Rattle.sshcore.proofs.Below.{Below}
 use Rattle.sshcore.proofs.PhaseLemmas.{kept_dropped}
 use Rattle.sshcore.proofs.PlanLemmas.{count_push}
@@ -39,29 +37,26 @@ abbrev ReadsOrFails : Line → Type 0
 ReadsOrFails l = (l ≡ line.Reads) ⊎ ((l ≡ line.Deviates) ⊎ (l ≡ line.Unexpected))
 
 -- where no guess is due, a request has such a line
-request_line : (p : Phase) (strict : Bool) → ReadsOrFails (line_by Server p strict false 50)
+request_line : (p : Phase) (strict waits : Bool) → ReadsOrFails (line_by Server p strict false waits 50)
 unfolding line_by
-request_line phase.KexInit strict = inr (inr refl)
-request_line phase.Exchange true = inr (inl refl)
-request_line phase.Exchange false = inr (inr refl)
-request_line phase.NewKeys true = inr (inl refl)
-request_line phase.NewKeys false = inr (inr refl)
-request_line phase.Service strict = inr (inr refl)
-request_line phase.Auth strict = inl refl
+request_line phase.KexInit strict waits = inr (inr refl)
+request_line phase.Exchange true waits = inr (inl refl)
+request_line phase.Exchange false waits = inr (inr refl)
+request_line phase.NewKeys true waits = inr (inl refl)
+request_line phase.NewKeys false waits = inr (inr refl)
+request_line phase.Service strict waits = inr (inr refl)
+request_line phase.Auth strict waits = inl refl
 
 module _ (below : Below) (m : Meaning) (d : Policy) (party : Party) where
   -- a request that leaves the endpoint open isn't the last that is granted
   request_tries : (known : Known) (user service : List ℕ) (method : Method) → (request_reply m d party known user service method).end ≡ Open → is_last_try party known ≡ false
-  unfolding request_reply
-  request_tries known user service method is_open = by (not (is_in party.services service)) (is_good m d party known user service method) (is_last_try party known) is_open
+  request_tries known user service method is_open = by (answered m d party known user service method)
     where
-      by : (unknown good last : Bool) → (cond unknown (fails fault.Service)
-          (cond good (record { answers = written_message UserauthSuccess ∷ []; end = Authenticated (agreed_by known user service) })
-          (cond last (fails fault.TooManyTries) (goes (written_message (UserauthFailure party.methods false) ∷ []))))).end ≡ Open → last ≡ false
-      by true good last e = absurd cc
-      by false true last e = absurd cc
-      by false false true e = absurd cc
-      by false false false e = refl
+      by : IsAnswered m d party known user service method (request_reply m d party known user service method) → is_last_try party known ≡ false
+      by (Elsewhere has is) = absurd (let shut : Failed fault.Service ≡ Open = ap (λ (r : Reply). r.end) (sym is) ∙ is_open in cc (shut))
+      by (Succeeds has good done is) = absurd (let shut : Authenticated (agreed_by known user service) ≡ Open = ap (λ (r : Reply). r.end) (sym is) ∙ is_open in cc (shut))
+      by (Last last is) = absurd (let shut : Failed fault.TooManyTries ≡ Open = ap (λ (r : Reply). r.end) (sym is) ∙ is_open in cc (shut))
+      by (More x refusal more is) = more
 
   work_tries : (known : Known) (c : Content) → number_of c ≡ 50 → (work m d Server party known c).end ≡ Open → is_last_try party known ≡ false
   unfolding work
@@ -101,11 +96,12 @@ module _ (below : Below) (m : Meaning) (d : Policy) (party : Party) where
         let is : kind payload ≡ 50 = eqb-true (kind payload) 50 (and_parts _ _ counts).0 in
         let p = phase_at Server party.offer before in
         let strict = strict_at Server party before in
-        let same : line_by Server p strict false 50 ≡ line_at Server party before payload =
-        ap (λ b. line_by Server p strict b 50) (sym (none_expected is counts)) ∙ ap (λ n. line_by Server p strict (expects_guess Server party.offer before) n) (sym is) in
+        let waits = waits_at Server party before in
+        let same : line_by Server p strict false waits 50 ≡ line_at Server party before payload =
+        ap (λ b. line_by Server p strict b waits 50) (sym (none_expected is counts)) ∙ ap (λ n. line_by Server p strict (expects_guess Server party.offer before) waits n) (sym is) in
         leb-false party.tries (count_kept Server party.offer 50 before + 1)
-        (line_tries (known_at m Server party version before) (number_in Server party before) payload (line_at Server party before payload)
-        (subst ReadsOrFails same (request_line p strict)) is is_open)
+        (line_tries (known_at m d Server party version before) (number_in Server party before) payload (line_at Server party before payload)
+        (subst ReadsOrFails same (request_line p strict waits)) is is_open)
 
     -- one payload more
     count_open : end_at m d Server party (version ∷ before) payload ≡ Open → count_kept Server party.offer 50 before < party.tries

@@ -41,7 +41,7 @@ module _ (m : Meaning) (d : Policy) (role : Role) (party : Party) where
     where
       by : WorkEnds m d party known c (work m d role party known c).end → IsUncut (work m d role party known c).end
       by (Early h) = early_uncut (work m d role party known c).end h
-      by (Requested _ _ _ same has good is) = ap is_cut is
+      by (Requested _ _ _ same has good done is) = ap is_cut is
       by (Succeeded _ _ same left is) = ap is_cut is
 
   uncut_read : (known : Known) (n : ℕ) (r : Result Content MsgFault) → IsUncut (read_reply m d role party known n r).end
@@ -58,7 +58,7 @@ module _ (m : Meaning) (d : Policy) (role : Role) (party : Party) where
 
   pub uncut_unit : (before : Units) (unit : List ℕ) → IsUncut (end_at m d role party before unit)
   uncut_unit [] unit = refl
-  uncut_unit (version ∷ before) unit = uncut_line (known_at m role party version before) (number_in role party before) (line_at role party before unit) unit
+  uncut_unit (version ∷ before) unit = uncut_line (known_at m d role party version before) (number_in role party before) (line_at role party before unit) unit
 
   pub uncut_heard : (units : Units) (r : Option Refusal) (end : Ending) → Ends m d role party units r end → IsUncut end
   uncut_heard units r end (goes_on stays e) = ap is_cut e ∙ uncut_refusal r

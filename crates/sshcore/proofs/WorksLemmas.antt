@@ -5,7 +5,7 @@ use Rattle.std.proofs.lemmas.List.{append-nil}
 use Rattle.sshwire.specs.declared.mpint.Mpint as mpint
 use Rattle.sshwire.specs.declared.share_form.ShareForm.{ShareForm}
 use Rattle.sshwire.specs.declared.share_form.ShareForm.TheVariants.{Mpint}
-use Rattle.sshmsg.specs.Content.{Content, Disconnect, KexEcdhInit, KexEcdhReply, KexInit, KexdhInit, KexdhReply, Method, NewKeys, NoMethod, Offer, OtherMethod, Password, PasswordChange, PublicKey, PublicKeyQuery, ServiceAccept, ServiceRequest, UserauthFailure, UserauthRequest, UserauthSuccess}
+use Rattle.sshmsg.specs.Content.{Content, Disconnect, KexEcdhInit, KexEcdhReply, KexInit, KexdhInit, KexdhReply, Method, NewKeys, NoMethod, Offer, OtherMethod, Password, PasswordChange, PublicKey, PublicKeyQuery, ServiceAccept, ServiceRequest, UserauthFailure, UserauthPkOk, UserauthRequest, UserauthSuccess}
 use Rattle.sshmsg.specs.Lengths.{method_length}
 use Rattle.sshmsg.specs.Messages.{Spells, message_in}
 use Rattle.sshmsg.specs.Numbers.{kind, number_of}
@@ -24,8 +24,8 @@ use Rattle.sshcore.specs.declared.end.Fault.{Fault}
 use Rattle.sshcore.specs.declared.table.Line.TheVariants as line
 use Rattle.sshcore.specs.declared.table.Phase.{Phase}
 use Rattle.sshcore.specs.declared.table.Phase.TheVariants as phase
-use Rattle.sshcore.specs.Attempts.{failure_reply, success_reply}
-use Rattle.sshcore.specs.Authenticating.{FitsMethod, counted_request, failed_attempt}
+use Rattle.sshcore.specs.Attempts.{failure_reply, pk_ok_reply, success_reply}
+use Rattle.sshcore.specs.Authenticating.{FitsMethod, confirmed_attempt, counted_request, failed_attempt}
 use Rattle.sshcore.specs.Before.{wrong_guess}
 use Rattle.sshcore.specs.Brings.{Exchanges, Gives, IsOngoing, Leaves, Offers, StandsAt, Stays, Works, heard_one}
 use Rattle.sshcore.specs.Ending.{Authenticated, Closed, Ending, Failed, Open, Reply, goes}
@@ -35,12 +35,13 @@ use Rattle.sshcore.specs.Known.{Known}
 use Rattle.sshcore.specs.Output.{said_from, sending_from}
 use Rattle.sshcore.specs.Party.{Party, Policy}
 use Rattle.sshcore.specs.Phases.{behind, leaving, past_exchange}
-use Rattle.sshcore.specs.Plan.{listed_by, listed_in}
-use Rattle.sshcore.specs.Requests.{request_reply}
+use Rattle.sshcore.specs.Plan.{is_waiting, listed_by, listed_in}
+use Rattle.sshcore.specs.Requests.{is_good, request_reply}
+use Rattle.sshcore.specs.Tries.{tried_with}
 use Rattle.sshcore.specs.Standing.{LeavesNone, behind_offer, behind_payload}
 use Rattle.sshcore.specs.Table.{line_by}
 use Rattle.sshcore.specs.Work.{accept_reply, init_reply, kexinit_reply, reply_reply, service_reply, work}
-use Rattle.sshcore.proofs.BehindLemmas.{failure_behind, heard_number, request_behind}
+use Rattle.sshcore.proofs.BehindLemmas.{failure_behind, heard_number, pk_ok_behind, request_behind}
 use Rattle.sshcore.proofs.ReadsLemmas as table
 use Rattle.sshcore.proofs.ReadsLemmas.{IsAt, IsPlain, Reads, plain_calm, plain_other, reads}
 
@@ -64,18 +65,19 @@ pub record HasPlace (role : Role) (old : Kept) (payload : List ℕ) (c : Content
   pub kind_is : kind payload ≡ number_of c
   pub offers : (peer : Offer) → c ≡ KexInit peer → offer_in payload ≡ Some peer
   pub lists : (listed : List (List ℕ)) (partial : Bool) → c ≡ UserauthFailure listed partial → listed_in payload ≡ listed
+  pub requests : (user service : List ℕ) (method : Method) → c ≡ UserauthRequest user service method → message_in Mpint payload ≡ Ok (UserauthRequest user service method)
 
 pub has_place : ((form : ShareForm) (payload : List ℕ) (c : Content) → Spells form c payload → message_in form payload ≡ Ok c)
     → ((form : ShareForm) (payload : List ℕ) (c : Content) → message_in form payload ≡ Ok c → kind payload ≡ number_of c)
     → ((form other : ShareForm) (payload : List ℕ) → kind payload ≢ 30 → kind payload ≢ 31 → message_in form payload ≡ message_in other payload)
-    → (role : Role) (old : Kept) (payload : List ℕ) (c : Content) → line_by role old.phase old.known.strict old.guess (kind payload) ≡ line.Reads → Spells old.known.shares c payload
+    → (role : Role) (old : Kept) (payload : List ℕ) (c : Content) → line_by role old.phase old.known.strict old.guess (is_waiting old.known.left) (kind payload) ≡ line.Reads → Spells old.known.shares c payload
     → HasPlace role old payload c
 unfolding listed_in
 has_place complete number alike role old payload c line_is spelled =
     let read : message_in old.known.shares payload ≡ Ok c = complete old.known.shares payload c spelled in
     let same : kind payload ≡ number_of c = number old.known.shares payload c read in
     record {
-      reads_it = subst (λ (k : ℕ). Reads role old.phase old.guess k) same (reads role old.phase old.known.strict (kind payload) old.guess line_is);
+      reads_it = subst (λ (k : ℕ). Reads role old.phase old.guess k) same (reads role old.phase old.known.strict (is_waiting old.known.left) (kind payload) old.guess line_is);
       read_is = read;
       kind_is = same;
       offers = λ peer is.
@@ -84,6 +86,9 @@ has_place complete number alike role old payload c line_is spelled =
       lists = λ listed partial is.
           let failure : kind payload ≡ 51 = same ∙ ap number_of is in
           ap listed_by (alike Mpint old.known.shares payload (λ q. omega arith) (λ q. omega arith) ∙ (read ∙ ap (λ (x : Content). Ok x) is));
+      requests = λ user service method is.
+          let request : kind payload ≡ 50 = same ∙ ap number_of is in
+          alike Mpint old.known.shares payload (λ q. omega arith) (λ q. omega arith) ∙ (read ∙ ap (λ (x : Content). Ok x) is);
     }
 
 -- a session that is closed or has failed doesn't go on
@@ -130,20 +135,23 @@ module _ (role : Role) (old : Kept) (payload : List ℕ) (c : Content) (has : Ha
   pub at_failure : number_of c ≡ 51 → IsAt role Client old.phase phase.Auth old.guess
   at_failure is = table.failure_read role old.phase old.guess (at_number 51 is)
 
+  pub at_confirmation : number_of c ≡ 60 → IsAt role Client old.phase phase.Auth old.guess
+  at_confirmation is = table.confirmation_read role old.phase old.guess (at_number 60 is)
+
   pub at_success : number_of c ≡ 52 → IsAt role Client old.phase phase.Auth old.guess
   at_success is = table.success_read role old.phase old.guess (at_number 52 is)
 
 module _ (m : Meaning) (d : Policy) (role : Role) (party : Party) (old new : Kept) (payload before after : List ℕ) (c : Content) (has : HasPlace role old payload c) where
   -- a message that is worked on so
-  by_reply : (r : Reply) → work m d role party old.known c ≡ r → Works m role party old new payload before after r → Works m role party old new payload before after (work m d role party old.known c)
-  by_reply r is w = subst (λ (x : Reply). Works m role party old new payload before after x) (sym is) w
+  by_reply : (r : Reply) → work m d role party old.known c ≡ r → Works m d role party old new payload before after r → Works m d role party old new payload before after (work m d role party old.known c)
+  by_reply r is w = subst (λ (x : Reply). Works m d role party old new payload before after x) (sym is) w
 
   pub kexinit_works : (peer : Offer) → c ≡ KexInit peer
       → ((strict : Bool) (next : KeyData) → Gives m party.seed strict next old new before after (kexinit_reply m role party old.known peer))
       → (IsOngoing new.end → new.known.shares ≡ m.share_form new.known.algorithms.kex)
       → new.pending ≡ old.pending
       → (IsOngoing new.end → StandsAt new phase.Exchange (wrong_guess role party.offer (Some peer)) (behind_offer m role party old.known payload peer))
-      → Works m role party old new payload before after (work m d role party old.known c)
+      → Works m d role party old new payload before after (work m d role party old.known c)
   unfolding work
   kexinit_works peer is gives form keys moves =
       let at = at_kexinit role old payload c has (ap number_of is) in
@@ -154,7 +162,7 @@ module _ (m : Meaning) (d : Policy) (role : Role) (party : Party) (old new : Kep
 
   -- the exchange message, at the side that hears it
   exchange_works : (side : Role) (n : ℕ) (r : Reply) → number_of c ≡ n → leaving side phase.Exchange ≡ n → IsAt role side old.phase phase.Exchange old.guess
-      → HearsExchange m side party old new before after c r → Works m role party old new payload before after r
+      → HearsExchange m side party old new before after c r → Works m d role party old new payload before after r
   exchange_works side n r number leaves at h =
       let same : role ≡ side = at.side_is in
       let read = has.read_is in
@@ -169,7 +177,7 @@ module _ (m : Meaning) (d : Policy) (role : Role) (party : Party) (old new : Kep
 
   pub init_works : number_of c ≡ 30 → work m d role party old.known c ≡ init_reply m role party old.known c
       → HearsExchange m Server party old new before after c (init_reply m Server party old.known c)
-      → Works m role party old new payload before after (work m d role party old.known c)
+      → Works m d role party old new payload before after (work m d role party old.known c)
   init_works number is h =
       let at = at_init role old payload c has number in
       by_reply (init_reply m Server party old.known c) (is ∙ ap (λ (x : Role). init_reply m x party old.known c) at.side_is)
@@ -177,7 +185,7 @@ module _ (m : Meaning) (d : Policy) (role : Role) (party : Party) (old new : Kep
 
   pub reply_works : (signature : List ℕ) → number_of c ≡ 31 → work m d role party old.known c ≡ reply_reply m d role party old.known c signature
       → HearsExchange m Client party old new before after c (reply_reply m d Client party old.known c signature)
-      → Works m role party old new payload before after (work m d role party old.known c)
+      → Works m d role party old new payload before after (work m d role party old.known c)
   reply_works signature number is h =
       let at = at_reply role old payload c has number in
       by_reply (reply_reply m d Client party old.known c signature) (is ∙ ap (λ (x : Role). reply_reply m d x party old.known c signature) at.side_is)
@@ -185,11 +193,11 @@ module _ (m : Meaning) (d : Policy) (role : Role) (party : Party) (old new : Kep
 
   -- a message that leaves a phase behind the exchange
   leaves_works : (side : Role) (p q : Phase) (n : ℕ) (k : Known) (r : Reply) → number_of c ≡ n → leaving side p ≡ n → past_exchange p ≡ true → behind p ≡ q
-      → IsAt role side old.phase p old.guess → behind_payload old.known payload ≡ k
+      → IsAt role side old.phase p old.guess → behind_payload m d party old.known payload ≡ k
       → ((strict : Bool) (next : KeyData) → Gives m party.seed strict next old new before after r)
       → (IsOngoing new.end → new.pending ≡ old.pending)
       → (IsOngoing new.end → StandsAt new q old.guess k)
-      → Works m role party old new payload before after r
+      → Works m d role party old new payload before after r
   leaves_works side p q n k r number leaves past next at known gives keys stands =
       let none : old.guess ≡ false = at.none_due in
       let here : kind payload ≡ leaving role old.phase = has.kind_is ∙ (number ∙ sym leaves ∙ sym (rw (at.phase_is, at.side_is) refl)) in
@@ -203,52 +211,61 @@ module _ (m : Meaning) (d : Policy) (role : Role) (party : Party) (old new : Kep
       }
 
   -- what is known behind a message with another number than those of requests and FAILURE
-  heard_as : (n : ℕ) → number_of c ≡ n → n ≢ 50 → n ≢ 51 → behind_payload old.known payload ≡ heard_one old.known
-  heard_as n number request failure = heard_number old.known payload n (has.kind_is ∙ number) request failure
+  heard_as : (n : ℕ) → number_of c ≡ n → n ≢ 50 → n ≢ 51 → n ≢ 60 → behind_payload m d party old.known payload ≡ heard_one old.known
+  heard_as n number request failure confirmation = heard_number m d party old.known payload n (has.kind_is ∙ number) request failure confirmation
 
   pub request_works : (service : List ℕ) → c ≡ ServiceRequest service
       → ((strict : Bool) (next : KeyData) → Gives m party.seed strict next old new before after (service_reply party service))
       → new.pending ≡ old.pending
       → (IsOngoing new.end → StandsAt new phase.Auth old.guess (heard_one old.known))
-      → Works m role party old new payload before after (work m d role party old.known c)
+      → Works m d role party old new payload before after (work m d role party old.known c)
   unfolding work
   request_works service is gives keys stands =
       by_reply (service_reply party service) (ap (work m d role party old.known) is)
       (leaves_works Server phase.Service phase.Auth 5 (heard_one old.known) (service_reply party service) (ap number_of is) refl refl refl
-      (at_request role old payload c has (ap number_of is)) (heard_as 5 (ap number_of is) (λ q. omega arith) (λ q. omega arith)) gives (λ _. keys) stands)
+      (at_request role old payload c has (ap number_of is)) (heard_as 5 (ap number_of is) (λ q. omega arith) (λ q. omega arith) (λ q. omega arith)) gives (λ _. keys) stands)
 
   pub accept_works : (service : List ℕ) → c ≡ ServiceAccept service
       → ((strict : Bool) (next : KeyData) → Gives m party.seed strict next old new before after (accept_reply m old.known service))
       → new.pending ≡ old.pending
       → (IsOngoing new.end → StandsAt new phase.Auth old.guess (heard_one old.known))
-      → Works m role party old new payload before after (work m d role party old.known c)
+      → Works m d role party old new payload before after (work m d role party old.known c)
   unfolding work
   accept_works service is gives keys stands =
       by_reply (accept_reply m old.known service) (ap (work m d role party old.known) is)
       (leaves_works Client phase.Service phase.Auth 6 (heard_one old.known) (accept_reply m old.known service) (ap number_of is) refl refl refl
-      (at_accept role old payload c has (ap number_of is)) (heard_as 6 (ap number_of is) (λ q. omega arith) (λ q. omega arith)) gives (λ _. keys) stands)
+      (at_accept role old payload c has (ap number_of is)) (heard_as 6 (ap number_of is) (λ q. omega arith) (λ q. omega arith) (λ q. omega arith)) gives (λ _. keys) stands)
 
   pub user_request_works : (user service : List ℕ) (method : Method) → c ≡ UserauthRequest user service method
       → ((strict : Bool) (next : KeyData) → Gives m party.seed strict next old new before after (request_reply m d party old.known user service method))
-      → new.pending ≡ old.pending
-      → (IsOngoing new.end → StandsAt new phase.Auth old.guess (counted_request old.known))
-      → Works m role party old new payload before after (work m d role party old.known c)
+      → (IsOngoing new.end → new ≡ record old {
+        end = new.end;
+        known = counted_request old.known (tried_with user service method (is_good m d party old.known user service method));
+        sending = new.sending;
+      })
+      → Works m d role party old new payload before after (work m d role party old.known c)
   unfolding work
-  user_request_works user service method is gives keys stands =
+  user_request_works user service method is gives stays =
+      let at = at_user_request role old payload c has (ap number_of is) in
       by_reply (request_reply m d party old.known user service method) (ap (work m d role party old.known) is)
-      (leaves_works Server phase.Auth phase.Auth 50 (counted_request old.known) (request_reply m d party old.known user service method) (ap number_of is) refl refl refl
-      (at_user_request role old payload c has (ap number_of is)) (request_behind old.known payload (has.kind_is ∙ ap number_of is)) gives (λ _. keys) stands)
+      (leaves_works Server phase.Auth phase.Auth 50 (counted_request old.known (tried_with user service method (is_good m d party old.known user service method))) (request_reply m d party old.known user service method) (ap number_of is) refl refl refl
+      at (request_behind m d party old.known payload user service method (has.kind_is ∙ ap number_of is) (has.requests user service method is)) gives (λ goes_on. ap (λ (k : Kept). k.pending) (stays goes_on))
+      (λ goes_on. record {
+        phase_is = ap (λ (k : Kept). k.phase) (stays goes_on) ∙ at.phase_is;
+        guess_is = ap (λ (k : Kept). k.guess) (stays goes_on);
+        known_is = ap (λ (k : Kept). k.known) (stays goes_on);
+      }))
 
   pub success_works : c ≡ UserauthSuccess
       → ((strict : Bool) (next : KeyData) → Gives m party.seed strict next old new before after (success_reply old.known))
       → (IsOngoing new.end → new ≡ record old { end = new.end; known = heard_one old.known })
-      → Works m role party old new payload before after (work m d role party old.known c)
+      → Works m d role party old new payload before after (work m d role party old.known c)
   unfolding work
   success_works is gives stays =
       let at = at_success role old payload c has (ap number_of is) in
       by_reply (success_reply old.known) (ap (work m d role party old.known) is)
       (leaves_works Client phase.Auth phase.Auth 52 (heard_one old.known) (success_reply old.known) (ap number_of is) refl refl refl
-      at (heard_as 52 (ap number_of is) (λ q. omega arith) (λ q. omega arith)) gives (λ goes_on. ap (λ (k : Kept). k.pending) (stays goes_on))
+      at (heard_as 52 (ap number_of is) (λ q. omega arith) (λ q. omega arith) (λ q. omega arith)) gives (λ goes_on. ap (λ (k : Kept). k.pending) (stays goes_on))
       (λ goes_on. record {
         phase_is = ap (λ (k : Kept). k.phase) (stays goes_on) ∙ at.phase_is;
         guess_is = ap (λ (k : Kept). k.guess) (stays goes_on);
@@ -258,7 +275,7 @@ module _ (m : Meaning) (d : Policy) (role : Role) (party : Party) (old new : Kep
   pub failure_works : (listed : List (List ℕ)) (partial : Bool) → c ≡ UserauthFailure listed partial
       → ((strict : Bool) (next : KeyData) → Gives m party.seed strict next old new before after (failure_reply m old.known listed))
       → new ≡ record old { end = new.end; known = failed_attempt old.known listed; sending = new.sending }
-      → Works m role party old new payload before after (work m d role party old.known c)
+      → Works m d role party old new payload before after (work m d role party old.known c)
   unfolding work
   failure_works listed partial is gives stays =
       let at = at_failure role old payload c has (ap number_of is) in
@@ -271,7 +288,27 @@ module _ (m : Meaning) (d : Policy) (role : Role) (party : Party) (old new : Kep
             (record {
               phase_is = ap (λ (k : Kept). k.phase) stays;
               guess_is = ap (λ (k : Kept). k.guess) stays ∙ none;
-              known_is = ap (λ (k : Kept). k.known) stays ∙ sym (failure_behind old.known payload listed number (has.lists listed partial is));
+              known_is = ap (λ (k : Kept). k.known) stays ∙ sym (failure_behind m d party old.known payload listed number (has.lists listed partial is));
+            });
+      })
+
+  pub pk_ok_works : (algorithm key : List ℕ) → c ≡ UserauthPkOk algorithm key
+      → ((strict : Bool) (next : KeyData) → Gives m party.seed strict next old new before after (pk_ok_reply m old.known algorithm key))
+      → (IsOngoing new.end → new ≡ record old { end = new.end; known = confirmed_attempt old.known; sending = new.sending })
+      → Works m d role party old new payload before after (work m d role party old.known c)
+  unfolding work
+  pk_ok_works algorithm key is gives stays =
+      let at = at_confirmation role old payload c has (ap number_of is) in
+      let none : old.guess ≡ false = at.none_due in
+      let number : kind payload ≡ 60 = has.kind_is ∙ ap number_of is in
+      by_reply (pk_ok_reply m old.known algorithm key) (ap (work m d role party old.known) is) (record {
+        gives = gives _ _;
+        moves = λ goes_on. Stays none (subst (λ (n : ℕ). LeavesNone role n) (sym number) (table.late_leaves role 60 (omega arith)))
+            (ap (λ (k : Kept). k.pending) (stays goes_on))
+            (record {
+              phase_is = ap (λ (k : Kept). k.phase) (stays goes_on);
+              guess_is = ap (λ (k : Kept). k.guess) (stays goes_on) ∙ none;
+              known_is = ap (λ (k : Kept). k.known) (stays goes_on) ∙ sym (pk_ok_behind m d party old.known payload number);
             });
       })
 
@@ -289,7 +326,7 @@ fits_method (OtherMethod name fields) short = tt
 -- messages to which nothing is said
 module _ (m : Meaning) (d : Policy) (role : Role) (party : Party) (old new : Kept) (payload before : List ℕ) (c : Content) (has : HasPlace role old payload c) where
   pub disconnect_works : (reason : ℕ) (description language : List ℕ) → c ≡ Disconnect reason description language → new.end ≡ Closed reason → new.sending ≡ old.sending
-      → Works m role party old new payload before before (work m d role party old.known c)
+      → Works m d role party old new payload before before (work m d role party old.known c)
   unfolding work
   disconnect_works reason description language is ends sends =
       by_reply m d role party old new payload before before c has (record { answers = []; end = Closed reason }) (ap (work m d role party old.known) is) (record {
@@ -298,7 +335,7 @@ module _ (m : Meaning) (d : Policy) (role : Role) (party : Party) (old new : Kep
       })
 
   pub newkeys_works : c ≡ NewKeys → old.end ≡ Open → new ≡ record old { phase = phase.Service; known = heard_one old.known }
-      → Works m role party old new payload before before (work m d role party old.known c)
+      → Works m d role party old new payload before before (work m d role party old.known c)
   unfolding work
   newkeys_works is stays next =
       let at = at_newkeys role old payload c has (ap number_of is) in
@@ -311,12 +348,12 @@ module _ (m : Meaning) (d : Policy) (role : Role) (party : Party) (old new : Kep
             (record {
               phase_is = ap (λ (k : Kept). k.phase) next ∙ sym (ap behind at.phase_is);
               guess_is = ap (λ (k : Kept). k.guess) next ∙ none;
-              known_is = ap (λ (k : Kept). k.known) next ∙ sym (heard_number old.known payload 21 (has.kind_is ∙ ap number_of is) (λ q. omega arith) (λ q. omega arith));
+              known_is = ap (λ (k : Kept). k.known) next ∙ sym (heard_number m d party old.known payload 21 (has.kind_is ∙ ap number_of is) (λ q. omega arith) (λ q. omega arith) (λ q. omega arith));
             });
       })
 
   pub plain_works : IsPlain (number_of c) → work m d role party old.known c ≡ goes [] → old.end ≡ Open → new ≡ record old { known = heard_one old.known }
-      → Works m role party old new payload before before (work m d role party old.known c)
+      → Works m d role party old new payload before before (work m d role party old.known c)
   plain_works plain is stays next =
       let calm = table.plain_read role old.phase old.guess (number_of c) plain has.reads_it in
       let none : old.guess ≡ false = calm.0 in
@@ -327,7 +364,7 @@ module _ (m : Meaning) (d : Policy) (role : Role) (party : Party) (old new : Kep
             (record {
               phase_is = ap (λ (k : Kept). k.phase) next;
               guess_is = ap (λ (k : Kept). k.guess) next ∙ none;
-              known_is = ap (λ (k : Kept). k.known) next ∙ sym (heard_number old.known payload (number_of c) has.kind_is plain.user_request plain.failure);
+              known_is = ap (λ (k : Kept). k.known) next ∙ sym (heard_number m d party old.known payload (number_of c) has.kind_is plain.user_request plain.failure plain.confirmation);
             });
       })
 
@@ -368,6 +405,7 @@ pub record IsNone (x : Message) : Type 0 where
   pub user_request : (user service : Bor (List ℕ)) (request : method.Method) → x ≡ message.UserauthRequest user service request → ⊥
   pub failure : (listed : List (List ℕ)) (partial : Bool) → x ≡ message.UserauthFailure listed partial → ⊥
   pub success : x ≡ message.UserauthSuccess → ⊥
+  pub confirmation : (algorithm key : Bor (List ℕ)) → x ≡ message.UserauthPkOk algorithm key → ⊥
 
 module _ (m : Meaning) (d : Policy) (role : Role) (party : Party) (known : Known) where
   pub ignores : (x : Message) → IsNone x → IsIgnored m d role party known (content_of x)
@@ -389,3 +427,4 @@ module _ (m : Meaning) (d : Policy) (role : Role) (party : Party) (known : Known
   ignores (message.UserauthFailure listed partial) h = absurd (h.failure listed partial refl)
   ignores message.UserauthSuccess h = absurd (h.success refl)
   ignores (message.UserauthBanner text language) h = record { plain = plain_other 53 (inr refl); work_is = refl }
+  ignores (message.UserauthPkOk algorithm key) h = absurd (h.confirmation algorithm key refl)

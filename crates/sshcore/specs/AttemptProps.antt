@@ -7,17 +7,17 @@ use Rattle.sshcore.specs.ConfigRules.{HasShortKey, HasShortPassword, IsAttempt, 
 IsNamed-prop : (p : Proving) → IsProp (IsNamed p)
 IsNamed-prop ByNothing = Prim.hlevel props
 IsNamed-prop (ByPassword password) = Prim.hlevel props
-IsNamed-prop (ByKey algorithm secret) = Prim.hlevel props
+IsNamed-prop (ByKey algorithm secret ask) = Prim.hlevel props
 
 HasShortPassword-prop : (p : Proving) → IsProp (HasShortPassword p)
 HasShortPassword-prop ByNothing = Prim.hlevel props
 HasShortPassword-prop (ByPassword password) = Prim.hlevel props
-HasShortPassword-prop (ByKey algorithm secret) = Prim.hlevel props
+HasShortPassword-prop (ByKey algorithm secret ask) = Prim.hlevel props
 
 HasShortKey-prop : (p : Proving) → IsProp (HasShortKey p)
 HasShortKey-prop ByNothing = Prim.hlevel props
 HasShortKey-prop (ByPassword password) = Prim.hlevel props
-HasShortKey-prop (ByKey algorithm secret) = Prim.hlevel props
+HasShortKey-prop (ByKey algorithm secret ask) = Prim.hlevel props
 
 pub IsAttempt-prop : (a : Attempt) → IsProp (IsAttempt a)
 IsAttempt-prop a = Prim.hlevel (IsNamed-prop, HasShortPassword-prop, HasShortKey-prop, props)

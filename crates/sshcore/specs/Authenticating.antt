@@ -1,18 +1,29 @@
 -- What an endpoint does in authentication: what it keeps behind a request and behind a FAILURE, and what fits its messages.
 
-use Rattle.std.specs.Prelude.{ℕ, ◌+◌, ◌≤◌, false, List, length}
+use Rattle.std.specs.Prelude.{◌≡◌, ◌==◌, ◌||◌, ℕ, ◌+◌, ◌≤◌, true, false, List, length}
 use Rattle.sshwire.specs.declared.limits.TheConstants.{NAME_LIMIT, PAYLOAD_LIMIT}
+use Rattle.sshmsg.specs.declared.numbers.TheConstants.{SSH_MSG_USERAUTH_PK_OK, SSH_MSG_USERAUTH_REQUEST, SSH_MSG_USERAUTH_SUCCESS}
 use Rattle.sshmsg.specs.Content.{Method, PublicKey}
 use Rattle.sshmsg.specs.Lengths.{method_length}
 use Rattle.sshmsg.specs.Written.{method_name}
 use Rattle.sshpacket.specs.declared.limits.TheConstants.{PACKET_LIMIT}
 use Rattle.sshcore.specs.declared.config_parts.TheConstants.{USER_LIMIT}
 use Rattle.sshcore.specs.Known.{Known}
-use Rattle.sshcore.specs.Plan.{next_behind}
+use Rattle.sshcore.specs.Plan.{confirmed, next_behind}
+use Rattle.sshcore.specs.Reached.{Tried, reached_behind}
+use Rattle.sshcore.specs.Table.{within}
 
--- what is known behind a request that was counted
-abbrev pub counted_request : Known → Known
-counted_request known = record known { request = known.request + 1; first = false }
+-- a request is counted
+abbrev pub one_request : Known → Known
+one_request known = record known { request = known.request + 1; first = false }
+
+-- what is known behind a request, which is counted, and may reach a method
+abbrev pub counted_request : Known → Tried → Known
+counted_request known t = record known { request = known.request + 1; reached = reached_behind known.reached t; first = false }
+
+-- behind a PK_OK
+abbrev pub confirmed_attempt : Known → Known
+confirmed_attempt known = record known { left = confirmed known.left; first = false }
 
 -- and behind a FAILURE that lists these methods
 abbrev pub failed_attempt : Known → List (List ℕ) → Known
@@ -26,3 +37,7 @@ FitsMethod _ = Unit {0}
 -- a request by this method fits a payload, whoever the user is and whatever the service
 abbrev pub FitsRequest : Method → Type 0
 FitsRequest method = USER_LIMIT + NAME_LIMIT + length (method_name method) + method_length method + 13 ≤ PAYLOAD_LIMIT
+
+-- the number of a message of authentication that is answered
+abbrev pub IsOfRequests : ℕ → Type 0
+IsOfRequests n = (within SSH_MSG_USERAUTH_REQUEST SSH_MSG_USERAUTH_SUCCESS n || n == SSH_MSG_USERAUTH_PK_OK) ≡ true

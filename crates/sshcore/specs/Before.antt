@@ -57,10 +57,12 @@ stood role own n before = stands (kept role own n) [] before
 unfoldable pub first_kept : Role → Offer → ℕ → Units → List ℕ
 first_kept role own n before = first_where [] (kept role own n) [] before
 
--- all that stood, in order, and how many
-unfoldable pub all_kept : Role → Offer → ℕ → Units → Units
-all_kept role own n before = flat_places (λ b payload. if kept role own n b payload then payload ∷ [] else []) [] before
+-- all that stood whose number passes the test, in order
+unfoldable pub all_kept : Role → Offer → (ℕ → Bool) → Units → Units
+all_kept role own test before =
+    flat_places (λ b payload. if test (kind payload) && not (dropped role own b payload) then payload ∷ [] else []) [] before
 
+-- how many of this number stood
 unfoldable pub count_kept : Role → Offer → ℕ → Units → ℕ
 count_kept role own n before = count_places (kept role own n) [] before
 

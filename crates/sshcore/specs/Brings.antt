@@ -20,6 +20,7 @@ use Rattle.sshcore.specs.Known.{Known}
 use Rattle.sshcore.specs.Output.{said_from, sending_from}
 use Rattle.sshcore.specs.Party.{Party, Policy}
 use Rattle.sshcore.specs.Phases.{behind, leaving, past_exchange}
+use Rattle.sshcore.specs.Plan.{is_waiting}
 use Rattle.sshcore.specs.Replies.{line_reply}
 use Rattle.sshcore.specs.Standing.{LeavesNone, behind_exchange, behind_offer, behind_payload, exchange_heard}
 use Rattle.sshcore.specs.Table.{line_by}
@@ -48,27 +49,27 @@ pub record StandsAt (new : Kept) (p : Phase) (guess : Bool) (known : Known) : Ty
 -- How a payload moves what is kept: behind the peer's KEXINIT; behind the packet of a wrong guess; behind the exchange
 -- message, which brings the keys of what is heard; behind every other message that leaves a phase; and behind one that
 -- leaves none.
-pub data Moves (m : Meaning) (role : Role) (party : Party) (payload : List ℕ) (old new : Kept) : Type 0 where
+pub data Moves (m : Meaning) (d : Policy) (role : Role) (party : Party) (payload : List ℕ) (old new : Kept) : Type 0 where
   Offers : (peer : Offer) → old.phase ≡ phase.KexInit → old.guess ≡ false → offer_in payload ≡ Some peer → new.pending ≡ old.pending
       → new.known.shares ≡ m.share_form new.known.algorithms.kex
-      → StandsAt new phase.Exchange (wrong_guess role party.offer (Some peer)) (behind_offer m role party old.known payload peer) → Moves m role party payload old new
+      → StandsAt new phase.Exchange (wrong_guess role party.offer (Some peer)) (behind_offer m role party old.known payload peer) → Moves m d role party payload old new
   Drops : old.guess ≡ true → (kind payload == SSH_MSG_DISCONNECT) ≡ false → new.pending ≡ old.pending
-      → StandsAt new old.phase false (heard_one old.known) → Moves m role party payload old new
+      → StandsAt new old.phase false (heard_one old.known) → Moves m d role party payload old new
   Exchanges : old.phase ≡ phase.Exchange → old.guess ≡ false → kind payload ≡ leaving role phase.Exchange
       → new.pending ≡ Some (keys_by m old.known.algorithms (exchange_heard m role party old.known payload) (other role))
-      → StandsAt new phase.NewKeys false (behind_exchange m role party old.known payload) → Moves m role party payload old new
+      → StandsAt new phase.NewKeys false (behind_exchange m role party old.known payload) → Moves m d role party payload old new
   Leaves : old.guess ≡ false → past_exchange old.phase ≡ true → kind payload ≡ leaving role old.phase → new.pending ≡ old.pending
-      → StandsAt new (behind old.phase) false (behind_payload old.known payload) → Moves m role party payload old new
+      → StandsAt new (behind old.phase) false (behind_payload m d party old.known payload) → Moves m d role party payload old new
   Stays : old.guess ≡ false → LeavesNone role (kind payload) → new.pending ≡ old.pending
-      → StandsAt new old.phase false (behind_payload old.known payload) → Moves m role party payload old new
+      → StandsAt new old.phase false (behind_payload m d party old.known payload) → Moves m d role party payload old new
 
 -- What a packet brings: this reply, and where the session goes on the endpoint stands behind the packet.
-pub record Works (m : Meaning) (role : Role) (party : Party) (old new : Kept) (payload before after : List ℕ) (r : Reply) : Type 0 where
+pub record Works (m : Meaning) (d : Policy) (role : Role) (party : Party) (old new : Kept) (payload before after : List ℕ) (r : Reply) : Type 0 where
   pub gives : Gives m party.seed old.known.strict (keys_by m old.known.algorithms (exchange_heard m role party old.known payload) role) old new before after r
-  pub moves : IsOngoing new.end → Moves m role party payload old new
+  pub moves : IsOngoing new.end → Moves m d role party payload old new
 
 -- What a packet with this sequence number brings: the reply of its line of the phase table.
 abbrev pub Brings : Meaning → Policy → Role → Party → Kept → Kept → ℕ → List ℕ → List ℕ → List ℕ → Type 0
 Brings m d role party old new packet payload before after =
-    Works m role party old new payload before after
-    (line_reply m d role party old.known packet (line_by role old.phase old.known.strict old.guess (kind payload)) payload)
+    Works m d role party old new payload before after
+    (line_reply m d role party old.known packet (line_by role old.phase old.known.strict old.guess (is_waiting old.known.left) (kind payload)) payload)

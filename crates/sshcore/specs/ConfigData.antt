@@ -8,11 +8,11 @@ use Rattle.sshneg.specs.declared.role.Role.TheVariants.{Client, Server}
 use Rattle.sshneg.specs.Markers.{strict_marker}
 
 -- how a client proves who its user is (RFC 4252 sections 5.2, 7 and 8): not at all, by a password, or by the private key
--- of an algorithm
+-- of an algorithm, and whether it asks first if that key would do
 pub data Proving : Type 0 where
   ByNothing : Proving
   ByPassword : List ℕ → Proving
-  ByKey : List ℕ → List ℕ → Proving
+  ByKey : List ℕ → List ℕ → Bool → Proving
 
 -- one attempt of a client's plan
 pub record Attempt : Type 0 where
@@ -50,6 +50,7 @@ pub record ServerData : Type 0 where
   pub host_keys : List HostKey
   pub services : List (List ℕ)
   pub methods : List (List ℕ)
+  pub required : List (List ℕ)
   pub tries : ℕ
   pub banner : Option (List ℕ)
   pub notices : List (List ℕ)

@@ -1,6 +1,6 @@
 -- What a config has to keep, rule by rule: each is named by the refusal that tells its breach. All limits are profile.
 
-use Rattle.std.specs.Prelude.{◌≡◌, ◌⊎◌, ℕ, ◌+◌, ◌^◌, ◌<◌, ◌≤◌, false, List, [], ◌∷◌, ◌++◌, codes, length, IfSome}
+use Rattle.std.specs.Prelude.{◌≡◌, ◌⊎◌, ℕ, ◌+◌, ◌^◌, ◌<◌, ◌≤◌, false, List, [], ◌∷◌, ◌++◌, codes, length, Contains, IfSome}
 use Rattle.std.specs.List.{AllByRecursion}
 use Rattle.std.specs.Str.{IsUtf8}
 use Rattle.sshwire.specs.Lines.{BeginsSsh, IsVersionText}
@@ -24,6 +24,7 @@ rule_number fault.Plan = 8
 rule_number fault.Tries = 9
 rule_number fault.Random = 10
 rule_number fault.Memory = 11
+rule_number fault.Required = 12
 
 -- the lists of algorithms that a side configures, in the order of a KEXINIT (RFC 4253 section 7.1)
 abbrev pub lists_of : SideData → List (List ℕ) → List (List (List ℕ))
@@ -34,12 +35,12 @@ lists_of side host_keys =
 abbrev pub client_lists : ClientData → List (List (List ℕ))
 client_lists client = lists_of client.side client.host_key_algorithms
 
--- a server has two lists more
+-- a server has three lists more
 abbrev pub server_lists : ServerData → List (List (List ℕ))
 server_lists server = lists_of server.side (key_algorithms server.host_keys)
 
 abbrev pub all_server_lists : ServerData → List (List (List ℕ))
-all_server_lists server = server_lists server ++ server.services ∷ server.methods ∷ []
+all_server_lists server = server_lists server ++ server.services ∷ server.methods ∷ server.required ∷ []
 
 -- the list has a name
 abbrev pub IsSome : List (List ℕ) → Type 0
@@ -61,19 +62,19 @@ IsListed name = (name ≡ codes "password") ⊎ (name ≡ codes "publickey")
 abbrev pub IsNamed : Proving → Type 0
 IsNamed ByNothing = Unit {0}
 IsNamed (ByPassword password) = Unit {0}
-IsNamed (ByKey algorithm secret) = IsName algorithm
+IsNamed (ByKey algorithm secret ask) = IsName algorithm
 
 -- an attempt's password, if it has one, is short enough
 abbrev pub HasShortPassword : Proving → Type 0
 HasShortPassword ByNothing = Unit {0}
 HasShortPassword (ByPassword password) = length password ≤ PASSWORD_LIMIT
-HasShortPassword (ByKey algorithm secret) = Unit {0}
+HasShortPassword (ByKey algorithm secret ask) = Unit {0}
 
 -- an attempt's private key, if it has one, is short enough
 abbrev pub HasShortKey : Proving → Type 0
 HasShortKey ByNothing = Unit {0}
 HasShortKey (ByPassword password) = Unit {0}
-HasShortKey (ByKey algorithm secret) = length secret ≤ PRIVATE_KEY_LIMIT
+HasShortKey (ByKey algorithm secret ask) = length secret ≤ PRIVATE_KEY_LIMIT
 
 -- what is true of each attempt of an accepted plan
 pub record IsAttempt (a : Attempt) : Type 0 where
@@ -100,6 +101,11 @@ pub record HasLengths (side : SideData) : Type 0 where
   pub random : length side.random ≡ 32
   pub seed : length side.seed ≡ 32
 
+-- no name stands twice
+abbrev pub AreDistinct : List (List ℕ) → Type 0
+AreDistinct [] = Unit {0}
+AreDistinct (name ∷ names) = (Contains names name → ⊥) × AreDistinct names
+
 abbrev pub ClientRule : ConfigFault → ClientData → Type 0
 ClientRule fault.EmptyList client = AllByRecursion IsSome (client_lists client)
 ClientRule fault.Name client =
@@ -114,12 +120,13 @@ ClientRule fault.Plan client = length client.plan ≤ PLAN_LIMIT
 ClientRule fault.Tries client = Unit {0}
 ClientRule fault.Random client = HasLengths client.side
 ClientRule fault.Memory client = Unit {0}
+ClientRule fault.Required client = Unit {0}
 
 abbrev pub ServerRule : ConfigFault → ServerData → Type 0
 ServerRule fault.EmptyList server = AllByRecursion IsSome (server_lists server)
 ServerRule fault.Name server =
     AllByRecursion AreNames (all_server_lists server) × AllByRecursion IsUnmarked server.side.kex_algorithms
-    × AllByRecursion IsListed server.methods
+    × AllByRecursion IsListed server.methods × AllByRecursion IsListed server.required
 ServerRule fault.ListTooLong server = AllByRecursion IsShortList (all_server_lists server)
 ServerRule fault.Line server =
     IsVersionText (version_of server.side) × (length server.notices ≤ NOTICE_LIMIT) × AllByRecursion IsNotice server.notices
@@ -131,6 +138,7 @@ ServerRule fault.Plan server = Unit {0}
 ServerRule fault.Tries server = (1 ≤ server.tries) × (server.tries ≤ TRIES_LIMIT)
 ServerRule fault.Random server = HasLengths server.side
 ServerRule fault.Memory server = Unit {0}
+ServerRule fault.Required server = AllByRecursion (Contains server.methods) server.required × AreDistinct server.required
 
 -- It is refused so: this rule is broken, and every rule with a lesser number is kept.
 pub record IsLeastBroken (Rule : ConfigFault → Type 0) (code : ConfigFault) : Type 0 where

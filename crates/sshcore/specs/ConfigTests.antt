@@ -8,6 +8,7 @@ use Rattle.sshwire.specs.Lines.{ssh}
 use Rattle.sshwire.specs.Reading.{is_version_text}
 use Rattle.sshwire.specs.TypeReadings.{is_name}
 use Rattle.sshwire.specs.Types.{names_body}
+use Rattle.sshneg.specs.ChoiceReadings.{is_in}
 use Rattle.sshneg.specs.Markers.{is_marker}
 use Rattle.sshcore.specs.declared.config_fault.ConfigFault.{ConfigFault}
 use Rattle.sshcore.specs.declared.config_fault.ConfigFault.TheVariants as fault
@@ -67,7 +68,7 @@ are_listed names = list_all (λ name. is_listed (string_bytes name)) names
 abbrev pub is_named : Credential → Bool
 is_named credential.None = true
 is_named (credential.Password password) = true
-is_named (credential.PublicKey algorithm private_key) = is_name (string_bytes algorithm)
+is_named (credential.PublicKey algorithm private_key ask) = is_name (string_bytes algorithm)
 
 abbrev pub is_attempt_named : Attempt → Bool
 is_attempt_named a = is_name (string_bytes a.service) && is_named a.credential
@@ -75,12 +76,12 @@ is_attempt_named a = is_name (string_bytes a.service) && is_named a.credential
 abbrev pub has_short_password : Credential → Bool
 has_short_password credential.None = true
 has_short_password (credential.Password password) = nat_le (length password.items) PASSWORD_LIMIT
-has_short_password (credential.PublicKey algorithm private_key) = true
+has_short_password (credential.PublicKey algorithm private_key ask) = true
 
 abbrev pub has_short_key : Credential → Bool
 has_short_key credential.None = true
 has_short_key (credential.Password password) = true
-has_short_key (credential.PublicKey algorithm private_key) = nat_le (length private_key.items) PRIVATE_KEY_LIMIT
+has_short_key (credential.PublicKey algorithm private_key ask) = nat_le (length private_key.items) PRIVATE_KEY_LIMIT
 
 abbrev pub is_version : SideParts → Bool
 is_version side = is_version_text (version_of (side_data side))
@@ -115,18 +116,28 @@ client_test parts fault.Plan = nat_le (length parts.plan.items) PLAN_LIMIT
 client_test parts fault.Tries = true
 client_test parts fault.Random = has_lengths parts.side
 client_test parts fault.Memory = true
+client_test parts fault.Required = true
 
 abbrev pub server_lists_are_names : ServerParts → Bool
 server_lists_are_names parts =
-    lists_are_names parts.side (host_keys_are_named parts.host_keys.items) && (are_names parts.services.items && are_names parts.methods.items)
+    lists_are_names parts.side (host_keys_are_named parts.host_keys.items) && (are_names parts.services.items && (are_names parts.methods.items && are_names parts.required.items))
+
+-- no name stands twice
+abbrev pub are_distinct : List (List ℕ) → Bool
+are_distinct [] = true
+are_distinct (name ∷ names) = not (is_in names name) && are_distinct names
+
+-- each required method is one of the methods, and none stands twice
+abbrev pub are_required : List (List ℕ) → List (List ℕ) → Bool
+are_required methods required = list_all (is_in methods) required && are_distinct required
 
 abbrev pub server_test : ServerParts → ConfigFault → Bool
 server_test parts fault.EmptyList = lists_are_some parts.side (is_some parts.host_keys.items)
 server_test parts fault.Name =
-    server_lists_are_names parts && (are_methods parts.side.kex_algorithms.items && are_listed parts.methods.items)
+    server_lists_are_names parts && (are_methods parts.side.kex_algorithms.items && (are_listed parts.methods.items && are_listed parts.required.items))
 server_test parts fault.ListTooLong =
     lists_are_short parts.side (host_keys_are_short parts.host_keys.items)
-    && (is_short_list parts.services.items && is_short_list parts.methods.items)
+    && (is_short_list parts.services.items && (is_short_list parts.methods.items && is_short_list parts.required.items))
 server_test parts fault.Line =
     is_version parts.side
     && (nat_le (length parts.notice_lines.items) NOTICE_LIMIT && are_notices parts.notice_lines.items)
@@ -139,12 +150,13 @@ server_test parts fault.Plan = true
 server_test parts fault.Tries = nat_le 1 parts.tries && nat_le parts.tries TRIES_LIMIT
 server_test parts fault.Random = has_lengths parts.side
 server_test parts fault.Memory = true
+server_test parts fault.Required = are_required (map string_bytes parts.methods.items) (map string_bytes parts.required.items)
 
 -- the refusals that are judged, in the order of their numbers
 abbrev pub judged : List ConfigFault
 judged =
     fault.EmptyList ∷ fault.Name ∷ fault.ListTooLong ∷ fault.Line ∷ fault.User ∷ fault.Secret ∷ fault.Blob ∷ fault.Plan ∷ fault.Tries
-    ∷ fault.Random ∷ []
+    ∷ fault.Random ∷ fault.Required ∷ []
 
 -- the first of them whose test fails
 abbrev pub refusal : (ConfigFault → Bool) → Option ConfigFault

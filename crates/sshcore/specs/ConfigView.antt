@@ -13,7 +13,7 @@ use Rattle.sshcore.specs.ConfigData.{Attempt, ByKey, ByNothing, ByPassword, Clie
 abbrev pub proving_of : Credential → Proving
 proving_of credential.None = ByNothing
 proving_of (credential.Password password) = ByPassword password.items
-proving_of (credential.PublicKey algorithm private_key) = ByKey (string_bytes algorithm) private_key.items
+proving_of (credential.PublicKey algorithm private_key ask) = ByKey (string_bytes algorithm) private_key.items ask
 
 abbrev pub attempt_of : attempt_parts.Attempt → Attempt
 attempt_of a = record { user = string_bytes a.user; service = string_bytes a.service; proving = proving_of a.credential }
@@ -50,6 +50,7 @@ server_data parts = record {
   host_keys = map host_key_of parts.host_keys.items;
   services = map string_bytes parts.services.items;
   methods = map string_bytes parts.methods.items;
+  required = map string_bytes parts.required.items;
   tries = parts.tries;
   banner = option_map (λ text. text.items) parts.banner;
   notices = map (λ line. line.items) parts.notice_lines.items;

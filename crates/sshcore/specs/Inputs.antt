@@ -59,8 +59,8 @@ abbrev pub pending_at : Phase → KeyData → Option KeyData
 pending_at p keys = if past_exchange p && not (past_newkeys p) then Some keys else None
 
 -- what an endpoint keeps agrees with what was heard and said, while its session goes on
-pub record IsInside (m : Meaning) (role : Role) (party : Party) (units answers : Units) (rest : List ℕ) (kept : Kept) (i : Input) : Type 0 where
-  pub sits : Sits m role party (version_in units) (payloads_in units) kept.phase kept.guess kept.known
+pub record IsInside (m : Meaning) (d : Policy) (role : Role) (party : Party) (units answers : Units) (rest : List ℕ) (kept : Kept) (i : Input) : Type 0 where
+  pub sits : Sits m d role party (version_in units) (payloads_in units) kept.phase kept.guess kept.known
   pub form : HasForm m kept
   pub reads : IsInput m role party units rest i
   pub pending : kept.pending ≡ pending_at kept.phase (keys_at m role party (version_in units) (payloads_in units) (other role))
@@ -80,7 +80,7 @@ pub record Stands (m : Meaning) (d : Policy) (role : Role) (party : Party) (kept
   pub heard_end : Ending
   pub history : History m d role party units rest refusal answers heard_end heard_bytes said_bytes
   pub ends : StandsSo heard_end kept.end
-  pub inside : IsOngoing kept.end → IsInside m role party units answers rest kept i
+  pub inside : IsOngoing kept.end → IsInside m d role party units answers rest kept i
 
 -- An endpoint that goes on from here has heard these bytes more, and said what was appended; its input wasn't cut off.
 pub record GoesOn (m : Meaning) (d : Policy) (role : Role) (party : Party) (new : Kept) (j : Input) (h s taken before after : List ℕ) : Type 0 where

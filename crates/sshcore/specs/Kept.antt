@@ -1,17 +1,21 @@
 -- What an endpoint keeps between two packets, besides its reader.
 
-use Rattle.std.specs.Prelude.{Bool, false, [], map, Option, None, Some}
+use Rattle.std.specs.Prelude.{Bool, true, false, List, [], map, string_bytes, Option, None, Some}
 use Rattle.sshneg.specs.Fields.{Algorithms}
 use Rattle.sshpacket.specs.KeyData.{KeyData}
+use Rattle.sshcore.specs.declared.state.ReachedMethods as reached_methods
 use Rattle.sshcore.specs.declared.state.State.{State}
 use Rattle.sshcore.specs.declared.table.Phase.{Phase}
 use Rattle.sshcore.specs.declared.table.Phase.TheVariants as phase
+use Rattle.sshcore.specs.ConfigData.{Attempt}
 use Rattle.sshcore.specs.ConfigView.{attempt_of}
 use Rattle.sshcore.specs.Ending.{Ending, Open, ending}
 use Rattle.sshcore.specs.Exchange.{no_algorithms}
 use Rattle.sshcore.specs.Known.{Known}
 use Rattle.sshcore.specs.Output.{Sending}
 use Rattle.sshcore.specs.Party.{Party}
+use Rattle.sshcore.specs.Plan.{confirmed}
+use Rattle.sshcore.specs.Reached.{Reached}
 use Rattle.sshcore.specs.Standing.{nothing_known}
 
 -- How it stands; its phase; whether the packet of a wrong guess is due; what it knows; the keys of what is heard, from the
@@ -29,6 +33,15 @@ abbrev pub algorithms_or : Option Algorithms → Algorithms
 algorithms_or (Some a) = a
 algorithms_or None = no_algorithms
 
+-- what is left of the plan, of which the first attempt may be confirmed
+abbrev pub left_of : Bool → List Attempt → List Attempt
+left_of true attempts = confirmed attempts
+left_of false attempts = attempts
+
+-- what is reached, without where its texts lie in memory
+abbrev pub reached_of : reached_methods.ReachedMethods → Reached
+reached_of r = record { user = string_bytes r.user; service = string_bytes r.service; password = r.password; publickey = r.publickey }
+
 abbrev pub kept_of : State → Kept
 kept_of s = record {
   end = ending s.end;
@@ -41,7 +54,8 @@ kept_of s = record {
     shares = s.shares;
     session = s.session.items;
     request = s.request;
-    left = map attempt_of s.left.now;
+    left = left_of s.confirmed (map attempt_of s.left.now);
+    reached = reached_of s.reached;
     strict = s.strict;
     first = s.first;
   };

@@ -5,6 +5,8 @@ pub mod Phases
 pub mod Counting
 pub mod Exchange
 pub mod Plan
+pub mod Reached
+pub mod Tries
 pub mod Known
 pub mod Table
 pub mod Ending

@@ -4,8 +4,8 @@ use Rattle.std.specs.Prelude.{ℕ, Bool, List, [], Option, None}
 use Rattle.sshmsg.specs.Content.{Offer}
 use Rattle.sshcore.specs.ConfigData.{Attempt, ClientData, HostKey, ServerData, client_offer, server_offer, version_of}
 
--- What an endpoint is made of. What its role doesn't have is empty: notices, host keys, services, methods and banner are a
--- server's, the plan is a client's.
+-- What an endpoint is made of. What its role doesn't have is empty: notices, host keys, services, methods, required
+-- methods and banner are a server's, the plan is a client's.
 pub record Party : Type 0 where
   pub version : List ℕ
   pub notices : List (List ℕ)
@@ -17,6 +17,7 @@ pub record Party : Type 0 where
   pub host_keys : List HostKey
   pub services : List (List ℕ)
   pub methods : List (List ℕ)
+  pub required : List (List ℕ)
   pub tries : ℕ
   pub banner : Option (List ℕ)
 
@@ -32,6 +33,7 @@ client_party client = record {
   host_keys = [];
   services = [];
   methods = [];
+  required = [];
   tries = 0;
   banner = None;
 }
@@ -48,6 +50,7 @@ server_party server = record {
   host_keys = server.host_keys;
   services = server.services;
   methods = server.methods;
+  required = server.required;
   tries = server.tries;
   banner = server.banner;
 }

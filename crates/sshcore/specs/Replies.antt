@@ -20,7 +20,7 @@ use Rattle.sshcore.specs.declared.table.Line.TheVariants as line
 use Rattle.sshcore.specs.Before.{expects_guess, strict_at}
 use Rattle.sshcore.specs.Counting.{number_in}
 use Rattle.sshcore.specs.Ending.{Ending, Open, Reply, fails, goes}
-use Rattle.sshcore.specs.Known.{Known, known_at}
+use Rattle.sshcore.specs.Known.{Known, known_at, waits_at}
 use Rattle.sshcore.specs.Party.{Party, Policy}
 use Rattle.sshcore.specs.Phases.{phase_at}
 use Rattle.sshcore.specs.Table.{line_by}
@@ -42,12 +42,13 @@ line_reply m d role party known packet line.Unexpected payload = fails (fault.Un
 -- the line that decides at a place
 abbrev pub line_at : Role → Party → Units → List ℕ → Line
 line_at role party before payload =
-    line_by role (phase_at role party.offer before) (strict_at role party before) (expects_guess role party.offer before) (kind payload)
+    line_by role (phase_at role party.offer before) (strict_at role party before) (expects_guess role party.offer before) (waits_at role party before)
+    (kind payload)
 
 -- what a payload brings behind those before it
 abbrev pub reply_at : Meaning → Policy → Role → Party → List ℕ → Units → List ℕ → Reply
 reply_at m d role party version before payload =
-    line_reply m d role party (known_at m role party version before) (number_in role party before) (line_at role party before payload) payload
+    line_reply m d role party (known_at m d role party version before) (number_in role party before) (line_at role party before payload) payload
 
 -- the same of a unit: the version line is answered by nothing
 abbrev pub unit_reply : Meaning → Policy → Role → Party → Units → List ℕ → Reply

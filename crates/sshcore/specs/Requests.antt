@@ -1,54 +1,62 @@
 -- What a server answers to a request of authentication: RFC 4252 sections 5 to 8. The order of the checks is profile.
 
-use Rattle.std.specs.Prelude.{ℕ, ◌&&◌, Bool, false, not, nat_le, if◌then◌else◌, List, [], ◌∷◌, codes, Option, None, Some}
+use Rattle.std.specs.Prelude.{ℕ, ◌&&◌, Bool, false, nat_le, if◌then◌else◌, List, [], ◌∷◌, codes, length}
 use Rattle.sshwire.specs.TypeReadings.{is_name}
-use Rattle.sshmsg.specs.Content.{Method, NoMethod, Password, PublicKey, UserauthFailure, UserauthSuccess}
+use Rattle.sshmsg.specs.Content.{Content, Method, PublicKeyQuery, UserauthFailure, UserauthPkOk, UserauthSuccess}
 use Rattle.sshmsg.specs.Written.{written_message}
 use Rattle.sshneg.specs.ChoiceReadings.{is_in}
-use Rattle.sshneg.specs.Derivations.{signed_text}
+use Rattle.sshpacket.specs.declared.limits.TheConstants.{BLOB_LIMIT}
 use Rattle.sshpacket.specs.Suite.{Meaning}
 use Rattle.sshcore.specs.declared.end.Fault.TheVariants as fault
 use Rattle.sshcore.specs.Attempts.{agreed_by}
 use Rattle.sshcore.specs.Ending.{Authenticated, Reply, fails, goes}
 use Rattle.sshcore.specs.Known.{Known}
-use Rattle.sshcore.specs.Party.{KeyProof, NoProof, Party, PasswordProof, Policy, ProofData}
+use Rattle.sshcore.specs.Party.{KeyProof, Party, Policy}
+use Rattle.sshcore.specs.Reached.{is_complete, reached_behind}
+use Rattle.sshcore.specs.Tries.{is_good_at, tried_with}
 
--- What a signature proves: that the user's side has the private key, if the algorithm is a name and the signature of the session
--- identifier and the request is the key's (RFC 4252 section 7).
-abbrev pub signed_proof : Meaning → List ℕ → List ℕ → List ℕ → List ℕ → List ℕ → List ℕ → Option ProofData
-signed_proof m session user service algorithm key signature =
-    if is_name algorithm && m.verify algorithm key (signed_text session user service algorithm key) signature
-    then Some (KeyProof algorithm key) else None
-
--- What a request proves of its user, if its method may be used and its proof holds: `none` always (RFC 4252 section 5.2), a
--- password and a signature where the method is listed (sections 8 and 7). A query, a change of the password and any other method
--- prove nothing.
-unfoldable pub proof_in : Meaning → Party → List ℕ → List ℕ → List ℕ → Method → Option ProofData
-proof_in m party session user service NoMethod = Some NoProof
-proof_in m party session user service (Password password) =
-    if is_in party.methods (codes "password") then Some (PasswordProof password) else None
-proof_in m party session user service (PublicKey algorithm key signature) =
-    if is_in party.methods (codes "publickey") then signed_proof m session user service algorithm key signature else None
-proof_in m party session user service _ = None
-
--- the request is good: it proves something, and the decision on that is yes
-abbrev pub is_decided : Policy → ℕ → List ℕ → List ℕ → Option ProofData → Bool
-is_decided d request user service None = false
-is_decided d request user service (Some proof) = d.user request user service proof
-
+-- the request is good
 abbrev pub is_good : Meaning → Policy → Party → Known → List ℕ → List ℕ → Method → Bool
-is_good m d party known user service method = is_decided d known.request user service (proof_in m party known.session user service method)
+is_good m d party known user service method = is_good_at m d party known.session known.request user service method
 
 -- It is the last that the server grants: none has a greater number. That every request counts, and that the last one ends the
 -- session, is profile (RFC 4252 section 4).
 abbrev pub is_last_try : Party → Known → Bool
 is_last_try party known = nat_le party.tries known.request
 
--- USERAUTH_REQUEST (RFC 4252 sections 5 and 5.1): first the service, then whether the request is good, then the tries
+-- a request that isn't the last that the server grants is answered by this message
+abbrev pub more_reply : Party → Known → Content → Reply
+more_reply party known answer = if is_last_try party known then fails fault.TooManyTries else goes (written_message answer ∷ [])
+
+-- The key of a query would do: its method is listed, its algorithm is a name, the key isn't longer than one that a suite answers
+-- (profile), and the decision on it is yes for the number of this request.
+abbrev pub would_do : Policy → Party → Known → List ℕ → List ℕ → List ℕ → List ℕ → Bool
+would_do d party known user service algorithm key =
+    is_in party.methods (codes "publickey") && (is_name algorithm
+    && (nat_le (length key) BLOB_LIMIT && d.user known.request user service (KeyProof algorithm key)))
+
+abbrev pub query_answer : Policy → Party → Known → List ℕ → List ℕ → List ℕ → List ℕ → Content
+query_answer d party known user service algorithm key =
+    if would_do d party known user service algorithm key then UserauthPkOk algorithm key else UserauthFailure party.methods false
+
+-- Behind a request all required methods are reached (RFC 4252 section 5.1; that they are so in an unbroken run of requests for
+-- one user and one service is profile).
+abbrev pub completes : Party → Known → List ℕ → List ℕ → Method → Bool → Bool
+completes party known user service method good = is_complete party.required (reached_behind known.reached (tried_with user service method good))
+
+-- every other request: SUCCESS where it is good and all required methods are reached behind it; else FAILURE, which tells partial
+-- success where it is good
+abbrev pub tried_reply : Party → Known → List ℕ → List ℕ → Method → Bool → Reply
+tried_reply party known user service method good =
+    if good && completes party known user service method good
+    then record { answers = written_message UserauthSuccess ∷ []; end = Authenticated (agreed_by known user service) }
+    else more_reply party known (UserauthFailure party.methods good)
+
+abbrev pub method_reply : Meaning → Policy → Party → Known → List ℕ → List ℕ → Method → Reply
+method_reply m d party known user service (PublicKeyQuery algorithm key) = more_reply party known (query_answer d party known user service algorithm key)
+method_reply m d party known user service method = tried_reply party known user service method (is_good m d party known user service method)
+
+-- USERAUTH_REQUEST (RFC 4252 sections 5, 5.1 and 7): first the service, then the request, then the tries
 unfoldable pub request_reply : Meaning → Policy → Party → Known → List ℕ → List ℕ → Method → Reply
 request_reply m d party known user service method =
-    if not (is_in party.services service) then fails fault.Service
-    else if is_good m d party known user service method
-    then record { answers = written_message UserauthSuccess ∷ []; end = Authenticated (agreed_by known user service) }
-    else if is_last_try party known then fails fault.TooManyTries
-    else goes (written_message (UserauthFailure party.methods false) ∷ [])
+    if is_in party.services service then method_reply m d party known user service method else fails fault.Service

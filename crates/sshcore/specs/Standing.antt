@@ -2,7 +2,7 @@
 
 use Rattle.std.specs.Prelude.{◌≡◌, ℕ, ◌+◌, ◌==◌, Bool, true, false, if◌then◌else◌, List, [], Some}
 use Rattle.sshwire.specs.declared.share_form.ShareForm.TheVariants.{Mpint}
-use Rattle.sshmsg.specs.declared.numbers.TheConstants.{SSH_MSG_KEXINIT, SSH_MSG_NEWKEYS, SSH_MSG_USERAUTH_FAILURE, SSH_MSG_USERAUTH_REQUEST}
+use Rattle.sshmsg.specs.declared.numbers.TheConstants.{SSH_MSG_KEXINIT, SSH_MSG_NEWKEYS, SSH_MSG_USERAUTH_REQUEST}
 use Rattle.sshmsg.specs.Content.{Offer}
 use Rattle.sshmsg.specs.Messages.{message_in}
 use Rattle.sshmsg.specs.Numbers.{kind}
@@ -16,9 +16,11 @@ use Rattle.sshcore.specs.declared.table.Phase.TheVariants as phase
 use Rattle.sshcore.specs.Before.{expects_guess, offered, stood, strict_towards}
 use Rattle.sshcore.specs.Exchange.{choice_with, chosen_or, exchange_with, no_algorithms, shares_by}
 use Rattle.sshcore.specs.Known.{Known, known_at}
-use Rattle.sshcore.specs.Party.{Party}
+use Rattle.sshcore.specs.Party.{Party, Policy}
 use Rattle.sshcore.specs.Phases.{leaving, past_exchange, past_kexinit, past_newkeys, past_service}
-use Rattle.sshcore.specs.Plan.{left_behind}
+use Rattle.sshcore.specs.Plan.{is_answer, left_behind}
+use Rattle.sshcore.specs.Reached.{nothing_reached, reached_after}
+use Rattle.sshcore.specs.Tries.{tried_in}
 
 -- of the messages that leave phases, those stood that the phase has behind it
 pub record Tied (role : Role) (own : Offer) (before : Units) (p : Phase) : Type 0 where
@@ -45,6 +47,7 @@ nothing_known party version = record {
   session = [];
   request = 1;
   left = party.plan;
+  reached = nothing_reached;
   strict = false;
   first = true;
 }
@@ -59,16 +62,19 @@ behind_offer m role party known payload peer = record {
   session = known.session;
   request = known.request;
   left = known.left;
+  reached = known.reached;
   strict = strict_towards role party.strict (Some peer);
   first = false;
 }
 
 -- What is known behind a payload that is neither dropped nor the first KEXINIT nor the exchange message: a request counts, and
--- behind a FAILURE the next attempt is made.
-abbrev pub behind_payload : Known → List ℕ → Known
-behind_payload known payload = record known {
+-- may reach a method; behind an answer the attempt itself or the next one is made.
+abbrev pub behind_payload : Meaning → Policy → Party → Known → List ℕ → Known
+behind_payload m d party known payload = record known {
   request = if kind payload == SSH_MSG_USERAUTH_REQUEST then known.request + 1 else known.request;
-  left = if kind payload == SSH_MSG_USERAUTH_FAILURE then left_behind known.left payload else known.left;
+  left = if is_answer (kind payload) then left_behind known.left payload else known.left;
+  reached = if kind payload == SSH_MSG_USERAUTH_REQUEST
+      then reached_after known.reached (tried_in m d party known.session known.request payload) else known.reached;
   first = false;
 }
 
@@ -83,7 +89,7 @@ behind_exchange m role party known payload =
     record known { session = exchange_hash m known.algorithms.kex (exchange_heard m role party known payload) }
 
 -- An endpoint that has heard this version and these payloads stands so.
-pub record Sits (m : Meaning) (role : Role) (party : Party) (version : List ℕ) (before : Units) (p : Phase) (guess : Bool) (known : Known) : Type 0 where
+pub record Sits (m : Meaning) (d : Policy) (role : Role) (party : Party) (version : List ℕ) (before : Units) (p : Phase) (guess : Bool) (known : Known) : Type 0 where
   pub tied : Tied role party.offer before p
   pub due : expects_guess role party.offer before ≡ guess
-  pub knows : known_at m role party version before ≡ known
+  pub knows : known_at m d role party version before ≡ known

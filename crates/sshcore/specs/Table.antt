@@ -2,7 +2,7 @@
 -- order in which they are tried, and the first that applies decides.
 
 use Rattle.std.specs.Prelude.{ℕ, ◌==◌, ◌&&◌, ◌||◌, Bool, true, false, not, nat_le, if◌then◌else◌}
-use Rattle.sshmsg.specs.declared.numbers.TheConstants.{SSH_MSG_DISCONNECT, SSH_MSG_EXT_INFO, SSH_MSG_USERAUTH_BANNER, SSH_MSG_USERAUTH_FAILURE, SSH_MSG_USERAUTH_REQUEST}
+use Rattle.sshmsg.specs.declared.numbers.TheConstants.{SSH_MSG_DISCONNECT, SSH_MSG_EXT_INFO, SSH_MSG_USERAUTH_BANNER, SSH_MSG_USERAUTH_FAILURE, SSH_MSG_USERAUTH_PK_OK, SSH_MSG_USERAUTH_REQUEST}
 use Rattle.sshneg.specs.declared.role.Role.{Role}
 use Rattle.sshneg.specs.declared.role.Role.TheVariants.{Client, Server}
 use Rattle.sshcore.specs.declared.table.Line.{Line}
@@ -24,12 +24,12 @@ is_ruled _ strict = false
 abbrev pub is_of_method : ℕ → Bool
 is_of_method n = within 30 49 n
 
--- The messages of authentication: a server hears requests, a client FAILUREs and banners (RFC 4252 sections 5, 5.1 and 5.4). A
--- SUCCESS leaves the phase.
-abbrev pub is_of_auth : Role → Phase → ℕ → Bool
-is_of_auth Server phase.Auth n = n == SSH_MSG_USERAUTH_REQUEST
-is_of_auth Client phase.Auth n = n == SSH_MSG_USERAUTH_FAILURE || n == SSH_MSG_USERAUTH_BANNER
-is_of_auth role _ n = false
+-- The messages of authentication: a server hears requests, a client FAILUREs and banners, and a PK_OK while a query waits for
+-- its answer (RFC 4252 sections 5, 5.1, 5.4 and 7). A SUCCESS leaves the phase.
+abbrev pub is_of_auth : Role → Phase → Bool → ℕ → Bool
+is_of_auth Server phase.Auth waits n = n == SSH_MSG_USERAUTH_REQUEST
+is_of_auth Client phase.Auth waits n = n == SSH_MSG_USERAUTH_FAILURE || (n == SSH_MSG_USERAUTH_BANNER || (waits && n == SSH_MSG_USERAUTH_PK_OK))
+is_of_auth role _ waits n = false
 
 -- IGNORE, UNIMPLEMENTED and DEBUG may come at any time (RFC 4253 section 11)
 abbrev pub is_ignored : ℕ → Bool
@@ -41,21 +41,21 @@ takes_extensions phase.Service = true
 takes_extensions phase.Auth = true
 takes_extensions _ = false
 
--- numbers without a meaning here, up to the end of authentication (RFC 4253 section 11.4, RFC 4250 section 4.1)
+-- numbers without a meaning here, up to the end of authentication (RFC 4253 section 11.4, RFC 4250 section 4.1); that of PK_OK has one
 abbrev pub is_unknown : ℕ → Bool
-is_unknown n = within 8 19 n || (within 22 29 n || (within 32 49 n || within 54 79 n))
+is_unknown n = within 8 19 n || (within 22 29 n || (within 32 49 n || (within 54 59 n || within 61 79 n)))
 
--- The table; `guess` says that the packet of a wrong guess is due. Its lines: a DISCONNECT; that packet, where strictness
+-- The table; `guess` says that the packet of a wrong guess is due, `waits` that a query waits for its answer. Its lines: a DISCONNECT; that packet, where strictness
 -- doesn't rule; that packet, with a number of the method's own; what strictness doesn't require; what leaves the phase; what
 -- is of authentication; what is ignored; EXT_INFO; what has no meaning; and what has no use.
-unfoldable pub line_by : Role → Phase → Bool → Bool → ℕ → Line
-line_by role p strict guess n =
+unfoldable pub line_by : Role → Phase → Bool → Bool → Bool → ℕ → Line
+line_by role p strict guess waits n =
     if n == SSH_MSG_DISCONNECT then line.Reads
     else if guess && not (is_ruled p strict) then line.Drops
     else if guess && is_of_method n then line.Drops
     else if is_ruled p strict && (guess || not (n == leaving role p)) then line.Deviates
     else if n == leaving role p then line.Reads
-    else if is_of_auth role p n then line.Reads
+    else if is_of_auth role p waits n then line.Reads
     else if is_ignored n then line.Reads
     else if n == SSH_MSG_EXT_INFO && takes_extensions p then line.Reads
     else if is_unknown n then line.Unknown

@@ -6,7 +6,7 @@ use Rattle.std.specs.Str.{bytes_eq}
 use Rattle.sshwire.specs.declared.share_form.ShareForm.{ShareForm}
 use Rattle.sshwire.specs.declared.share_form.ShareForm.TheVariants.{Hybrid, Mpint, OctetString}
 use Rattle.sshmsg.specs.declared.numbers.TheConstants.{SSH_MSG_KEXINIT, SSH_MSG_SERVICE_ACCEPT}
-use Rattle.sshmsg.specs.Content.{Content, Disconnect, KexEcdhInit, KexEcdhReply, KexInit, KexdhInit, KexdhReply, NewKeys, Offer, ServiceAccept, ServiceRequest, UserauthBanner, UserauthFailure, UserauthRequest, UserauthSuccess}
+use Rattle.sshmsg.specs.Content.{Content, Disconnect, KexEcdhInit, KexEcdhReply, KexInit, KexdhInit, KexdhReply, NewKeys, Offer, ServiceAccept, ServiceRequest, UserauthBanner, UserauthFailure, UserauthPkOk, UserauthRequest, UserauthSuccess}
 use Rattle.sshmsg.specs.Written.{written_message}
 use Rattle.sshneg.specs.declared.choice.NoCommon.{NoCommon}
 use Rattle.sshneg.specs.declared.role.Role.{Role}
@@ -19,7 +19,7 @@ use Rattle.sshneg.specs.Strictness.{is_right_guess}
 use Rattle.sshpacket.specs.Stream.{Units}
 use Rattle.sshpacket.specs.Suite.{Meaning, ResponseData}
 use Rattle.sshcore.specs.declared.end.Fault.TheVariants as fault
-use Rattle.sshcore.specs.Attempts.{attempt_reply, failure_reply, success_reply}
+use Rattle.sshcore.specs.Attempts.{attempt_reply, failure_reply, pk_ok_reply, success_reply}
 use Rattle.sshcore.specs.Before.{strict_towards}
 use Rattle.sshcore.specs.Ending.{Closed, Reply, fails, goes}
 use Rattle.sshcore.specs.Exchange.{answer_with, choice_with, exchange_with, own_kexinit, secret_of}
@@ -140,4 +140,5 @@ work m d role party known (ServiceAccept service) = accept_reply m known service
 work m d role party known (UserauthRequest user service method) = request_reply m d party known user service method
 work m d role party known (UserauthFailure listed partial) = failure_reply m known listed
 work m d role party known UserauthSuccess = success_reply known
+work m d role party known (UserauthPkOk algorithm key) = pk_ok_reply m known algorithm key
 work m d role party known _ = goes []

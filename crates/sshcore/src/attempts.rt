@@ -1,6 +1,7 @@
 //! Phase auth at a client: the attempts of its plan and what the server answers (RFC 4252).
 
-ghost use Rattle.std.specs.Prelude.{◌≡◌, ◌≢◌, ◌≤◌, Bool, IfOk, OnOk, length, map};
+ghost use Rattle.std.specs.Prelude.{◌≡◌, ◌≢◌, ◌≤◌, [], true, false, Bool, IfOk, OnOk, length, map};
+ghost use Rattle.sshwire.specs.Types.{IsName};
 ghost use Rattle.sshmsg.specs.Content as content;
 ghost use Rattle.sshmsg.specs.View.{method_of};
 ghost use Rattle.sshmsg.specs.Written.{written_message};
@@ -9,23 +10,25 @@ ghost use Rattle.sshpacket.specs.KeyData.{KeyData};
 ghost use Rattle.sshpacket.specs.declared.limits.TheConstants.{DIGEST_LIMIT};
 ghost use Rattle.sshcore.specs.declared.end.Fault.TheVariants as fault;
 ghost use Rattle.sshcore.specs.declared.table.Phase.TheVariants as phase;
-ghost use Rattle.sshcore.specs.Attempts.{attempt_reply, failure_reply, request_of, success_reply};
-ghost use Rattle.sshcore.specs.Authenticating.{FitsRequest, failed_attempt};
+ghost use Rattle.sshcore.specs.declared.config_parts.TheConstants.{PRIVATE_KEY_LIMIT};
+ghost use Rattle.sshcore.specs.Attempts.{attempt_reply, failure_reply, is_asked, method_by, pk_ok_reply, request_of, success_reply};
+ghost use Rattle.sshcore.specs.Authenticating.{FitsRequest, confirmed_attempt, failed_attempt};
 ghost use Rattle.sshcore.specs.Brings.{Gives, IsOngoing, StandsAt, heard_one};
 ghost use Rattle.sshcore.specs.ConfigParty.{party_of};
 ghost use Rattle.sshcore.specs.ConfigRules.{IsAttempt};
+ghost use Rattle.sshcore.specs.ConfigData.{ByKey};
 ghost use Rattle.sshcore.specs.ConfigView.{attempt_of, proving_of};
 ghost use Rattle.sshcore.specs.Ending.{Failed, Open, ending};
 ghost use Rattle.sshcore.specs.Kept.{kept_of};
 ghost use Rattle.sshcore.specs.Made.{IsMade};
-ghost use Rattle.sshcore.specs.Plan.{next_behind, next_listed, proving_name};
+ghost use Rattle.sshcore.specs.Plan.{behind_query, first_made, next_behind, next_listed, proving_name};
 
 use crate::config::Config;
 use crate::config_parts::{Attempt, Credential};
 use crate::end::{End, Fault};
 use crate::payloads::payload_of;
 use crate::state::State;
-use sshmsg::{Message, Method, SSH_MSG_USERAUTH_SUCCESS};
+use sshmsg::{Message, Method, SSH_MSG_USERAUTH_PK_OK, SSH_MSG_USERAUTH_SUCCESS};
 use sshneg::signed_request;
 use sshpacket::Suite;
 use sshwire::{Memory, NameList};
@@ -50,7 +53,7 @@ impl State<'_> {
         match self.left.first() {
             None => self.fail(config, suite, Fault::NoMoreMethods, said),
             Some(attempt) => {
-                let request = request_payload(self.alloc, suite, &self.session, attempt)?;
+                let request = next_payload(self.alloc, suite, &self.session, self.confirmed, attempt)?;
                 self.say(config, suite, &request, said)
             }
         }
@@ -77,8 +80,46 @@ impl State<'_> {
         ensures kept { OnOk result (ending self.new.end ≢ Failed fault.Memory) }
     {
         self.left = next_attempts(self.left, methods);
+        self.confirmed = false;
         self.first = false;
         self.make_attempt(config, suite, said)
+    }
+
+    /// A client hears PK_OK: the attempt of the query is made itself, if the key is the one that was asked
+    /// about; else it is unexpected (RFC 4252 section 7).
+    pub(crate) fn hear_pk_ok<S: Suite>(
+        &mut self,
+        config: &Config<'_>,
+        suite: &S,
+        algorithm: &[u8],
+        key: &[u8],
+        said: &mut Vec<u8>,
+    ) -> Result<(), Memory>
+        requires open { ending self.old.end ≡ Open }
+        ensures gives { OnOk result ((strict : Bool) (next : KeyData)
+            → Gives (S.meaning suite.now) (party_of config.now).seed strict next (kept_of self.old) (kept_of self.new) said.old.items said.new.items
+            (pk_ok_reply (S.meaning suite.now) (kept_of self.old).known algorithm.now key.now)) }
+        ensures stays { OnOk result (IsOngoing (kept_of self.new).end → kept_of self.new ≡ record (kept_of self.old) {
+          end = (kept_of self.new).end;
+          known = confirmed_attempt (kept_of self.old).known;
+          sending = (kept_of self.new).sending;
+        }) }
+        ensures kept { OnOk result (ending self.new.end ≢ Failed fault.Memory) }
+    {
+        let unexpected = Fault::Unexpected(SSH_MSG_USERAUTH_PK_OK);
+        match self.left.first() {
+            None => self.fail(config, suite, unexpected, said),
+            Some(attempt) => {
+                if self.confirmed || !is_asked(self.alloc, suite, attempt, algorithm, key)? {
+                    return self.fail(config, suite, unexpected, said);
+                }
+                let request = itself_payload(self.alloc, suite, &self.session, attempt)?;
+                self.say(config, suite, &request, said)?;
+                self.confirmed = true;
+                self.first = false;
+                Ok(())
+            }
+        }
     }
 
     /// A client hears SUCCESS: the user of the attempt that was made last is authenticated (RFC 4252
@@ -143,7 +184,8 @@ fn is_listed(attempt: &Attempt, listed: &NameList) -> bool
     listed.contains(attempt.credential.method())
 }
 
-/// The payload of the request of an attempt (RFC 4252 section 5), in the session of this identifier.
+/// The payload of the request of an attempt (RFC 4252 section 5), in the session of this identifier; of
+/// one that asks its query (section 7).
 fn request_payload<S: Suite>(
     alloc: Global,
     suite: &S,
@@ -154,7 +196,6 @@ fn request_payload<S: Suite>(
     requires session { length session.now ≤ DIGEST_LIMIT }
     ensures { IfOk result (λ made. IsMade (request_of (S.meaning suite.now) session.now (attempt_of attempt.now)) made.items) }
 {
-    sshneg::exchange_law();
     match &attempt.credential {
         Credential::None => method_payload(alloc, attempt, Method::None),
         Credential::Password(password) => method_payload(
@@ -165,18 +206,138 @@ fn request_payload<S: Suite>(
         Credential::PublicKey {
             algorithm,
             private_key,
+            ask,
         } => {
-            let key = suite.blob(alloc, algorithm, private_key)?;
-            let service = attempt.service.as_bytes();
-            let input = signed_request(alloc, session, &attempt.user, service, algorithm, &key)?;
-            let signature = suite.sign(alloc, algorithm, private_key, &input)?;
-            let method = Method::PublicKey {
-                algorithm: algorithm.as_bytes(),
-                key: &key,
-                signature: &signature,
-            };
-            method_payload(alloc, attempt, method)
+            if *ask {
+                query_payload(alloc, suite, attempt, algorithm, private_key)
+            } else {
+                signed_payload(alloc, suite, session, attempt, algorithm, private_key)
+            }
         }
+    }
+}
+
+/// The payload of the request that an attempt makes next: itself, if its query was confirmed.
+fn next_payload<S: Suite>(
+    alloc: Global,
+    suite: &S,
+    session: &[u8],
+    confirmed: bool,
+    attempt: &Attempt,
+) -> Result<Vec<u8>, Memory>
+    requires attempt { IsAttempt (attempt_of attempt.now) }
+    requires session { length session.now ≤ DIGEST_LIMIT }
+    ensures { IfOk result (λ made. IsMade (request_of (S.meaning suite.now) session.now (first_made confirmed (attempt_of attempt.now))) made.items) }
+{
+    if confirmed {
+        itself_payload(alloc, suite, session, attempt)
+    } else {
+        request_payload(alloc, suite, session, attempt)
+    }
+}
+
+/// The payload of the request of an attempt whose query was answered by PK_OK: it asks no more.
+fn itself_payload<S: Suite>(
+    alloc: Global,
+    suite: &S,
+    session: &[u8],
+    attempt: &Attempt,
+) -> Result<Vec<u8>, Memory>
+    requires attempt { IsAttempt (attempt_of attempt.now) }
+    requires session { length session.now ≤ DIGEST_LIMIT }
+    ensures { IfOk result (λ made. IsMade (request_of (S.meaning suite.now) session.now (behind_query (attempt_of attempt.now))) made.items) }
+{
+    match &attempt.credential {
+        Credential::None => method_payload(alloc, attempt, Method::None),
+        Credential::Password(password) => method_payload(
+            alloc,
+            attempt,
+            Method::Password { password },
+        ),
+        Credential::PublicKey {
+            algorithm,
+            private_key,
+            ..
+        } => signed_payload(alloc, suite, session, attempt, algorithm, private_key),
+    }
+}
+
+/// The payload of the query whether a key would do (RFC 4252 section 7).
+fn query_payload<S: Suite>(
+    alloc: Global,
+    suite: &S,
+    attempt: &Attempt,
+    algorithm: &str,
+    private_key: &[u8],
+) -> Result<Vec<u8>, Memory>
+    requires attempt { IsAttempt (attempt_of attempt.now) }
+    requires named { IsName algorithm.now }
+    requires key { length private_key.now ≤ PRIVATE_KEY_LIMIT }
+    ensures { IfOk result (λ made. IsMade (written_message (content.UserauthRequest (attempt_of attempt.now).user (attempt_of attempt.now).service
+        (method_by (S.meaning suite.now) [] [] [] (ByKey algorithm.now private_key.now true)))) made.items) }
+{
+    let key = suite.blob(alloc, algorithm, private_key)?;
+    let method = Method::PublicKeyQuery {
+        algorithm: algorithm.as_bytes(),
+        key: &key,
+    };
+    method_payload(alloc, attempt, method)
+}
+
+/// The payload of the request that is signed by a key, in the session of this identifier (RFC 4252
+/// section 7).
+fn signed_payload<S: Suite>(
+    alloc: Global,
+    suite: &S,
+    session: &[u8],
+    attempt: &Attempt,
+    algorithm: &str,
+    private_key: &[u8],
+) -> Result<Vec<u8>, Memory>
+    requires attempt { IsAttempt (attempt_of attempt.now) }
+    requires named { IsName algorithm.now }
+    requires key { length private_key.now ≤ PRIVATE_KEY_LIMIT }
+    requires session { length session.now ≤ DIGEST_LIMIT }
+    ensures { IfOk result (λ made. IsMade (written_message (content.UserauthRequest (attempt_of attempt.now).user (attempt_of attempt.now).service
+        (method_by (S.meaning suite.now) session.now (attempt_of attempt.now).user (attempt_of attempt.now).service (ByKey algorithm.now private_key.now false)))) made.items) }
+{
+    sshneg::exchange_law();
+    let key = suite.blob(alloc, algorithm, private_key)?;
+    let service = attempt.service.as_bytes();
+    let input = signed_request(alloc, session, &attempt.user, service, algorithm, &key)?;
+    let signature = suite.sign(alloc, algorithm, private_key, &input)?;
+    let method = Method::PublicKey {
+        algorithm: algorithm.as_bytes(),
+        key: &key,
+        signature: &signature,
+    };
+    method_payload(alloc, attempt, method)
+}
+
+/// Whether it was asked if this key would do.
+fn is_asked<S: Suite>(
+    alloc: Global,
+    suite: &S,
+    attempt: &Attempt,
+    algorithm: &[u8],
+    key: &[u8],
+) -> Result<bool, Memory>
+    requires { IsAttempt (attempt_of attempt.now) }
+    ensures { IfOk result (λ asked. asked ≡ is_asked (S.meaning suite.now) (proving_of attempt.now.credential) algorithm.now key.now) }
+{
+    match &attempt.credential {
+        Credential::PublicKey {
+            algorithm: own,
+            private_key,
+            ask,
+        } => {
+            if !*ask || algorithm != own.as_bytes() {
+                return Ok(false);
+            }
+            let blob = suite.blob(alloc, own, private_key)?;
+            Ok(key == blob.as_slice())
+        }
+        _ => Ok(false),
     }
 }
 

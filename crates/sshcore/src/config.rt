@@ -164,6 +164,16 @@ impl<'a> Config<'a> {
         }
     }
 
+    /// The methods that a user has to prove all; a client requires none.
+    pub(crate) fn required(&self) -> &'a [String]
+        ensures { map string_bytes result.now ≡ (party_of self.now).required }
+    {
+        match self {
+            Config::Client(_) => &[],
+            Config::Server(server) => &server.parts().required,
+        }
+    }
+
     /// How many requests a server grants; a client none.
     pub(crate) fn tries(&self) -> u32
         ensures tries { result ≡ (party_of self.now).tries }
@@ -188,7 +198,7 @@ impl<'a> Config<'a> {
 }
 
 /// The first of these names that these bytes are.
-fn name_in<'a>(names: &'a [String], name: &[u8]) -> Option<&'a str>
+pub(crate) fn name_in<'a>(names: &'a [String], name: &[u8]) -> Option<&'a str>
     ensures { option_map (λ own. own.now) result ≡ (if is_in (map string_bytes names.now) name.now then Some name.now else None) }
 {
     match names.iter().find(|own| name == own.as_bytes()) {

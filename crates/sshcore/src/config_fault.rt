@@ -14,8 +14,8 @@ pub enum ConfigFault {
     /// C1: a list of key exchange methods, host key algorithms, ciphers or MACs is empty.
     EmptyList,
     /// C2: an entry of a list, a service, or an algorithm of a host key or of an attempt is no name
-    /// (RFC 4251 section 6); a marker stands in the kex list; or a server has another method than
-    /// `password` and `publickey`.
+    /// (RFC 4251 section 6); a marker stands in the kex list; or a server has or requires another method
+    /// than `password` and `publickey`.
     Name,
     /// C3: the text of a list, markers left out, has more than 1000 bytes.
     ListTooLong,
@@ -37,6 +37,8 @@ pub enum ConfigFault {
     Random,
     /// C11: a growth was refused. It comes only where no other cause holds.
     Memory,
+    /// C12: a required method isn't one of the server's methods, or stands twice.
+    Required,
 }
 
 impl fmt::Display for ConfigFault {
@@ -53,6 +55,7 @@ impl fmt::Display for ConfigFault {
             ConfigFault::Tries => "C9",
             ConfigFault::Random => "C10",
             ConfigFault::Memory => "C11",
+            ConfigFault::Required => "C12",
         };
         f.write_str(text)
     }

@@ -1,12 +1,14 @@
 //! Judges the parts of configs, without memory: one function for each rule, and the least refusal.
 
-ghost use Rattle.std.specs.Prelude.{◌≡◌, length, nat_le, option_map, string_bytes};
+ghost use Rattle.std.specs.Prelude.{◌≡◌, length, map, nat_le, option_map, string_bytes};
 ghost use Rattle.std.specs.List.{list_all};
 ghost use Rattle.sshwire.specs.TypeReadings.{is_name};
+ghost use Rattle.sshneg.specs.ChoiceReadings.{is_in};
 ghost use Rattle.sshcore.specs.declared.config_parts.TheConstants.{BANNER_LIMIT, PRIVATE_KEY_LIMIT, USER_LIMIT};
 ghost use Rattle.sshcore.specs.declared.config_fault.ConfigFault.TheVariants as fault;
-ghost use Rattle.sshcore.specs.ConfigTests.{are_listed, are_methods, are_names, are_notices, client_test, has_lengths, has_short_key, has_short_password, host_keys_are_named, host_keys_are_short, is_attempt_named, is_listed, is_named, is_notice, is_notice_byte, is_short_banner, is_short_list, is_some, is_version, lists_are_names, lists_are_short, lists_are_some, refusal, server_lists_are_names, server_test};
+ghost use Rattle.sshcore.specs.ConfigTests.{are_distinct, are_listed, are_methods, are_names, are_notices, are_required, client_test, has_lengths, has_short_key, has_short_password, host_keys_are_named, host_keys_are_short, is_attempt_named, is_listed, is_named, is_notice, is_notice_byte, is_short_banner, is_short_list, is_some, is_version, lists_are_names, lists_are_short, lists_are_some, refusal, server_lists_are_names, server_test};
 
+use crate::config::name_in;
 use crate::config_fault::ConfigFault;
 use crate::config_parts::{
     Attempt, BANNER_LIMIT, ClientParts, Credential, HostKey, LIST_LIMIT, NOTICE_LIMIT,
@@ -75,6 +77,9 @@ pub(crate) fn server_refusal(parts: &ServerParts) -> Option<ConfigFault>
     if !has_lengths(&parts.side) {
         return Some(ConfigFault::Random);
     }
+    if !server_required_are_methods(parts) {
+        return Some(ConfigFault::Required);
+    }
     None
 }
 
@@ -122,6 +127,7 @@ fn server_names_are_names(parts: &ServerParts) -> bool
     server_lists_are_names(parts)
         && are_methods(&parts.side.kex_algorithms)
         && are_listed(&parts.methods)
+        && are_listed(&parts.required)
 }
 
 fn server_lists_are_names(parts: &ServerParts) -> bool
@@ -130,6 +136,7 @@ fn server_lists_are_names(parts: &ServerParts) -> bool
     lists_are_names(&parts.side, host_keys_are_named(&parts.host_keys))
         && are_names(&parts.services)
         && are_names(&parts.methods)
+        && are_names(&parts.required)
 }
 
 /// Whether each entry of a side's lists is a name, where it is known of the host key algorithms.
@@ -220,6 +227,7 @@ fn server_lists_are_short(parts: &ServerParts) -> bool
     lists_are_short(&parts.side, host_keys_are_short(&parts.host_keys))
         && is_short_list(&parts.services)
         && is_short_list(&parts.methods)
+        && is_short_list(&parts.required)
 }
 
 /// Whether the text of each of a side's lists is short enough, where it is known of the host key
@@ -394,6 +402,42 @@ fn is_short_banner(banner: &Option<Vec<u8>>) -> bool
     match banner {
         Some(text) => text.len() <= BANNER_LIMIT,
         None => true,
+    }
+}
+
+fn server_required_are_methods(parts: &ServerParts) -> bool
+    ensures { result ≡ server_test parts.now fault.Required }
+{
+    are_required(&parts.methods, &parts.required)
+}
+
+/// Whether each required method is one of the methods, and none stands twice.
+fn are_required(methods: &[String], required: &[String]) -> bool
+    ensures { result ≡ are_required (map string_bytes methods.now) (map string_bytes required.now) }
+{
+    are_in(methods, required) && are_distinct(required)
+}
+
+/// Whether all these names stand in this list.
+fn are_in(names: &[String], required: &[String]) -> bool
+    ensures { result ≡ list_all (λ own. is_in (map string_bytes names.now) (string_bytes own)) required.now }
+{
+    required.iter().all(|name| is_in(names, name))
+}
+
+fn is_in(names: &[String], name: &str) -> bool
+    ensures { result ≡ is_in (map string_bytes names.now) name.now }
+{
+    name_in(names, name.as_bytes()).is_some()
+}
+
+/// Whether no name stands twice.
+fn are_distinct(names: &[String]) -> bool
+    ensures { result ≡ are_distinct (map string_bytes names.now) }
+{
+    match names.split_first() {
+        None => true,
+        Some((name, later)) => !is_in(later, name) && are_distinct(later),
     }
 }
 

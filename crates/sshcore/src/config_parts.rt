@@ -44,12 +44,14 @@ pub enum Credential {
         algorithm: String,
         /// The private key as the suite has it, at most 8192 bytes.
         private_key: Vec<u8>,
+        /// Whether the server is asked first if the key would do.
+        ask: bool,
     },
 }
 
 impl Credential {
     ghost use Rattle.sshcore.specs.ConfigView.{proving_of};
-    ghost use Rattle.sshcore.specs.Plan.{proving_name};
+    ghost use Rattle.sshcore.specs.Plan.{asks, proving_name};
 
     /// The name of the method of the request. Takes no memory.
     pub fn method(&self) -> &'static str
@@ -59,6 +61,16 @@ impl Credential {
             Credential::None => "none",
             Credential::Password(_) => "password",
             Credential::PublicKey { .. } => "publickey",
+        }
+    }
+
+    /// Whether the server is asked first if the key would do. Takes no memory.
+    pub(crate) fn asks(&self) -> bool
+        ensures { result ≡ asks (proving_of self.now) }
+    {
+        match self {
+            Credential::PublicKey { ask, .. } => *ask,
+            _ => false,
         }
     }
 }
@@ -137,6 +149,8 @@ pub struct ServerParts {
     pub services: Vec<String>,
     /// The methods that a FAILURE lists, each `password` or `publickey`; there may be none.
     pub methods: Vec<String>,
+    /// The methods that a user has to prove all, each one of `methods`; there may be none.
+    pub required: Vec<String>,
     /// The number of the request at which a failure ends the session, 1 to 20.
     pub tries: u32,
     /// The text of the BANNER that follows the accepted service (RFC 4252 section 5.4), at most 8192

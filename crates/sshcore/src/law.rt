@@ -1,6 +1,7 @@
 //! What the layers above may rest on.
 
 ghost use Rattle.std.specs.Prelude.{◌≡◌, ◌⊎◌, ℕ, ◌+◌, ◌<◌, ◌≤◌, ◌%◌, ◌^◌, ◌==◌, Bool, true, false, if◌then◌else◌, List, [], ◌∷◌, ◌++◌, length, take, Option, None, Some};
+ghost use Rattle.std.specs.List.{AllByRecursion};
 ghost use Rattle.sshwire.specs.declared.share_form.ShareForm.{ShareForm};
 ghost use Rattle.sshmsg.specs.declared.numbers.TheConstants.{SSH_MSG_DISCONNECT, SSH_MSG_NEWKEYS, SSH_MSG_USERAUTH_REQUEST};
 ghost use Rattle.sshmsg.specs.Content.{Offer};
@@ -25,6 +26,9 @@ ghost use Rattle.sshcore.specs.History.{AllFit, BrokenOff, History, IsOneHistory
 ghost use Rattle.sshcore.specs.Known.{Known};
 ghost use Rattle.sshcore.specs.Party.{Party, Policy};
 ghost use Rattle.sshcore.specs.Phases.{behind, leaving, past_exchange, past_newkeys};
+ghost use Rattle.sshcore.specs.Plan.{is_waiting};
+ghost use Rattle.sshcore.specs.ConfigRules.{IsListed};
+ghost use Rattle.sshcore.specs.Reached.{IsRun, Tried, are_reached, is_complete, nothing_reached, reached_after, reached_behind, run_of};
 ghost use Rattle.sshcore.specs.Replies.{Ends, StaysOpen, answers_at, end_at, fault_of, line_reply, reply_at};
 ghost use Rattle.sshcore.specs.Standing.{LeavesNone, Sits, behind_exchange, behind_offer, behind_payload, exchange_heard, nothing_known};
 ghost use Rattle.sshcore.specs.StrictClause.{KeepsStrict};
@@ -55,57 +59,68 @@ pub fn authentication_law()
     sshneg::markers_law();
 }
 
+/// The law of required methods: what a server keeps of the methods that are reached tells which of them
+/// were reached in the unbroken run of requests for one user and one service (RFC 4252 section 5.1).
+pub fn reached_law()
+    // The run, and no other.
+    ensures run { (user service : List ℕ) (tried : List Tried) → IsRun user service tried (run_of user service tried) }
+    ensures only { (user service : List ℕ) (tried run : List Tried) → IsRun user service tried run → run ≡ run_of user service tried }
+    // Behind a good request all required methods are reached exactly if requests of its run were good for them all.
+    ensures kept { (tried : List Tried) (t : Tried) (good : List ℕ) (required : List (List ℕ)) → t.good ≡ Some good → AllByRecursion IsListed required
+        → is_complete required (reached_behind (reached_after nothing_reached tried) t) ≡ are_reached required t.user t.service (tried ++ t ∷ []) }
+{}
+
 /// The law of standing: where an endpoint stands between two payloads, what the next one brings there,
 /// and where it stands behind it.
 pub fn standing_law()
     // Before anything but the peer's version line was heard.
-    ensures begins { (m : Meaning) (role : Role) (party : Party) (version : List ℕ) → Sits m role party version [] phase.KexInit false (nothing_known party version) }
+    ensures begins { (m : Meaning) (d : Policy) (role : Role) (party : Party) (version : List ℕ) → Sits m d role party version [] phase.KexInit false (nothing_known party version) }
     // What a payload brings is what its line of the phase table says.
     ensures replies { (m : Meaning) (d : Policy) (role : Role) (party : Party) (version : List ℕ) (before : Units) (payload : List ℕ) (p : Phase) (guess : Bool) (known : Known)
-        → Sits m role party version before p guess known → reply_at m d role party version before payload
-        ≡ line_reply m d role party known (number_in role party before) (line_by role p known.strict guess (kind payload)) payload }
+        → Sits m d role party version before p guess known → reply_at m d role party version before payload
+        ≡ line_reply m d role party known (number_in role party before) (line_by role p known.strict guess (is_waiting known.left) (kind payload)) payload }
 
     // Behind the peer's KEXINIT; behind the packet of a wrong guess; behind the exchange message; behind every other message that
     // leaves a phase; and behind one that leaves none.
-    ensures offers { (m : Meaning) (role : Role) (party : Party) (version : List ℕ) (before : Units) (payload : List ℕ) (peer : Offer) (known : Known)
-        → Sits m role party version before phase.KexInit false known → offer_in payload ≡ Some peer
-        → Sits m role party version (before ++ payload ∷ []) phase.Exchange (wrong_guess role party.offer (Some peer)) (behind_offer m role party known payload peer) }
-    ensures drops { (m : Meaning) (role : Role) (party : Party) (version : List ℕ) (before : Units) (payload : List ℕ) (p : Phase) (known : Known)
-        → Sits m role party version before p true known → (kind payload == SSH_MSG_DISCONNECT) ≡ false
-        → Sits m role party version (before ++ payload ∷ []) p false (record known { first = false }) }
-    ensures exchanges { (m : Meaning) (role : Role) (party : Party) (version : List ℕ) (before : Units) (payload : List ℕ) (known : Known)
-        → Sits m role party version before phase.Exchange false known → kind payload ≡ leaving role phase.Exchange
-        → Sits m role party version (before ++ payload ∷ []) phase.NewKeys false (behind_exchange m role party known payload) }
-    ensures leaves { (m : Meaning) (role : Role) (party : Party) (version : List ℕ) (before : Units) (payload : List ℕ) (p : Phase) (known : Known)
-        → Sits m role party version before p false known → past_exchange p ≡ true → kind payload ≡ leaving role p
-        → Sits m role party version (before ++ payload ∷ []) (behind p) false (behind_payload known payload) }
-    ensures stays { (m : Meaning) (role : Role) (party : Party) (version : List ℕ) (before : Units) (payload : List ℕ) (p : Phase) (known : Known)
-        → Sits m role party version before p false known → LeavesNone role (kind payload)
-        → Sits m role party version (before ++ payload ∷ []) p false (behind_payload known payload) }
+    ensures offers { (m : Meaning) (d : Policy) (role : Role) (party : Party) (version : List ℕ) (before : Units) (payload : List ℕ) (peer : Offer) (known : Known)
+        → Sits m d role party version before phase.KexInit false known → offer_in payload ≡ Some peer
+        → Sits m d role party version (before ++ payload ∷ []) phase.Exchange (wrong_guess role party.offer (Some peer)) (behind_offer m role party known payload peer) }
+    ensures drops { (m : Meaning) (d : Policy) (role : Role) (party : Party) (version : List ℕ) (before : Units) (payload : List ℕ) (p : Phase) (known : Known)
+        → Sits m d role party version before p true known → (kind payload == SSH_MSG_DISCONNECT) ≡ false
+        → Sits m d role party version (before ++ payload ∷ []) p false (record known { first = false }) }
+    ensures exchanges { (m : Meaning) (d : Policy) (role : Role) (party : Party) (version : List ℕ) (before : Units) (payload : List ℕ) (known : Known)
+        → Sits m d role party version before phase.Exchange false known → kind payload ≡ leaving role phase.Exchange
+        → Sits m d role party version (before ++ payload ∷ []) phase.NewKeys false (behind_exchange m role party known payload) }
+    ensures leaves { (m : Meaning) (d : Policy) (role : Role) (party : Party) (version : List ℕ) (before : Units) (payload : List ℕ) (p : Phase) (known : Known)
+        → Sits m d role party version before p false known → past_exchange p ≡ true → kind payload ≡ leaving role p
+        → Sits m d role party version (before ++ payload ∷ []) (behind p) false (behind_payload m d party known payload) }
+    ensures stays { (m : Meaning) (d : Policy) (role : Role) (party : Party) (version : List ℕ) (before : Units) (payload : List ℕ) (p : Phase) (known : Known)
+        → Sits m d role party version before p false known → LeavesNone role (kind payload)
+        → Sits m d role party version (before ++ payload ∷ []) p false (behind_payload m d party known payload) }
 
     // A number that is read or unknown where no guess is due, and neither closes nor leaves the phase, leaves none.
-    ensures quiet { (role : Role) (p : Phase) (strict : Bool) (n : ℕ) → (n == SSH_MSG_DISCONNECT) ≡ false → (n == leaving role p) ≡ false
-        → (line_by role p strict false n ≡ line.Reads) ⊎ (line_by role p strict false n ≡ line.Unknown) → LeavesNone role n }
+    ensures quiet { (role : Role) (p : Phase) (strict waits : Bool) (n : ℕ) → (n == SSH_MSG_DISCONNECT) ≡ false → (n == leaving role p) ≡ false
+        → (line_by role p strict false waits n ≡ line.Reads) ⊎ (line_by role p strict false waits n ≡ line.Unknown) → LeavesNone role n }
 
     // Before a choice nothing depends on the form of shares.
     ensures formless { (m : Meaning) (d : Policy) (role : Role) (party : Party) (known : Known) (packet : ℕ) (payload : List ℕ) (form : ShareForm)
-        → line_reply m d role party (record known { shares = form }) packet (line_by role phase.KexInit known.strict false (kind payload)) payload
-        ≡ line_reply m d role party known packet (line_by role phase.KexInit known.strict false (kind payload)) payload }
+        → line_reply m d role party (record known { shares = form }) packet (line_by role phase.KexInit known.strict false (is_waiting known.left) (kind payload)) payload
+        ≡ line_reply m d role party known packet (line_by role phase.KexInit known.strict false (is_waiting known.left) (kind payload)) payload }
 
     // The keys of both directions come of the exchange message, and stay.
-    ensures makes_keys { (m : Meaning) (role : Role) (party : Party) (version : List ℕ) (before : Units) (payload : List ℕ) (known : Known)
-        → Sits m role party version before phase.Exchange false known → kind payload ≡ leaving role phase.Exchange → (sender : Role)
+    ensures makes_keys { (m : Meaning) (d : Policy) (role : Role) (party : Party) (version : List ℕ) (before : Units) (payload : List ℕ) (known : Known)
+        → Sits m d role party version before phase.Exchange false known → kind payload ≡ leaving role phase.Exchange → (sender : Role)
         → keys_at m role party version (before ++ payload ∷ []) sender ≡ keys_by m known.algorithms (exchange_heard m role party known payload) sender }
-    ensures keeps_keys { (m : Meaning) (role : Role) (party : Party) (version : List ℕ) (before : Units) (payload : List ℕ) (p : Phase) (guess : Bool) (known : Known)
-        → Sits m role party version before p guess known → past_exchange p ≡ true → (sender : Role)
+    ensures keeps_keys { (m : Meaning) (d : Policy) (role : Role) (party : Party) (version : List ℕ) (before : Units) (payload : List ℕ) (p : Phase) (guess : Bool) (known : Known)
+        → Sits m d role party version before p guess known → past_exchange p ≡ true → (sender : Role)
         → keys_at m role party version (before ++ payload ∷ []) sender ≡ keys_at m role party version before sender }
 
     // Behind the key switch a strict endpoint counts packets anew; behind every other packet it counts one more.
-    ensures counts_anew { (m : Meaning) (role : Role) (party : Party) (version : List ℕ) (before : Units) (payload : List ℕ) (known : Known)
-        → Sits m role party version before phase.NewKeys false known → kind payload ≡ SSH_MSG_NEWKEYS
+    ensures counts_anew { (m : Meaning) (d : Policy) (role : Role) (party : Party) (version : List ℕ) (before : Units) (payload : List ℕ) (known : Known)
+        → Sits m d role party version before phase.NewKeys false known → kind payload ≡ SSH_MSG_NEWKEYS
         → number_in role party (before ++ payload ∷ []) ≡ (if known.strict then 0 else (number_in role party before + 1) % 2 ^ 32) }
-    ensures counts_on { (m : Meaning) (role : Role) (party : Party) (version : List ℕ) (before : Units) (payload : List ℕ) (p : Phase) (guess : Bool) (known : Known)
-        → Sits m role party version before p guess known → (past_newkeys p ≡ true) ⊎ (kept role party.offer SSH_MSG_NEWKEYS before payload ≡ false)
+    ensures counts_on { (m : Meaning) (d : Policy) (role : Role) (party : Party) (version : List ℕ) (before : Units) (payload : List ℕ) (p : Phase) (guess : Bool) (known : Known)
+        → Sits m d role party version before p guess known → (past_newkeys p ≡ true) ⊎ (kept role party.offer SSH_MSG_NEWKEYS before payload ≡ false)
         → number_in role party (before ++ payload ∷ []) ≡ (number_in role party before + 1) % 2 ^ 32 }
 {
     sshmsg::numbers_law();

@@ -15,6 +15,8 @@ ghost use Rattle.sshcore.specs.Exchanged.{HasForm};
 ghost use Rattle.sshcore.specs.Kept.{kept_of};
 ghost use Rattle.sshcore.specs.Phases.{leaving};
 ghost use Rattle.sshcore.specs.Replies.{read_reply};
+ghost use Rattle.sshcore.specs.Authenticating.{IsOfRequests};
+ghost use Rattle.sshcore.specs.Plan.{is_waiting};
 ghost use Rattle.sshcore.specs.Table.{is_ignored, is_of_auth, is_of_method, is_ruled, is_unknown, line_by, takes_extensions, within};
 ghost use Rattle.sshcore.specs.Work.{work};
 
@@ -28,7 +30,7 @@ use sshmsg::{
     Message, MsgFault, SSH_MSG_DISCONNECT, SSH_MSG_EXT_INFO, SSH_MSG_KEXDH_INIT,
     SSH_MSG_KEXDH_REPLY, SSH_MSG_KEXINIT, SSH_MSG_NEWKEYS, SSH_MSG_SERVICE_ACCEPT,
     SSH_MSG_SERVICE_REQUEST, SSH_MSG_USERAUTH_BANNER, SSH_MSG_USERAUTH_FAILURE,
-    SSH_MSG_USERAUTH_REQUEST, SSH_MSG_USERAUTH_SUCCESS, read_exchange,
+    SSH_MSG_USERAUTH_PK_OK, SSH_MSG_USERAUTH_REQUEST, SSH_MSG_USERAUTH_SUCCESS, read_exchange,
 };
 use sshneg::Role;
 use sshpacket::Suite;
@@ -52,7 +54,15 @@ impl State<'_> {
         ensures kept { OnOk result (ending self.new.end ≢ Failed fault.Memory) }
     {
         let number = kind(payload);
-        match line_of(config.role(), self.phase, self.strict, self.guess, number) {
+        let waits = self.waits();
+        match line_of(
+            config.role(),
+            self.phase,
+            self.strict,
+            self.guess,
+            waits,
+            number,
+        ) {
             Line::Reads => self.read(config, suite, decisions, payload, said),
             Line::Drops => {
                 self.drop_guess();
@@ -83,9 +93,9 @@ impl State<'_> {
     ) -> Result<(), Memory>
         requires open { ending self.old.end ≡ Open }
         requires short { length payload.now ≤ PACKET_LIMIT }
-        requires reads { line_by (role_of config.now) self.old.phase self.old.strict self.old.guess (kind payload.now) ≡ line.Reads }
+        requires reads { line_by (role_of config.now) self.old.phase self.old.strict self.old.guess (is_waiting (kept_of self.old).known.left) (kind payload.now) ≡ line.Reads }
         ensures works { OnOk result (HasForm (S.meaning suite.now) (kept_of self.old)
-            → Works (S.meaning suite.now) (role_of config.now) (party_of config.now) (kept_of self.old) (kept_of self.new) payload.now said.old.items said.new.items
+            → Works (S.meaning suite.now) (D.policy decisions.now) (role_of config.now) (party_of config.now) (kept_of self.old) (kept_of self.new) payload.now said.old.items said.new.items
             (read_reply (S.meaning suite.now) (D.policy decisions.now) (role_of config.now) (party_of config.now) (kept_of self.old).known (kind payload.now) (message_in self.old.shares payload.now))) }
         ensures kept { OnOk result (ending self.new.end ≢ Failed fault.Memory) }
     {
@@ -108,10 +118,10 @@ impl State<'_> {
     ) -> Result<(), Memory>
         requires open { ending self.old.end ≡ Open }
         requires short { length payload.now ≤ PACKET_LIMIT }
-        requires reads { line_by (role_of config.now) self.old.phase self.old.strict self.old.guess (kind payload.now) ≡ line.Reads }
+        requires reads { line_by (role_of config.now) self.old.phase self.old.strict self.old.guess (is_waiting (kept_of self.old).known.left) (kind payload.now) ≡ line.Reads }
         requires spelled { Spells self.old.shares (content_of message.now) payload.now }
         ensures works { OnOk result (HasForm (S.meaning suite.now) (kept_of self.old)
-            → Works (S.meaning suite.now) (role_of config.now) (party_of config.now) (kept_of self.old) (kept_of self.new) payload.now said.old.items said.new.items
+            → Works (S.meaning suite.now) (D.policy decisions.now) (role_of config.now) (party_of config.now) (kept_of self.old) (kept_of self.new) payload.now said.old.items said.new.items
             (work (S.meaning suite.now) (D.policy decisions.now) (role_of config.now) (party_of config.now) (kept_of self.old).known (content_of message.now))) }
         ensures kept { OnOk result (ending self.new.end ≢ Failed fault.Memory) }
     {
@@ -141,7 +151,8 @@ impl State<'_> {
             }
             Message::UserauthRequest { .. }
             | Message::UserauthFailure { .. }
-            | Message::UserauthSuccess => {
+            | Message::UserauthSuccess
+            | Message::UserauthPkOk { .. } => {
                 self.work_auth(config, suite, decisions, payload, message, said)
             }
             _ => {
@@ -163,11 +174,11 @@ impl State<'_> {
     ) -> Result<(), Memory>
         requires open { ending self.old.end ≡ Open }
         requires short { length payload.now ≤ PACKET_LIMIT }
-        requires reads { line_by (role_of config.now) self.old.phase self.old.strict self.old.guess (kind payload.now) ≡ line.Reads }
+        requires reads { line_by (role_of config.now) self.old.phase self.old.strict self.old.guess (is_waiting (kept_of self.old).known.left) (kind payload.now) ≡ line.Reads }
         requires spelled { Spells self.old.shares (content_of message.now) payload.now }
         requires exchange { is_of_method (number_of (content_of message.now)) ≡ true }
         ensures works { OnOk result (HasForm (S.meaning suite.now) (kept_of self.old)
-            → Works (S.meaning suite.now) (role_of config.now) (party_of config.now) (kept_of self.old) (kept_of self.new) payload.now said.old.items said.new.items
+            → Works (S.meaning suite.now) (D.policy decisions.now) (role_of config.now) (party_of config.now) (kept_of self.old) (kept_of self.new) payload.now said.old.items said.new.items
             (work (S.meaning suite.now) (D.policy decisions.now) (role_of config.now) (party_of config.now) (kept_of self.old).known (content_of message.now))) }
         ensures kept { OnOk result (ending self.new.end ≢ Failed fault.Memory) }
     {
@@ -219,11 +230,11 @@ impl State<'_> {
     ) -> Result<(), Memory>
         requires open { ending self.old.end ≡ Open }
         requires short { length payload.now ≤ PACKET_LIMIT }
-        requires reads { line_by (role_of config.now) self.old.phase self.old.strict self.old.guess (kind payload.now) ≡ line.Reads }
+        requires reads { line_by (role_of config.now) self.old.phase self.old.strict self.old.guess (is_waiting (kept_of self.old).known.left) (kind payload.now) ≡ line.Reads }
         requires spelled { Spells self.old.shares (content_of message.now) payload.now }
-        requires auth { within SSH_MSG_USERAUTH_REQUEST SSH_MSG_USERAUTH_SUCCESS (number_of (content_of message.now)) ≡ true }
+        requires auth { IsOfRequests (number_of (content_of message.now)) }
         ensures works { OnOk result (HasForm (S.meaning suite.now) (kept_of self.old)
-            → Works (S.meaning suite.now) (role_of config.now) (party_of config.now) (kept_of self.old) (kept_of self.new) payload.now said.old.items said.new.items
+            → Works (S.meaning suite.now) (D.policy decisions.now) (role_of config.now) (party_of config.now) (kept_of self.old) (kept_of self.new) payload.now said.old.items said.new.items
             (work (S.meaning suite.now) (D.policy decisions.now) (role_of config.now) (party_of config.now) (kept_of self.old).known (content_of message.now))) }
         ensures kept { OnOk result (ending self.new.end ≢ Failed fault.Memory) }
     {
@@ -240,6 +251,9 @@ impl State<'_> {
                 self.hear_failure(config, suite, methods, said)
             }
             Message::UserauthSuccess => self.hear_success(config, suite, said),
+            Message::UserauthPkOk { algorithm, key } => {
+                self.hear_pk_ok(config, suite, algorithm, key, said)
+            }
             _ => unreachable!(),
         }
     }
@@ -256,10 +270,17 @@ fn kind(payload: &[u8]) -> u8
 }
 
 /// The line of the phase table that decides on a packet with this number, in the order of the table.
-/// `guess` says that the packet of a wrong guess is due.
+/// `guess` says that the packet of a wrong guess is due, `waits` that a query waits for its answer.
 #[tactic(auto, unfolding(crate::specs::Table::line_by))]
-fn line_of(role: Role, phase: Phase, strict: bool, guess: bool, number: u8) -> Line
-    ensures { result ≡ line_by role phase strict guess number }
+fn line_of(
+    role: Role,
+    phase: Phase,
+    strict: bool,
+    guess: bool,
+    waits: bool,
+    number: u8,
+) -> Line
+    ensures { result ≡ line_by role phase strict guess waits number }
 {
     let ruled = is_ruled(phase, strict);
     let leaves = leaves(role, phase, number);
@@ -271,7 +292,7 @@ fn line_of(role: Role, phase: Phase, strict: bool, guess: bool, number: u8) -> L
         Line::Drops
     } else if ruled && (guess || !leaves) {
         Line::Deviates
-    } else if leaves || is_of_auth(role, phase, number) || is_ignored(number) {
+    } else if leaves || is_of_auth(role, phase, waits, number) || is_ignored(number) {
         Line::Reads
     } else if number == SSH_MSG_EXT_INFO && takes_extensions(phase) {
         Line::Reads
@@ -308,14 +329,16 @@ fn leaves(role: Role, phase: Phase, number: u8) -> bool
     }
 }
 
-/// Whether the message is one of authentication: a server hears requests, a client FAILUREs and banners
-/// (RFC 4252); a SUCCESS leaves the phase.
-fn is_of_auth(role: Role, phase: Phase, number: u8) -> bool
-    ensures { result ≡ is_of_auth role phase number }
+/// Whether the message is one of authentication: a server hears requests, a client FAILUREs and banners,
+/// and a PK_OK while a query waits (RFC 4252); a SUCCESS leaves the phase.
+fn is_of_auth(role: Role, phase: Phase, waits: bool, number: u8) -> bool
+    ensures { result ≡ is_of_auth role phase waits number }
 {
     match (phase, role) {
         (Phase::Auth, Role::Client) => {
-            number == SSH_MSG_USERAUTH_FAILURE || number == SSH_MSG_USERAUTH_BANNER
+            number == SSH_MSG_USERAUTH_FAILURE
+                || number == SSH_MSG_USERAUTH_BANNER
+                || waits && number == SSH_MSG_USERAUTH_PK_OK
         }
         (Phase::Auth, Role::Server) => number == SSH_MSG_USERAUTH_REQUEST,
         _ => false,
@@ -351,7 +374,7 @@ fn is_unknown(number: u8) -> bool
     ensures { result ≡ is_unknown number }
 {
     match number {
-        8..=19 | 22..=29 | 32..=49 | 54..=79 => true,
+        8..=19 | 22..=29 | 32..=49 | 54..=59 | 61..=79 => true,
         _ => false,
     }
 }

@@ -1,33 +1,36 @@
 //! Phase auth at a server: requests of authentication (RFC 4252).
 
-ghost use Rattle.std.specs.Prelude.{◌≡◌, ◌≢◌, ◌<◌, ◌≤◌, ◌∷◌, [], Bool, IfOk, OnOk, false, length, option_map};
+ghost use Rattle.std.specs.Prelude.{◌≡◌, ◌≢◌, ◌<◌, ◌≤◌, ◌∷◌, [], Bool, IfOk, IfSome, None, OnOk, Some, false, if◌then◌else◌, length, map, option_map, string_bytes, true};
 ghost use Rattle.sshwire.specs.declared.limits.TheConstants.{NAME_LIMIT};
+ghost use Rattle.std.specs.List.{list_all};
 ghost use Rattle.sshmsg.specs.Content as content;
 ghost use Rattle.sshmsg.specs.View.{method_of};
-ghost use Rattle.sshmsg.specs.Written.{written_message};
+ghost use Rattle.sshmsg.specs.Written.{method_name, written_message};
 ghost use Rattle.sshpacket.specs.KeyData.{KeyData};
-ghost use Rattle.sshpacket.specs.declared.limits.TheConstants.{PACKET_LIMIT};
+ghost use Rattle.sshpacket.specs.declared.limits.TheConstants.{BLOB_LIMIT, PACKET_LIMIT};
 ghost use Rattle.sshcore.specs.declared.config_parts.TheConstants.{TRIES_LIMIT};
 ghost use Rattle.sshcore.specs.declared.end.Fault.TheVariants as fault;
 ghost use Rattle.sshcore.specs.declared.table.Phase.TheVariants as phase;
 ghost use Rattle.sshcore.specs.Attempts.{agreed_by};
-ghost use Rattle.sshcore.specs.Authenticating.{FitsMethod, counted_request};
-ghost use Rattle.sshcore.specs.Brings.{Gives, IsOngoing, StandsAt};
+ghost use Rattle.sshcore.specs.Authenticating.{FitsMethod, counted_request, one_request};
+ghost use Rattle.sshcore.specs.Brings.{Gives, IsOngoing};
 ghost use Rattle.sshcore.specs.ConfigParty.{party_of};
 ghost use Rattle.sshcore.specs.Ending.{Authenticated, Failed, Open, ending, goes};
-ghost use Rattle.sshcore.specs.Kept.{kept_of};
+ghost use Rattle.sshcore.specs.Kept.{kept_of, reached_of};
 ghost use Rattle.sshcore.specs.PartyView.{proof_of};
-ghost use Rattle.sshcore.specs.Requests.{is_good, proof_in, request_reply, signed_proof};
+ghost use Rattle.sshcore.specs.Reached.{good_reached, has_reached, is_complete, kept_reached};
+ghost use Rattle.sshcore.specs.Requests.{is_good, more_reply, query_answer, request_reply, tried_reply, would_do};
+ghost use Rattle.sshcore.specs.Tries.{proof_in, signed_proof, tried_with};
 
 use crate::config::Config;
 use crate::config_kexinit::list_of;
 use crate::decisions::{Decisions, Proof};
 use crate::end::{End, Fault};
 use crate::payloads::payload_of;
-use crate::state::State;
+use crate::state::{ReachedMethods, State};
 use sshmsg::{Message, Method};
 use sshneg::signed_request;
-use sshpacket::Suite;
+use sshpacket::{BLOB_LIMIT, Suite};
 use sshwire::{Memory, as_name};
 
 impl State<'_> {
@@ -51,21 +54,216 @@ impl State<'_> {
         ensures gives { OnOk result ((strict : Bool) (next : KeyData)
             → Gives (S.meaning suite.now) (party_of config.now).seed strict next (kept_of self.old) (kept_of self.new) said.old.items said.new.items
             (request_reply (S.meaning suite.now) (D.policy decisions.now) (party_of config.now) (kept_of self.old).known user.now service.now (method_of method.now))) }
-        ensures keys { OnOk result ((kept_of self.new).pending ≡ (kept_of self.old).pending) }
-        ensures stands { OnOk result (IsOngoing (kept_of self.new).end
-            → StandsAt (kept_of self.new) phase.Auth (kept_of self.old).guess (counted_request (kept_of self.old).known)) }
+        ensures stays { OnOk result (IsOngoing (kept_of self.new).end → kept_of self.new ≡ record (kept_of self.old) {
+          end = (kept_of self.new).end;
+          known = counted_request (kept_of self.old).known (tried_with user.now service.now (method_of method.now)
+              (is_good (S.meaning suite.now) (D.policy decisions.now) (party_of config.now) (kept_of self.old).known user.now service.now (method_of method.now)));
+          sending = (kept_of self.new).sending;
+        }) }
         ensures kept { OnOk result (ending self.new.end ≢ Failed fault.Memory) }
     {
         let Some(service) = config.service(service) else {
             return self.fail(config, suite, Fault::Service, said);
         };
+        if let Method::PublicKeyQuery { algorithm, key } = method {
+            return self.hear_query(config, suite, decisions, user, service, algorithm, key, said);
+        }
         if self.is_good(config, suite, decisions, user, service, method)? {
+            return self.hear_good(config, suite, user, service, method, said);
+        }
+        self.forget_others(user, service);
+        self.refuse_more(config, suite, false, said)
+    }
+
+    /// A server hears a query whether a key would do, for a service that it has: it is answered by PK_OK or
+    /// FAILURE, or at the last try fails as `TooManyTries` (RFC 4252 section 7).
+    fn hear_query<S: Suite, D: Decisions>(
+        &mut self,
+        config: &Config<'_>,
+        suite: &S,
+        decisions: &D,
+        user: &str,
+        service: &str,
+        algorithm: &[u8],
+        key: &[u8],
+        said: &mut Vec<u8>,
+    ) -> Result<(), Memory>
+        requires open { ending self.old.end ≡ Open }
+        ensures gives { OnOk result ((strict : Bool) (next : KeyData)
+            → Gives (S.meaning suite.now) (party_of config.now).seed strict next (kept_of self.old) (kept_of self.new) said.old.items said.new.items
+            (more_reply (party_of config.now) (kept_of self.old).known
+            (query_answer (D.policy decisions.now) (party_of config.now) (kept_of self.old).known user.now service.now algorithm.now key.now))) }
+        ensures stays { OnOk result (IsOngoing (kept_of self.new).end → kept_of self.new ≡ record (kept_of self.old) {
+          known = counted_request (kept_of self.old).known (tried_with user.now service.now (content.PublicKeyQuery algorithm.now key.now) false);
+          sending = (kept_of self.new).sending;
+        }) }
+        ensures kept { OnOk result (ending self.new.end ≢ Failed fault.Memory) }
+    {
+        self.forget_others(user, service);
+        match self.would_do(config, decisions, user, service, algorithm, key) {
+            None => self.refuse_more(config, suite, false, said),
+            Some(name) => self.confirm_more(config, suite, name, key, said),
+        }
+    }
+
+    /// A server hears a good request for a service that it has: the user is authenticated if all required
+    /// methods are reached, else it goes on (RFC 4252 section 5.1).
+    fn hear_good<S: Suite>(
+        &mut self,
+        config: &Config<'_>,
+        suite: &S,
+        user: &str,
+        service: &str,
+        method: &Method<'_>,
+        said: &mut Vec<u8>,
+    ) -> Result<(), Memory>
+        requires open { ending self.old.end ≡ Open }
+        requires at { self.old.phase ≡ phase.Auth }
+        ensures gives { OnOk result ((strict : Bool) (next : KeyData)
+            → Gives (S.meaning suite.now) (party_of config.now).seed strict next (kept_of self.old) (kept_of self.new) said.old.items said.new.items
+            (tried_reply (party_of config.now) (kept_of self.old).known user.now service.now (method_of method.now) true)) }
+        ensures stays { OnOk result (IsOngoing (kept_of self.new).end → kept_of self.new ≡ record (kept_of self.old) {
+          end = (kept_of self.new).end;
+          known = counted_request (kept_of self.old).known (tried_with user.now service.now (method_of method.now) true);
+          sending = (kept_of self.new).sending;
+        }) }
+        ensures kept { OnOk result (ending self.new.end ≢ Failed fault.Memory) }
+    {
+        self.forget_others(user, service);
+        self.reach(user, service, method)?;
+        if self.is_complete(config) {
             return self.succeed(config, suite, user, service, said);
         }
+        self.refuse_more(config, suite, true, said)
+    }
+
+    /// Forgets what was reached for another user or another service.
+    fn forget_others(&mut self, user: &str, service: &str)
+        ensures { kept_of self.new ≡ record (kept_of self.old) {
+          known = record (kept_of self.old).known {
+            reached = kept_reached (kept_of self.old).known.reached (record { user = user.now; service = service.now; good = None });
+          };
+        } }
+    {
+        let same = self.reached.user.as_str() == user && self.reached.service.as_str() == service;
+        if !same {
+            self.reached.password = false;
+            self.reached.publickey = false;
+        }
+    }
+
+    /// Keeps that a good request by this method was heard.
+    fn reach(&mut self, user: &str, service: &str, method: &Method<'_>) -> Result<(), Memory>
+        ensures { OnOk result (kept_of self.new ≡ record (kept_of self.old) {
+          known = record (kept_of self.old).known {
+            reached = good_reached (kept_of self.old).known.reached (tried_with user.now service.now (method_of method.now) true) (Some (method_name (method_of method.now)));
+          };
+        }) }
+    {
+        let name = method.name();
+        let password = self.reached.password || name == b"password".as_slice();
+        let publickey = self.reached.publickey || name == b"publickey".as_slice();
+        let user = String::from_str(self.alloc, user)?;
+        let service = String::from_str(self.alloc, service)?;
+        self.reached = ReachedMethods {
+            user,
+            service,
+            password,
+            publickey,
+        };
+        Ok(())
+    }
+
+    /// Whether all required methods are reached.
+    fn is_complete(&self, config: &Config<'_>) -> bool
+        ensures { result ≡ is_complete (party_of config.now).required (kept_of self.now).known.reached }
+    {
+        are_reached(config.required(), &self.reached)
+    }
+
+    /// Whether the key of a query would do, under the name of its algorithm: its method is listed, the
+    /// algorithm is a name, the key isn't longer than one that a suite answers, and the decision is yes.
+    fn would_do<'m, D: Decisions>(
+        &self,
+        config: &Config<'_>,
+        decisions: &D,
+        user: &str,
+        service: &str,
+        algorithm: &'m [u8],
+        key: &[u8],
+    ) -> Option<&'m str>
+        ensures would { option_map (λ name. name.now) result
+            ≡ (if would_do (D.policy decisions.now) (party_of config.now) (kept_of self.now).known user.now service.now algorithm.now key.now then Some algorithm.now else None) }
+        ensures fits { IfSome result (λ name. (length name.now ≤ NAME_LIMIT) × (length key.now ≤ BLOB_LIMIT)) }
+    {
+        sshwire::names_law();
+        if !config.lists("publickey") {
+            return None;
+        }
+        let name = as_name(algorithm)?;
+        if key.len() > BLOB_LIMIT {
+            return None;
+        }
+        let proof = Proof::Key {
+            algorithm: name,
+            blob: key,
+        };
+        if decisions.user(self.request, user, service, &proof) {
+            Some(name)
+        } else {
+            None
+        }
+    }
+
+    /// Refuses a request, or fails as `TooManyTries` at the last one that is granted.
+    fn refuse_more<S: Suite>(
+        &mut self,
+        config: &Config<'_>,
+        suite: &S,
+        partial: bool,
+        said: &mut Vec<u8>,
+    ) -> Result<(), Memory>
+        requires open { ending self.old.end ≡ Open }
+        ensures gives { OnOk result ((strict : Bool) (next : KeyData)
+            → Gives (S.meaning suite.now) (party_of config.now).seed strict next (kept_of self.old) (kept_of self.new) said.old.items said.new.items
+            (more_reply (party_of config.now) (kept_of self.old).known (content.UserauthFailure (party_of config.now).methods partial))) }
+        ensures stays { OnOk result (IsOngoing (kept_of self.new).end → kept_of self.new ≡ record (kept_of self.old) {
+          known = one_request (kept_of self.old).known;
+          sending = (kept_of self.new).sending;
+        }) }
+        ensures kept { OnOk result (ending self.new.end ≢ Failed fault.Memory) }
+    {
         if self.request >= config.tries() {
             return self.fail(config, suite, Fault::TooManyTries, said);
         }
-        self.refuse(config, suite, said)
+        self.refuse(config, suite, partial, said)
+    }
+
+    /// Answers a query by PK_OK, or fails as `TooManyTries` at the last request that is granted.
+    fn confirm_more<S: Suite>(
+        &mut self,
+        config: &Config<'_>,
+        suite: &S,
+        algorithm: &str,
+        key: &[u8],
+        said: &mut Vec<u8>,
+    ) -> Result<(), Memory>
+        requires open { ending self.old.end ≡ Open }
+        requires algorithm { length algorithm.now ≤ NAME_LIMIT }
+        requires key { length key.now ≤ BLOB_LIMIT }
+        ensures gives { OnOk result ((strict : Bool) (next : KeyData)
+            → Gives (S.meaning suite.now) (party_of config.now).seed strict next (kept_of self.old) (kept_of self.new) said.old.items said.new.items
+            (more_reply (party_of config.now) (kept_of self.old).known (content.UserauthPkOk algorithm.now key.now))) }
+        ensures stays { OnOk result (IsOngoing (kept_of self.new).end → kept_of self.new ≡ record (kept_of self.old) {
+          known = one_request (kept_of self.old).known;
+          sending = (kept_of self.new).sending;
+        }) }
+        ensures kept { OnOk result (ending self.new.end ≢ Failed fault.Memory) }
+    {
+        if config.tries() <= self.request {
+            return self.fail(config, suite, Fault::TooManyTries, said);
+        }
+        self.confirm(config, suite, algorithm, key, said)
     }
 
     /// Whether a request is good: it proves something, and the decision on that is yes. The decision is
@@ -93,7 +291,7 @@ impl State<'_> {
 
     /// What a request proves of its user, if its method may be used and its proof holds (RFC 4252
     /// sections 5.2, 7 and 8).
-    #[tactic(auto, unfolding(crate::specs::Requests::proof_in))]
+    #[tactic(auto, unfolding(crate::specs::Tries::proof_in))]
     fn proof_in<'m, S: Suite>(
         &self,
         config: &Config<'_>,
@@ -187,7 +385,7 @@ impl State<'_> {
             (record { answers = written_message content.UserauthSuccess ∷ []; end = Authenticated (agreed_by (kept_of self.old).known user.now service.now) })) }
         ensures stays { OnOk result (kept_of self.new ≡ record (kept_of self.old) {
           end = Authenticated (agreed_by (kept_of self.old).known user.now service.now);
-          known = counted_request (kept_of self.old).known;
+          known = one_request (kept_of self.old).known;
           sending = (kept_of self.new).sending;
         }) }
     {
@@ -201,20 +399,21 @@ impl State<'_> {
         Ok(())
     }
 
-    /// Says FAILURE with the methods that may go on; no request succeeds as one of several.
+    /// Says FAILURE with the methods that may go on, and whether the request succeeded as one of several.
     fn refuse<S: Suite>(
         &mut self,
         config: &Config<'_>,
         suite: &S,
+        partial: bool,
         said: &mut Vec<u8>,
     ) -> Result<(), Memory>
         requires open { ending self.old.end ≡ Open }
         requires granted { self.old.request < TRIES_LIMIT }
         ensures gives { OnOk result ((strict : Bool) (next : KeyData)
             → Gives (S.meaning suite.now) (party_of config.now).seed strict next (kept_of self.old) (kept_of self.new) said.old.items said.new.items
-            (goes (written_message (content.UserauthFailure (party_of config.now).methods false) ∷ []))) }
+            (goes (written_message (content.UserauthFailure (party_of config.now).methods partial) ∷ []))) }
         ensures stays { OnOk result (kept_of self.new ≡ record (kept_of self.old) {
-          known = counted_request (kept_of self.old).known;
+          known = one_request (kept_of self.old).known;
           sending = (kept_of self.new).sending;
         }) }
     {
@@ -223,7 +422,7 @@ impl State<'_> {
         let methods = list_of(self.alloc, config.methods())?;
         let message = Message::UserauthFailure {
             methods,
-            partial_success: false,
+            partial_success: partial,
         };
         let failure = payload_of(self.alloc, &message)?;
         self.say(config, suite, &failure, said)?;
@@ -231,4 +430,51 @@ impl State<'_> {
         self.first = false;
         Ok(())
     }
+
+    /// Says PK_OK.
+    fn confirm<S: Suite>(
+        &mut self,
+        config: &Config<'_>,
+        suite: &S,
+        algorithm: &str,
+        key: &[u8],
+        said: &mut Vec<u8>,
+    ) -> Result<(), Memory>
+        requires open { ending self.old.end ≡ Open }
+        requires granted { self.old.request < TRIES_LIMIT }
+        requires algorithm { length algorithm.now ≤ NAME_LIMIT }
+        requires key { length key.now ≤ BLOB_LIMIT }
+        ensures gives { OnOk result ((strict : Bool) (next : KeyData)
+            → Gives (S.meaning suite.now) (party_of config.now).seed strict next (kept_of self.old) (kept_of self.new) said.old.items said.new.items
+            (goes (written_message (content.UserauthPkOk algorithm.now key.now) ∷ []))) }
+        ensures stays { OnOk result (kept_of self.new ≡ record (kept_of self.old) {
+          known = one_request (kept_of self.old).known;
+          sending = (kept_of self.new).sending;
+        }) }
+    {
+        sshmsg::lengths_law();
+        let message = Message::UserauthPkOk {
+            algorithm: algorithm.as_bytes(),
+            key,
+        };
+        let confirmation = payload_of(self.alloc, &message)?;
+        self.say(config, suite, &confirmation, said)?;
+        self.request += 1;
+        self.first = false;
+        Ok(())
+    }
+}
+
+/// Whether all these methods are reached.
+fn are_reached(required: &[String], reached: &ReachedMethods) -> bool
+    ensures { result ≡ list_all (λ own. has_reached (reached_of reached.now) (string_bytes own)) required.now }
+{
+    required.iter().all(|method| has_reached(method, reached))
+}
+
+/// Whether this method is reached.
+fn has_reached(method: &str, reached: &ReachedMethods) -> bool
+    ensures { result ≡ has_reached (reached_of reached.now) method.now }
+{
+    method == "password" && reached.password || method == "publickey" && reached.publickey
 }

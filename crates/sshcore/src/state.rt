@@ -30,6 +30,17 @@ use sshpacket::{Keys, ShareForm, Suite, write_clear, write_sealed};
 use sshwire::Memory;
 use std::alloc::Global;
 
+/// Which of the methods that can be required are reached, and for whom.
+#[derive(Drop)]
+pub(crate) struct ReachedMethods {
+    /// The user of the last good request.
+    pub(crate) user: String,
+    /// The service of the last good request.
+    pub(crate) service: String,
+    pub(crate) password: bool,
+    pub(crate) publickey: bool,
+}
+
 /// What an endpoint keeps between two packets, besides its reader.
 #[derive(Drop)]
 pub(crate) struct State<'a> {
@@ -54,6 +65,10 @@ pub(crate) struct State<'a> {
     pub(crate) request: u32,
     /// What is left of a client's plan, from the attempt on that was made last, or is made first.
     pub(crate) left: &'a [Attempt],
+    /// Whether the query of the first of them was answered by PK_OK.
+    pub(crate) confirmed: bool,
+    /// What the requests that a server heard have reached.
+    pub(crate) reached: ReachedMethods,
     /// The keys of what is heard, from the exchange up to NEWKEYS.
     pub(crate) pending: Option<Keys>,
     /// The keys of what is said.
@@ -76,6 +91,7 @@ impl<'a> State<'a> {
     ghost use Rattle.sshcore.specs.Ending.{Failed, disconnect, fails, goes};
     ghost use Rattle.sshcore.specs.Kept.{begun, kept_of};
     ghost use Rattle.sshcore.specs.Output.{with_packet, with_newkeys};
+    ghost use Rattle.sshcore.specs.Plan.{is_waiting};
 
     /// Before any byte.
     pub(crate) fn new(alloc: Global, config: &Config<'a>) -> State<'a>
@@ -95,9 +111,27 @@ impl<'a> State<'a> {
             session: Vec::new(alloc),
             request: 1,
             left: config.plan(),
+            confirmed: false,
+            reached: ReachedMethods {
+                user: String::new(alloc),
+                service: String::new(alloc),
+                password: false,
+                publickey: false,
+            },
             pending: None,
             keys_out: None,
             number_out: 0,
+        }
+    }
+
+    /// Whether a query waits for its answer: the first of the attempts that are left asks, and wasn't
+    /// confirmed.
+    pub(crate) fn waits(&self) -> bool
+        ensures { result ≡ is_waiting (kept_of self.now).known.left }
+    {
+        match self.left.first() {
+            None => false,
+            Some(attempt) => !self.confirmed && attempt.credential.asks(),
         }
     }
 

@@ -11,7 +11,7 @@ use Rattle.sshmsg.specs.declared.fault.MsgFault.{MsgFault}
 use Rattle.sshmsg.specs.declared.fault.MsgFault.TheVariants.{Malformed, Memory, Unrecognised}
 use Rattle.sshmsg.specs.Content.{Content}
 use Rattle.sshmsg.specs.Form.{Done, FillsForm, Form, Of, Rest, Then, field_at, form_at}
-use Rattle.sshmsg.specs.Messages.{Spells, debug, disconnect, ext_info, extensions, form_of, ignore, in_form, init_of, kex_ecdh_init, kex_ecdh_reply, kexdh_init, kexdh_reply, kexinit, message_in, method_form, newkeys, password, publickey, reply_of, service_accept, service_request, unimplemented, userauth_banner, userauth_failure, userauth_request, userauth_success, whole_form}
+use Rattle.sshmsg.specs.Messages.{Spells, debug, disconnect, ext_info, extensions, form_of, ignore, in_form, init_of, kex_ecdh_init, kex_ecdh_reply, kexdh_init, kexdh_reply, kexinit, message_in, method_form, newkeys, password, publickey, reply_of, service_accept, service_request, unimplemented, userauth_banner, userauth_failure, userauth_pk_ok, userauth_request, userauth_success, whole_form}
 use Rattle.sshmsg.specs.Numbers.{IsRefused, kind, number_of}
 use Rattle.sshmsg.proofs.FormLemmas.{bind_ok, whole_ok}
 use Rattle.sshmsg.proofs.TableLemmas.{each_form}
@@ -128,6 +128,10 @@ banner_numbered : Numbered 53 userauth_banner
 unfolding userauth_banner
 banner_numbered = λ text language. refl
 
+pk_ok_numbered : Numbered 60 userauth_pk_ok
+unfolding userauth_pk_ok
+pk_ok_numbered = λ algorithm key. refl
+
 numbered : (shares : ShareForm) (number : ℕ) (form : Form) → form_of shares number ≡ Some form → Numbered number form
 numbered shares = each_form shares Numbered (record {
   disconnect = disconnect_numbered;
@@ -145,6 +149,7 @@ numbered shares = each_form shares Numbered (record {
   userauth_failure = failure_numbered;
   userauth_success = success_numbered;
   userauth_banner = banner_numbered;
+  userauth_pk_ok = pk_ok_numbered;
 })
 
 pub number_tells : (shares : ShareForm) (payload : List ℕ) (m : Content) → Spells shares m payload → (fields : List ℕ) × (payload ≡ number_of m ∷ fields)

@@ -6,7 +6,7 @@ use Rattle.sshwire.specs.declared.share_form.ShareForm.{ShareForm}
 use Rattle.sshwire.specs.declared.share_form.ShareForm.TheVariants.{Hybrid, Mpint, OctetString}
 use Rattle.sshmsg.specs.Content.{Content}
 use Rattle.sshmsg.specs.Form.{Done, FillsForm, Form, Of, Rest, Then}
-use Rattle.sshmsg.specs.Messages.{Spells, debug, disconnect, ext_info, extensions, ignore, init_of, kex_ecdh_init, kex_ecdh_reply, kexdh_init, kexdh_reply, kexinit, method_form, newkeys, password, publickey, reply_of, service_accept, service_request, unimplemented, userauth_banner, userauth_failure, userauth_request, userauth_success}
+use Rattle.sshmsg.specs.Messages.{Spells, debug, disconnect, ext_info, extensions, ignore, init_of, kex_ecdh_init, kex_ecdh_reply, kexdh_init, kexdh_reply, kexinit, method_form, newkeys, password, publickey, reply_of, service_accept, service_request, unimplemented, userauth_banner, userauth_failure, userauth_pk_ok, userauth_request, userauth_success}
 use Rattle.sshmsg.specs.Written.{IsMessageOf}
 use Rattle.sshmsg.proofs.TableLemmas.{Rows, each_form}
 
@@ -50,7 +50,7 @@ method_within shares user service method =
     (either_within shares (bytes_eq method (codes "publickey")) _ _ (λ signed algorithm key. either_within shares signed _ _ (λ signature. tt) tt) (λ fields. tt)))
 
 rows_within : (shares : ShareForm) → Rows shares (λ n form. Within shares form)
-unfolding disconnect ignore unimplemented debug service_request service_accept ext_info kexinit newkeys userauth_request userauth_failure userauth_success userauth_banner
+unfolding disconnect ignore unimplemented debug service_request service_accept ext_info kexinit newkeys userauth_request userauth_failure userauth_success userauth_banner userauth_pk_ok
 rows_within shares = record {
   disconnect = λ reason description language. tt;
   ignore = λ content. tt;
@@ -67,6 +67,7 @@ rows_within shares = record {
   userauth_failure = λ methods partial. tt;
   userauth_success = tt;
   userauth_banner = λ text language. tt;
+  userauth_pk_ok = λ algorithm key. tt;
 }
 
 pub spelled_within : (shares : ShareForm) (payload : List ℕ) (m : Content) → Spells shares m payload → IsMessageOf shares m

@@ -7,10 +7,10 @@ use Rattle.std.proofs.lemmas.Slice.Eq.{bytes_eq-Decides}
 use Rattle.sshwire.specs.declared.share_form.ShareForm.{ShareForm}
 use Rattle.sshwire.specs.declared.share_form.ShareForm.TheVariants.{Hybrid, Mpint, OctetString}
 use Rattle.sshwire.specs.Types.{BooleanText, boolean, name_list, names_body, string, uint32}
-use Rattle.sshmsg.specs.Content.{Content, Debug, Disconnect, ExtInfo, Ignore, KexEcdhInit, KexEcdhReply, KexInit, KexdhInit, KexdhReply, Method, NewKeys, NoMethod, Offer, OtherMethod, Password, PasswordChange, PublicKey, PublicKeyQuery, ServiceAccept, ServiceRequest, Unimplemented, UserauthBanner, UserauthFailure, UserauthRequest, UserauthSuccess}
+use Rattle.sshmsg.specs.Content.{Content, Debug, Disconnect, ExtInfo, Ignore, KexEcdhInit, KexEcdhReply, KexInit, KexdhInit, KexdhReply, Method, NewKeys, NoMethod, Offer, OtherMethod, Password, PasswordChange, PublicKey, PublicKeyQuery, ServiceAccept, ServiceRequest, Unimplemented, UserauthBanner, UserauthFailure, UserauthPkOk, UserauthRequest, UserauthSuccess}
 use Rattle.sshmsg.specs.Form.{BigNumber, Bytes, Cookie, Done, Field, FieldText, FillsForm, Flag, Form, Names, Number, Of, Reserved, Rest, Then, Utf8}
 use Rattle.sshmsg.specs.Lengths.{method_length, offer_length, pairs_length, payload_length}
-use Rattle.sshmsg.specs.Messages.{Spells, debug, disconnect, ext_info, extensions, ignore, init_of, kex_ecdh_init, kex_ecdh_reply, kexdh_init, kexdh_reply, kexinit, method_form, newkeys, password, publickey, reply_of, service_accept, service_request, unimplemented, userauth_banner, userauth_failure, userauth_request, userauth_success}
+use Rattle.sshmsg.specs.Messages.{Spells, debug, disconnect, ext_info, extensions, ignore, init_of, kex_ecdh_init, kex_ecdh_reply, kexdh_init, kexdh_reply, kexinit, method_form, newkeys, password, publickey, reply_of, service_accept, service_request, unimplemented, userauth_banner, userauth_failure, userauth_pk_ok, userauth_request, userauth_success}
 use Rattle.sshmsg.specs.Written.{method_fields, method_name, offer_written, pairs_written, written_message}
 use Rattle.sshmsg.proofs.TableLemmas.{Rows, each_form}
 
@@ -183,6 +183,10 @@ banner_sized : Sized 1 userauth_banner
 unfolding userauth_banner
 banner_sized = λ text language. omega arith
 
+pk_ok_sized : Sized 1 userauth_pk_ok
+unfolding userauth_pk_ok
+pk_ok_sized = λ algorithm key. omega arith
+
 pub spelled_length : (shares : ShareForm) (payload : List ℕ) (m : Content) → Spells shares m payload → length payload ≡ payload_length m
 spelled_length shares payload m s =
     let rows : Rows shares (λ n form. Sized 1 form) = record {
@@ -201,6 +205,7 @@ spelled_length shares payload m s =
       userauth_failure = failure_sized;
       userauth_success = success_sized;
       userauth_banner = banner_sized;
+      userauth_pk_ok = pk_ok_sized;
     } in
     let sized : Sized 1 s.form = each_form shares (λ n form. Sized 1 form) rows s.number s.form s.known in
     let all : length payload ≡ length (s.number ∷ s.fields) = ap (λ (xs : List ℕ). length xs) s.payload_is in
@@ -301,3 +306,4 @@ written_length (UserauthFailure methods partial_success) =
     omega (arith, a, b)
 written_length UserauthSuccess = refl
 written_length (UserauthBanner text language) = let a : _ = two_long text language in omega (arith, a)
+written_length (UserauthPkOk algorithm key) = let a : _ = two_long algorithm key in omega (arith, a)

@@ -4,7 +4,7 @@ use Rattle.std.proofs.Common.{◌≡◌, ℕ, inl, inr, Option, None, Some, cond
 use Rattle.std.proofs.lemmas.Bool.{cases_Bool, eqb-true}
 use Rattle.sshwire.specs.declared.share_form.ShareForm.{ShareForm}
 use Rattle.sshmsg.specs.Form.{Form}
-use Rattle.sshmsg.specs.Messages.{debug, disconnect, ext_info, form_of, ignore, init_of, kexinit, newkeys, reply_of, service_accept, service_request, unimplemented, userauth_banner, userauth_failure, userauth_request, userauth_success}
+use Rattle.sshmsg.specs.Messages.{debug, disconnect, ext_info, form_of, ignore, init_of, kexinit, newkeys, reply_of, service_accept, service_request, unimplemented, userauth_banner, userauth_failure, userauth_pk_ok, userauth_request, userauth_success}
 
 -- a fact of each row
 pub record Rows (shares : ShareForm) (P : ℕ → Form → Type 0) : Type 0 where
@@ -23,6 +23,7 @@ pub record Rows (shares : ShareForm) (P : ℕ → Form → Type 0) : Type 0 wher
   pub userauth_failure : P 51 userauth_failure
   pub userauth_success : P 52 userauth_success
   pub userauth_banner : P 53 userauth_banner
+  pub userauth_pk_ok : P 60 userauth_pk_ok
 
 some_form : (f form : Form) → ◌≡◌ {A = Option Form} (Some f) (Some form) → f ≡ form
 some_form f form e = cc
@@ -58,4 +59,5 @@ each_form shares P rows number form =
     (row P number 51 userauth_failure form _ rows.userauth_failure
     (row P number 52 userauth_success form _ rows.userauth_success
     (row P number 53 userauth_banner form _ rows.userauth_banner
-    (none_left P number form)))))))))))))))
+    (row P number 60 userauth_pk_ok form _ rows.userauth_pk_ok
+    (none_left P number form))))))))))))))))

@@ -8,7 +8,7 @@ use Rattle.sshwire.specs.declared.share_form.ShareForm.{ShareForm}
 use Rattle.sshwire.specs.declared.share_form.ShareForm.TheVariants.{Hybrid, Mpint, OctetString}
 use Rattle.sshmsg.specs.Content.{Content}
 use Rattle.sshmsg.specs.Form.{Done, FieldText, FillsForm, Form, Of, Rest, Then}
-use Rattle.sshmsg.specs.Messages.{Spells, debug, disconnect, ext_info, extensions, ignore, init_of, kex_ecdh_init, kex_ecdh_reply, kexdh_init, kexdh_reply, kexinit, method_form, newkeys, password, publickey, reply_of, service_accept, service_request, unimplemented, userauth_banner, userauth_failure, userauth_request, userauth_success}
+use Rattle.sshmsg.specs.Messages.{Spells, debug, disconnect, ext_info, extensions, ignore, init_of, kex_ecdh_init, kex_ecdh_reply, kexdh_init, kexdh_reply, kexinit, method_form, newkeys, password, publickey, reply_of, service_accept, service_request, unimplemented, userauth_banner, userauth_failure, userauth_pk_ok, userauth_request, userauth_success}
 use Rattle.sshmsg.specs.Written.{IsNumber, IsNameList, IsPair, IsString, IsWellFormed}
 use Rattle.sshwire.specs.Types.{MpintText, NameListText}
 use Rattle.sshmsg.proofs.TableLemmas.{Rows, each_form}
@@ -164,6 +164,10 @@ banner_well : Wells userauth_banner
 unfolding userauth_banner
 banner_well = λ text a t language b l. (t.0, l.0)
 
+pk_ok_well : Wells userauth_pk_ok
+unfolding userauth_pk_ok
+pk_ok_well = λ algorithm a g key b k. (g.0, k.0)
+
 pub spelled_well : (shares : ShareForm) (payload : List ℕ) (m : Content) → Spells shares m payload → IsWellFormed m
 spelled_well shares payload m s =
     let rows : Rows shares (λ n form. Wells form) = record {
@@ -182,5 +186,6 @@ spelled_well shares payload m s =
       userauth_failure = failure_well;
       userauth_success = success_well;
       userauth_banner = banner_well;
+      userauth_pk_ok = pk_ok_well;
     } in
     fills_well s.form m s.fields (each_form shares (λ n form. Wells form) rows s.number s.form s.known) s.fills

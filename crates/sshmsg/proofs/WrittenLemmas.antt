@@ -7,9 +7,9 @@ use Rattle.std.specs.Str.{bytes_eq}
 use Rattle.sshwire.specs.declared.share_form.ShareForm.{ShareForm}
 use Rattle.sshwire.specs.declared.share_form.ShareForm.TheVariants.{Hybrid, Mpint, OctetString}
 use Rattle.sshwire.specs.Types.{BooleanText, MpintText, NameListText, boolean, name_list, string, uint32}
-use Rattle.sshmsg.specs.Content.{Content, Debug, Disconnect, ExtInfo, Ignore, KexEcdhInit, KexEcdhReply, KexInit, KexdhInit, KexdhReply, Method, NewKeys, NoMethod, Offer, OtherMethod, Password, PasswordChange, PublicKey, PublicKeyQuery, ServiceAccept, ServiceRequest, Unimplemented, UserauthBanner, UserauthFailure, UserauthRequest, UserauthSuccess}
+use Rattle.sshmsg.specs.Content.{Content, Debug, Disconnect, ExtInfo, Ignore, KexEcdhInit, KexEcdhReply, KexInit, KexdhInit, KexdhReply, Method, NewKeys, NoMethod, Offer, OtherMethod, Password, PasswordChange, PublicKey, PublicKeyQuery, ServiceAccept, ServiceRequest, Unimplemented, UserauthBanner, UserauthFailure, UserauthPkOk, UserauthRequest, UserauthSuccess}
 use Rattle.sshmsg.specs.Form.{Bytes, Done, FillsForm, Form, Rest, Then}
-use Rattle.sshmsg.specs.Messages.{Spells, debug, disconnect, ext_info, extensions, form_of, ignore, is_named, kex_ecdh_init, kex_ecdh_reply, kexdh_init, kexdh_reply, kexinit, method_form, newkeys, password, publickey, service_accept, service_request, unimplemented, userauth_banner, userauth_failure, userauth_request, userauth_success}
+use Rattle.sshmsg.specs.Messages.{Spells, debug, disconnect, ext_info, extensions, form_of, ignore, is_named, kex_ecdh_init, kex_ecdh_reply, kexdh_init, kexdh_reply, kexinit, method_form, newkeys, password, publickey, service_accept, service_request, unimplemented, userauth_banner, userauth_failure, userauth_pk_ok, userauth_request, userauth_success}
 use Rattle.sshmsg.specs.Written.{IsMessageOf, IsMethod, IsNumber, IsNameList, IsOffer, IsPair, IsString, IsWellFormed, method_fields, method_name, offer_written, pairs_written, written_message}
 
 boolean_text : (value : Bool) → BooleanText value (boolean value)
@@ -239,6 +239,18 @@ banner_fills text language (t, l) = (
   refl,
 )
 
+pk_ok_fills : (algorithm key : List ℕ) → IsWellFormed (UserauthPkOk algorithm key)
+    → FillsForm userauth_pk_ok (UserauthPkOk algorithm key) (string algorithm ++ string key)
+unfolding userauth_pk_ok
+pk_ok_fills algorithm key (g, k) = (
+  algorithm,
+  string algorithm,
+  string key,
+  (g, refl),
+  (key, string key, [], (k, refl), (refl, refl), sym (append-nil (string key))),
+  refl,
+)
+
 -- A name that is none of the three has the form of any other.
 none_of_three : (a b c : Bool) → a || (b || c) ≡ false → (a ≡ false) × (b ≡ false) × (c ≡ false)
 none_of_three true b c e = cc
@@ -412,3 +424,5 @@ written_spells shares (UserauthFailure methods partial_success) o h =
 written_spells shares UserauthSuccess o h = record { number = 52; form = userauth_success; fields = []; known = refl; fills = (refl, refl); payload_is = refl }
 written_spells shares (UserauthBanner text language) o h =
     record { number = 53; form = userauth_banner; fields = _; known = refl; fills = banner_fills text language h; payload_is = refl }
+written_spells shares (UserauthPkOk algorithm key) o h =
+    record { number = 60; form = userauth_pk_ok; fields = _; known = refl; fills = pk_ok_fills algorithm key h; payload_is = refl }

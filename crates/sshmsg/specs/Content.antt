@@ -45,3 +45,4 @@ pub data Content : Type 0 where
   UserauthFailure : List (List ℕ) → Bool → Content
   UserauthSuccess : Content
   UserauthBanner : List ℕ → List ℕ → Content
+  UserauthPkOk : List ℕ → List ℕ → Content

@@ -7,8 +7,8 @@ use Rattle.sshwire.specs.declared.share_form.ShareForm.{ShareForm}
 use Rattle.sshwire.specs.declared.share_form.ShareForm.TheVariants.{Hybrid, Mpint, OctetString}
 use Rattle.sshmsg.specs.declared.fault.MsgFault.{MsgFault}
 use Rattle.sshmsg.specs.declared.fault.MsgFault.TheVariants.{Malformed, Unrecognised}
-use Rattle.sshmsg.specs.declared.numbers.TheConstants.{SSH_MSG_DEBUG, SSH_MSG_DISCONNECT, SSH_MSG_EXT_INFO, SSH_MSG_IGNORE, SSH_MSG_KEXDH_INIT, SSH_MSG_KEXDH_REPLY, SSH_MSG_KEXINIT, SSH_MSG_NEWKEYS, SSH_MSG_SERVICE_ACCEPT, SSH_MSG_SERVICE_REQUEST, SSH_MSG_UNIMPLEMENTED, SSH_MSG_USERAUTH_BANNER, SSH_MSG_USERAUTH_FAILURE, SSH_MSG_USERAUTH_REQUEST, SSH_MSG_USERAUTH_SUCCESS}
-use Rattle.sshmsg.specs.Content.{Content, Debug, Disconnect, ExtInfo, Ignore, KexEcdhInit, KexEcdhReply, KexInit, KexdhInit, KexdhReply, NewKeys, NoMethod, OtherMethod, Password, PasswordChange, PublicKey, PublicKeyQuery, ServiceAccept, ServiceRequest, Unimplemented, UserauthBanner, UserauthFailure, UserauthRequest, UserauthSuccess}
+use Rattle.sshmsg.specs.declared.numbers.TheConstants.{SSH_MSG_DEBUG, SSH_MSG_DISCONNECT, SSH_MSG_EXT_INFO, SSH_MSG_IGNORE, SSH_MSG_KEXDH_INIT, SSH_MSG_KEXDH_REPLY, SSH_MSG_KEXINIT, SSH_MSG_NEWKEYS, SSH_MSG_SERVICE_ACCEPT, SSH_MSG_SERVICE_REQUEST, SSH_MSG_UNIMPLEMENTED, SSH_MSG_USERAUTH_BANNER, SSH_MSG_USERAUTH_FAILURE, SSH_MSG_USERAUTH_PK_OK, SSH_MSG_USERAUTH_REQUEST, SSH_MSG_USERAUTH_SUCCESS}
+use Rattle.sshmsg.specs.Content.{Content, Debug, Disconnect, ExtInfo, Ignore, KexEcdhInit, KexEcdhReply, KexInit, KexdhInit, KexdhReply, NewKeys, NoMethod, OtherMethod, Password, PasswordChange, PublicKey, PublicKeyQuery, ServiceAccept, ServiceRequest, Unimplemented, UserauthBanner, UserauthFailure, UserauthPkOk, UserauthRequest, UserauthSuccess}
 use Rattle.sshmsg.specs.Form.{BigNumber, Bytes, Cookie, Done, FillsForm, Flag, Form, Names, Number, Reserved, Rest, Then, Utf8, form_at}
 
 -- 1, RFC 4253 section 11.1
@@ -135,6 +135,10 @@ userauth_success = Done UserauthSuccess
 unfoldable pub userauth_banner : Form
 userauth_banner = Then Bytes λ text. Then Bytes λ language. Done (UserauthBanner text language)
 
+-- 60, RFC 4252 section 7: the key of a query would do
+unfoldable pub userauth_pk_ok : Form
+userauth_pk_ok = Then Bytes λ algorithm. Then Bytes λ key. Done (UserauthPkOk algorithm key)
+
 -- the form of each number that has one, in an exchange whose shares have this form
 unfoldable pub form_of : ShareForm → ℕ → Option Form
 form_of shares n =
@@ -153,6 +157,7 @@ form_of shares n =
     else if n == SSH_MSG_USERAUTH_FAILURE then Some userauth_failure
     else if n == SSH_MSG_USERAUTH_SUCCESS then Some userauth_success
     else if n == SSH_MSG_USERAUTH_BANNER then Some userauth_banner
+    else if n == SSH_MSG_USERAUTH_PK_OK then Some userauth_pk_ok
     else None
 
 -- the payload spells the message: its number, and fields that fill the number's form

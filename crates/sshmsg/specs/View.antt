@@ -82,6 +82,7 @@ content_of (message.UserauthRequest user service m) = content.UserauthRequest us
 content_of (message.UserauthFailure methods partial_success) = content.UserauthFailure methods partial_success
 content_of message.UserauthSuccess = content.UserauthSuccess
 content_of (message.UserauthBanner text language) = content.UserauthBanner text.now language.now
+content_of (message.UserauthPkOk algorithm key) = content.UserauthPkOk algorithm.now key.now
 
 -- what a function that takes no memory read, seen by view, is what the reading gives
 abbrev pub Goes : {X Y : Type 0} → (X → Y) → Result X WireFault → List ℕ → Result (Y × List ℕ) WireFault → Type 0

@@ -6,7 +6,7 @@ use Rattle.std.specs.Str.{IsUtf8}
 use Rattle.sshwire.specs.Types.{AreNames, IsBytes, IsShortestBody, boolean, name_list, names_body, string, uint32}
 use Rattle.sshwire.specs.declared.share_form.ShareForm.{ShareForm}
 use Rattle.sshwire.specs.declared.share_form.ShareForm.TheVariants.{Mpint}
-use Rattle.sshmsg.specs.Content.{Content, Debug, Disconnect, ExtInfo, Ignore, KexEcdhInit, KexEcdhReply, KexInit, KexdhInit, KexdhReply, Method, NewKeys, NoMethod, Offer, OtherMethod, Password, PasswordChange, PublicKey, PublicKeyQuery, ServiceAccept, ServiceRequest, Unimplemented, UserauthBanner, UserauthFailure, UserauthRequest, UserauthSuccess}
+use Rattle.sshmsg.specs.Content.{Content, Debug, Disconnect, ExtInfo, Ignore, KexEcdhInit, KexEcdhReply, KexInit, KexdhInit, KexdhReply, Method, NewKeys, NoMethod, Offer, OtherMethod, Password, PasswordChange, PublicKey, PublicKeyQuery, ServiceAccept, ServiceRequest, Unimplemented, UserauthBanner, UserauthFailure, UserauthPkOk, UserauthRequest, UserauthSuccess}
 use Rattle.sshmsg.specs.Messages.{is_named}
 
 -- the pairs of an EXT_INFO
@@ -70,6 +70,7 @@ written_message (UserauthRequest user service method) =
 written_message (UserauthFailure methods partial_success) = 51 ∷ (name_list methods ++ boolean partial_success)
 written_message UserauthSuccess = 52 ∷ []
 written_message (UserauthBanner text language) = 53 ∷ (string text ++ string language)
+written_message (UserauthPkOk algorithm key) = 60 ∷ (string algorithm ++ string key)
 
 -- What the fields of a message have to be, so that they can be written: lengths and numbers fit a uint32,
 -- names are names, mpints are the shortest, the user is UTF-8, a cookie has 16 bytes.
@@ -129,6 +130,7 @@ IsWellFormed (UserauthRequest user service method) =
 IsWellFormed (UserauthFailure methods partial_success) = IsNameList methods
 IsWellFormed UserauthSuccess = Unit {0}
 IsWellFormed (UserauthBanner text language) = IsString text × IsString language
+IsWellFormed (UserauthPkOk algorithm key) = IsString algorithm × IsString key
 
 -- a message that an exchange with shares of this form has: where shares are mpints 30 and 31 are those of RFC 4253 section 8,
 -- else those of RFC 5656 section 4; every other message is in each

@@ -144,6 +144,11 @@ impl<'a> fmt::Debug for Message<'a> {
                 .field("text", text)
                 .field("language", language)
                 .finish(),
+            Message::UserauthPkOk { algorithm, key } => f
+                .debug_struct("UserauthPkOk")
+                .field("algorithm", algorithm)
+                .field("key", key)
+                .finish(),
         }
     }
 }

@@ -67,6 +67,7 @@ impl<'a> Message<'a> {
             Message::UserauthBanner { text, language } => {
                 1 + string_len(text) + string_len(language)
             }
+            Message::UserauthPkOk { algorithm, key } => 1 + string_len(algorithm) + string_len(key),
         }
     }
 }

@@ -264,4 +264,11 @@ pub enum Message<'a> {
         /// The text's language tag, any bytes.
         language: &'a [u8],
     },
+    /// USERAUTH_PK_OK (60, RFC 4252 section 7).
+    UserauthPkOk {
+        /// The name of the key's algorithm, any bytes.
+        algorithm: &'a [u8],
+        /// The public key, any bytes.
+        key: &'a [u8],
+    },
 }

@@ -34,6 +34,8 @@ pub const SSH_MSG_USERAUTH_FAILURE: u8 = 51;
 pub const SSH_MSG_USERAUTH_SUCCESS: u8 = 52;
 /// USERAUTH_BANNER (RFC 4252 section 5.4).
 pub const SSH_MSG_USERAUTH_BANNER: u8 = 53;
+/// USERAUTH_PK_OK (RFC 4252 section 7).
+pub const SSH_MSG_USERAUTH_PK_OK: u8 = 60;
 
 /// Reasons of a DISCONNECT (RFC 4253 section 11.1): the peer broke the protocol.
 pub const SSH_DISCONNECT_PROTOCOL_ERROR: u32 = 2;

@@ -4,7 +4,7 @@ ghost use Rattle.std.specs.Prelude.{◌≡◌, ◌≢◌, ℕ, IfErr, IfOk, List
 ghost use Rattle.sshwire.specs.declared.share_form.ShareForm.TheVariants.{Mpint};
 ghost use Rattle.sshmsg.specs.Content.{Content, UserauthRequest};
 ghost use Rattle.sshmsg.specs.Form.{Reserved, bytes_at, field_at, form_at, utf8_at};
-ghost use Rattle.sshmsg.specs.Messages.{Spells, debug, disconnect, form_of, ignore, in_form, init_of, kex_ecdh_init, kex_ecdh_reply, kexdh_init, kexdh_reply, message_in, method_form, password, publickey, reply_of, service_accept, service_request, unimplemented, userauth_banner, userauth_request, userauth_success};
+ghost use Rattle.sshmsg.specs.Messages.{Spells, debug, disconnect, form_of, ignore, in_form, init_of, kex_ecdh_init, kex_ecdh_reply, kexdh_init, kexdh_reply, message_in, method_form, password, publickey, reply_of, service_accept, service_request, unimplemented, userauth_banner, userauth_pk_ok, userauth_request, userauth_success};
 ghost use Rattle.sshmsg.specs.Numbers.{HasNoList};
 ghost use Rattle.sshmsg.specs.View.{Answers, Goes, ReadsNumbered, WantsMemory, content_of, method_of};
 
@@ -15,7 +15,8 @@ use crate::numbers::{
     SSH_MSG_DEBUG, SSH_MSG_DISCONNECT, SSH_MSG_EXT_INFO, SSH_MSG_IGNORE, SSH_MSG_KEXDH_INIT,
     SSH_MSG_KEXDH_REPLY, SSH_MSG_KEXINIT, SSH_MSG_NEWKEYS, SSH_MSG_SERVICE_ACCEPT,
     SSH_MSG_SERVICE_REQUEST, SSH_MSG_UNIMPLEMENTED, SSH_MSG_USERAUTH_BANNER,
-    SSH_MSG_USERAUTH_FAILURE, SSH_MSG_USERAUTH_REQUEST, SSH_MSG_USERAUTH_SUCCESS,
+    SSH_MSG_USERAUTH_FAILURE, SSH_MSG_USERAUTH_PK_OK, SSH_MSG_USERAUTH_REQUEST,
+    SSH_MSG_USERAUTH_SUCCESS,
 };
 use sshwire::{Reader, ShareForm, WireFault};
 use std::alloc::Global;
@@ -117,6 +118,7 @@ fn read_numbered<'a>(
         SSH_MSG_USERAUTH_REQUEST => read_userauth_request(reader),
         SSH_MSG_USERAUTH_SUCCESS => Ok(Message::UserauthSuccess),
         SSH_MSG_USERAUTH_BANNER => read_userauth_banner(reader),
+        SSH_MSG_USERAUTH_PK_OK => read_userauth_pk_ok(reader),
         _ => return None,
     };
     Some(message)
@@ -255,6 +257,15 @@ fn read_userauth_banner<'a>(reader: &mut Reader<'a>) -> Result<Message<'a>, Wire
     let text = reader.string()?;
     let language = reader.string()?;
     Ok(Message::UserauthBanner { text, language })
+}
+
+#[tactic(auto, unfolding(crate::specs::Messages::userauth_pk_ok))]
+fn read_userauth_pk_ok<'a>(reader: &mut Reader<'a>) -> Result<Message<'a>, WireFault>
+    ensures { Goes content_of result reader.new (form_at userauth_pk_ok reader.old) }
+{
+    let algorithm = reader.string()?;
+    let key = reader.string()?;
+    Ok(Message::UserauthPkOk { algorithm, key })
 }
 
 #[tactic(auto, unfolding(crate::specs::Messages::userauth_request))]

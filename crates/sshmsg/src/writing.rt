@@ -14,8 +14,8 @@ use crate::numbers::{
     SSH_MSG_DEBUG, SSH_MSG_DISCONNECT, SSH_MSG_EXT_INFO, SSH_MSG_IGNORE, SSH_MSG_KEX_ECDH_INIT,
     SSH_MSG_KEX_ECDH_REPLY, SSH_MSG_KEXDH_INIT, SSH_MSG_KEXDH_REPLY, SSH_MSG_KEXINIT,
     SSH_MSG_NEWKEYS, SSH_MSG_SERVICE_ACCEPT, SSH_MSG_SERVICE_REQUEST, SSH_MSG_UNIMPLEMENTED,
-    SSH_MSG_USERAUTH_BANNER, SSH_MSG_USERAUTH_FAILURE, SSH_MSG_USERAUTH_REQUEST,
-    SSH_MSG_USERAUTH_SUCCESS,
+    SSH_MSG_USERAUTH_BANNER, SSH_MSG_USERAUTH_FAILURE, SSH_MSG_USERAUTH_PK_OK,
+    SSH_MSG_USERAUTH_REQUEST, SSH_MSG_USERAUTH_SUCCESS,
 };
 use sshwire::{Memory, Mpint, NameList, put_boolean, put_string, put_u32};
 
@@ -98,6 +98,7 @@ fn put_message(out: &mut Vec<u8>, message: &Message<'_>) -> Result<(), Memory>
         } => put_userauth_failure(out, methods, *partial_success),
         Message::UserauthSuccess => put_number(out, SSH_MSG_USERAUTH_SUCCESS),
         Message::UserauthBanner { text, language } => put_userauth_banner(out, text, language),
+        Message::UserauthPkOk { algorithm, key } => put_userauth_pk_ok(out, algorithm, key),
     }
 }
 
@@ -260,6 +261,18 @@ fn put_userauth_banner(out: &mut Vec<u8>, text: &[u8], language: &[u8]) -> Resul
     out.push(SSH_MSG_USERAUTH_BANNER)?;
     put_string(out, text)?;
     put_string(out, language)
+}
+
+#[tactic(auto, unfolding(crate::specs::Written::written_message))]
+fn put_userauth_pk_ok(out: &mut Vec<u8>, algorithm: &[u8], key: &[u8]) -> Result<(), Memory>
+    requires { length (written_message (content.UserauthPkOk algorithm.now key.now)) ≤ PAYLOAD_LIMIT }
+    ensures ok { OnOk result (out.new.items ≡ out.old.items ++ written_message (content.UserauthPkOk algorithm.now key.now)) }
+    ensures well { OnOk result (IsWellFormed (content.UserauthPkOk algorithm.now key.now)) }
+    ensures err { OnErr result (take (length out.old.items) out.new.items ≡ out.old.items) }
+{
+    out.push(SSH_MSG_USERAUTH_PK_OK)?;
+    put_string(out, algorithm)?;
+    put_string(out, key)
 }
 
 #[tactic(auto, unfolding(crate::specs::Written::written_message))]

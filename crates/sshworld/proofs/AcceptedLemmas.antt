@@ -1,14 +1,15 @@
 -- What accepted configs write is read again.
 
-use Rattle.std.proofs.Common.{◌≡◌, ◌≢◌, ◌⊎◌, ℕ, ◌≤◌, Bool, true, false, List, [], ◌∷◌, length, slice_get, Option, Some, Ok, refl, sym, subst, arith}
+use Rattle.std.proofs.Common.{◌≡◌, ◌≢◌, ◌⊎◌, ℕ, ◌+◌, ◌≤◌, Bool, true, false, List, [], ◌∷◌, length, slice_get, take, Option, Some, Ok, refl, sym, subst, arith}
 use Rattle.std.specs.List.{AllByRecursion}
+use Rattle.std.proofs.lemmas.Bool.Decides.{nat_tests}
 use Rattle.std.specs.Str.{IsUtf8}
 use Rattle.std.specs.Prelude.{Contains, IfSome}
 use Rattle.sshwire.specs.declared.share_form.ShareForm.{ShareForm}
 use Rattle.sshwire.specs.declared.share_form.ShareForm.TheVariants.{Hybrid, Mpint, OctetString}
 use Rattle.sshwire.specs.Types.{IsBytes, IsName}
 use Rattle.sshwire.proofs.NameLemmas.{name_tested}
-use Rattle.sshmsg.specs.Content.{Content, KexInit, UserauthBanner, UserauthFailure, UserauthRequest}
+use Rattle.sshmsg.specs.Content.{Content, KexInit, UserauthBanner, UserauthFailure, UserauthPkOk, UserauthRequest}
 use Rattle.sshmsg.specs.Messages.{message_in}
 use Rattle.sshmsg.specs.Written.{IsMessageOf, IsMethod, IsNameList, IsNumber, IsOffer, IsString, IsWellFormed, method_name, written_message}
 use Rattle.sshneg.specs.declared.choice.NoCommon.TheVariants as field
@@ -30,18 +31,20 @@ use Rattle.sshcore.specs.ConfigRules.{HasShortPassword, IsClient, IsNamed, IsSer
 use Rattle.sshcore.specs.Counting.{switched_out}
 use Rattle.sshcore.specs.Exchange.{answer_or, secret_of}
 use Rattle.sshcore.specs.Party.{Policy, client_party, server_party}
+use Rattle.sshcore.specs.Plan.{behind_query, unasked}
 use Rattle.sshcore.specs.Work.{init_in, reply_in}
 use Rattle.sshworld.specs.Agreement.{answer_of_server, host_key_of_server, session_between}
 use Rattle.sshworld.specs.Follows.{BothFollow}
+use Rattle.sshworld.specs.Judging.{is_proved}
 use Rattle.sshworld.specs.Offered.{offered}
 use Rattle.sshworld.specs.Placed.{BothInPlace, HaveSameKeys, said_by_client, said_by_server}
 use Rattle.sshworld.specs.Understood.{AreUnderstood, CanSign}
-use Rattle.sshworld.specs.Wordings.{signature_of_server, wording_of}
+use Rattle.sshworld.specs.Wordings.{answer_by, signature_of_server, wording_of}
 use Rattle.sshworld.proofs.BothFollowLemmas.{both_follow}
 use Rattle.sshworld.proofs.KeysLemmas.{same_keys}
 use Rattle.sshworld.proofs.OfferedLemmas.{offered_each}
 use Rattle.sshworld.proofs.PlacedLemmas.{both_placed}
-use Rattle.sshworld.proofs.Readable.{AreOffersRead, AreSound, IsRead, IsTestedName}
+use Rattle.sshworld.proofs.Readable.{AreOffersRead, AreSound, HasShortBlob, IsRead, IsTestedName}
 
 -- the laws of the crates below that this rests on
 pub record Below (m : Meaning) : Type 0 where
@@ -97,19 +100,36 @@ module _ (m : Meaning) (law : IsLawful m) (below : Below m) (c : ClientData) (s 
     server = λ form. below.again form (KexInit (server_offer s)) tt (below.server_written s server);
   }
 
-  of_plan : (Q : Attempt → Type 0) → AllByRecursion Q c.plan → (i : ℕ) (r : Attempt) → slice_get (offered s.methods c.plan) i ≡ Some r → Q r
-  of_plan Q all i r e = offered_each s.methods Q c.plan all i r e
+  of_plan : (d : Policy) (Q : Attempt → Type 0) → ((r : Attempt) → Q r → Q (behind_query r)) → AllByRecursion Q c.plan
+      → (i : ℕ) (r : Attempt) → slice_get (offered m d s c.plan) i ≡ Some r → Q r
+  of_plan d Q itself all i r e = offered_each m d s Q itself c.plan all i r e
 
   named_by : (p : Proving) → IsNamed p → IsTestedName p
   named_by ByNothing t = tt
   named_by (ByPassword password) t = tt
-  named_by (ByKey algorithm secret) t = name_tested algorithm t
+  named_by (ByKey algorithm secret ask) t = name_tested algorithm t
+
+  -- an attempt behind its query has what it had
+  unasked_named : (p : Proving) → IsNamed p → IsNamed (unasked p)
+  unasked_named ByNothing t = t
+  unasked_named (ByPassword password) t = t
+  unasked_named (ByKey algorithm secret ask) t = t
+
+  unasked_short : (p : Proving) → HasShortPassword p → HasShortPassword (unasked p)
+  unasked_short ByNothing t = t
+  unasked_short (ByPassword password) t = t
+  unasked_short (ByKey algorithm secret ask) t = t
+
+  each_named : (plan : List Attempt) → AllByRecursion (λ (a : Attempt). IsName a.service × IsNamed a.proving) plan → AllByRecursion (λ (a : Attempt). IsTestedName a.proving) plan
+  each_named [] all = tt
+  each_named (x ∷ later) all = (named_by x.proving all.0.1, each_named later all.1)
 
   pub sound : AreSound c s
   sound = record {
     client_unmarked = not_in c.side.kex_algorithms (strict_marker Client) (below.client_unmarked c client Client);
     server_unmarked = not_in s.side.kex_algorithms (strict_marker Server) (below.server_unmarked s server Server);
-    named = λ i a e. named_by a.proving (of_plan (λ (a : Attempt). IsName a.service × IsNamed a.proving) (client.keeps fault.Name).2 i a e).1;
+    named = each_named c.plan (client.keeps fault.Name).2;
+    required = (server.keeps fault.Name).3;
     tries = (server.keeps fault.Tries).0;
   }
 
@@ -125,7 +145,9 @@ module _ (m : Meaning) (law : IsLawful m) (below : Below m) (c : ClientData) (s 
       → IsString (method_name (method_by m session r.user r.service p)) × IsMethod (method_by m session r.user r.service p)
   method_well session r ByNothing named short = (omega arith, tt)
   method_well session r (ByPassword password) named short = (omega arith, omega (arith, short))
-  method_well session r (ByKey algorithm secret) named short =
+  method_well session r (ByKey algorithm secret true) named short =
+      (omega arith, (omega (arith, named.short), omega (arith, law.blob_high algorithm secret named)))
+  method_well session r (ByKey algorithm secret false) named short =
       (omega arith, (omega (arith, named.short), omega (arith, law.blob_high algorithm secret named), omega (arith, law.sign_high algorithm secret (signed_text session r.user r.service algorithm (m.blob algorithm secret)) named)))
 
   methods_well : IsNameList s.methods
@@ -134,7 +156,7 @@ module _ (m : Meaning) (law : IsLawful m) (below : Below m) (c : ClientData) (s 
   banner_short : (text : List ℕ) → s.banner ≡ Some text → length text ≤ 8192
   banner_short text has = subst (λ (b : Option (List ℕ)). IfSome b (λ text. length text ≤ 8192)) has (server.keeps fault.Blob).1
 
-  pub reads_all : (d : Policy) → AreUnderstood m d c s → (a : Algorithms) → choice m (client_offer c) (server_offer s) ≡ Ok a → IsRead m c s a
+  pub reads_all : (d : Policy) → AreUnderstood m d c s → (a : Algorithms) → choice m (client_offer c) (server_offer s) ≡ Ok a → IsRead m d c s a
   reads_all d understood a chosen =
       let name : IsName a.host_key = well m (client_offer c) (server_offer s) a (choice_sound m (client_offer c) (server_offer s) a chosen) field.HostKey (below.client_written c client).server_host_key_algorithms.each in
       record {
@@ -144,19 +166,39 @@ module _ (m : Meaning) (law : IsLawful m) (below : Below m) (c : ClientData) (s 
             (reply_well (m.share_form a.kex) (host_key_of_server m s a.host_key) (answer_of_server m c s a.kex).share (signature_of_server m c s a) (server_share a.kex (understood.exchange a chosen))
             (law.blob_high a.host_key (secret_of s.host_keys a.host_key) name) (law.sign_high a.host_key (secret_of s.host_keys a.host_key) (session_between m c s a) name));
         banner = λ text has form. below.again form (UserauthBanner text []) tt (omega (arith, banner_short text has), omega arith);
-        failure = λ form. below.again form (UserauthFailure s.methods false) tt methods_well;
+        answers = λ i r e form. answer_read form r.proving (is_proved m d s (length (take i (offered m d s c.plan)) + 1) r) (named_at i r e).1;
+        short = λ i r e. blob_short r.proving (named_at i r e).1;
         requests = λ i r e form.
-            let named = of_plan (λ (a : Attempt). IsName a.service × IsNamed a.proving) (client.keeps fault.Name).2 i r e in
-            let w = method_well (session_between m c s a) r r.proving named.1 (of_plan (λ (a : Attempt). HasShortPassword a.proving) (client.keeps fault.Secret) i r e) in
+            let named = named_at i r e in
+            let w = method_well (session_between m c s a) r r.proving named.1 (of_plan d (λ (a : Attempt). HasShortPassword a.proving) (λ r h. unasked_short r.proving h) (client.keeps fault.Secret) i r e) in
             below.again form (UserauthRequest r.user r.service (method_by m (session_between m c s a) r.user r.service r.proving)) tt
-            (of_plan (λ (a : Attempt). IsUtf8 a.user) client.users i r e, omega (arith, of_plan (λ (a : Attempt). length a.user ≤ 255) (client.keeps fault.User) i r e), omega (arith, named.0.short), w.0, w.1);
+            (of_plan d (λ (a : Attempt). IsUtf8 a.user) (λ r h. h) client.users i r e, omega (arith, of_plan d (λ (a : Attempt). length a.user ≤ 255) (λ r h. h) (client.keeps fault.User) i r e), omega (arith, named.0.short), w.0, w.1);
       }
+    where
+      named_at : (i : ℕ) (r : Attempt) → slice_get (offered m d s c.plan) i ≡ Some r → IsName r.service × IsNamed r.proving
+      named_at i r e = of_plan d (λ (a : Attempt). IsName a.service × IsNamed a.proving) (λ r h. (h.0, unasked_named r.proving h.1)) (client.keeps fault.Name).2 i r e
+
+      blob_short : (p : Proving) → IsNamed p → HasShortBlob m p
+      blob_short ByNothing t = tt
+      blob_short (ByPassword password) t = tt
+      blob_short (ByKey algorithm secret ask) t = let high : length (m.blob algorithm secret) ≤ 8192 = law.blob_high algorithm secret t in grind (arith, nat_tests, high)
+
+      failure_read : (form : ShareForm) (partial : Bool) → message_in form (written_message (UserauthFailure s.methods partial)) ≡ Ok (UserauthFailure s.methods partial)
+      failure_read form partial = below.again form (UserauthFailure s.methods partial) tt methods_well
+
+      answer_read : (form : ShareForm) (p : Proving) (proved : Bool) → IsNamed p → message_in form (written_message (answer_by m s.methods proved p)) ≡ Ok (answer_by m s.methods proved p)
+      answer_read form ByNothing proved t = failure_read form proved
+      answer_read form (ByPassword password) proved t = failure_read form proved
+      answer_read form (ByKey algorithm secret false) proved t = failure_read form proved
+      answer_read form (ByKey algorithm secret true) true t =
+          below.again form (UserauthPkOk algorithm (m.blob algorithm secret)) tt (omega (arith, t.short), omega (arith, law.blob_high algorithm secret t))
+      answer_read form (ByKey algorithm secret true) false t = failure_read form false
 
 -- all ends agree, and all keys sign
 can_sign : (m : Meaning) → IsAgreeing m → (p : Proving) → CanSign m p
 can_sign m agrees ByNothing = tt
 can_sign m agrees (ByPassword password) = tt
-can_sign m agrees (ByKey algorithm secret) = agrees.signed algorithm secret
+can_sign m agrees (ByKey algorithm secret ask) = agrees.signed algorithm secret
 
 can_sign_each : (m : Meaning) → IsAgreeing m → (plan : List Attempt) → AllByRecursion (λ (r : Attempt). CanSign m r.proving) plan
 can_sign_each m agrees [] = tt
@@ -169,7 +211,7 @@ understood_by m d c s agrees client server = record {
   plan = can_sign_each m agrees c.plan;
 }
 
-pub accepted_follow : (m : Meaning) → IsLawful m → Below m → (d : Policy) (c : ClientData) (s : ServerData) → AreUnderstood m d c s → IsClient c → IsServer s → BothFollow m d c s (wording_of m c s)
+pub accepted_follow : (m : Meaning) → IsLawful m → Below m → (d : Policy) (c : ClientData) (s : ServerData) → AreUnderstood m d c s → IsClient c → IsServer s → BothFollow m d c s (wording_of m d c s)
 accepted_follow m law below d c s understood client server =
     both_follow m d c s understood (sound m law below c s client server) (offers_read m law below c s client server) (reads_all m law below c s client server d understood)
 

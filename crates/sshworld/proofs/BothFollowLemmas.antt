@@ -27,13 +27,13 @@ use Rattle.sshworld.proofs.ServerFollows.{server_asked_follows, server_refused_f
 use Rattle.sshworld.proofs.StepLemmas.{right_sound}
 
 module _ (m : Meaning) (d : Policy) (c : ClientData) (s : ServerData) (understood : AreUnderstood m d c s) (sound : AreSound c s) (offers : AreOffersRead c s)
-    (readable : (a : Algorithms) → choice m (client_offer c) (server_offer s) ≡ Ok a → IsRead m c s a) where
+    (readable : (a : Algorithms) → choice m (client_offer c) (server_offer s) ≡ Ok a → IsRead m d c s a) where
   -- with this choice
   record With (r : Result Algorithms NoCommon) : Type 0 where
-    client : FollowsPart m d Client (client_party c) (client_part (wording_with m c s (method_used c r) (chosen_or r)) (guess_of c s) (way_by m d c s r) (table (case_of_choice m d c s r)))
-        (units_of (server_party s) (server_part (wording_with m c s (method_used c r) (chosen_or r)) (guess_of c s) (way_by m d c s r) (table (case_of_choice m d c s r))))
-    server : FollowsPart m d Server (server_party s) (server_part (wording_with m c s (method_used c r) (chosen_or r)) (guess_of c s) (way_by m d c s r) (table (case_of_choice m d c s r)))
-        (units_of (client_party c) (client_part (wording_with m c s (method_used c r) (chosen_or r)) (guess_of c s) (way_by m d c s r) (table (case_of_choice m d c s r))))
+    client : FollowsPart m d Client (client_party c) (client_part (wording_with m d c s (method_used c r) (chosen_or r)) (guess_of c s) (way_by m d c s r) (table (case_of_choice m d c s r)))
+        (units_of (server_party s) (server_part (wording_with m d c s (method_used c r) (chosen_or r)) (guess_of c s) (way_by m d c s r) (table (case_of_choice m d c s r))))
+    server : FollowsPart m d Server (server_party s) (server_part (wording_with m d c s (method_used c r) (chosen_or r)) (guess_of c s) (way_by m d c s r) (table (case_of_choice m d c s r)))
+        (units_of (client_party c) (client_part (wording_with m d c s (method_used c r) (chosen_or r)) (guess_of c s) (way_by m d c s r) (table (case_of_choice m d c s r))))
 
   -- a right guess guesses the method that is used
   right : (a : Algorithms) → choice m (client_offer c) (server_offer s) ≡ Ok a → is_right_guess (client_offer c) (server_offer s) ≡ true → a.kex ≡ guessed_method (client_party c)
@@ -46,10 +46,10 @@ module _ (m : Meaning) (d : Policy) (c : ClientData) (s : ServerData) (understoo
   case_trusted a b = if b then case_of_how m c s a (verdict m d c s).how else HostKeyRefused
 
   record Trusted (a : Algorithms) (b : Bool) : Type 0 where
-    client : FollowsPart m d Client (client_party c) (client_part (wording_with m c s a.kex a) (guess_of c s) (way_trusted b) (table (case_trusted a b)))
-        (units_of (server_party s) (server_part (wording_with m c s a.kex a) (guess_of c s) (way_trusted b) (table (case_trusted a b))))
-    server : FollowsPart m d Server (server_party s) (server_part (wording_with m c s a.kex a) (guess_of c s) (way_trusted b) (table (case_trusted a b)))
-        (units_of (client_party c) (client_part (wording_with m c s a.kex a) (guess_of c s) (way_trusted b) (table (case_trusted a b))))
+    client : FollowsPart m d Client (client_party c) (client_part (wording_with m d c s a.kex a) (guess_of c s) (way_trusted b) (table (case_trusted a b)))
+        (units_of (server_party s) (server_part (wording_with m d c s a.kex a) (guess_of c s) (way_trusted b) (table (case_trusted a b))))
+    server : FollowsPart m d Server (server_party s) (server_part (wording_with m d c s a.kex a) (guess_of c s) (way_trusted b) (table (case_trusted a b)))
+        (units_of (client_party c) (client_part (wording_with m d c s a.kex a) (guess_of c s) (way_trusted b) (table (case_trusted a b))))
 
   trusted_by : (a : Algorithms) → choice m (client_offer c) (server_offer s) ≡ Ok a → (b : Bool) → d.host_key a.host_key (host_key_of_server m s a.host_key) ≡ b → Trusted a b
   trusted_by a chosen true e = record {
@@ -71,7 +71,7 @@ module _ (m : Meaning) (d : Policy) (c : ClientData) (s : ServerData) (understoo
   }
 
 pub both_follow : (m : Meaning) (d : Policy) (c : ClientData) (s : ServerData) → AreUnderstood m d c s → AreSound c s → AreOffersRead c s
-    → ((a : Algorithms) → choice m (client_offer c) (server_offer s) ≡ Ok a → IsRead m c s a) → BothFollow m d c s (wording_of m c s)
+    → ((a : Algorithms) → choice m (client_offer c) (server_offer s) ≡ Ok a → IsRead m d c s a) → BothFollow m d c s (wording_of m d c s)
 unfolding outcome
 both_follow m d c s understood sound offers readable =
     let w = with_choice m d c s understood sound offers readable (choice m (client_offer c) (server_offer s)) refl in

@@ -34,7 +34,7 @@ use Rattle.sshworld.proofs.CountLemmas.{counted_offered}
 use Rattle.sshworld.proofs.CourseLemmas.{answers_said, next_in, next_last}
 use Rattle.sshworld.proofs.JudgedLemmas.{get_in}
 use Rattle.sshworld.proofs.MessageLemmas.{client_accepted, client_exchanges, client_first, client_greeted, client_refuses, client_trusts, client_view, switched, switches}
-use Rattle.sshworld.proofs.OfferedLemmas.{first_and_listed, left_none, left_some, offered_is}
+use Rattle.sshworld.proofs.OfferedLemmas.{IsLeft, left_none, left_some, offered_is}
 use Rattle.sshworld.proofs.PartLemmas.{answers_from, answers_split, as_last, as_open, at_each, from}
 use Rattle.sshworld.proofs.Readable.{AreOffersRead, AreSound, IsRead}
 use Rattle.sshworld.proofs.SaidLemmas.{server_says}
@@ -51,22 +51,22 @@ asked_same w true false = refl
 module _ (m : Meaning) (d : Policy) (c : ClientData) (s : ServerData) (understood : AreUnderstood m d c s) (sound : AreSound c s) (offers : AreOffersRead c s) where
   -- KEXINIT, and the guess
   pub makes : (kex : List ℕ) (b : Algorithms) (g r : Bool) → (r ≡ true → kex ≡ guessed_method (client_party c))
-      → cond g (init_for m (client_party c) (guessed_method (client_party c)) ∷ []) [] ≡ guessed (wording_with m c s kex b) (guess_by g r)
+      → cond g (init_for m (client_party c) (guessed_method (client_party c)) ∷ []) [] ≡ guessed (wording_with m d c s kex b) (guess_by g r)
   makes kex b false r e = refl
   makes kex b true true e = ap (λ (k : List ℕ). init_for m (client_party c) k ∷ []) (sym (e refl))
   makes kex b true false e = refl
 
   pub making_is : (kex : List ℕ) (b : Algorithms) → (is_right_guess (client_offer c) (server_offer s) ≡ true → kex ≡ guessed_method (client_party c))
-      → making m Client (client_party c) ≡ (wording_with m c s kex b).client_offer ∷ guessed (wording_with m c s kex b) (guess_by c.guess (is_right_guess (client_offer c) (server_offer s)))
-  making_is kex b e = ap (λ (l : Units). (wording_with m c s kex b).client_offer ∷ l) (makes kex b c.guess (is_right_guess (client_offer c) (server_offer s)) e)
+      → making m Client (client_party c) ≡ (wording_with m d c s kex b).client_offer ∷ guessed (wording_with m d c s kex b) (guess_by c.guess (is_right_guess (client_offer c) (server_offer s)))
+  making_is kex b e = ap (λ (l : Units). (wording_with m d c s kex b).client_offer ∷ l) (makes kex b c.guess (is_right_guess (client_offer c) (server_offer s)) e)
 
   -- where nothing is common
   pub client_without_follows : (kex : List ℕ) (b : Algorithms) (f : NoCommon) (end server_end : Ending) → (is_right_guess (client_offer c) (server_offer s) ≡ true → kex ≡ guessed_method (client_party c))
       → choice m (client_offer c) (server_offer s) ≡ Err f → end ≡ Failed (fault.NoCommon f)
-      → FollowsPart m d Client (client_party c) (client_no_choice (wording_with m c s kex b) (guess_by c.guess (is_right_guess (client_offer c) (server_offer s))) end)
-      (units_of (server_party s) (server_no_choice (wording_with m c s kex b) server_end))
+      → FollowsPart m d Client (client_party c) (client_no_choice (wording_with m d c s kex b) (guess_by c.guess (is_right_guess (client_offer c) (server_offer s))) end)
+      (units_of (server_party s) (server_no_choice (wording_with m d c s kex b) server_end))
   client_without_follows kex b f end server_end right chosen final =
-      let u : Wording = wording_with m c s kex b in
+      let u : Wording = wording_with m d c s kex b in
       let guess : Guess = guess_by c.guess (is_right_guess (client_offer c) (server_offer s)) in
       record {
         making_is = making_is kex b right;
@@ -81,9 +81,9 @@ module _ (m : Meaning) (d : Policy) (c : ClientData) (s : ServerData) (understoo
             );
       }
 
-  module _ (a : Algorithms) (chosen : choice m (client_offer c) (server_offer s) ≡ Ok a) (readable : IsRead m c s a) (right : is_right_guess (client_offer c) (server_offer s) ≡ true → a.kex ≡ guessed_method (client_party c)) where
+  module _ (a : Algorithms) (chosen : choice m (client_offer c) (server_offer s) ≡ Ok a) (readable : IsRead m d c s a) (right : is_right_guess (client_offer c) (server_offer s) ≡ true → a.kex ≡ guessed_method (client_party c)) where
     abbrev w : Wording
-    w = wording_with m c s a.kex a
+    w = wording_with m d c s a.kex a
 
     abbrev v : Verdict
     v = verdict m d c s
@@ -129,7 +129,7 @@ module _ (m : Meaning) (d : Policy) (c : ClientData) (s : ServerData) (understoo
       abbrev pre : Units
       pre = w.server_offer ∷ w.reply ∷ w.new_keys ∷ []
 
-      switched_view : Sits m Client (client_party c) (version_of s.side) pre phase.Service false (client_view m d c s understood sound offers a chosen readable (session_between m c s a) c.plan)
+      switched_view : Sits m d Client (client_party c) (version_of s.side) pre phase.Service false (client_view m d c s understood sound offers a chosen readable (session_between m c s a) c.plan)
       switched_view = switches m d Client (client_party c) (version_of s.side) (w.server_offer ∷ w.reply ∷ []) _ (client_exchanges m d c s understood sound offers a chosen readable)
 
       -- up to NEWKEYS
@@ -150,14 +150,14 @@ module _ (m : Meaning) (d : Policy) (c : ClientData) (s : ServerData) (understoo
             ),
           )
 
-      rest_is : first_and_listed s.methods c.plan ≡ offered s.methods c.plan
-      rest_is = sym (offered_is s.methods c.plan)
+      rest_is : IsLeft m d s (offered m d s c.plan) c.plan 0
+      rest_is = offered_is m d s c.plan
 
       -- SERVICE_ACCEPT where no request is left
       none_places : v.requests ≡ 0 → EachPlace Q (version_of s.side ∷ pre) (w.service_accept ∷ [])
       none_places none =
           let made = counted_offered m d c s in
-          let empty : c.plan ≡ [] = left_none s.methods (offered s.methods c.plan) c.plan 0 rest_is (omega (arith, made.none_offered none)) in (
+          let empty : c.plan ≡ [] = left_none m d s (offered m d s c.plan) c.plan 0 rest_is (omega (arith, made.none_offered none)) in (
             as_last m d Client (client_party c) p (version_of s.side ∷ pre) w.service_accept (w.disconnect 14 ∷ []) (Failed fault.NoMoreMethods)
                 ((client_accepted m d c s understood sound offers a chosen readable pre (session_between m c s a) c.plan switched_view).0 ∙ ap (λ (l : List Attempt). attempt_reply m (session_between m c s a) l) empty)
                 (next_last w v 0 (sym none) ∙ ap (λ h. client_last w h) (made.none_left none)) (ap (λ (n : ℕ). client_hears w n) (sym none)) (final Exhausted (made.none_left none)),
@@ -168,8 +168,8 @@ module _ (m : Meaning) (d : Policy) (c : ClientData) (s : ServerData) (understoo
       some_places : 0 < v.requests → EachPlace Q (version_of s.side ∷ pre) (w.service_accept ∷ (w.banner ++ from (server_next w v) 0 v.requests))
       some_places more =
           let made = counted_offered m d c s in
-          let x = get_in (offered s.methods c.plan) 0 (omega (arith, more, made.most)) in
-          let l = left_some s.methods (offered s.methods c.plan) c.plan 0 x.0 rest_is x.1 in
+          let x = get_in (offered m d s c.plan) 0 (omega (arith, more, made.most)) in
+          let l = left_some m d s (offered m d s c.plan) c.plan 0 x.0 rest_is x.1 in
           let one : client_next w v 0 ≡ request_of m (session_between m c s a) x.0 ∷ [] = next_in w v 0 more ∙ ap (λ (o : Option Attempt). request_or m (session_between m c s a) o ∷ []) x.1 in
           let n = hears_many w v.requests more in
           let accepted = client_accepted m d c s understood sound offers a chosen readable pre (session_between m c s a) c.plan switched_view in (
@@ -178,8 +178,8 @@ module _ (m : Meaning) (d : Policy) (c : ClientData) (s : ServerData) (understoo
             greeted s.banner refl made.most more accepted.1,
           )
         where
-          greeted : (b : Option (List ℕ)) → s.banner ≡ b → v.requests ≤ length (offered s.methods c.plan) → 0 < v.requests
-              → Sits m Client (client_party c) (version_of s.side) (pre ++ w.service_accept ∷ []) phase.Auth false (client_view m d c s understood sound offers a chosen readable (session_between m c s a) c.plan)
+          greeted : (b : Option (List ℕ)) → s.banner ≡ b → v.requests ≤ length (offered m d s c.plan) → 0 < v.requests
+              → Sits m d Client (client_party c) (version_of s.side) (pre ++ w.service_accept ∷ []) phase.Auth false (client_view m d c s understood sound offers a chosen readable (session_between m c s a) c.plan)
               → EachPlace Q (version_of s.side ∷ (pre ++ w.service_accept ∷ [])) (banner_by b ++ from (server_next w v) 0 v.requests)
           greeted None has most more here =
               let none : length w.banner ≡ 0 = ap (λ t. length (banner_by t)) has in

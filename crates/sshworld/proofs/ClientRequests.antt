@@ -1,6 +1,8 @@
 -- The client's part of authentication, by the number of requests made.
 
-use Rattle.std.proofs.Common.{◌≡◌, ◌⊎◌, inl, inr, ℕ, zero, suc, ◌+◌, ◌<◌, ◌≤◌, Bool, false, List, [], ◌∷◌, ◌++◌, drop, take, length, length-append, Option, None, Some, Ok, refl, sym, ap, ◌∙◌, subst, arith}
+use Rattle.std.proofs.Common.{◌≡◌, ◌⊎◌, inl, inr, ℕ, zero, suc, ◌+◌, ◌<◌, ◌≤◌, Bool, true, false, if◌then◌else◌, List, [], ◌∷◌, ◌++◌, take, length, length-append, slice_get, Option, None, Some, Ok, refl, sym, ap, ◌∙◌, subst, arith}
+use Rattle.sshmsg.specs.Content.{Content, UserauthFailure, UserauthPkOk}
+use Rattle.sshmsg.specs.Written.{written_message}
 use Rattle.sshneg.specs.declared.role.Role.TheVariants.{Client}
 use Rattle.sshneg.specs.ChoiceReadings.{choice}
 use Rattle.sshneg.specs.Fields.{Algorithms}
@@ -9,38 +11,40 @@ use Rattle.sshpacket.specs.Stream.{Units}
 use Rattle.sshpacket.specs.Suite.{Meaning}
 use Rattle.sshcore.specs.declared.table.Phase.TheVariants as phase
 use Rattle.sshcore.specs.Attempts.{attempt_reply, request_of}
-use Rattle.sshcore.specs.ConfigData.{Attempt, ClientData, ServerData, client_offer, server_offer, version_of}
+use Rattle.sshcore.specs.ConfigData.{Attempt, ByKey, ByNothing, ByPassword, ClientData, Proving, ServerData, client_offer, server_offer, version_of}
 use Rattle.sshcore.specs.Ending.{Authenticated, Ending}
 use Rattle.sshcore.specs.Party.{Policy, client_party}
-use Rattle.sshcore.specs.Plan.{next_behind}
+use Rattle.sshcore.specs.Plan.{confirmed, next_behind}
+use Rattle.sshcore.specs.Replies.{reply_at}
 use Rattle.sshcore.specs.Standing.{Sits}
 use Rattle.sshworld.specs.Agreement.{agreed, session_between}
 use Rattle.sshworld.specs.Course.{Part, client_early, client_hears, client_last, client_next, client_requests, server_last, server_next}
 use Rattle.sshworld.specs.Follows.{IsAsPart}
 use Rattle.sshworld.specs.Guesses.{Guess}
-use Rattle.sshworld.specs.Offered.{offered}
+use Rattle.sshworld.specs.Judging.{is_proved}
+use Rattle.sshworld.specs.Offered.{is_confirmed, offered}
 use Rattle.sshworld.specs.Outcome.{case_of_how, table}
 use Rattle.sshworld.specs.Understood.{AreUnderstood}
 use Rattle.sshworld.specs.Verdicts.{Exhausted, How, Limit, Success, Unknown, Verdict, ends_by, verdict}
 use Rattle.sshworld.specs.Wording.{Wording}
-use Rattle.sshworld.specs.Wordings.{request_or, wording_with}
+use Rattle.sshworld.specs.Wordings.{answer_or, answer_to, request_or, wording_with}
 use Rattle.sshworld.proofs.CountLemmas.{counted_offered, success_of}
 use Rattle.sshworld.proofs.CourseLemmas.{answer_in, answer_last, early_length, next_in, next_last}
 use Rattle.sshworld.proofs.JudgedLemmas.{brings_at, client_strict, get_in}
-use Rattle.sshworld.proofs.MessageLemmas.{client_failed, client_succeeds, client_view, closed, fourteen_read, seven_read}
-use Rattle.sshworld.proofs.OfferedLemmas.{first_and_listed, left_next, left_none, left_some}
+use Rattle.sshworld.proofs.MessageLemmas.{client_confirmed, client_failed, client_succeeds, client_view, closed, fourteen_read, seven_read}
+use Rattle.sshworld.proofs.OfferedLemmas.{IsLeft, left_confirmed, left_none, left_refused, left_some}
 use Rattle.sshworld.proofs.PartLemmas.{as_last, as_open, from, group_behind}
-use Rattle.sshworld.proofs.Readable.{AreOffersRead, AreSound, IsRead}
+use Rattle.sshworld.proofs.Readable.{AreOffersRead, AreSound, IsRead, ReadsAgain}
 
 pub hears_many : (w : Wording) (n : ℕ) → 0 < n → client_hears w n ≡ 5 + length w.banner + n
 hears_many w zero h = absurd (omega (arith, h))
 hears_many w (suc n) h = refl
 
 module _ (m : Meaning) (d : Policy) (c : ClientData) (s : ServerData) (understood : AreUnderstood m d c s) (sound : AreSound c s) (offers : AreOffersRead c s)
-    (a : Algorithms) (chosen : choice m (client_offer c) (server_offer s) ≡ Ok a) (readable : IsRead m c s a) (guess : Guess) (end : Ending)
+    (a : Algorithms) (chosen : choice m (client_offer c) (server_offer s) ≡ Ok a) (readable : IsRead m d c s a) (guess : Guess) (end : Ending)
     (final : (how : How) → (verdict m d c s).how ≡ how → end ≡ (table (case_of_how m c s a how)).client) where
   abbrev w : Wording
-  w = wording_with m c s a.kex a
+  w = wording_with m d c s a.kex a
 
   abbrev v : Verdict
   v = verdict m d c s
@@ -52,17 +56,71 @@ module _ (m : Meaning) (d : Policy) (c : ClientData) (s : ServerData) (understoo
   Q = IsAsPart m d Client (client_party c) p
 
   abbrev sits : Units → List Attempt → Type 0
-  sits before left = Sits m Client (client_party c) (version_of s.side) before phase.Auth false (client_view m d c s understood sound offers a chosen readable (session_between m c s a) left)
+  sits before left = Sits m d Client (client_party c) (version_of s.side) before phase.Auth false (client_view m d c s understood sound offers a chosen readable (session_between m c s a) left)
 
   abbrev is_left : List Attempt → ℕ → Type 0
-  is_left left j = first_and_listed s.methods left ≡ drop j (offered s.methods c.plan)
+  is_left left j = IsLeft m d s (offered m d s c.plan) left j
 
   group_is : (before : Units) (j : ℕ) → length before ≡ 4 + length w.banner + j → p.group (length (version_of s.side ∷ before)) ≡ client_next w v (j + 1)
   group_is before j at = group_behind (client_early w guess v) (λ i. client_next w v (i + 1)) j (suc (length before)) (omega (arith, at, early_length w guess v))
 
+  -- What the client does at the answer to request j, which ends nothing: it makes the first attempt of what is left then.
+  record Answered (before : Units) (j : ℕ) (payload : List ℕ) : Type 0 where
+    left : List Attempt
+    reply : reply_at m d Client (client_party c) (version_of s.side) before payload ≡ attempt_reply m (session_between m c s a) left
+    here : sits (before ++ payload ∷ []) left
+    rest : is_left left (j + 1)
+
+  module _ (before : Units) (j : ℕ) where
+    abbrev made : List Attempt
+    made = take j (offered m d s c.plan)
+
+    by_failure : (x : Attempt) (later : List Attempt) (partial : Bool) → ReadsAgain (UserauthFailure s.methods partial) → sits before (x ∷ later) → is_left (x ∷ later) j
+        → slice_get (offered m d s c.plan) j ≡ Some x → is_confirmed m d s made x ≡ false → Answered before j (written_message (UserauthFailure s.methods partial))
+    by_failure x later partial read here rest at none =
+        let f = client_failed m d c s understood sound offers a chosen readable partial read before (session_between m c s a) (x ∷ later) here in
+        record { left = next_behind s.methods (x ∷ later); reply = f.0; here = f.1; rest = left_refused m d s (offered m d s c.plan) j x later rest at none }
+
+    by_proving : (user service : List ℕ) (p : Proving) (later : List Attempt) → sits before (record { user = user; service = service; proving = p } ∷ later)
+        → is_left (record { user = user; service = service; proving = p } ∷ later) j → slice_get (offered m d s c.plan) j ≡ Some (record { user = user; service = service; proving = p })
+        → Answered before j (written_message (answer_to m d s made (record { user = user; service = service; proving = p })))
+    by_proving user service ByNothing later here rest at =
+        let x : Attempt = record { user = user; service = service; proving = ByNothing } in
+        by_failure x later (is_proved m d s (length made + 1) x) (readable.answers j x at) here rest at refl
+    by_proving user service (ByPassword password) later here rest at =
+        let x : Attempt = record { user = user; service = service; proving = ByPassword password } in
+        by_failure x later (is_proved m d s (length made + 1) x) (readable.answers j x at) here rest at refl
+    by_proving user service (ByKey algorithm secret false) later here rest at =
+        let x : Attempt = record { user = user; service = service; proving = ByKey algorithm secret false } in
+        by_failure x later (is_proved m d s (length made + 1) x) (readable.answers j x at) here rest at refl
+    by_proving user service (ByKey algorithm secret true) later here rest at = by (is_proved m d s (length made + 1) x) refl
+      where
+        x : Attempt
+        x = record { user = user; service = service; proving = ByKey algorithm secret true }
+
+        told : Bool → Content
+        told b = if b then UserauthPkOk algorithm (m.blob algorithm secret) else UserauthFailure s.methods false
+
+        by : (b : Bool) → is_proved m d s (length made + 1) x ≡ b → Answered before j (written_message (told (is_proved m d s (length made + 1) x)))
+        by true e =
+            let is : told (is_proved m d s (length made + 1) x) ≡ UserauthPkOk algorithm (m.blob algorithm secret) = ap told e in
+            let f = client_confirmed m d c s understood sound offers a chosen readable user service algorithm secret later (subst ReadsAgain is (readable.answers j x at)) before (session_between m c s a) here in
+            subst (λ (y : Content). Answered before j (written_message y)) (sym is)
+            (record { left = confirmed (x ∷ later); reply = f.0; here = f.1; rest = left_confirmed m d s (offered m d s c.plan) j x later rest at e })
+        by false e =
+            let is : told (is_proved m d s (length made + 1) x) ≡ UserauthFailure s.methods false = ap told e in
+            subst (λ (y : Content). Answered before j (written_message y)) (sym is)
+            (by_failure x later false (subst ReadsAgain is (readable.answers j x at)) here rest at e)
+
+    answered : (left : List Attempt) (x : Attempt) → sits before left → is_left left j → slice_get (offered m d s c.plan) j ≡ Some x → Answered before j (w.refusal j)
+    answered left x here rest at =
+        let l = left_some m d s (offered m d s c.plan) left j x rest at in
+        subst (λ (payload : List ℕ). Answered before j payload) (sym (ap (answer_or m d s made) at))
+        (by_proving x.user x.service x.proving l.0 (subst (λ (y : List Attempt). sits before y) l.1 here) (subst (λ (y : List Attempt). is_left y j) l.1 rest) at)
+
   success_is : (j : ℕ) (q x : Attempt) → v.how ≡ Success q
-      → (ends_by m d s (take j (offered s.methods c.plan)) x ≡ Some v.how) ⊎ ((ends_by m d s (take j (offered s.methods c.plan)) x ≡ None) × (v.how ≡ Exhausted)) → q ≡ x
-  success_is j q x is (inl e) = success_of m d s (take j (offered s.methods c.plan)) x q (e ∙ ap Some is)
+      → (ends_by m d s (take j (offered m d s c.plan)) x ≡ Some v.how) ⊎ ((ends_by m d s (take j (offered m d s c.plan)) x ≡ None) × (v.how ≡ Exhausted)) → q ≡ x
+  success_is j q x is (inl e) = success_of m d s (take j (offered m d s c.plan)) x q (e ∙ ap Some is)
   success_is j q x is (inr e) = absurd (let no_how : Success q ≡ Exhausted = sym is ∙ e.1 in cc (no_how))
 
   -- the last answer
@@ -77,8 +135,8 @@ module _ (m : Meaning) (d : Policy) (c : ClientData) (s : ServerData) (understoo
   )
   last_here before j left all here rest at (Success q) is =
       let made = counted_offered m d c s in
-      let x = get_in (offered s.methods c.plan) j (omega (arith, all, made.most)) in
-      let l = left_some s.methods (offered s.methods c.plan) left j x.0 rest x.1 in
+      let x = get_in (offered m d s c.plan) j (omega (arith, all, made.most)) in
+      let l = left_some m d s (offered m d s c.plan) left j x.0 rest x.1 in
       let b = brings_at m d c s j x.0 x.1 in
       let same : q ≡ x.0 = success_is j q x.0 is (b.last (omega (arith, all))) in
       let strict = client_strict c s sound in (
@@ -99,16 +157,17 @@ module _ (m : Meaning) (d : Policy) (c : ClientData) (s : ServerData) (understoo
   )
   last_here before j left all here rest at Exhausted is =
       let made = counted_offered m d c s in
-      let none : next_behind s.methods left ≡ [] =
-      left_none s.methods (offered s.methods c.plan) (next_behind s.methods left) (j + 1) (left_next s.methods (offered s.methods c.plan) left j rest) (omega (arith, all, made.all_made is)) in (
+      let x = get_in (offered m d s c.plan) j (omega (arith, all, made.most)) in
+      let f = answered before j left x.0 here rest x.1 in
+      let none : f.left ≡ [] = left_none m d s (offered m d s c.plan) f.left (j + 1) f.rest (omega (arith, all, made.all_made is)) in (
         as_last m d Client (client_party c) p (version_of s.side ∷ before) (w.refusal j) (w.disconnect 14 ∷ []) _
-            ((client_failed m d c s understood sound offers a chosen readable before (session_between m c s a) left here).0 ∙ ap (λ (l : List Attempt). attempt_reply m (session_between m c s a) l) none)
+            (f.reply ∙ ap (λ (l : List Attempt). attempt_reply m (session_between m c s a) l) none)
             (group_is before j at ∙ next_last w v (j + 1) all ∙ ap (λ h. client_last w h) is)
             (let n = hears_many w v.requests (omega (arith, all)) in omega (arith, at, all, n)) (final Exhausted is),
         tt,
       )
 
-  pub client_loop : (r j : ℕ) → j + r ≡ v.requests → v.requests ≤ length (offered s.methods c.plan) → (before : Units) (left : List Attempt) → sits before left → is_left left j → length before ≡ 4 + length w.banner + j
+  pub client_loop : (r j : ℕ) → j + r ≡ v.requests → v.requests ≤ length (offered m d s c.plan) → (before : Units) (left : List Attempt) → sits before left → is_left left j → length before ≡ 4 + length w.banner + j
       → EachPlace Q (version_of s.side ∷ before) (from (server_next w v) j r)
   client_loop zero j sum most before left here rest at = tt
   client_loop (suc zero) j sum most before left here rest at =
@@ -116,16 +175,16 @@ module _ (m : Meaning) (d : Policy) (c : ClientData) (s : ServerData) (understoo
       subst (λ (g : Units). EachPlace Q (version_of s.side ∷ before) (g ++ [])) (sym (answer_last w v j all)) (last_here before j left all here rest at v.how refl)
   client_loop (suc (suc r)) j sum most before left here rest at =
       let more : j + 1 < v.requests = omega (arith, sum) in
-      let x = get_in (offered s.methods c.plan) (j + 1) (omega (arith, more, most)) in
-      let rest_next : is_left (next_behind s.methods left) (j + 1) = left_next s.methods (offered s.methods c.plan) left j rest in
-      let l = left_some s.methods (offered s.methods c.plan) (next_behind s.methods left) (j + 1) x.0 rest_next x.1 in
-      let f = client_failed m d c s understood sound offers a chosen readable before (session_between m c s a) left here in
+      let old = get_in (offered m d s c.plan) j (omega (arith, more, most)) in
+      let x = get_in (offered m d s c.plan) (j + 1) (omega (arith, more, most)) in
+      let f = answered before j left old.0 here rest old.1 in
+      let l = left_some m d s (offered m d s c.plan) f.left (j + 1) x.0 f.rest x.1 in
       let one : client_next w v (j + 1) ≡ request_of m (session_between m c s a) x.0 ∷ [] = next_in w v (j + 1) more ∙ ap (λ (o : Option Attempt). request_or m (session_between m c s a) o ∷ []) x.1 in
       subst (λ (g : Units). EachPlace Q (version_of s.side ∷ before) (g ++ from (server_next w v) (suc j) (suc r))) (sym (answer_in w v j more)) (
         as_open m d Client (client_party c) p (version_of s.side ∷ before) (w.refusal j) (request_of m (session_between m c s a) x.0 ∷ [])
-            (f.0 ∙ ap (λ (l : List Attempt). attempt_reply m (session_between m c s a) l) l.1) (group_is before j at ∙ one)
+            (f.reply ∙ ap (λ (l : List Attempt). attempt_reply m (session_between m c s a) l) l.1) (group_is before j at ∙ one)
             (let n = hears_many w v.requests (omega (arith, more)) in omega (arith, at, more, n)),
-        client_loop (suc r) (suc j) (omega (arith, sum)) most (before ++ w.refusal j ∷ []) (next_behind s.methods left) f.1
-            (rest_next ∙ ap (λ (n : ℕ). drop n (offered s.methods c.plan)) (let e : j + 1 ≡ suc j = omega arith in e))
+        client_loop (suc r) (suc j) (omega (arith, sum)) most (before ++ w.refusal j ∷ []) f.left f.here
+            (subst (λ (n : ℕ). is_left f.left n) (let e : j + 1 ≡ suc j = omega arith in e) f.rest)
             (omega (arith, at, length-append before (w.refusal j ∷ []))),
       )

@@ -11,6 +11,7 @@ use Rattle.sshcore.specs.Party.{Policy}
 use Rattle.sshworld.specs.Agreement.{host_key_of_server}
 use Rattle.sshworld.specs.Course.{NoChoice, NoTrust, Requests, Way, client_part, server_part, way_by, way_of}
 use Rattle.sshworld.specs.Guesses.{Guess, guess_of}
+use Rattle.sshworld.specs.Offered.{most_requests}
 use Rattle.sshworld.specs.Outcome.{BothEnds, Case, HostKeyRefused, NoneLeft, NothingCommon, ServiceUnknown, TriesUsedUp, UserAccepted, case_of, outcome, table}
 use Rattle.sshworld.specs.Rounds.{IsCourse, after_rounds, all_heard, groups_said, requests_of}
 use Rattle.sshworld.specs.Verdicts.{verdict}
@@ -54,23 +55,23 @@ pub of_outcome : (m : Meaning) (d : Policy) (c : ClientData) (s : ServerData) (w
     → IsCourse (client_part w (guess_of c s) (way_of m d c s) (outcome m d c s)) (server_part w (guess_of c s) (way_of m d c s) (outcome m d c s))
 of_outcome m d c s w = is_course w (guess_of c s) (way_of m d c s) (outcome m d c s) (outcome_ends m d c s).0 (outcome_ends m d c s).1
 
--- a course has no more requests than the plan has attempts
-pub few_of_way : (m : Meaning) (d : Policy) (c : ClientData) (s : ServerData) → requests_of (way_of m d c s) ≤ length c.plan
+-- a course has no more requests than the attempts of the plan have
+pub few_of_way : (m : Meaning) (d : Policy) (c : ClientData) (s : ServerData) → requests_of (way_of m d c s) ≤ most_requests c.plan
 few_of_way m d c s = by (choice m (client_offer c) (server_offer s))
   where
-    trusted : (a : Algorithms) (t : Bool) → requests_of (if t then Requests (verdict m d c s) else NoTrust) ≤ length c.plan
+    trusted : (a : Algorithms) (t : Bool) → requests_of (if t then Requests (verdict m d c s) else NoTrust) ≤ most_requests c.plan
     trusted a true = few_requests m d c s
     trusted a false = omega arith
 
-    by : (r : Result Algorithms NoCommon) → requests_of (way_by m d c s r) ≤ length c.plan
+    by : (r : Result Algorithms NoCommon) → requests_of (way_by m d c s r) ≤ most_requests c.plan
     by (Ok a) = trusted a (d.host_key a.host_key (host_key_of_server m s a.host_key))
     by (Err f) = omega arith
 
 pub few_groups : (m : Meaning) (d : Policy) (c : ClientData) (s : ServerData) (w : Wording) (guess : Guess) (ends : BothEnds)
-    → groups_said (client_part w guess (way_of m d c s) ends).group (client_part w guess (way_of m d c s) ends).hears ≤ length c.plan + 3
+    → groups_said (client_part w guess (way_of m d c s) ends).group (client_part w guess (way_of m d c s) ends).hears ≤ most_requests c.plan + 3
 few_groups m d c s w guess ends = omega (arith, groups w guess (way_of m d c s) ends, few_of_way m d c s)
 
-pub few_rounds : (m : Meaning) (d : Policy) (c : ClientData) (s : ServerData) (w : Wording) (guess : Guess) (ends : BothEnds) (r : ℕ) → length c.plan + 4 ≤ r
+pub few_rounds : (m : Meaning) (d : Policy) (c : ClientData) (s : ServerData) (w : Wording) (guess : Guess) (ends : BothEnds) (r : ℕ) → most_requests c.plan + 4 ≤ r
     → after_rounds (client_part w guess (way_of m d c s) ends) (server_part w guess (way_of m d c s) ends) r
     ≡ all_heard (client_part w guess (way_of m d c s) ends) (server_part w guess (way_of m d c s) ends)
 few_rounds m d c s w guess ends r h = bound w guess (way_of m d c s) ends r (omega (arith, h, few_of_way m d c s))

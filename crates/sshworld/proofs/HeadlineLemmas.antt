@@ -10,6 +10,7 @@ use Rattle.sshpacket.proofs.Places.{prefix-cons, prefix-through}
 use Rattle.sshcore.specs.ConfigData.{ClientData, ServerData, version_of}
 use Rattle.sshcore.specs.Ending.{AgreedData, Authenticated, Closed, Ending, Failed, Open}
 use Rattle.sshcore.specs.Party.{Policy}
+use Rattle.sshworld.specs.Offered.{most_requests}
 use Rattle.sshworld.specs.Course.{Part, said_after, way_of}
 use Rattle.sshworld.specs.Follows.{IsInPart, part_of_client, part_of_server}
 use Rattle.sshworld.specs.Guesses.{guess_of}
@@ -155,7 +156,7 @@ more_groups part old new a b more =
     more_groups_of part (length old.units) (length new.units) (omega (arith, more, ap length a.said, ap length b.said))
 
 pub most_groups : (m : Meaning) (d : Policy) (c : ClientData) (s : ServerData) (w : Wording) (told : Told) → IsInPart (part_of_client m d c s w) told.units told.answers told.end
-    → groups_said (part_of_client m d c s w).group (length told.units) ≤ length c.plan + 3
+    → groups_said (part_of_client m d c s w).group (length told.units) ≤ most_requests c.plan + 3
 most_groups m d c s w told is = omega (
   arith,
   said_on (part_of_client m d c s w).group (length told.units) (part_of_client m d c s w).hears is.within,

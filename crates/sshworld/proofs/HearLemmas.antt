@@ -13,8 +13,8 @@ use Rattle.sshworld.specs.Placed.{BothInPlace, HaveSameKeys, said_by_client, sai
 use Rattle.sshworld.specs.Wordings.{wording_of}
 use Rattle.sshworld.proofs.PreambleLemmas.{client_preamble, server_preamble}
 
-pub both_hear : (m : Meaning) (d : Policy) (c : ClientData) (s : ServerData) → IsClient c → IsServer s → BothKeep m d c s (wording_of m c s) → BothInPlace m d c s
-    → ((switched_out (said_by_client m d c s) ≡ true) ⊎ (switched_out (said_by_server m d c s) ≡ true) → HaveSameKeys m Client Server (client_party c) (server_party s) (said_by_client m d c s) (said_by_server m d c s)) → BothHear m d c s (wording_of m c s)
+pub both_hear : (m : Meaning) (d : Policy) (c : ClientData) (s : ServerData) → IsClient c → IsServer s → BothKeep m d c s (wording_of m d c s) → BothInPlace m d c s
+    → ((switched_out (said_by_client m d c s) ≡ true) ⊎ (switched_out (said_by_server m d c s) ≡ true) → HaveSameKeys m Client Server (client_party c) (server_party s) (said_by_client m d c s) (said_by_server m d c s)) → BothHear m d c s (wording_of m d c s)
 both_hear m d c s client server keep places keys = record {
   to_client = record {
     heard = record {

@@ -19,6 +19,7 @@ use Rattle.sshcore.specs.History.{FitsPacket, History, IsReady}
 use Rattle.sshcore.specs.Party.{Policy, client_party, server_party}
 use Rattle.sshcore.specs.Replies.{StaysOpen}
 use Rattle.sshcore.proofs.Below.{Below}
+use Rattle.sshworld.specs.Offered.{most_requests}
 use Rattle.sshworld.specs.CourseHeard.{BothHear, client_partner, server_partner}
 use Rattle.sshworld.specs.Follows.{IsInPart}
 use Rattle.sshworld.specs.Guesses.{guess_of}
@@ -172,7 +173,7 @@ module _ (laws : Laws) (below : Below) (m : Meaning) (d : Policy) (lawful : IsLa
 
   all_brought : IsPrefix (take cp.part.hears client_units) (stream_of sp) × IsPrefix (take sp.part.hears server_units) (stream_of cp)
   all_brought =
-      let rounds : ℕ = length c.plan + 4 in
+      let rounds : ℕ = most_requests c.plan + 4 in
       let all = few_rounds m d c s w (guess_of c s) (outcome m d c s) rounds (omega arith) in
       let last : Brought (record { client = cp.part.hears; server = sp.part.hears }) = subst (λ (at : UnitsHeard). Brought at) all (brought rounds) in
       (last.client, last.server)

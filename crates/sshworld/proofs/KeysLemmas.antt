@@ -20,6 +20,7 @@ use Rattle.sshcore.specs.Counting.{is_newkeys, switched_out}
 use Rattle.sshcore.specs.Exchange.{chosen_or, keys_at, keys_by}
 use Rattle.sshcore.specs.Known.{Known}
 use Rattle.sshcore.specs.Party.{Policy, client_party, server_party}
+use Rattle.sshcore.specs.Reached.{nothing_reached}
 use Rattle.sshcore.specs.Standing.{Sits}
 use Rattle.sshcore.specs.Work.{guessed_method}
 use Rattle.sshcore.proofs.StandingLemmas.{makes_keys}
@@ -66,15 +67,15 @@ never m c s by_client by_server none nor (inl on) = absurd (true≢false (sym on
 never m c s by_client by_server none nor (inr on) = absurd (true≢false (sym on ∙ none_switched by_server nor))
 
 module _ (m : Meaning) (d : Policy) (c : ClientData) (s : ServerData) (understood : AreUnderstood m d c s) (sound : AreSound c s) (offers : AreOffersRead c s) where
-  module _ (a : Algorithms) (chosen : choice m (client_offer c) (server_offer s) ≡ Ok a) (readable : IsRead m c s a) where
+  module _ (a : Algorithms) (chosen : choice m (client_offer c) (server_offer s) ≡ Ok a) (readable : IsRead m d c s a) where
     abbrev w : Wording
-    w = wording_with m c s a.kex a
+    w = wording_with m d c s a.kex a
 
     client_keys : (tail : Units) (sender : Role) → keys_at m Client (client_party c) (version_of s.side) (w.server_offer ∷ w.reply ∷ tail) sender ≡ keys_by m a (exchange_between m c s a) sender
     client_keys tail sender =
         let here = client_exchanges m d c s understood sound offers a chosen readable in
         keys_stay m Client (client_party c) (version_of s.side) (w.server_offer ∷ w.reply ∷ []) tail sender (record { offer = here.tied.offer; exchange = here.tied.exchange })
-        ∙ makes_keys m Client (client_party c) (version_of s.side) (w.server_offer ∷ []) w.reply (client_view m d c s understood sound offers a chosen readable [] c.plan)
+        ∙ makes_keys m d Client (client_party c) (version_of s.side) (w.server_offer ∷ []) w.reply (client_view m d c s understood sound offers a chosen readable [] c.plan)
         (client_begins m d c s understood sound offers a chosen readable) (reply_begun m d c s understood sound offers a chosen readable) sender
         ∙ ap (λ (x : ExchangeData). keys_by m a x sender) (client_hashed m d c s understood sound offers a chosen readable)
 
@@ -83,12 +84,12 @@ module _ (m : Meaning) (d : Policy) (c : ClientData) (s : ServerData) (understoo
         let here = client_begins m d c s understood sound offers a chosen readable in
         strict_stays m Client (client_party c) (w.server_offer ∷ []) tail here.tied.offer ∙ ap (λ (k : Known). k.strict) here.knows ∙ client_strict c s sound
 
-    server_keys : (before tail : Units) → Sits m Server (server_party s) (version_of c.side) before phase.Exchange false (server_view m d c s understood sound offers a chosen readable [] 1) → (sender : Role)
+    server_keys : (before tail : Units) → Sits m d Server (server_party s) (version_of c.side) before phase.Exchange false (server_view m d c s understood sound offers a chosen readable [] 1 nothing_reached) → (sender : Role)
         → keys_at m Server (server_party s) (version_of c.side) ((before ++ w.init ∷ []) ++ tail) sender ≡ keys_by m a (exchange_between m c s a) sender
     server_keys before tail sits sender =
         let here = server_exchanges m d c s understood sound offers a chosen readable before sits in
         keys_stay m Server (server_party s) (version_of c.side) (before ++ w.init ∷ []) tail sender (record { offer = here.tied.offer; exchange = here.tied.exchange })
-        ∙ makes_keys m Server (server_party s) (version_of c.side) before w.init (server_view m d c s understood sound offers a chosen readable [] 1) sits (init_begun m d c s understood sound offers a chosen readable) sender
+        ∙ makes_keys m d Server (server_party s) (version_of c.side) before w.init (server_view m d c s understood sound offers a chosen readable [] 1 nothing_reached) sits (init_begun m d c s understood sound offers a chosen readable) sender
         ∙ ap (λ (x : ExchangeData). keys_by m a x sender) (server_hashed m d c s understood sound offers a chosen readable)
 
     server_is_strict : (tail : Units) → strict_at Server (server_party s) (w.client_offer ∷ tail) ≡ (c.side.strict && s.side.strict)
@@ -121,32 +122,32 @@ module _ (m : Meaning) (d : Policy) (c : ClientData) (s : ServerData) (understoo
   none_by_client u WrongGuess k g i e = (k, (g, (e, tt)))
 
   abbrev By : Result Algorithms NoCommon → Way → Type 0
-  By r way = (ends : BothEnds) → Switching m c s (said_after (client_part (wording_with m c s (method_used c r) (chosen_or r)) (guess_of c s) way ends) (client_part (wording_with m c s (method_used c r) (chosen_or r)) (guess_of c s) way ends).hears)
-      (said_after (server_part (wording_with m c s (method_used c r) (chosen_or r)) (guess_of c s) way ends) (server_part (wording_with m c s (method_used c r) (chosen_or r)) (guess_of c s) way ends).hears)
+  By r way = (ends : BothEnds) → Switching m c s (said_after (client_part (wording_with m d c s (method_used c r) (chosen_or r)) (guess_of c s) way ends) (client_part (wording_with m d c s (method_used c r) (chosen_or r)) (guess_of c s) way ends).hears)
+      (said_after (server_part (wording_with m d c s (method_used c r) (chosen_or r)) (guess_of c s) way ends) (server_part (wording_with m d c s (method_used c r) (chosen_or r)) (guess_of c s) way ends).hears)
 
-  module _ (readable : (a : Algorithms) → choice m (client_offer c) (server_offer s) ≡ Ok a → IsRead m c s a) where
+  module _ (readable : (a : Algorithms) → choice m (client_offer c) (server_offer s) ≡ Ok a → IsRead m d c s a) where
     by_trust : (a : Algorithms) → choice m (client_offer c) (server_offer s) ≡ Ok a → (b : Bool) → By (Ok a) (if b then Requests (verdict m d c s) else NoTrust)
     by_trust a chosen true ends on =
-        let u : Wording = wording_with m c s a.kex a in
+        let u : Wording = wording_with m d c s a.kex a in
         subst (λ (l : Units). SameKeys m c s l (said_after (server_part u (guess_of c s) (Requests (verdict m d c s)) ends) (server_part u (guess_of c s) (Requests (verdict m d c s)) ends).hears)) (sym (client_says u (verdict m d c s) ends.client (guess_of c s)))
         (subst (λ (l : Units). SameKeys m c s (u.client_offer ∷ asks u (verdict m d c s) ends.client (guess_of c s)) l) (sym (server_says u (verdict m d c s) ends.server (guess_of c s)))
         (same a chosen (readable a chosen) (u.new_keys ∷ u.service_request ∷ from (client_next u (verdict m d c s)) 0 (suc (verdict m d c s).requests))
         (u.new_keys ∷ u.service_accept ∷ (u.banner ++ from (server_next u (verdict m d c s)) 0 ((verdict m d c s).requests + heard_last (verdict m d c s).how)))))
     by_trust a chosen false ends on =
-        let u : Wording = wording_with m c s a.kex a in
+        let u : Wording = wording_with m d c s a.kex a in
         subst (λ (l : Units). SameKeys m c s (u.client_offer ∷ (guessed u (guess_of c s) ++ (init_anew u (guess_of c s) ++ u.disconnect 9 ∷ []))) l) (sym (refused_said m d c s understood sound offers u (guess_of c s) ends.server))
         (same a chosen (readable a chosen) (u.disconnect 9 ∷ []) (u.new_keys ∷ []))
 
     by_choice : (r : Result Algorithms NoCommon) → choice m (client_offer c) (server_offer s) ≡ r → By r (way_by m d c s r)
     by_choice (Ok a) e ends on = by_trust a e (d.host_key a.host_key (host_key_of_server m s a.host_key)) ends on
     by_choice (Err f) e ends on =
-        let u : Wording = wording_with m c s (guessed_method (client_party c)) (chosen_or (Err f)) in
+        let u : Wording = wording_with m d c s (guessed_method (client_party c)) (chosen_or (Err f)) in
         never m c s (u.client_offer ∷ (guessed u (guess_of c s) ++ u.disconnect 3 ∷ [])) (u.server_offer ∷ u.disconnect 3 ∷ [])
         (none_by_client u (guess_of c s) (head (client_offer c)) (init_head m (client_party c) (guessed_method (client_party c))) (init_head m (client_party c) (guessed_method (client_party c))) (bye 3))
         (head (server_offer s), (bye 3, tt)) on
 
 pub same_keys : (m : Meaning) (d : Policy) (c : ClientData) (s : ServerData) → AreUnderstood m d c s → AreSound c s → AreOffersRead c s
-    → ((a : Algorithms) → choice m (client_offer c) (server_offer s) ≡ Ok a → IsRead m c s a)
+    → ((a : Algorithms) → choice m (client_offer c) (server_offer s) ≡ Ok a → IsRead m d c s a)
     → (switched_out (said_by_client m d c s) ≡ true) ⊎ (switched_out (said_by_server m d c s) ≡ true) → SameKeys m c s (said_by_client m d c s) (said_by_server m d c s)
 unfolding outcome
 same_keys m d c s understood sound offers readable on =

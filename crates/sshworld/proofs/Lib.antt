@@ -35,6 +35,7 @@ pub mod KeysLemmas
 pub mod PreambleLemmas
 pub mod HearLemmas
 pub mod CourseSamples
+pub mod VerdictSamples
 pub mod TurnLemmas
 pub mod NodeLemmas
 pub mod WorldCourseLemmas

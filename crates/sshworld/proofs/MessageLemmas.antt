@@ -1,10 +1,12 @@
 -- What each side answers to each message of the other's.
 
 use Rattle.std.proofs.Common.{◌≡◌, ◌⊎◌, inl, inr, ℕ, ◌+◌, ◌==◌, ◌&&◌, Bool, true, false, if◌then◌else◌, not, List, [], ◌∷◌, ◌++◌, slice_get, Option, Some, Result, Ok, refl, sym, ap, ◌∙◌, subst}
+use Rattle.std.specs.Str.{bytes_eq}
+use Rattle.std.proofs.lemmas.Bool.{and_from}
 use Rattle.sshwire.specs.declared.share_form.ShareForm.{ShareForm}
 use Rattle.sshwire.specs.declared.share_form.ShareForm.TheVariants.{Hybrid, Mpint, OctetString}
 use Rattle.sshwire.specs.TypeReadings as readings
-use Rattle.sshmsg.specs.Content.{Content, Disconnect, KexInit, NewKeys, ServiceAccept, ServiceRequest, UserauthBanner, UserauthFailure, UserauthRequest, UserauthSuccess}
+use Rattle.sshmsg.specs.Content.{Content, Disconnect, KexInit, NewKeys, ServiceAccept, ServiceRequest, UserauthBanner, UserauthFailure, UserauthPkOk, UserauthRequest, UserauthSuccess}
 use Rattle.sshmsg.specs.Messages as messages
 use Rattle.sshmsg.specs.Messages.{message_in}
 use Rattle.sshmsg.specs.Numbers.{kind, number_of}
@@ -26,18 +28,21 @@ use Rattle.sshcore.specs.declared.table.Line.TheVariants as line
 use Rattle.sshcore.specs.declared.table.Phase.{Phase}
 use Rattle.sshcore.specs.declared.table.Phase.TheVariants as phase
 use Rattle.sshcore.specs.Attempts.{attempt_reply, method_by, request_of}
-use Rattle.sshcore.specs.ConfigData.{Attempt, ClientData, ServerData, client_offer, server_offer, version_of}
+use Rattle.sshcore.specs.ConfigData.{Attempt, ByKey, ClientData, ServerData, client_offer, server_offer, version_of}
 use Rattle.sshcore.specs.Ending.{Authenticated, Closed, fails, goes}
 use Rattle.sshcore.specs.Exchange.{answer_or, answer_with, chosen_or, exchange_with, shares_by}
 use Rattle.sshcore.specs.Known.{Known}
 use Rattle.sshcore.specs.Party.{Party, Policy, client_party, server_party}
 use Rattle.sshcore.specs.Phases.{leaving}
-use Rattle.sshcore.specs.Plan.{next_behind}
+use Rattle.sshcore.specs.Plan.{is_waiting, next_behind}
+use Rattle.sshcore.specs.Reached.{Reached, nothing_reached, reached_behind}
 use Rattle.sshcore.specs.Replies.{reply_at}
 use Rattle.sshcore.specs.Requests.{request_reply}
 use Rattle.sshcore.specs.Standing.{LeavesNone, Sits, exchange_heard}
 use Rattle.sshcore.specs.Table.{line_by}
+use Rattle.sshcore.specs.Tries.{is_good_at, tried_with}
 use Rattle.sshcore.specs.Work.{answered_by, banner_by, chosen_reply, init_for, init_in, init_reply, reply_in, reply_reply, signed_by, trusted_by, userauth, work}
+use Rattle.sshcore.proofs.ReachedLemmas.{bytes_self}
 use Rattle.sshworld.specs.Agreement.{answer_of_server, exchange_between, host_key_of_server, session_between}
 use Rattle.sshworld.specs.Offered.{offered}
 use Rattle.sshworld.specs.Understood.{AreUnderstood}
@@ -45,37 +50,42 @@ use Rattle.sshworld.specs.Wordings.{reply_of_server, signature_of_server}
 use Rattle.sshworld.proofs.Readable.{AreOffersRead, AreSound, IsRead, ReadsAgain}
 use Rattle.sshworld.proofs.StepLemmas.{begins, drops, goes_dropped, goes_exchanged, goes_leaving, goes_staying, reads, replies_first}
 
-leaving_line : (role : Role) (p : Phase) (strict : Bool) → line_by role p strict false (leaving role p) ≡ line.Reads
+leaving_line : (waits : Bool) → (role : Role) (p : Phase) (strict : Bool) → line_by role p strict false waits (leaving role p) ≡ line.Reads
 unfolding line_by
-leaving_line Client phase.KexInit strict = refl
-leaving_line Client phase.Exchange true = refl
-leaving_line Client phase.Exchange false = refl
-leaving_line Client phase.NewKeys true = refl
-leaving_line Client phase.NewKeys false = refl
-leaving_line Client phase.Service strict = refl
-leaving_line Client phase.Auth strict = refl
-leaving_line Server phase.KexInit strict = refl
-leaving_line Server phase.Exchange true = refl
-leaving_line Server phase.Exchange false = refl
-leaving_line Server phase.NewKeys true = refl
-leaving_line Server phase.NewKeys false = refl
-leaving_line Server phase.Service strict = refl
-leaving_line Server phase.Auth strict = refl
+leaving_line waits Client phase.KexInit strict = refl
+leaving_line waits Client phase.Exchange true = refl
+leaving_line waits Client phase.Exchange false = refl
+leaving_line waits Client phase.NewKeys true = refl
+leaving_line waits Client phase.NewKeys false = refl
+leaving_line waits Client phase.Service strict = refl
+leaving_line waits Client phase.Auth strict = refl
+leaving_line waits Server phase.KexInit strict = refl
+leaving_line waits Server phase.Exchange true = refl
+leaving_line waits Server phase.Exchange false = refl
+leaving_line waits Server phase.NewKeys true = refl
+leaving_line waits Server phase.NewKeys false = refl
+leaving_line waits Server phase.Service strict = refl
+leaving_line waits Server phase.Auth strict = refl
 
 -- authentication at a client, and a DISCONNECT anywhere
-auth_line : (strict : Bool) (n : ℕ) → (n ≡ 51) ⊎ (n ≡ 53) → line_by Client phase.Auth strict false n ≡ line.Reads
+auth_line : (waits : Bool) → (strict : Bool) (n : ℕ) → (n ≡ 51) ⊎ (n ≡ 53) → line_by Client phase.Auth strict false waits n ≡ line.Reads
 unfolding line_by
-auth_line strict n (inl e) = rw e refl
-auth_line strict n (inr e) = rw e refl
+auth_line waits strict n (inl e) = rw e refl
+auth_line waits strict n (inr e) = rw e refl
 
-closing_line : (role : Role) (p : Phase) (strict guess : Bool) → line_by role p strict guess 1 ≡ line.Reads
+closing_line : (waits : Bool) → (role : Role) (p : Phase) (strict guess : Bool) → line_by role p strict guess waits 1 ≡ line.Reads
 unfolding line_by
-closing_line role p strict guess = refl
+closing_line waits role p strict guess = refl
 
-drops_line : (strict : Bool) → line_by Server phase.Exchange strict true 30 ≡ line.Drops
+drops_line : (waits : Bool) → (strict : Bool) → line_by Server phase.Exchange strict true waits 30 ≡ line.Drops
 unfolding line_by
-drops_line true = refl
-drops_line false = refl
+drops_line waits true = refl
+drops_line waits false = refl
+
+-- a PK_OK at a client, while a query waits
+confirms_line : (strict : Bool) → line_by Client phase.Auth strict false true 60 ≡ line.Reads
+unfolding line_by
+confirms_line strict = refl
 
 -- the messages of an exchange, whatever form their shares have
 init_number : (f : ShareForm) (e : List ℕ) → number_of (init_in f e) ≡ 30
@@ -155,22 +165,25 @@ fourteen_read form = refl
 stays_53 : LeavesNone Client 53
 stays_53 = record { kexinit = refl; exchange = refl; newkeys = refl; service = refl }
 
+stays_60 : LeavesNone Client 60
+stays_60 = record { kexinit = refl; exchange = refl; newkeys = refl; service = refl }
+
 stays_51 : LeavesNone Client 51
 stays_51 = record { kexinit = refl; exchange = refl; newkeys = refl; service = refl }
 
 -- any role
 module _ (m : Meaning) (d : Policy) (role : Role) (own : Party) (version : List ℕ) where
-  pub closed : (before : Units) (p : Phase) (guess : Bool) (x : Known) (reason : ℕ) → IsClosing reason → Sits m role own version before p guess x
+  pub closed : (before : Units) (p : Phase) (guess : Bool) (x : Known) (reason : ℕ) → IsClosing reason → Sits m d role own version before p guess x
       → reply_at m d role own version before (written_message (Disconnect reason [] [])) ≡ record { answers = []; end = Closed reason }
   unfolding work
   closed before p guess x reason h s =
-      reads m d role own version before (written_message (Disconnect reason [] [])) p guess x (Disconnect reason [] []) s (h x.shares) (closing_line role p x.strict guess)
+      reads m d role own version before (written_message (Disconnect reason [] [])) p guess x (Disconnect reason [] []) s (h x.shares) (closing_line _ role p x.strict guess)
 
-  pub switched : (before : Units) (x : Known) → Sits m role own version before phase.NewKeys false x → reply_at m d role own version before (written_message NewKeys) ≡ goes []
+  pub switched : (before : Units) (x : Known) → Sits m d role own version before phase.NewKeys false x → reply_at m d role own version before (written_message NewKeys) ≡ goes []
   unfolding work
-  switched before x s = reads m d role own version before (written_message NewKeys) phase.NewKeys false x NewKeys s (new_keys_read x.shares) (leaving_line role phase.NewKeys x.strict)
+  switched before x s = reads m d role own version before (written_message NewKeys) phase.NewKeys false x NewKeys s (new_keys_read x.shares) (leaving_line _ role phase.NewKeys x.strict)
 
-  pub switches : (before : Units) (x : Known) → Sits m role own version before phase.NewKeys false x → Sits m role own version (before ++ written_message NewKeys ∷ []) phase.Service false (record x { first = false })
+  pub switches : (before : Units) (x : Known) → Sits m d role own version before phase.NewKeys false x → Sits m d role own version (before ++ written_message NewKeys ∷ []) phase.Service false (record x { first = false })
   switches before x s = goes_leaving m d role own version before (written_message NewKeys) phase.NewKeys x NewKeys s refl (new_keys_read Mpint) refl
 
 -- the client
@@ -184,7 +197,7 @@ module _ (m : Meaning) (d : Policy) (c : ClientData) (s : ServerData) (understoo
       ≡ chosen_reply m Server (server_party s) (client_offer c) (choice m (client_offer c) (server_offer s))
   server_first = replies_first m d Server (server_party s) (version_of c.side) (written_message (KexInit (client_offer c))) (client_offer c) (offers.client Mpint)
 
-  module _ (a : Algorithms) (chosen : choice m (client_offer c) (server_offer s) ≡ Ok a) (readable : IsRead m c s a) where
+  module _ (a : Algorithms) (chosen : choice m (client_offer c) (server_offer s) ≡ Ok a) (readable : IsRead m d c s a) where
     -- the client
     abbrev pub client_known : Result Algorithms NoCommon → List ℕ → List Attempt → Known
     client_known r session left = record {
@@ -195,6 +208,7 @@ module _ (m : Meaning) (d : Policy) (c : ClientData) (s : ServerData) (understoo
       session = session;
       request = 1;
       left = left;
+      reached = nothing_reached;
       strict = is_strict c.side.strict Client (server_offer s);
       first = false;
     }
@@ -202,9 +216,9 @@ module _ (m : Meaning) (d : Policy) (c : ClientData) (s : ServerData) (understoo
     abbrev pub client_view : List ℕ → List Attempt → Known
     client_view session left = client_known (Ok a) session left
 
-    pub client_begins : Sits m Client (client_party c) (version_of s.side) (written_message (KexInit (server_offer s)) ∷ []) phase.Exchange false (client_view [] c.plan)
+    pub client_begins : Sits m d Client (client_party c) (version_of s.side) (written_message (KexInit (server_offer s)) ∷ []) phase.Exchange false (client_view [] c.plan)
     client_begins =
-        subst (λ (r : Result Algorithms NoCommon). Sits m Client (client_party c) (version_of s.side) (written_message (KexInit (server_offer s)) ∷ []) phase.Exchange false (client_known r [] c.plan))
+        subst (λ (r : Result Algorithms NoCommon). Sits m d Client (client_party c) (version_of s.side) (written_message (KexInit (server_offer s)) ∷ []) phase.Exchange false (client_known r [] c.plan))
         chosen (begins m d Client (client_party c) (version_of s.side) (written_message (KexInit (server_offer s))) (server_offer s) (offers.server Mpint))
 
     abbrev pub reply_payload : List ℕ
@@ -231,10 +245,10 @@ module _ (m : Meaning) (d : Policy) (c : ClientData) (s : ServerData) (understoo
     client_same OctetString = ap (λ (o : Option ResponseData). record (exchange_between m c s a) { server_share = (answer_or o).share; shared = (answer_or o).shared }) client_answer
     client_same Hybrid = ap (λ (o : Option ResponseData). record (exchange_between m c s a) { server_share = (answer_or o).share; shared = (answer_or o).shared }) client_answer
 
-    pub client_exchanges : Sits m Client (client_party c) (version_of s.side) (written_message (KexInit (server_offer s)) ∷ reply_payload ∷ []) phase.NewKeys false (client_view (session_between m c s a) c.plan)
+    pub client_exchanges : Sits m d Client (client_party c) (version_of s.side) (written_message (KexInit (server_offer s)) ∷ reply_payload ∷ []) phase.NewKeys false (client_view (session_between m c s a) c.plan)
     unfolding session_between
     client_exchanges =
-        subst (λ (x : ExchangeData). Sits m Client (client_party c) (version_of s.side) (written_message (KexInit (server_offer s)) ∷ reply_payload ∷ []) phase.NewKeys false (client_view (exchange_hash m a.kex x) c.plan))
+        subst (λ (x : ExchangeData). Sits m d Client (client_party c) (version_of s.side) (written_message (KexInit (server_offer s)) ∷ reply_payload ∷ []) phase.NewKeys false (client_view (exchange_hash m a.kex x) c.plan))
         (client_same (m.share_form a.kex)) (goes_exchanged m d Client (client_party c) (version_of s.side) (written_message (KexInit (server_offer s)) ∷ []) reply_payload (client_view [] c.plan) reply_content
         client_begins readable.reply (reply_number (m.share_form a.kex) (host_key_of_server m s a.host_key) (answer_of_server m c s a.kex).share (signature_of_server m c s a)))
 
@@ -251,8 +265,8 @@ module _ (m : Meaning) (d : Policy) (c : ClientData) (s : ServerData) (understoo
     client_replied =
         reads m d Client (client_party c) (version_of s.side) (written_message (KexInit (server_offer s)) ∷ []) reply_payload phase.Exchange false (client_view [] c.plan) reply_content
         client_begins readable.reply
-        (ap (λ (n : ℕ). line_by Client phase.Exchange (client_view [] c.plan).strict false n) (reply_number (m.share_form a.kex) (host_key_of_server m s a.host_key) (answer_of_server m c s a.kex).share (signature_of_server m c s a))
-        ∙ leaving_line Client phase.Exchange (client_view [] c.plan).strict)
+        (ap (λ (n : ℕ). line_by Client phase.Exchange (client_view [] c.plan).strict false (is_waiting (client_view [] c.plan).left) n) (reply_number (m.share_form a.kex) (host_key_of_server m s a.host_key) (answer_of_server m c s a.kex).share (signature_of_server m c s a))
+        ∙ leaving_line _ Client phase.Exchange (client_view [] c.plan).strict)
         ∙ work_reply m d Client (client_party c) (client_view [] c.plan) (m.share_form a.kex) (host_key_of_server m s a.host_key) (answer_of_server m c s a.kex).share (signature_of_server m c s a)
         ∙ ap (λ (x : ExchangeData). trusted_by m d (client_view [] c.plan) x (signature_of_server m c s a) (answer_with m Client (client_party c) a (Ok reply_content))) (client_same (m.share_form a.kex))
         ∙ ap (λ (o : Option ResponseData). trusted_by m d (client_view [] c.plan) (exchange_between m c s a) (signature_of_server m c s a) o)
@@ -273,8 +287,8 @@ module _ (m : Meaning) (d : Policy) (c : ClientData) (s : ServerData) (understoo
         ∙ ap (λ (b : Bool). if b then signed_by m (client_view [] c.plan) (exchange_between m c s a) (signature_of_server m c s a) (Some (answer_of_server m c s a.kex)) else fails fault.HostKey) no_said
 
     -- the server
-    abbrev pub server_known : Result Algorithms NoCommon → List ℕ → ℕ → Known
-    server_known r session request = record {
+    abbrev pub server_known : Result Algorithms NoCommon → List ℕ → ℕ → Reached → Known
+    server_known r session request reached = record {
       version = version_of c.side;
       kexinit = written_message (KexInit (client_offer c));
       algorithms = chosen_or r;
@@ -282,16 +296,17 @@ module _ (m : Meaning) (d : Policy) (c : ClientData) (s : ServerData) (understoo
       session = session;
       request = request;
       left = [];
+      reached = reached;
       strict = is_strict s.side.strict Server (client_offer c);
       first = false;
     }
 
-    abbrev pub server_view : List ℕ → ℕ → Known
-    server_view session request = server_known (Ok a) session request
+    abbrev pub server_view : List ℕ → ℕ → Reached → Known
+    server_view session request reached = server_known (Ok a) session request reached
 
-    pub server_begins : Sits m Server (server_party s) (version_of c.side) (written_message (KexInit (client_offer c)) ∷ []) phase.Exchange (c.guess && not (is_right_guess (client_offer c) (server_offer s))) (server_view [] 1)
+    pub server_begins : Sits m d Server (server_party s) (version_of c.side) (written_message (KexInit (client_offer c)) ∷ []) phase.Exchange (c.guess && not (is_right_guess (client_offer c) (server_offer s))) (server_view [] 1 nothing_reached)
     server_begins =
-        subst (λ (r : Result Algorithms NoCommon). Sits m Server (server_party s) (version_of c.side) (written_message (KexInit (client_offer c)) ∷ []) phase.Exchange (c.guess && not (is_right_guess (client_offer c) (server_offer s))) (server_known r [] 1))
+        subst (λ (r : Result Algorithms NoCommon). Sits m d Server (server_party s) (version_of c.side) (written_message (KexInit (client_offer c)) ∷ []) phase.Exchange (c.guess && not (is_right_guess (client_offer c) (server_offer s))) (server_known r [] 1 nothing_reached))
         chosen (begins m d Server (server_party s) (version_of c.side) (written_message (KexInit (client_offer c))) (client_offer c) (offers.client Mpint))
 
     abbrev pub init_payload : List ℕ
@@ -303,95 +318,116 @@ module _ (m : Meaning) (d : Policy) (c : ClientData) (s : ServerData) (understoo
     server_same OctetString = refl
     server_same Hybrid = refl
 
-    pub server_exchanges : (before : Units) → Sits m Server (server_party s) (version_of c.side) before phase.Exchange false (server_view [] 1)
-        → Sits m Server (server_party s) (version_of c.side) (before ++ init_payload ∷ []) phase.NewKeys false (server_view (session_between m c s a) 1)
+    pub server_exchanges : (before : Units) → Sits m d Server (server_party s) (version_of c.side) before phase.Exchange false (server_view [] 1 nothing_reached)
+        → Sits m d Server (server_party s) (version_of c.side) (before ++ init_payload ∷ []) phase.NewKeys false (server_view (session_between m c s a) 1 nothing_reached)
     unfolding session_between
     server_exchanges before sits =
-        subst (λ (x : ExchangeData). Sits m Server (server_party s) (version_of c.side) (before ++ init_payload ∷ []) phase.NewKeys false (server_view (exchange_hash m a.kex x) 1)) (server_same (m.share_form a.kex))
-        (goes_exchanged m d Server (server_party s) (version_of c.side) before init_payload (server_view [] 1) (init_in (m.share_form a.kex) (m.share a.kex c.side.random)) sits readable.init (init_number (m.share_form a.kex) (m.share a.kex c.side.random)))
+        subst (λ (x : ExchangeData). Sits m d Server (server_party s) (version_of c.side) (before ++ init_payload ∷ []) phase.NewKeys false (server_view (exchange_hash m a.kex x) 1 nothing_reached)) (server_same (m.share_form a.kex))
+        (goes_exchanged m d Server (server_party s) (version_of c.side) before init_payload (server_view [] 1 nothing_reached) (init_in (m.share_form a.kex) (m.share a.kex c.side.random)) sits readable.init (init_number (m.share_form a.kex) (m.share a.kex c.side.random)))
 
     pub init_begun : kind init_payload ≡ 30
     init_begun = init_kind m (client_party c) a.kex
 
-    pub server_hashed : exchange_heard m Server (server_party s) (server_view [] 1) init_payload ≡ exchange_between m c s a
+    pub server_hashed : exchange_heard m Server (server_party s) (server_view [] 1 nothing_reached) init_payload ≡ exchange_between m c s a
     server_hashed = ap (λ r. exchange_with m Server (server_party s) a (version_of c.side) (written_message (KexInit (client_offer c))) r) readable.init ∙ server_same (m.share_form a.kex)
 
-    pub server_answers : (before : Units) → Sits m Server (server_party s) (version_of c.side) before phase.Exchange false (server_view [] 1)
+    pub server_answers : (before : Units) → Sits m d Server (server_party s) (version_of c.side) before phase.Exchange false (server_view [] 1 nothing_reached)
         → reply_at m d Server (server_party s) (version_of c.side) before init_payload ≡ goes (reply_payload ∷ written_message NewKeys ∷ [])
     unfolding init_reply session_between
     server_answers before sits =
-        reads m d Server (server_party s) (version_of c.side) before init_payload phase.Exchange false (server_view [] 1) (init_in (m.share_form a.kex) (m.share a.kex c.side.random)) sits readable.init
-        (ap (λ (n : ℕ). line_by Server phase.Exchange (server_view [] 1).strict false n) (init_number (m.share_form a.kex) (m.share a.kex c.side.random)) ∙ leaving_line Server phase.Exchange (server_view [] 1).strict)
-        ∙ work_init m d Server (server_party s) (server_view [] 1) (m.share_form a.kex) (m.share a.kex c.side.random)
-        ∙ ap (λ (x : ExchangeData). answered_by m (server_party s) (server_view [] 1) x (answer_with m Server (server_party s) a (Ok (init_in (m.share_form a.kex) (m.share a.kex c.side.random))))) (server_same (m.share_form a.kex))
-        ∙ ap (λ (o : Option ResponseData). answered_by m (server_party s) (server_view [] 1) (exchange_between m c s a) o) (init_answer m Server (server_party s) a (m.share_form a.kex) (m.share a.kex c.side.random) ∙ responded)
+        reads m d Server (server_party s) (version_of c.side) before init_payload phase.Exchange false (server_view [] 1 nothing_reached) (init_in (m.share_form a.kex) (m.share a.kex c.side.random)) sits readable.init
+        (ap (λ (n : ℕ). line_by Server phase.Exchange (server_view [] 1 nothing_reached).strict false (is_waiting (server_view [] 1 nothing_reached).left) n) (init_number (m.share_form a.kex) (m.share a.kex c.side.random)) ∙ leaving_line _ Server phase.Exchange (server_view [] 1 nothing_reached).strict)
+        ∙ work_init m d Server (server_party s) (server_view [] 1 nothing_reached) (m.share_form a.kex) (m.share a.kex c.side.random)
+        ∙ ap (λ (x : ExchangeData). answered_by m (server_party s) (server_view [] 1 nothing_reached) x (answer_with m Server (server_party s) a (Ok (init_in (m.share_form a.kex) (m.share a.kex c.side.random))))) (server_same (m.share_form a.kex))
+        ∙ ap (λ (o : Option ResponseData). answered_by m (server_party s) (server_view [] 1 nothing_reached) (exchange_between m c s a) o) (init_answer m Server (server_party s) a (m.share_form a.kex) (m.share a.kex c.side.random) ∙ responded)
 
     -- a wrong guess
-    pub server_drops : (payload : List ℕ) → kind payload ≡ 30 → (before : Units) → Sits m Server (server_party s) (version_of c.side) before phase.Exchange true (server_view [] 1)
-        → (reply_at m d Server (server_party s) (version_of c.side) before payload ≡ goes []) × Sits m Server (server_party s) (version_of c.side) (before ++ payload ∷ []) phase.Exchange false (server_view [] 1)
+    pub server_drops : (payload : List ℕ) → kind payload ≡ 30 → (before : Units) → Sits m d Server (server_party s) (version_of c.side) before phase.Exchange true (server_view [] 1 nothing_reached)
+        → (reply_at m d Server (server_party s) (version_of c.side) before payload ≡ goes []) × Sits m d Server (server_party s) (version_of c.side) (before ++ payload ∷ []) phase.Exchange false (server_view [] 1 nothing_reached)
     server_drops payload is before sits = (
-      drops m d Server (server_party s) (version_of c.side) before payload phase.Exchange true (server_view [] 1) sits (ap (λ (n : ℕ). line_by Server phase.Exchange (server_view [] 1).strict true n) is ∙ drops_line (server_view [] 1).strict),
-      goes_dropped m d Server (server_party s) (version_of c.side) before payload phase.Exchange (server_view [] 1) sits (ap (λ (n : ℕ). n == 1) is),
+      drops m d Server (server_party s) (version_of c.side) before payload phase.Exchange true (server_view [] 1 nothing_reached) sits (ap (λ (n : ℕ). line_by Server phase.Exchange (server_view [] 1 nothing_reached).strict true (is_waiting (server_view [] 1 nothing_reached).left) n) is ∙ drops_line _ (server_view [] 1 nothing_reached).strict),
+      goes_dropped m d Server (server_party s) (version_of c.side) before payload phase.Exchange (server_view [] 1 nothing_reached) sits (ap (λ (n : ℕ). n == 1) is),
     )
 
     -- AUTHENTICATION: the client
-    pub client_accepted : (before : Units) (session : List ℕ) (plan : List Attempt) → Sits m Client (client_party c) (version_of s.side) before phase.Service false (client_view session plan)
+    pub client_accepted : (before : Units) (session : List ℕ) (plan : List Attempt) → Sits m d Client (client_party c) (version_of s.side) before phase.Service false (client_view session plan)
         → (reply_at m d Client (client_party c) (version_of s.side) before (written_message (ServiceAccept userauth)) ≡ attempt_reply m session plan)
-        × Sits m Client (client_party c) (version_of s.side) (before ++ written_message (ServiceAccept userauth) ∷ []) phase.Auth false (client_view session plan)
+        × Sits m d Client (client_party c) (version_of s.side) (before ++ written_message (ServiceAccept userauth) ∷ []) phase.Auth false (client_view session plan)
     unfolding work
     client_accepted before session plan sits = (
       reads m d Client (client_party c) (version_of s.side) before (written_message (ServiceAccept userauth)) phase.Service false (client_view session plan) (ServiceAccept userauth) sits (accept_read (m.share_form a.kex))
-          (leaving_line Client phase.Service (client_view session plan).strict),
+          (leaving_line _ Client phase.Service (client_view session plan).strict),
       goes_leaving m d Client (client_party c) (version_of s.side) before (written_message (ServiceAccept userauth)) phase.Service (client_view session plan) (ServiceAccept userauth) sits refl (accept_read Mpint) refl,
     )
 
-    pub client_greeted : (before : Units) (session text : List ℕ) (plan : List Attempt) → s.banner ≡ Some text → Sits m Client (client_party c) (version_of s.side) before phase.Auth false (client_view session plan)
+    pub client_greeted : (before : Units) (session text : List ℕ) (plan : List Attempt) → s.banner ≡ Some text → Sits m d Client (client_party c) (version_of s.side) before phase.Auth false (client_view session plan)
         → (reply_at m d Client (client_party c) (version_of s.side) before (written_message (UserauthBanner text [])) ≡ goes [])
-        × Sits m Client (client_party c) (version_of s.side) (before ++ written_message (UserauthBanner text []) ∷ []) phase.Auth false (client_view session plan)
+        × Sits m d Client (client_party c) (version_of s.side) (before ++ written_message (UserauthBanner text []) ∷ []) phase.Auth false (client_view session plan)
     unfolding work
     client_greeted before session text plan has sits = (
       reads m d Client (client_party c) (version_of s.side) before (written_message (UserauthBanner text [])) phase.Auth false (client_view session plan) (UserauthBanner text []) sits (readable.banner text has (m.share_form a.kex))
-          (auth_line (client_view session plan).strict 53 (inr refl)),
+          (auth_line _ (client_view session plan).strict 53 (inr refl)),
       goes_staying m d Client (client_party c) (version_of s.side) before (written_message (UserauthBanner text [])) phase.Auth (client_view session plan) (UserauthBanner text []) sits (readable.banner text has Mpint) stays_53,
     )
 
-    pub client_failed : (before : Units) (session : List ℕ) (plan : List Attempt) → Sits m Client (client_party c) (version_of s.side) before phase.Auth false (client_view session plan)
-        → (reply_at m d Client (client_party c) (version_of s.side) before (written_message (UserauthFailure s.methods false)) ≡ attempt_reply m session (next_behind s.methods plan))
-        × Sits m Client (client_party c) (version_of s.side) (before ++ written_message (UserauthFailure s.methods false) ∷ []) phase.Auth false (client_view session (next_behind s.methods plan))
+    pub client_failed : (partial : Bool) → ReadsAgain (UserauthFailure s.methods partial) → (before : Units) (session : List ℕ) (plan : List Attempt)
+        → Sits m d Client (client_party c) (version_of s.side) before phase.Auth false (client_view session plan)
+        → (reply_at m d Client (client_party c) (version_of s.side) before (written_message (UserauthFailure s.methods partial)) ≡ attempt_reply m session (next_behind s.methods plan))
+        × Sits m d Client (client_party c) (version_of s.side) (before ++ written_message (UserauthFailure s.methods partial) ∷ []) phase.Auth false (client_view session (next_behind s.methods plan))
     unfolding work
-    client_failed before session plan sits = (
-      reads m d Client (client_party c) (version_of s.side) before (written_message (UserauthFailure s.methods false)) phase.Auth false (client_view session plan) (UserauthFailure s.methods false) sits (readable.failure (m.share_form a.kex))
-          (auth_line (client_view session plan).strict 51 (inl refl)),
-      goes_staying m d Client (client_party c) (version_of s.side) before (written_message (UserauthFailure s.methods false)) phase.Auth (client_view session plan) (UserauthFailure s.methods false) sits (readable.failure Mpint) stays_51,
+    client_failed partial read before session plan sits = (
+      reads m d Client (client_party c) (version_of s.side) before (written_message (UserauthFailure s.methods partial)) phase.Auth false (client_view session plan) (UserauthFailure s.methods partial) sits (read (m.share_form a.kex))
+          (auth_line _ (client_view session plan).strict 51 (inl refl)),
+      goes_staying m d Client (client_party c) (version_of s.side) before (written_message (UserauthFailure s.methods partial)) phase.Auth (client_view session plan) (UserauthFailure s.methods partial) sits (read Mpint) stays_51,
     )
 
-    pub client_succeeds : (before : Units) (session : List ℕ) (r : Attempt) (later : List Attempt) → Sits m Client (client_party c) (version_of s.side) before phase.Auth false (client_view session (r ∷ later))
+    -- PK_OK to a query
+    pub client_confirmed : (user service algorithm secret : List ℕ) (later : List Attempt) → ReadsAgain (UserauthPkOk algorithm (m.blob algorithm secret)) → (before : Units) (session : List ℕ)
+        → Sits m d Client (client_party c) (version_of s.side) before phase.Auth false (client_view session (record { user = user; service = service; proving = ByKey algorithm secret true } ∷ later))
+        → (reply_at m d Client (client_party c) (version_of s.side) before (written_message (UserauthPkOk algorithm (m.blob algorithm secret)))
+        ≡ attempt_reply m session (record { user = user; service = service; proving = ByKey algorithm secret false } ∷ later))
+        × Sits m d Client (client_party c) (version_of s.side) (before ++ written_message (UserauthPkOk algorithm (m.blob algorithm secret)) ∷ []) phase.Auth false
+        (client_view session (record { user = user; service = service; proving = ByKey algorithm secret false } ∷ later))
+    unfolding work
+    client_confirmed user service algorithm secret later read before session sits =
+        let x : Attempt = record { user = user; service = service; proving = ByKey algorithm secret true } in
+        let y : Attempt = record { user = user; service = service; proving = ByKey algorithm secret false } in (
+          reads m d Client (client_party c) (version_of s.side) before (written_message (UserauthPkOk algorithm (m.blob algorithm secret))) phase.Auth false (client_view session (x ∷ later)) (UserauthPkOk algorithm (m.blob algorithm secret)) sits (read (m.share_form a.kex))
+              (confirms_line (client_view session (x ∷ later)).strict)
+              ∙ ap (λ (b : Bool). if b then goes (request_of m session y ∷ []) else fails (fault.Unexpected 60)) (and_from (bytes_eq algorithm algorithm) (bytes_eq (m.blob algorithm secret) (m.blob algorithm secret)) (bytes_self algorithm) (bytes_self (m.blob algorithm secret))),
+          goes_staying m d Client (client_party c) (version_of s.side) before (written_message (UserauthPkOk algorithm (m.blob algorithm secret))) phase.Auth (client_view session (x ∷ later)) (UserauthPkOk algorithm (m.blob algorithm secret)) sits (read Mpint) stays_60,
+        )
+
+    pub client_succeeds : (before : Units) (session : List ℕ) (r : Attempt) (later : List Attempt) → Sits m d Client (client_party c) (version_of s.side) before phase.Auth false (client_view session (r ∷ later))
         → reply_at m d Client (client_party c) (version_of s.side) before (written_message UserauthSuccess)
         ≡ record { answers = []; end = Authenticated (record { algorithms = a; strict = is_strict c.side.strict Client (server_offer s); session = session; user = r.user; service = r.service }) }
     unfolding work
     client_succeeds before session r later sits =
         reads m d Client (client_party c) (version_of s.side) before (written_message UserauthSuccess) phase.Auth false (client_view session (r ∷ later)) UserauthSuccess sits (success_read (m.share_form a.kex))
-        (leaving_line Client phase.Auth (client_view session (r ∷ later)).strict)
+        (leaving_line _ Client phase.Auth (client_view session (r ∷ later)).strict)
 
     -- the server
-    pub server_accepts : (before : Units) (session : List ℕ) (n : ℕ) → Sits m Server (server_party s) (version_of c.side) before phase.Service false (server_view session n)
+    pub server_accepts : (before : Units) (session : List ℕ) (n : ℕ) (g : Reached) → Sits m d Server (server_party s) (version_of c.side) before phase.Service false (server_view session n g)
         → (reply_at m d Server (server_party s) (version_of c.side) before (written_message (ServiceRequest userauth)) ≡ goes (written_message (ServiceAccept userauth) ∷ banner_by s.banner))
-        × Sits m Server (server_party s) (version_of c.side) (before ++ written_message (ServiceRequest userauth) ∷ []) phase.Auth false (server_view session n)
+        × Sits m d Server (server_party s) (version_of c.side) (before ++ written_message (ServiceRequest userauth) ∷ []) phase.Auth false (server_view session n g)
     unfolding work
-    server_accepts before session n sits = (
-      reads m d Server (server_party s) (version_of c.side) before (written_message (ServiceRequest userauth)) phase.Service false (server_view session n) (ServiceRequest userauth) sits (service_read (m.share_form a.kex))
-          (leaving_line Server phase.Service (server_view session n).strict),
-      goes_leaving m d Server (server_party s) (version_of c.side) before (written_message (ServiceRequest userauth)) phase.Service (server_view session n) (ServiceRequest userauth) sits refl (service_read Mpint) refl,
+    server_accepts before session n g sits = (
+      reads m d Server (server_party s) (version_of c.side) before (written_message (ServiceRequest userauth)) phase.Service false (server_view session n g) (ServiceRequest userauth) sits (service_read (m.share_form a.kex))
+          (leaving_line _ Server phase.Service (server_view session n g).strict),
+      goes_leaving m d Server (server_party s) (version_of c.side) before (written_message (ServiceRequest userauth)) phase.Service (server_view session n g) (ServiceRequest userauth) sits refl (service_read Mpint) refl,
     )
 
-    pub server_asked_for : (before : Units) (n i : ℕ) (r : Attempt) → slice_get (offered s.methods c.plan) i ≡ Some r → Sits m Server (server_party s) (version_of c.side) before phase.Auth false (server_view (session_between m c s a) n)
+    pub server_asked_for : (before : Units) (n i : ℕ) (g : Reached) (r : Attempt) → slice_get (offered m d s c.plan) i ≡ Some r
+        → Sits m d Server (server_party s) (version_of c.side) before phase.Auth false (server_view (session_between m c s a) n g)
         → (reply_at m d Server (server_party s) (version_of c.side) before (request_of m (session_between m c s a) r)
-        ≡ request_reply m d (server_party s) (server_view (session_between m c s a) n) r.user r.service (method_by m (session_between m c s a) r.user r.service r.proving))
-        × Sits m Server (server_party s) (version_of c.side) (before ++ request_of m (session_between m c s a) r ∷ []) phase.Auth false (server_view (session_between m c s a) (n + 1))
+        ≡ request_reply m d (server_party s) (server_view (session_between m c s a) n g) r.user r.service (method_by m (session_between m c s a) r.user r.service r.proving))
+        × Sits m d Server (server_party s) (version_of c.side) (before ++ request_of m (session_between m c s a) r ∷ []) phase.Auth false
+        (server_view (session_between m c s a) (n + 1) (reached_behind g (tried_with r.user r.service (method_by m (session_between m c s a) r.user r.service r.proving)
+        (is_good_at m d (server_party s) (session_between m c s a) n r.user r.service (method_by m (session_between m c s a) r.user r.service r.proving)))))
     unfolding work
-    server_asked_for before n i r at sits = (
-      reads m d Server (server_party s) (version_of c.side) before (request_of m (session_between m c s a) r) phase.Auth false (server_view (session_between m c s a) n) (UserauthRequest r.user r.service (method_by m (session_between m c s a) r.user r.service r.proving))
-          sits (readable.requests i r at (m.share_form a.kex)) (leaving_line Server phase.Auth (server_view (session_between m c s a) n).strict),
-      goes_leaving m d Server (server_party s) (version_of c.side) before (request_of m (session_between m c s a) r) phase.Auth (server_view (session_between m c s a) n) (UserauthRequest r.user r.service (method_by m (session_between m c s a) r.user r.service r.proving))
+    server_asked_for before n i g r at sits = (
+      reads m d Server (server_party s) (version_of c.side) before (request_of m (session_between m c s a) r) phase.Auth false (server_view (session_between m c s a) n g) (UserauthRequest r.user r.service (method_by m (session_between m c s a) r.user r.service r.proving))
+          sits (readable.requests i r at (m.share_form a.kex)) (leaving_line _ Server phase.Auth (server_view (session_between m c s a) n g).strict),
+      goes_leaving m d Server (server_party s) (version_of c.side) before (request_of m (session_between m c s a) r) phase.Auth (server_view (session_between m c s a) n g) (UserauthRequest r.user r.service (method_by m (session_between m c s a) r.user r.service r.proving))
           sits refl (readable.requests i r at Mpint) refl,
     )

@@ -1,93 +1,156 @@
 -- The requests that are offered, of what is left of a plan.
 
-use Rattle.std.proofs.Common.{◌≡◌, ◌∙◌, ℕ, zero, suc, ◌+◌, ◌≤◌, Bool, true, false, List, [], ◌∷◌, ◌++◌, length, filter, drop, slice_get, None, Some, inl, inr, refl, sym, ap, subst, arith}
+use Rattle.std.proofs.Common.{◌≡◌, ◌∙◌, ℕ, zero, suc, ◌+◌, ◌<◌, ◌≤◌, Bool, true, false, cond, List, [], ◌∷◌, ◌++◌, length, length-append, drop, take, slice_get, None, Some, inl, inr, refl, sym, ap, subst, arith, append_assoc, append-nil, if◌then◌else◌}
+use Rattle.std.specs.Prelude.{◌&&◌}
 use Rattle.std.proofs.Math.Seq.{drop-nil}
 use Rattle.std.specs.List.{AllByRecursion}
 use Rattle.std.proofs.lemmas.Bool.{cases_Bool}
-use Rattle.std.proofs.lemmas.List.{drop-drop}
 use Rattle.sshneg.specs.ChoiceReadings.{is_in}
-use Rattle.sshcore.specs.ConfigData.{Attempt}
-use Rattle.sshcore.specs.Plan.{next_behind, next_listed, proving_name}
-use Rattle.sshworld.specs.Offered.{is_made, offered, offered_behind}
+use Rattle.sshpacket.specs.Suite.{Meaning}
+use Rattle.sshcore.specs.ConfigData.{Attempt, ByKey, ByNothing, ByPassword, Proving, ServerData}
+use Rattle.sshcore.specs.Party.{Policy}
+use Rattle.sshcore.specs.Plan.{asks, behind_query, confirmed, next_behind, next_listed, proving_name, unasked}
+use Rattle.sshworld.specs.Judging.{is_proved}
+use Rattle.sshworld.specs.Offered.{is_confirmed, is_made, offered, offered_behind, requests_for}
 
--- the method of an attempt is one of these
-abbrev pub is_listed : List (List ℕ) → Attempt → Bool
-is_listed methods a = is_in methods (proving_name a.proving)
+-- the attempt itself doesn't ask
+unasked_asks : (p : Proving) → asks (unasked p) ≡ false
+unasked_asks ByNothing = refl
+unasked_asks (ByPassword password) = refl
+unasked_asks (ByKey algorithm secret ask) = refl
 
--- the first attempt, and each later one that is listed
-abbrev pub first_and_listed : List (List ℕ) → List Attempt → List Attempt
-first_and_listed methods [] = []
-first_and_listed methods (a ∷ later) = a ∷ filter (is_listed methods) later
+module _ (m : Meaning) (d : Policy) (s : ServerData) where
+  -- behind a request that is made of an attempt: the attempt itself where its query was confirmed, and the rest of the plan
+  abbrev pub behind_request : List Attempt → Attempt → List Attempt → List Attempt
+  behind_request made x later =
+      if is_confirmed m d s made x then behind_query x ∷ offered_behind m d s (made ++ x ∷ behind_query x ∷ []) later
+      else offered_behind m d s (made ++ x ∷ []) later
 
--- behind a request made, those that are listed
-listed_behind : (methods : List (List ℕ)) (b : Attempt) (made later : List Attempt) → offered_behind methods (b ∷ made) later ≡ filter (is_listed methods) later
-listed_behind methods b made [] = refl
-listed_behind methods b made (a ∷ later) = by (is_listed methods a) refl (listed_behind methods b (made ++ a ∷ []) later) (listed_behind methods b made later)
-  where
-    by : (t : Bool) → is_listed methods a ≡ t → offered_behind methods (b ∷ (made ++ a ∷ [])) later ≡ filter (is_listed methods) later → offered_behind methods (b ∷ made) later ≡ filter (is_listed methods) later
-        → offered_behind methods (b ∷ made) (a ∷ later) ≡ filter (is_listed methods) (a ∷ later)
-    by true e more same = rw e (ap (λ (q : List Attempt). a ∷ q) more)
-    by false e more same = rw e same
+  -- The requests of what is left of a plan, behind those made, where the first of it is made.
+  abbrev pub requests_left : List Attempt → List Attempt → List Attempt
+  requests_left made [] = []
+  requests_left made (x ∷ later) = x ∷ behind_request made x later
 
-pub offered_is : (methods : List (List ℕ)) (plan : List Attempt) → offered methods plan ≡ first_and_listed methods plan
-offered_is methods [] = refl
-offered_is methods (a ∷ later) = ap (λ (q : List Attempt). a ∷ q) (listed_behind methods a [] later)
+  -- the requests of an attempt that is made, and those behind
+  made_now : (made : List Attempt) (x : Attempt) (later : List Attempt)
+      → requests_for m d s made x ++ offered_behind m d s (made ++ requests_for m d s made x) later ≡ x ∷ behind_request made x later
+  made_now made x later = by (is_confirmed m d s made x)
+    where
+      by : (b : Bool) → (if b then x ∷ behind_query x ∷ [] else x ∷ []) ++ offered_behind m d s (made ++ (if b then x ∷ behind_query x ∷ [] else x ∷ [])) later
+          ≡ x ∷ (if b then behind_query x ∷ offered_behind m d s (made ++ x ∷ behind_query x ∷ []) later else offered_behind m d s (made ++ x ∷ []) later)
+      by true = refl
+      by false = refl
 
--- what is left of a plan is what is left of the requests
-listed_next : (methods : List (List ℕ)) (plan : List Attempt) → first_and_listed methods (next_listed methods plan) ≡ filter (is_listed methods) plan
-unfolding next_listed
-listed_next methods [] = refl
-listed_next methods (a ∷ later) = elim (cases_Bool (is_listed methods a)) [
-  | inl h ↦ rw h refl
-  | inr h ↦ rw h (listed_next methods later)
-]
-
--- a FAILURE that lists the server's methods leaves the requests behind the first
-left_step : (methods : List (List ℕ)) (left : List Attempt) → first_and_listed methods (next_behind methods left) ≡ drop 1 (first_and_listed methods left)
-unfolding next_listed
-left_step methods [] = refl
-left_step methods (a ∷ later) = listed_next methods later
-
-pub left_next : (methods : List (List ℕ)) (requests left : List Attempt) (j : ℕ) → first_and_listed methods left ≡ drop j requests
-    → first_and_listed methods (next_behind methods left) ≡ drop (j + 1) requests
-left_next methods requests left j e = left_step methods left ∙ ap (λ (l : List Attempt). drop 1 l) e ∙ drop-drop 1 j requests
-
-pub get_drop : {A : Type 0} (xs : List A) (j : ℕ) → slice_get (drop j xs) 0 ≡ slice_get xs j
-get_drop [] zero = refl
-get_drop [] (suc j) = refl
-get_drop (x ∷ xs) zero = refl
-get_drop (x ∷ xs) (suc j) = get_drop xs j
-
--- where request j is offered, it is the first of what is left
-pub left_some : (methods : List (List ℕ)) (requests left : List Attempt) (j : ℕ) (x : Attempt) → first_and_listed methods left ≡ drop j requests → slice_get requests j ≡ Some x → (later : List Attempt) × (left ≡ x ∷ later)
-left_some methods requests [] j x e at = absurd (let none : slice_get requests j ≡ None = sym (get_drop requests j) ∙ ap (λ (l : List Attempt). slice_get l 0) (sym e) in cc (none, at))
-left_some methods requests (a ∷ later) j x e at =
-    let here : Some a ≡ Some x = ap (λ (l : List Attempt). slice_get l 0) e ∙ get_drop requests j ∙ at in
-    (later, ap (λ (y : Attempt). y ∷ later) (cc (here)))
-
-past : (requests : List Attempt) (j : ℕ) → length requests ≤ j → drop j requests ≡ []
-past [] j h = drop-nil j
-past (x ∷ requests) zero h = absurd (omega (arith, h))
-past (x ∷ requests) (suc j) h = past requests j (omega (arith, h))
-
--- where all were made, nothing is left
-pub left_none : (methods : List (List ℕ)) (requests left : List Attempt) (j : ℕ) → first_and_listed methods left ≡ drop j requests → length requests ≤ j → left ≡ []
-left_none methods requests [] j e h = refl
-left_none methods requests (a ∷ later) j e h = absurd (let none : a ∷ filter (is_listed methods) later ≡ [] = e ∙ past requests j h in cc (none))
-
--- what holds of a plan's attempts holds of those that are offered
-module _ (methods : List (List ℕ)) (Q : Attempt → Type 0) where
-  all_offered : (made plan : List Attempt) → AllByRecursion Q plan → AllByRecursion Q (offered_behind methods made plan)
-  all_offered made [] all = tt
-  all_offered made (a ∷ later) all = elim (cases_Bool (is_made methods made a)) [
-    | inl h ↦ rw h (all.0, all_offered (made ++ a ∷ []) later all.1)
-    | inr h ↦ rw h (all_offered made later all.1)
+  -- behind a request made, the first whose method is listed is made
+  listed_left : (made : List Attempt) (b : Attempt) (later : List Attempt)
+      → requests_left (b ∷ made) (next_listed s.methods later) ≡ offered_behind m d s (b ∷ made) later
+  unfolding next_listed
+  listed_left made b [] = refl
+  listed_left made b (a ∷ later) = elim (cases_Bool (is_in s.methods (proving_name a.proving))) [
+    | inl h ↦ rw h (sym (made_now (b ∷ made) a later))
+    | inr h ↦ rw h (listed_left made b later)
   ]
 
-  one_of : (xs : List Attempt) (i : ℕ) (r : Attempt) → AllByRecursion Q xs → slice_get xs i ≡ Some r → Q r
-  one_of [] i r all e = absurd (cc (e))
-  one_of (x ∷ xs) zero r all e = subst Q (cc (e)) all.0
-  one_of (x ∷ xs) (suc i) r all e = one_of xs i r all.1 e
+  listed_behind : (made : List Attempt) (x : Attempt) (later : List Attempt)
+      → requests_left (made ++ x ∷ []) (next_listed s.methods later) ≡ offered_behind m d s (made ++ x ∷ []) later
+  listed_behind [] x later = listed_left [] x later
+  listed_behind (b ∷ made) x later = listed_left (made ++ x ∷ []) b later
 
-  pub offered_each : (plan : List Attempt) → AllByRecursion Q plan → (i : ℕ) (r : Attempt) → slice_get (offered methods plan) i ≡ Some r → Q r
-  offered_each plan all i r e = one_of (offered methods plan) i r (all_offered [] plan all) e
+  -- what is left behind a FAILURE, where the request wasn't confirmed; and behind a PK_OK, where it was
+  pub refused_left : (made : List Attempt) (x : Attempt) (later : List Attempt) → is_confirmed m d s made x ≡ false
+      → requests_left (made ++ x ∷ []) (next_behind s.methods (x ∷ later)) ≡ behind_request made x later
+  refused_left made x later none = rw none (listed_behind made x later)
+
+  pub confirmed_left : (made : List Attempt) (x : Attempt) (later : List Attempt) → is_confirmed m d s made x ≡ true
+      → requests_left (made ++ x ∷ []) (confirmed (x ∷ later)) ≡ behind_request made x later
+  confirmed_left made x later is =
+      let none : is_confirmed m d s (made ++ x ∷ []) (behind_query x) ≡ false = ap (λ (b : Bool). b && is_proved m d s (length (made ++ x ∷ []) + 1) (behind_query x)) (unasked_asks x.proving) in
+      rw (is, none) (ap (λ (l : List Attempt). behind_query x ∷ offered_behind m d s l later) (append_assoc made (x ∷ []) (behind_query x ∷ [])))
+
+  pub offered_is : (plan : List Attempt) → requests_left [] plan ≡ offered m d s plan
+  offered_is [] = refl
+  offered_is (a ∷ later) = sym (made_now [] a later)
+
+  -- one place more
+  pub take_more : (requests : List Attempt) (j : ℕ) (x : Attempt) → slice_get requests j ≡ Some x → take (j + 1) requests ≡ take j requests ++ x ∷ []
+  take_more [] j x e = absurd (cc (e))
+  take_more (r ∷ requests) zero x e = let same : r ≡ x = cc (e) in rw same refl
+  take_more (r ∷ requests) (suc j) x e =
+      ap (λ (n : ℕ). take n (r ∷ requests)) (let n : suc j + 1 ≡ suc (j + 1) = omega arith in n) ∙ ap (λ (l : List Attempt). r ∷ l) (take_more requests j x e)
+
+  drop_more : (requests : List Attempt) (j : ℕ) (x : Attempt) → slice_get requests j ≡ Some x → drop j requests ≡ x ∷ drop (j + 1) requests
+  drop_more [] j x e = absurd (cc (e))
+  drop_more (r ∷ requests) zero x e = let same : r ≡ x = cc (e) in rw same refl
+  drop_more (r ∷ requests) (suc j) x e =
+      drop_more requests j x e ∙ ap (λ (n : ℕ). x ∷ drop n (r ∷ requests)) (let n : suc (j + 1) ≡ suc j + 1 = omega arith in n)
+
+  -- So many requests were made, and this is left of the plan.
+  abbrev pub IsLeft : List Attempt → List Attempt → ℕ → Type 0
+  IsLeft requests left j = requests_left (take j requests) left ≡ drop j requests
+
+  rest_of : (requests : List Attempt) (j : ℕ) (x : Attempt) (later : List Attempt) → IsLeft requests (x ∷ later) j → slice_get requests j ≡ Some x
+      → behind_request (take j requests) x later ≡ drop (j + 1) requests
+  rest_of requests j x later e at = ap (λ (l : List Attempt). drop 1 l) (e ∙ drop_more requests j x at)
+
+  pub left_refused : (requests : List Attempt) (j : ℕ) (x : Attempt) (later : List Attempt) → IsLeft requests (x ∷ later) j → slice_get requests j ≡ Some x
+      → is_confirmed m d s (take j requests) x ≡ false → IsLeft requests (next_behind s.methods (x ∷ later)) (j + 1)
+  left_refused requests j x later e at none =
+      ap (λ (l : List Attempt). requests_left l (next_behind s.methods (x ∷ later))) (take_more requests j x at)
+      ∙ (refused_left (take j requests) x later none ∙ rest_of requests j x later e at)
+
+  pub left_confirmed : (requests : List Attempt) (j : ℕ) (x : Attempt) (later : List Attempt) → IsLeft requests (x ∷ later) j → slice_get requests j ≡ Some x
+      → is_confirmed m d s (take j requests) x ≡ true → IsLeft requests (confirmed (x ∷ later)) (j + 1)
+  left_confirmed requests j x later e at is =
+      ap (λ (l : List Attempt). requests_left l (confirmed (x ∷ later))) (take_more requests j x at)
+      ∙ (confirmed_left (take j requests) x later is ∙ rest_of requests j x later e at)
+
+  get_drop : (xs : List Attempt) (j : ℕ) → slice_get (drop j xs) 0 ≡ slice_get xs j
+  get_drop [] zero = refl
+  get_drop [] (suc j) = refl
+  get_drop (x ∷ xs) zero = refl
+  get_drop (x ∷ xs) (suc j) = get_drop xs j
+
+  -- where request j is offered, it is the first of what is left
+  pub left_some : (requests left : List Attempt) (j : ℕ) (x : Attempt) → IsLeft requests left j → slice_get requests j ≡ Some x → (later : List Attempt) × (left ≡ x ∷ later)
+  left_some requests [] j x e at = absurd (let none : slice_get requests j ≡ None = sym (get_drop requests j) ∙ ap (λ (l : List Attempt). slice_get l 0) (sym e) in cc (none, at))
+  left_some requests (a ∷ later) j x e at =
+      let here : Some a ≡ Some x = ap (λ (l : List Attempt). slice_get l 0) e ∙ get_drop requests j ∙ at in
+      (later, ap (λ (y : Attempt). y ∷ later) (cc (here)))
+
+  past : (requests : List Attempt) (j : ℕ) → length requests ≤ j → drop j requests ≡ []
+  past [] j h = drop-nil j
+  past (x ∷ requests) zero h = absurd (omega (arith, h))
+  past (x ∷ requests) (suc j) h = past requests j (omega (arith, h))
+
+  -- where all were made, nothing is left
+  pub left_none : (requests left : List Attempt) (j : ℕ) → IsLeft requests left j → length requests ≤ j → left ≡ []
+  left_none requests [] j e h = refl
+  left_none requests (a ∷ later) j e h = absurd (let none : a ∷ behind_request (take j requests) a later ≡ [] = e ∙ past requests j h in cc (none))
+
+  -- what holds of a plan's attempts, with their queries and without, holds of the requests that are offered
+  module _ (Q : Attempt → Type 0) (itself : (a : Attempt) → Q a → Q (behind_query a)) where
+    all_append : (xs ys : List Attempt) → AllByRecursion Q xs → AllByRecursion Q ys → AllByRecursion Q (xs ++ ys)
+    all_append [] ys a b = b
+    all_append (x ∷ xs) ys a b = (a.0, all_append xs ys a.1 b)
+
+    all_for : (made : List Attempt) (a : Attempt) → Q a → AllByRecursion Q (requests_for m d s made a)
+    all_for made a q = by (is_confirmed m d s made a)
+      where
+        by : (b : Bool) → AllByRecursion Q (if b then a ∷ behind_query a ∷ [] else a ∷ [])
+        by true = (q, (itself a q, tt))
+        by false = (q, tt)
+
+    all_offered : (made plan : List Attempt) → AllByRecursion Q plan → AllByRecursion Q (offered_behind m d s made plan)
+    all_offered made [] all = tt
+    all_offered made (a ∷ later) all = elim (cases_Bool (is_made s.methods made a)) [
+      | inl h ↦ rw h (all_append (requests_for m d s made a) (offered_behind m d s (made ++ requests_for m d s made a) later) (all_for made a all.0) (all_offered (made ++ requests_for m d s made a) later all.1))
+      | inr h ↦ rw h (all_offered made later all.1)
+    ]
+
+    one_of : (xs : List Attempt) (i : ℕ) (r : Attempt) → AllByRecursion Q xs → slice_get xs i ≡ Some r → Q r
+    one_of [] i r all e = absurd (cc (e))
+    one_of (x ∷ xs) zero r all e = subst Q (cc (e)) all.0
+    one_of (x ∷ xs) (suc i) r all e = one_of xs i r all.1 e
+
+    pub offered_each : (plan : List Attempt) → AllByRecursion Q plan → (i : ℕ) (r : Attempt) → slice_get (offered m d s plan) i ≡ Some r → Q r
+    offered_each plan all i r e = one_of (offered m d s plan) i r (all_offered [] plan all) e

@@ -77,8 +77,8 @@ module _ (role : Role) (own : Party) where
     behind_exchange (before ++ x ∷ []) xs (offered_push before x ∙ rw off refl) (stood_push role own.offer before x (leaving role phase.Exchange) ∙ rw on refl) (no_guess role own.offer before x off),
   )
 
-  sits_behind : (m : Meaning) (version : List ℕ) (before xs : Units) (p : Phase) (x : Known) → Sits m role own version before p false x → past_exchange p ≡ true → past_kexinit p ≡ true → EachPlace (IsInPlace role own) before xs
-  sits_behind m version before xs p x s past begun = behind_exchange before xs (s.tied.offer ∙ begun) (s.tied.exchange ∙ past) s.due
+  sits_behind : (m : Meaning) (d : Policy) (version : List ℕ) (before xs : Units) (p : Phase) (x : Known) → Sits m d role own version before p false x → past_exchange p ≡ true → past_kexinit p ≡ true → EachPlace (IsInPlace role own) before xs
+  sits_behind m d version before xs p x s past begun = behind_exchange before xs (s.tied.offer ∙ begun) (s.tied.exchange ∙ past) s.due
 
 never : {P : Type 0} (b : Bool) → b ≡ false → b ≡ true → P
 never b e f = absurd (true≢false (sym f ∙ e))
@@ -111,16 +111,16 @@ pub init_head : (m : Meaning) (own : Party) (kex : List ℕ) → (kind (init_for
 init_head m own kex = ap (λ (n : ℕ). n == 21) (init_kind m own kex)
 
 module _ (m : Meaning) (d : Policy) (c : ClientData) (s : ServerData) (understood : AreUnderstood m d c s) (sound : AreSound c s) (offers : AreOffersRead c s) where
-  module _ (a : Algorithms) (chosen : choice m (client_offer c) (server_offer s) ≡ Ok a) (readable : IsRead m c s a) where
+  module _ (a : Algorithms) (chosen : choice m (client_offer c) (server_offer s) ≡ Ok a) (readable : IsRead m d c s a) where
     abbrev w : Wording
-    w = wording_with m c s a.kex a
+    w = wording_with m d c s a.kex a
 
     heard_by_client : (tail : Units) → EachPlace (IsInPlace Client (client_party c)) [] (w.server_offer ∷ w.reply ∷ tail)
     heard_by_client tail = (
       first Client (client_party c) w.server_offer,
       (
         second Client (client_party c) w.server_offer w.reply (head (server_offer s)) (reply_head (m.share_form a.kex) (host_key_of_server m s a.host_key) (answer_of_server m c s a.kex).share (signature_of_server m c s a)),
-        sits_behind Client (client_party c) m (version_of s.side) (w.server_offer ∷ w.reply ∷ []) tail phase.NewKeys _ (client_exchanges m d c s understood sound offers a chosen readable) refl refl,
+        sits_behind Client (client_party c) m d (version_of s.side) (w.server_offer ∷ w.reply ∷ []) tail phase.NewKeys _ (client_exchanges m d c s understood sound offers a chosen readable) refl refl,
       ),
     )
 
@@ -131,7 +131,7 @@ module _ (m : Meaning) (d : Policy) (c : ClientData) (s : ServerData) (understoo
           first Server (server_party s) w.client_offer,
           (
             second Server (server_party s) w.client_offer w.init (head (client_offer c)) (init_head m (client_party c) a.kex),
-            sits_behind Server (server_party s) m (version_of c.side) (w.client_offer ∷ w.init ∷ []) tail phase.NewKeys _ (server_exchanges m d c s understood sound offers a chosen readable (w.client_offer ∷ []) b) refl refl,
+            sits_behind Server (server_party s) m d (version_of c.side) (w.client_offer ∷ w.init ∷ []) tail phase.NewKeys _ (server_exchanges m d c s understood sound offers a chosen readable (w.client_offer ∷ []) b) refl refl,
           ),
         )
     heard_by_server true true eg er tail =
@@ -139,7 +139,7 @@ module _ (m : Meaning) (d : Policy) (c : ClientData) (s : ServerData) (understoo
           first Server (server_party s) w.client_offer,
           (
             second Server (server_party s) w.client_offer w.init (head (client_offer c)) (init_head m (client_party c) a.kex),
-            sits_behind Server (server_party s) m (version_of c.side) (w.client_offer ∷ w.init ∷ []) tail phase.NewKeys _ (server_exchanges m d c s understood sound offers a chosen readable (w.client_offer ∷ []) b) refl refl,
+            sits_behind Server (server_party s) m d (version_of c.side) (w.client_offer ∷ w.init ∷ []) tail phase.NewKeys _ (server_exchanges m d c s understood sound offers a chosen readable (w.client_offer ∷ []) b) refl refl,
           ),
         )
     heard_by_server true false eg er tail =
@@ -150,7 +150,7 @@ module _ (m : Meaning) (d : Policy) (c : ClientData) (s : ServerData) (understoo
             second Server (server_party s) w.client_offer w.guess (head (client_offer c)) (init_head m (client_party c) (guessed_method (client_party c))),
             (
               third Server (server_party s) w.client_offer w.guess w.init (head (client_offer c)) (init_head m (client_party c) (guessed_method (client_party c))) (init_head m (client_party c) a.kex),
-              sits_behind Server (server_party s) m (version_of c.side) (w.client_offer ∷ w.guess ∷ w.init ∷ []) tail phase.NewKeys _ (server_exchanges m d c s understood sound offers a chosen readable (w.client_offer ∷ w.guess ∷ []) drop.1) refl refl,
+              sits_behind Server (server_party s) m d (version_of c.side) (w.client_offer ∷ w.guess ∷ w.init ∷ []) tail phase.NewKeys _ (server_exchanges m d c s understood sound offers a chosen readable (w.client_offer ∷ w.guess ∷ []) drop.1) refl refl,
             ),
           ),
         )
@@ -167,23 +167,23 @@ module _ (m : Meaning) (d : Policy) (c : ClientData) (s : ServerData) (understoo
 
   -- by the choice
   record Placed (r : Result Algorithms NoCommon) (way : Way) : Type 0 where
-    client : (ends : BothEnds) → EachPlace (IsInPlace Client (client_party c)) [] (said_after (server_part (wording_with m c s (method_used c r) (chosen_or r)) (guess_of c s) way ends) (server_part (wording_with m c s (method_used c r) (chosen_or r)) (guess_of c s) way ends).hears)
-    server : (ends : BothEnds) → EachPlace (IsInPlace Server (server_party s)) [] (said_after (client_part (wording_with m c s (method_used c r) (chosen_or r)) (guess_of c s) way ends) (client_part (wording_with m c s (method_used c r) (chosen_or r)) (guess_of c s) way ends).hears)
+    client : (ends : BothEnds) → EachPlace (IsInPlace Client (client_party c)) [] (said_after (server_part (wording_with m d c s (method_used c r) (chosen_or r)) (guess_of c s) way ends) (server_part (wording_with m d c s (method_used c r) (chosen_or r)) (guess_of c s) way ends).hears)
+    server : (ends : BothEnds) → EachPlace (IsInPlace Server (server_party s)) [] (said_after (client_part (wording_with m d c s (method_used c r) (chosen_or r)) (guess_of c s) way ends) (client_part (wording_with m d c s (method_used c r) (chosen_or r)) (guess_of c s) way ends).hears)
 
   pub refused_said : (u : Wording) (guess : Guess) (end : Ending) → said_after (server_no_trust u guess end) (server_no_trust u guess end).hears ≡ u.server_offer ∷ u.reply ∷ u.new_keys ∷ []
   refused_said u NoGuess end = refl
   refused_said u RightGuess end = refl
   refused_said u WrongGuess end = refl
 
-  module _ (readable : (a : Algorithms) → choice m (client_offer c) (server_offer s) ≡ Ok a → IsRead m c s a) where
+  module _ (readable : (a : Algorithms) → choice m (client_offer c) (server_offer s) ≡ Ok a → IsRead m d c s a) where
     placed_trusted : (a : Algorithms) → choice m (client_offer c) (server_offer s) ≡ Ok a → (b : Bool) → Placed (Ok a) (if b then Requests (verdict m d c s) else NoTrust)
     placed_trusted a chosen true = record {
-      client = λ ends. subst (EachPlace (IsInPlace Client (client_party c)) []) (sym (server_says (wording_with m c s a.kex a) (verdict m d c s) ends.server (guess_of c s))) (heard_by_client a chosen (readable a chosen) ((wording_with m c s a.kex a).new_keys ∷ (wording_with m c s a.kex a).service_accept ∷ ((wording_with m c s a.kex a).banner ++ from (server_next (wording_with m c s a.kex a) (verdict m d c s)) 0 ((verdict m d c s).requests + heard_last (verdict m d c s).how))));
-      server = λ ends. subst (EachPlace (IsInPlace Server (server_party s)) []) (sym (client_says (wording_with m c s a.kex a) (verdict m d c s) ends.client (guess_of c s)))
+      client = λ ends. subst (EachPlace (IsInPlace Client (client_party c)) []) (sym (server_says (wording_with m d c s a.kex a) (verdict m d c s) ends.server (guess_of c s))) (heard_by_client a chosen (readable a chosen) ((wording_with m d c s a.kex a).new_keys ∷ (wording_with m d c s a.kex a).service_accept ∷ ((wording_with m d c s a.kex a).banner ++ from (server_next (wording_with m d c s a.kex a) (verdict m d c s)) 0 ((verdict m d c s).requests + heard_last (verdict m d c s).how))));
+      server = λ ends. subst (EachPlace (IsInPlace Server (server_party s)) []) (sym (client_says (wording_with m d c s a.kex a) (verdict m d c s) ends.client (guess_of c s)))
           (heard_by_server a chosen (readable a chosen) c.guess (is_right_guess (client_offer c) (server_offer s)) refl refl _);
     }
     placed_trusted a chosen false = record {
-      client = λ ends. subst (EachPlace (IsInPlace Client (client_party c)) []) (sym (refused_said (wording_with m c s a.kex a) (guess_of c s) ends.server)) (heard_by_client a chosen (readable a chosen) ((wording_with m c s a.kex a).new_keys ∷ []));
+      client = λ ends. subst (EachPlace (IsInPlace Client (client_party c)) []) (sym (refused_said (wording_with m d c s a.kex a) (guess_of c s) ends.server)) (heard_by_client a chosen (readable a chosen) ((wording_with m d c s a.kex a).new_keys ∷ []));
       server = λ ends. heard_by_server a chosen (readable a chosen) c.guess (is_right_guess (client_offer c) (server_offer s)) refl refl _;
     }
 
@@ -191,11 +191,11 @@ module _ (m : Meaning) (d : Policy) (c : ClientData) (s : ServerData) (understoo
     placed_with (Ok a) e = placed_trusted a e (d.host_key a.host_key (host_key_of_server m s a.host_key))
     placed_with (Err f) e = record {
       client = λ ends. (first Client (client_party c) _, (second Client (client_party c) _ _ (head (server_offer s)) (bye 3), tt));
-      server = λ ends. none_by_server (wording_with m c s (guessed_method (client_party c)) (chosen_or (Err f))) refl (guess_of c s) (head (client_offer c)) (init_head m (client_party c) (guessed_method (client_party c))) (init_head m (client_party c) (guessed_method (client_party c))) (bye 3);
+      server = λ ends. none_by_server (wording_with m d c s (guessed_method (client_party c)) (chosen_or (Err f))) refl (guess_of c s) (head (client_offer c)) (init_head m (client_party c) (guessed_method (client_party c))) (init_head m (client_party c) (guessed_method (client_party c))) (bye 3);
     }
 
 pub both_placed : (m : Meaning) (d : Policy) (c : ClientData) (s : ServerData) → AreUnderstood m d c s → AreSound c s → AreOffersRead c s
-    → ((a : Algorithms) → choice m (client_offer c) (server_offer s) ≡ Ok a → IsRead m c s a) → BothInPlace m d c s
+    → ((a : Algorithms) → choice m (client_offer c) (server_offer s) ≡ Ok a → IsRead m d c s a) → BothInPlace m d c s
 unfolding outcome
 both_placed m d c s understood sound offers readable =
     let p = placed_with m d c s understood sound offers readable (choice m (client_offer c) (server_offer s)) refl in

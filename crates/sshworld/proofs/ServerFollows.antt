@@ -16,6 +16,7 @@ use Rattle.sshcore.specs.declared.table.Phase.TheVariants as phase
 use Rattle.sshcore.specs.ConfigData.{ClientData, ServerData, client_offer, server_offer, version_of}
 use Rattle.sshcore.specs.Ending.{Closed, Ending, Failed, goes}
 use Rattle.sshcore.specs.Party.{Policy, client_party, server_party}
+use Rattle.sshcore.specs.Reached.{nothing_reached}
 use Rattle.sshcore.specs.Standing.{Sits}
 use Rattle.sshcore.specs.Work.{chosen_reply, guessed_method}
 use Rattle.sshworld.specs.Agreement.{session_between}
@@ -66,15 +67,15 @@ module _ (m : Meaning) (d : Policy) (c : ClientData) (s : ServerData) (understoo
   server_chose : (a : Algorithms) → choice m (client_offer c) (server_offer s) ≡ Ok a → chosen_reply m Server (server_party s) (client_offer c) (choice m (client_offer c) (server_offer s)) ≡ goes []
   server_chose a chosen = ap (λ r. chosen_reply m Server (server_party s) (client_offer c) r) chosen
 
-  module _ (a : Algorithms) (chosen : choice m (client_offer c) (server_offer s) ≡ Ok a) (readable : IsRead m c s a) where
+  module _ (a : Algorithms) (chosen : choice m (client_offer c) (server_offer s) ≡ Ok a) (readable : IsRead m d c s a) where
     abbrev pub w : Wording
-    w = wording_with m c s a.kex a
+    w = wording_with m d c s a.kex a
 
     abbrev pub v : Verdict
     v = verdict m d c s
 
     abbrev pub sits : Units → Phase → Bool → List ℕ → Type 0
-    sits before q due session = Sits m Server (server_party s) (version_of c.side) before q due (server_view m d c s understood sound offers a chosen readable session 1)
+    sits before q due session = Sits m d Server (server_party s) (version_of c.side) before q due (server_view m d c s understood sound offers a chosen readable session 1 nothing_reached)
 
     pub begun : (b : Bool) → (c.guess && not (is_right_guess (client_offer c) (server_offer s))) ≡ b → sits (w.client_offer ∷ []) phase.Exchange b []
     begun b e = subst (λ (due : Bool). sits (w.client_offer ∷ []) phase.Exchange due []) e (server_begins m d c s understood sound offers a chosen readable)
@@ -92,7 +93,7 @@ module _ (m : Meaning) (d : Policy) (c : ClientData) (s : ServerData) (understoo
       asked_tail pre here at =
           let one = server_exchanges m d c s understood sound offers a chosen readable pre here in
           let two = switches m d Server (server_party s) (version_of c.side) (pre ++ w.init ∷ []) _ one in
-          let three = server_accepts m d c s understood sound offers a chosen readable ((pre ++ w.init ∷ []) ++ w.new_keys ∷ []) (session_between m c s a) 1 two in
+          let three = server_accepts m d c s understood sound offers a chosen readable ((pre ++ w.init ∷ []) ++ w.new_keys ∷ []) (session_between m c s a) 1 nothing_reached two in
           let l1 = length-append pre (w.init ∷ []) in
           let l2 = length-append (pre ++ w.init ∷ []) (w.new_keys ∷ []) in
           let l3 = length-append ((pre ++ w.init ∷ []) ++ w.new_keys ∷ []) (w.service_request ∷ []) in
@@ -231,9 +232,9 @@ module _ (m : Meaning) (d : Policy) (c : ClientData) (s : ServerData) (understoo
 
   -- where nothing is common
   pub server_without_follows : (kex : List ℕ) (b : Algorithms) (f : NoCommon) (guess : Guess) (end client_end : Ending) → choice m (client_offer c) (server_offer s) ≡ Err f → end ≡ Failed (fault.NoCommon f)
-      → FollowsPart m d Server (server_party s) (server_no_choice (wording_with m c s kex b) end) (units_of (client_party c) (client_no_choice (wording_with m c s kex b) guess client_end))
+      → FollowsPart m d Server (server_party s) (server_no_choice (wording_with m d c s kex b) end) (units_of (client_party c) (client_no_choice (wording_with m d c s kex b) guess client_end))
   server_without_follows kex b f guess end client_end chosen final =
-      let u : Wording = wording_with m c s kex b in
+      let u : Wording = wording_with m d c s kex b in
       record {
         making_is = refl;
         places = at_each (IsAsPart m d Server (server_party s) (server_no_choice u end)) (version_of c.side ∷ u.client_offer ∷ []) (units_of (client_party c) (client_no_choice u guess client_end)) 2

@@ -3,6 +3,7 @@
 use Rattle.std.proofs.Common.{◌≡◌, ◌⊎◌, inl, inr, ℕ, zero, suc, ◌+◌, ◌<◌, ◌≤◌, false, List, [], ◌∷◌, ◌++◌, take, length, length-append, slice_get, Option, None, Some, Ok, refl, sym, ap, ◌∙◌, subst, arith, nat_eq}
 use Rattle.std.proofs.lemmas.Bool.{ne_eqb}
 use native.Mathlib.Decide.{dec_lt}
+use Rattle.sshmsg.specs.Written.{written_message}
 use Rattle.sshneg.specs.declared.role.Role.TheVariants.{Server}
 use Rattle.sshneg.specs.ChoiceReadings.{choice}
 use Rattle.sshneg.specs.Fields.{Algorithms}
@@ -10,11 +11,16 @@ use Rattle.sshpacket.specs.Places.{EachPlace}
 use Rattle.sshpacket.specs.Stream.{Units}
 use Rattle.sshpacket.specs.Suite.{Meaning}
 use Rattle.sshcore.specs.declared.table.Phase.TheVariants as phase
-use Rattle.sshcore.specs.Attempts.{request_of}
-use Rattle.sshcore.specs.ConfigData.{Attempt, ClientData, ServerData, client_offer, server_offer, version_of}
-use Rattle.sshcore.specs.Ending.{Ending}
+use Rattle.sshcore.specs.Attempts.{method_by, request_of}
+use Rattle.sshcore.specs.ConfigData.{Attempt, ByKey, ByNothing, ByPassword, ClientData, Proving, ServerData, client_offer, server_offer, version_of}
+use Rattle.sshcore.specs.Ending.{Ending, goes}
 use Rattle.sshcore.specs.Party.{Policy, server_party}
+use Rattle.sshcore.specs.Plan.{unasked}
+use Rattle.sshcore.specs.Reached.{Reached, nothing_reached, reached_after, reached_behind}
 use Rattle.sshcore.specs.Replies.{reply_at}
+use Rattle.sshcore.specs.Requests.{request_reply}
+use Rattle.sshcore.specs.Tries.{is_good_at, tried_with}
+use Rattle.sshcore.proofs.PlanLemmas.{reached_push}
 use Rattle.sshcore.specs.Standing.{Sits}
 use Rattle.sshworld.specs.Agreement.{session_between}
 use Rattle.sshworld.specs.Course.{Part, client_last, client_next, heard_last, server_early, server_last, server_next, server_requests, unanswered}
@@ -23,27 +29,44 @@ use Rattle.sshworld.specs.Guesses.{Guess, NoGuess, RightGuess, WrongGuess}
 use Rattle.sshworld.specs.Offered.{offered}
 use Rattle.sshworld.specs.Outcome.{case_of_how, table}
 use Rattle.sshworld.specs.Understood.{AreUnderstood, CanSign}
-use Rattle.sshworld.specs.Verdicts.{Exhausted, How, Limit, Success, Unknown, Verdict, ends_by, verdict}
+use Rattle.sshworld.specs.Verdicts.{Exhausted, How, Limit, Success, Unknown, Verdict, ends_by, tried_by, tried_of, verdict}
 use Rattle.sshworld.specs.Wording.{Wording}
-use Rattle.sshworld.specs.Wordings.{request_or, wording_with}
+use Rattle.sshworld.specs.Wordings.{answer_or, answer_to, request_or, wording_with}
 use Rattle.sshworld.proofs.CountLemmas.{none_exhausts}
 use Rattle.sshworld.proofs.CourseLemmas.{answer_in, answer_last, lt_false, next_in, next_last}
-use Rattle.sshworld.proofs.JudgedLemmas.{brings_at, get_in, granted, how_reply, judged, take_length}
+use Rattle.sshworld.proofs.JudgedLemmas.{brings_at, get_in, granted, how_reply, judged, take_length, tried_more, tried_same}
 use Rattle.sshworld.proofs.MessageLemmas.{closed, fourteen_read, server_asked_for, server_view}
-use Rattle.sshworld.proofs.OfferedLemmas.{offered_each}
+use Rattle.sshworld.proofs.OfferedLemmas.{offered_each, take_more}
 use Rattle.sshworld.proofs.PartLemmas.{as_last, as_open, from, group_behind}
-use Rattle.sshworld.proofs.Readable.{AreOffersRead, AreSound, IsRead}
+use Rattle.sshworld.proofs.Readable.{AreOffersRead, AreSound, IsRead, IsTestedName}
 
 pub server_early_length : (w : Wording) (guess : Guess) → length (server_early w guess) ≡ 5 + length (unanswered guess)
 server_early_length w NoGuess = refl
 server_early_length w RightGuess = refl
 server_early_length w WrongGuess = refl
 
+-- an attempt behind its query has what it had
+named_itself : (r : Attempt) → IsTestedName r.proving → IsTestedName (unasked r.proving)
+named_itself r h = by r.proving h
+  where
+    by : (p : Proving) → IsTestedName p → IsTestedName (unasked p)
+    by ByNothing h = h
+    by (ByPassword password) h = h
+    by (ByKey algorithm secret ask) h = h
+
+signs_itself : (m : Meaning) (r : Attempt) → CanSign m r.proving → CanSign m (unasked r.proving)
+signs_itself m r h = by r.proving h
+  where
+    by : (p : Proving) → CanSign m p → CanSign m (unasked p)
+    by ByNothing h = h
+    by (ByPassword password) h = h
+    by (ByKey algorithm secret ask) h = h
+
 module _ (m : Meaning) (d : Policy) (c : ClientData) (s : ServerData) (understood : AreUnderstood m d c s) (sound : AreSound c s) (offers : AreOffersRead c s)
-    (a : Algorithms) (chosen : choice m (client_offer c) (server_offer s) ≡ Ok a) (readable : IsRead m c s a) (guess : Guess) (end : Ending)
+    (a : Algorithms) (chosen : choice m (client_offer c) (server_offer s) ≡ Ok a) (readable : IsRead m d c s a) (guess : Guess) (end : Ending)
     (final : (how : How) → (verdict m d c s).how ≡ how → end ≡ (table (case_of_how m c s a how)).server) where
   abbrev w : Wording
-  w = wording_with m c s a.kex a
+  w = wording_with m d c s a.kex a
 
   abbrev v : Verdict
   v = verdict m d c s
@@ -54,14 +77,35 @@ module _ (m : Meaning) (d : Policy) (c : ClientData) (s : ServerData) (understoo
   abbrev Q : Units → List ℕ → Type 0
   Q = IsAsPart m d Server (server_party s) p
 
+  -- what is reached behind the first j requests
+  abbrev reached : ℕ → Reached
+  reached j = reached_after nothing_reached (tried_of m d s (take j (offered m d s c.plan)))
+
   abbrev sits : Units → ℕ → Type 0
-  sits before n = Sits m Server (server_party s) (version_of c.side) before phase.Auth false (server_view m d c s understood sound offers a chosen readable (session_between m c s a) n)
+  sits before j = Sits m d Server (server_party s) (version_of c.side) before phase.Auth false (server_view m d c s understood sound offers a chosen readable (session_between m c s a) (j + 1) (reached j))
+
+  abbrev named_at : (j : ℕ) (x : Attempt) → slice_get (offered m d s c.plan) j ≡ Some x → IsTestedName x.proving
+  named_at j x at = offered_each m d s (λ (r : Attempt). IsTestedName r.proving) named_itself c.plan sound.named j x at
+
+  abbrev signs_at : (j : ℕ) (x : Attempt) → slice_get (offered m d s c.plan) j ≡ Some x → CanSign m x.proving
+  signs_at j x at = offered_each m d s (λ (r : Attempt). CanSign m r.proving) (signs_itself m) c.plan understood.plan j x at
+
+  -- one request more
+  reached_next : (j : ℕ) (x : Attempt) (at : slice_get (offered m d s c.plan) j ≡ Some x) → length (take j (offered m d s c.plan)) ≡ j
+      → reached_behind (reached j) (tried_with x.user x.service (method_by m (session_between m c s a) x.user x.service x.proving)
+      (is_good_at m d (server_party s) (session_between m c s a) (j + 1) x.user x.service (method_by m (session_between m c s a) x.user x.service x.proving))) ≡ reached (j + 1)
+  reached_next j x at made_is =
+      let made : List Attempt = take j (offered m d s c.plan) in
+      ap (reached_behind (reached j)) (tried_same m d c s sound a (session_between m c s a) made (j + 1) x (ap (λ (n : ℕ). n + 1) (sym made_is)) (named_at j x at) (signs_at j x at))
+      ∙ (sym (reached_push nothing_reached (tried_of m d s made) (tried_by m d s made x ∷ []))
+      ∙ (ap (reached_after nothing_reached) (sym (tried_more m d c s sound a (session_between m c s a) made x))
+      ∙ ap (λ (l : List Attempt). reached_after nothing_reached (tried_of m d s l)) (sym (take_more m d s (offered m d s c.plan) j x at))))
 
   group_is : (before : Units) (j : ℕ) → length before ≡ 4 + length (unanswered guess) + j → p.group (length (version_of c.side ∷ before)) ≡ server_next w v j
   group_is before j at = group_behind (server_early w guess) (server_next w v) j (suc (length before)) (omega (arith, at, server_early_length w guess))
 
   -- behind the last request
-  ends_here : (before : Units) (j : ℕ) → j ≡ v.requests → sits before (j + 1) → length before ≡ 4 + length (unanswered guess) + j → (how : How) → v.how ≡ how
+  ends_here : (before : Units) (j : ℕ) → j ≡ v.requests → sits before j → length before ≡ 4 + length (unanswered guess) + j → (how : How) → v.how ≡ how
       → EachPlace Q (version_of c.side ∷ before) (client_last w how ++ [])
   ends_here before j all here at Unknown e = tt
   ends_here before j all here at (Success q) e = tt
@@ -75,58 +119,67 @@ module _ (m : Meaning) (d : Policy) (c : ClientData) (s : ServerData) (understoo
     tt,
   )
 
+  -- what tells that request j ends nothing
+  refused : (j : ℕ) (x : Attempt) → slice_get (offered m d s c.plan) j ≡ Some x
+      → goes (written_message (answer_to m d s (take j (offered m d s c.plan)) x) ∷ []) ≡ goes (w.refusal j ∷ [])
+  refused j x at = ap (λ (o : Option Attempt). goes (answer_or m d s (take j (offered m d s c.plan)) o ∷ [])) (sym at)
+
   -- the answer to a request
-  answers_here : (before : Units) (j : ℕ) (x : Attempt) → sits before (j + 1) → length before ≡ 4 + length (unanswered guess) + j → slice_get (offered s.methods c.plan) j ≡ Some x → j < v.requests → v.requests ≤ length (offered s.methods c.plan)
+  answers_here : (before : Units) (j : ℕ) (x : Attempt) → sits before j → length before ≡ 4 + length (unanswered guess) + j → slice_get (offered m d s c.plan) j ≡ Some x → j < v.requests → v.requests ≤ length (offered m d s c.plan)
       → Q (version_of c.side ∷ before) (request_of m (session_between m c s a) x)
   answers_here before j x here at get more most =
-      let made : List Attempt = take j (offered s.methods c.plan) in
-      let made_is : length (take j (offered s.methods c.plan)) ≡ j = take_length (offered s.methods c.plan) j (omega (arith, more, most)) in
-      let reply : reply_at m d Server (server_party s) (version_of c.side) before (request_of m (session_between m c s a) x) ≡ how_reply m c s a (ends_by m d s (take j (offered s.methods c.plan)) x) =
-      (server_asked_for m d c s understood sound offers a chosen readable before (j + 1) j x get here).0
-      ∙ judged m d c s sound a (server_view m d c s understood sound offers a chosen readable (session_between m c s a) (j + 1))
-      (take j (offered s.methods c.plan)) x (sound.named j x get) (offered_each s.methods (λ (r : Attempt). CanSign m r.proving) c.plan understood.plan j x get) refl refl (ap (λ (n : ℕ). n + 1) (sym made_is)) (omega (arith, made_is, granted m d c s sound.tries most j more)) refl in
+      let made : List Attempt = take j (offered m d s c.plan) in
+      let made_is : length (take j (offered m d s c.plan)) ≡ j = take_length (offered m d s c.plan) j (omega (arith, more, most)) in
+      let reply : reply_at m d Server (server_party s) (version_of c.side) before (request_of m (session_between m c s a) x) ≡ how_reply m d c s a (take j (offered m d s c.plan)) x (ends_by m d s (take j (offered m d s c.plan)) x) =
+      (server_asked_for m d c s understood sound offers a chosen readable before (j + 1) j (reached j) x get here).0
+      ∙ ap (λ (n : ℕ). request_reply m d (server_party s) (server_view m d c s understood sound offers a chosen readable (session_between m c s a) (n + 1) (reached j)) x.user x.service (method_by m (session_between m c s a) x.user x.service x.proving)) (sym made_is)
+      ∙ judged m d c s sound a (session_between m c s a) (version_of c.side) _ _ [] _ false made x (named_at j x get) (signs_at j x get) (readable.short j x get) (omega (arith, made_is, granted m d c s sound.tries most j more)) refl refl in
       let b = brings_at m d c s j x get in
       elim (dec_lt (j + 1) v.requests) [
         | yes less ↦
             as_open m d Server (server_party s) p (version_of c.side ∷ before) (request_of m (session_between m c s a) x) (w.refusal j ∷ [])
-            (reply ∙ ap (how_reply m c s a) (b.before (omega (arith, less)))) (group_is before j at ∙ answer_in w v j less) (omega (arith, at, less))
+            (reply ∙ ap (how_reply m d c s a (take j (offered m d s c.plan)) x) (b.before (omega (arith, less))) ∙ refused j x get) (group_is before j at ∙ answer_in w v j less) (omega (arith, at, less))
         | no ge ↦
             let last : j + 1 ≡ v.requests = omega (arith, ge, more) in
             at_last reply last (b.last (omega (arith, last)))
       ]
     where
-      by_how : reply_at m d Server (server_party s) (version_of c.side) before (request_of m (session_between m c s a) x) ≡ how_reply m c s a (ends_by m d s (take j (offered s.methods c.plan)) x)
-          → j + 1 ≡ v.requests → (how : How) → v.how ≡ how → ends_by m d s (take j (offered s.methods c.plan)) x ≡ Some how → Q (version_of c.side ∷ before) (request_of m (session_between m c s a) x)
+      by_how : reply_at m d Server (server_party s) (version_of c.side) before (request_of m (session_between m c s a) x) ≡ how_reply m d c s a (take j (offered m d s c.plan)) x (ends_by m d s (take j (offered m d s c.plan)) x)
+          → j + 1 ≡ v.requests → (how : How) → v.how ≡ how → ends_by m d s (take j (offered m d s c.plan)) x ≡ Some how → Q (version_of c.side ∷ before) (request_of m (session_between m c s a) x)
       by_how reply last Unknown is e =
           as_last m d Server (server_party s) p (version_of c.side ∷ before) (request_of m (session_between m c s a) x) (w.disconnect 7 ∷ []) _
-          (reply ∙ ap (how_reply m c s a) e) (group_is before j at ∙ answer_last w v j last ∙ ap (λ h. server_last w j h) is) (omega (arith, at, last, ap heard_last is)) (final Unknown is)
+          (reply ∙ ap (how_reply m d c s a (take j (offered m d s c.plan)) x) e) (group_is before j at ∙ answer_last w v j last ∙ ap (λ h. server_last w j h) is) (omega (arith, at, last, ap heard_last is)) (final Unknown is)
       by_how reply last (Success q) is e =
           as_last m d Server (server_party s) p (version_of c.side ∷ before) (request_of m (session_between m c s a) x) (w.success ∷ []) _
-          (reply ∙ ap (how_reply m c s a) e) (group_is before j at ∙ answer_last w v j last ∙ ap (λ h. server_last w j h) is) (omega (arith, at, last, ap heard_last is)) (final (Success q) is)
+          (reply ∙ ap (how_reply m d c s a (take j (offered m d s c.plan)) x) e) (group_is before j at ∙ answer_last w v j last ∙ ap (λ h. server_last w j h) is) (omega (arith, at, last, ap heard_last is)) (final (Success q) is)
       by_how reply last Limit is e =
           as_last m d Server (server_party s) p (version_of c.side ∷ before) (request_of m (session_between m c s a) x) (w.disconnect 14 ∷ []) _
-          (reply ∙ ap (how_reply m c s a) e) (group_is before j at ∙ answer_last w v j last ∙ ap (λ h. server_last w j h) is) (omega (arith, at, last, ap heard_last is)) (final Limit is)
-      by_how reply last Exhausted is e = absurd (none_exhausts m d s (take j (offered s.methods c.plan)) x e)
+          (reply ∙ ap (how_reply m d c s a (take j (offered m d s c.plan)) x) e) (group_is before j at ∙ answer_last w v j last ∙ ap (λ h. server_last w j h) is) (omega (arith, at, last, ap heard_last is)) (final Limit is)
+      by_how reply last Exhausted is e = absurd (none_exhausts m d s (take j (offered m d s c.plan)) x e)
 
-      at_last : reply_at m d Server (server_party s) (version_of c.side) before (request_of m (session_between m c s a) x) ≡ how_reply m c s a (ends_by m d s (take j (offered s.methods c.plan)) x)
-          → j + 1 ≡ v.requests → (ends_by m d s (take j (offered s.methods c.plan)) x ≡ Some v.how) ⊎ ((ends_by m d s (take j (offered s.methods c.plan)) x ≡ None) × (v.how ≡ Exhausted))
+      at_last : reply_at m d Server (server_party s) (version_of c.side) before (request_of m (session_between m c s a) x) ≡ how_reply m d c s a (take j (offered m d s c.plan)) x (ends_by m d s (take j (offered m d s c.plan)) x)
+          → j + 1 ≡ v.requests → (ends_by m d s (take j (offered m d s c.plan)) x ≡ Some v.how) ⊎ ((ends_by m d s (take j (offered m d s c.plan)) x ≡ None) × (v.how ≡ Exhausted))
           → Q (version_of c.side ∷ before) (request_of m (session_between m c s a) x)
       at_last reply last (inl e) = by_how reply last v.how refl e
       at_last reply last (inr e) =
           as_open m d Server (server_party s) p (version_of c.side ∷ before) (request_of m (session_between m c s a) x) (w.refusal j ∷ [])
-          (reply ∙ ap (how_reply m c s a) e.0) (group_is before j at ∙ answer_last w v j last ∙ ap (λ h. server_last w j h) e.1) (omega (arith, at, last, ap heard_last e.1))
+          (reply ∙ ap (how_reply m d c s a (take j (offered m d s c.plan)) x) e.0 ∙ refused j x get) (group_is before j at ∙ answer_last w v j last ∙ ap (λ h. server_last w j h) e.1) (omega (arith, at, last, ap heard_last e.1))
 
-  pub server_loop : (r j : ℕ) → j + r ≡ v.requests → v.requests ≤ length (offered s.methods c.plan) → (before : Units) → sits before (j + 1) → length before ≡ 4 + length (unanswered guess) + j
+  pub server_loop : (r j : ℕ) → j + r ≡ v.requests → v.requests ≤ length (offered m d s c.plan) → (before : Units) → sits before j → length before ≡ 4 + length (unanswered guess) + j
       → EachPlace Q (version_of c.side ∷ before) (from (client_next w v) j (suc r))
   server_loop zero j sum most before here at =
       let all : j ≡ v.requests = omega (arith, sum) in
       subst (λ (g : Units). EachPlace Q (version_of c.side ∷ before) (g ++ [])) (sym (next_last w v j all)) (ends_here before j all here at v.how refl)
   server_loop (suc r) j sum most before here at =
       let more : j < v.requests = omega (arith, sum) in
-      let x = get_in (offered s.methods c.plan) j (omega (arith, more, most)) in
+      let x = get_in (offered m d s c.plan) j (omega (arith, more, most)) in
       let one : client_next w v j ≡ request_of m (session_between m c s a) x.0 ∷ [] = next_in w v j more ∙ ap (λ (o : Option Attempt). request_or m (session_between m c s a) o ∷ []) x.1 in
-      let next : sits (before ++ request_of m (session_between m c s a) x.0 ∷ []) (suc j + 1) =
-      subst (λ (n : ℕ). sits (before ++ request_of m (session_between m c s a) x.0 ∷ []) n) (let e : j + 1 + 1 ≡ suc j + 1 = omega arith in e) (server_asked_for m d c s understood sound offers a chosen readable before (j + 1) j x.0 x.1 here).1 in
+      let made_is : length (take j (offered m d s c.plan)) ≡ j = take_length (offered m d s c.plan) j (omega (arith, more, most)) in
+      let next : sits (before ++ request_of m (session_between m c s a) x.0 ∷ []) (suc j) =
+      subst (λ (n : ℕ). sits (before ++ request_of m (session_between m c s a) x.0 ∷ []) n) (let e : j + 1 ≡ suc j = omega arith in e)
+      (subst (λ (g : Reached). Sits m d Server (server_party s) (version_of c.side) (before ++ request_of m (session_between m c s a) x.0 ∷ []) phase.Auth false
+      (server_view m d c s understood sound offers a chosen readable (session_between m c s a) (j + 1 + 1) g)) (reached_next j x.0 x.1 made_is)
+      (server_asked_for m d c s understood sound offers a chosen readable before (j + 1) j (reached j) x.0 x.1 here).1) in
       subst (λ (g : Units). EachPlace Q (version_of c.side ∷ before) (g ++ from (client_next w v) (suc j) (suc r))) (sym one) (
         answers_here before j x.0 here at x.1 more most,
         server_loop r (suc j) (omega (arith, sum)) most (before ++ request_of m (session_between m c s a) x.0 ∷ []) next (omega (arith, at, length-append before (request_of m (session_between m c s a) x.0 ∷ []))),

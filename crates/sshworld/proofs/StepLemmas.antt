@@ -27,7 +27,10 @@ use Rattle.sshcore.specs.Exchange.{exchange_with}
 use Rattle.sshcore.specs.Known.{Known}
 use Rattle.sshcore.specs.Party.{Party, Policy}
 use Rattle.sshcore.specs.Phases.{behind, leaving, past_exchange}
-use Rattle.sshcore.specs.Plan.{left_behind, listed_by, listed_in, next_behind}
+use Rattle.sshcore.specs.ConfigData.{Attempt}
+use Rattle.sshcore.specs.Plan.{confirmed, is_answer, is_waiting, listed_by, listed_in, next_behind}
+use Rattle.sshcore.specs.Reached.{reached_after}
+use Rattle.sshcore.specs.Tries.{tried_by, tried_in}
 use Rattle.sshcore.specs.Replies.{line_reply, read_reply, reply_at}
 use Rattle.sshcore.specs.Standing.{LeavesNone, Sits, behind_offer, behind_payload, nothing_known}
 use Rattle.sshcore.specs.Table.{line_by}
@@ -65,77 +68,92 @@ pub below : Below
 below = record { numbers = kind_tells; alike = reads_alike; right = λ client server. (right_sound client server, right_complete client server) }
 
 -- what a message changes that is neither dropped nor the first KEXINIT nor the exchange message
-abbrev pub behind_content : Known → Content → Known
-behind_content x content = record x {
+abbrev pub left_by : List Attempt → Content → List Attempt
+left_by left content = if number_of content == 60 then confirmed left else next_behind (listed_by (Ok content)) left
+
+abbrev pub behind_content : Meaning → Policy → Party → Known → Content → Known
+behind_content m d party x content = record x {
   request = if number_of content == 50 then x.request + 1 else x.request;
-  left = if number_of content == 51 then next_behind (listed_by (Ok content)) x.left else x.left;
+  left = if is_answer (number_of content) then left_by x.left content else x.left;
+  reached = if number_of content == 50 then reached_after x.reached (tried_by m d party x.session x.request (Ok content)) else x.reached;
   first = false;
 }
 
-behind_read : (x : Known) (payload : List ℕ) (content : Content) → message_in Mpint payload ≡ Ok content → behind_payload x payload ≡ behind_content x content
-unfolding listed_in
-behind_read x payload content e =
-    ap (λ (n : ℕ). record x { request = if n == 50 then x.request + 1 else x.request; left = if n == 51 then left_behind x.left payload else x.left; first = false }) (kind_tells Mpint payload content e)
-    ∙ ap (λ r. record x { request = if number_of content == 50 then x.request + 1 else x.request; left = if number_of content == 51 then next_behind (listed_by r) x.left else x.left; first = false }) e
+behind_read : (m : Meaning) (d : Policy) (party : Party) (x : Known) (payload : List ℕ) (content : Content) → message_in Mpint payload ≡ Ok content
+    → behind_payload m d party x payload ≡ behind_content m d party x content
+unfolding listed_in tried_in
+behind_read m d party x payload content e =
+    ap (λ (n : ℕ). record x {
+      request = if n == 50 then x.request + 1 else x.request;
+      left = if is_answer n then (if n == 60 then confirmed x.left else next_behind (listed_in payload) x.left) else x.left;
+      reached = if n == 50 then reached_after x.reached (tried_in m d party x.session x.request payload) else x.reached;
+      first = false;
+    }) (kind_tells Mpint payload content e)
+    ∙ ap (λ r. record x {
+      request = if number_of content == 50 then x.request + 1 else x.request;
+      left = if is_answer (number_of content) then (if number_of content == 60 then confirmed x.left else next_behind (listed_by r) x.left) else x.left;
+      reached = if number_of content == 50 then reached_after x.reached (tried_by m d party x.session x.request r) else x.reached;
+      first = false;
+    }) e
 
-first_line : (role : Role) (b : Bool) → line_by role phase.KexInit b false 20 ≡ line.Reads
+first_line : (role : Role) (b waits : Bool) → line_by role phase.KexInit b false waits 20 ≡ line.Reads
 unfolding line_by
-first_line role b = refl
+first_line role b waits = refl
 
 module _ (m : Meaning) (d : Policy) (role : Role) (party : Party) (version : List ℕ) where
   -- a message that has a place is worked on
-  pub reads : (before : Units) (payload : List ℕ) (p : Phase) (guess : Bool) (x : Known) (content : Content) → Sits m role party version before p guess x
-      → message_in x.shares payload ≡ Ok content → line_by role p x.strict guess (number_of content) ≡ line.Reads
+  pub reads : (before : Units) (payload : List ℕ) (p : Phase) (guess : Bool) (x : Known) (content : Content) → Sits m d role party version before p guess x
+      → message_in x.shares payload ≡ Ok content → line_by role p x.strict guess (is_waiting x.left) (number_of content) ≡ line.Reads
       → reply_at m d role party version before payload ≡ work m d role party x content
   unfolding line_reply
   reads before payload p guess x content s e is =
-      standing.replies m role party version before payload d p guess x s
-      ∙ ap (λ (n : ℕ). line_reply m d role party x (number_in role party before) (line_by role p x.strict guess n) payload) (kind_tells x.shares payload content e)
+      standing.replies m d role party version before payload p guess x s
+      ∙ ap (λ (n : ℕ). line_reply m d role party x (number_in role party before) (line_by role p x.strict guess (is_waiting x.left) n) payload) (kind_tells x.shares payload content e)
       ∙ ap (λ (l : Line). line_reply m d role party x (number_in role party before) l payload) is
       ∙ ap (λ r. read_reply m d role party x (kind payload) r) e
 
-  pub drops : (before : Units) (payload : List ℕ) (p : Phase) (guess : Bool) (x : Known) → Sits m role party version before p guess x
-      → line_by role p x.strict guess (kind payload) ≡ line.Drops → reply_at m d role party version before payload ≡ goes []
+  pub drops : (before : Units) (payload : List ℕ) (p : Phase) (guess : Bool) (x : Known) → Sits m d role party version before p guess x
+      → line_by role p x.strict guess (is_waiting x.left) (kind payload) ≡ line.Drops → reply_at m d role party version before payload ≡ goes []
   unfolding line_reply
   drops before payload p guess x s is =
-      standing.replies m role party version before payload d p guess x s
+      standing.replies m d role party version before payload p guess x s
       ∙ ap (λ (l : Line). line_reply m d role party x (number_in role party before) l payload) is
 
   -- the peer's KEXINIT, the first payload
   pub begins : (payload : List ℕ) (peer : Offer) → message_in Mpint payload ≡ Ok (KexInit peer)
-      → Sits m role party version (payload ∷ []) phase.Exchange (wrong_guess role party.offer (Some peer)) (behind_offer m role party (nothing_known party version) payload peer)
-  begins payload peer e = standing.offers m role party version [] payload below peer (nothing_known party version) (standing.begins m role party version) (ap offer_by e)
+      → Sits m d role party version (payload ∷ []) phase.Exchange (wrong_guess role party.offer (Some peer)) (behind_offer m role party (nothing_known party version) payload peer)
+  begins payload peer e = standing.offers m d role party version [] payload below peer (nothing_known party version) (standing.begins m d role party version) (ap offer_by e)
 
   pub replies_first : (payload : List ℕ) (peer : Offer) → message_in Mpint payload ≡ Ok (KexInit peer)
       → reply_at m d role party version [] payload ≡ chosen_reply m role party peer (choice m (client_of role party.offer peer) (server_of role party.offer peer))
   unfolding work kexinit_reply
   replies_first payload peer e =
-      reads [] payload phase.KexInit false (nothing_known party version) (KexInit peer) (standing.begins m role party version) e (first_line role false)
+      reads [] payload phase.KexInit false (nothing_known party version) (KexInit peer) (standing.begins m d role party version) e (first_line role false (is_waiting party.plan))
       ∙ ap (λ (b : Bool). if b then fails (fault.Strict 20) else chosen_reply m role party peer (choice m (client_of role party.offer peer) (server_of role party.offer peer))) (and_right (strict_towards role party.strict (Some peer)) false refl)
 
   -- the packet of a wrong guess changes nothing but that none is due any more
-  pub goes_dropped : (before : Units) (payload : List ℕ) (p : Phase) (x : Known) → Sits m role party version before p true x → (kind payload == 1) ≡ false
-      → Sits m role party version (before ++ payload ∷ []) p false (record x { first = false })
-  goes_dropped before payload p x s one = standing.drops m role party version before payload p x s one
+  pub goes_dropped : (before : Units) (payload : List ℕ) (p : Phase) (x : Known) → Sits m d role party version before p true x → (kind payload == 1) ≡ false
+      → Sits m d role party version (before ++ payload ∷ []) p false (record x { first = false })
+  goes_dropped before payload p x s one = standing.drops m d role party version before payload p x s one
 
   -- a message behind the exchange
-  pub goes_leaving : (before : Units) (payload : List ℕ) (p : Phase) (x : Known) (content : Content) → Sits m role party version before p false x → past_exchange p ≡ true
-      → message_in Mpint payload ≡ Ok content → number_of content ≡ leaving role p → Sits m role party version (before ++ payload ∷ []) (behind p) false (behind_content x content)
+  pub goes_leaving : (before : Units) (payload : List ℕ) (p : Phase) (x : Known) (content : Content) → Sits m d role party version before p false x → past_exchange p ≡ true
+      → message_in Mpint payload ≡ Ok content → number_of content ≡ leaving role p → Sits m d role party version (before ++ payload ∷ []) (behind p) false (behind_content m d party x content)
   goes_leaving before payload p x content s past e n =
-      subst (λ (k : Known). Sits m role party version (before ++ payload ∷ []) (behind p) false k) (behind_read x payload content e)
-      (standing.leaves m role party version before payload p x s past (kind_tells Mpint payload content e ∙ n))
+      subst (λ (k : Known). Sits m d role party version (before ++ payload ∷ []) (behind p) false k) (behind_read m d party x payload content e)
+      (standing.leaves m d role party version before payload p x s past (kind_tells Mpint payload content e ∙ n))
 
-  pub goes_staying : (before : Units) (payload : List ℕ) (p : Phase) (x : Known) (content : Content) → Sits m role party version before p false x
-      → message_in Mpint payload ≡ Ok content → LeavesNone role (number_of content) → Sits m role party version (before ++ payload ∷ []) p false (behind_content x content)
+  pub goes_staying : (before : Units) (payload : List ℕ) (p : Phase) (x : Known) (content : Content) → Sits m d role party version before p false x
+      → message_in Mpint payload ≡ Ok content → LeavesNone role (number_of content) → Sits m d role party version (before ++ payload ∷ []) p false (behind_content m d party x content)
   goes_staying before payload p x content s e l =
-      subst (λ (k : Known). Sits m role party version (before ++ payload ∷ []) p false k) (behind_read x payload content e)
-      (standing.stays m role party version before payload p x s (subst (λ (n : ℕ). LeavesNone role n) (sym (kind_tells Mpint payload content e)) l))
+      subst (λ (k : Known). Sits m d role party version (before ++ payload ∷ []) p false k) (behind_read m d party x payload content e)
+      (standing.stays m d role party version before payload p x s (subst (λ (n : ℕ). LeavesNone role n) (sym (kind_tells Mpint payload content e)) l))
 
   -- the exchange message gives the session
-  pub goes_exchanged : (before : Units) (payload : List ℕ) (x : Known) (content : Content) → Sits m role party version before phase.Exchange false x → message_in x.shares payload ≡ Ok content
+  pub goes_exchanged : (before : Units) (payload : List ℕ) (x : Known) (content : Content) → Sits m d role party version before phase.Exchange false x → message_in x.shares payload ≡ Ok content
       → number_of content ≡ leaving role phase.Exchange
-      → Sits m role party version (before ++ payload ∷ []) phase.NewKeys false
+      → Sits m d role party version (before ++ payload ∷ []) phase.NewKeys false
       (record x { session = exchange_hash m x.algorithms.kex (exchange_with m role party x.algorithms x.version x.kexinit (Ok content)) })
   goes_exchanged before payload x content s e n =
-      subst (λ (r : _). Sits m role party version (before ++ payload ∷ []) phase.NewKeys false (record x { session = exchange_hash m x.algorithms.kex (exchange_with m role party x.algorithms x.version x.kexinit r) }))
-      e (standing.exchanges m role party version before payload x s (kind_tells x.shares payload content e ∙ n))
+      subst (λ (r : _). Sits m d role party version (before ++ payload ∷ []) phase.NewKeys false (record x { session = exchange_hash m x.algorithms.kex (exchange_with m role party x.algorithms x.version x.kexinit r) }))
+      e (standing.exchanges m d role party version before payload x s (kind_tells x.shares payload content e ∙ n))

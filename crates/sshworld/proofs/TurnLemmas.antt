@@ -10,6 +10,7 @@ use Rattle.sshcore.specs.declared.end.Fault.TheVariants as fault
 use Rattle.sshcore.specs.ConfigData.{ClientData, ServerData}
 use Rattle.sshcore.specs.Ending.{Authenticated, Closed, Ending, Failed, Open}
 use Rattle.sshcore.specs.Party.{Policy, client_party, server_party}
+use Rattle.sshworld.specs.Offered.{most_requests}
 use Rattle.sshworld.specs.CourseHeard.{BothHear, client_partner, server_partner}
 use Rattle.sshworld.specs.Follows.{part_of_client, part_of_server}
 use Rattle.sshworld.specs.Guesses.{guess_of}
@@ -104,7 +105,7 @@ module _ (laws : Laws) (m : Meaning) (d : Policy) (lawful : IsLawful m) (c : Cli
       omega (arith, less, most)
 
   -- so few rounds are enough
-  pub settled : (of_client of_server : Half) (r : ℕ) → On of_client of_server → of_client.end ≢ Failed fault.Memory → of_server.end ≢ Failed fault.Memory → length c.plan + 4 ≤ r
+  pub settled : (of_client of_server : Half) (r : ℕ) → On of_client of_server → of_client.end ≢ Failed fault.Memory → of_server.end ≢ Failed fault.Memory → most_requests c.plan + 4 ≤ r
       → HaveHeard m d c s w (after_rounds (part_of_client m d c s w) (part_of_server m d c s w) r) of_client of_server → (waiting of_client of_server ≡ 0) × (waiting of_server of_client ≡ 0)
   settled of_client of_server r on had other_had few counts =
       let course = of_outcome m d c s w in

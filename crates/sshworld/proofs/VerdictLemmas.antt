@@ -45,9 +45,9 @@ module _ {R : Type 0} (ends : List R → R → Option How) where
       ∙ sym (ap (λ q. verdict_behind ends [] q) (sym (append-nil requests)) ∙ passes [] requests [] e.none)
 
 -- of what a client offers to a server
-pub offered_verdict : (m : Meaning) (d : Policy) (c : ClientData) (s : ServerData) (v : Verdict) → IsVerdict (ends_by m d s) (offered s.methods c.plan) v ↔ (v ≡ verdict m d c s)
+pub offered_verdict : (m : Meaning) (d : Policy) (c : ClientData) (s : ServerData) (v : Verdict) → IsVerdict (ends_by m d s) (offered m d s c.plan) v ↔ (v ≡ verdict m d c s)
 unfolding verdict
 offered_verdict m d c s v = (
-  only (ends_by m d s) (offered s.methods c.plan) v,
-  λ e. subst (λ (w : Verdict). IsVerdict (ends_by m d s) (offered s.methods c.plan) w) (sym e) (is_verdict (ends_by m d s) (offered s.methods c.plan)),
+  only (ends_by m d s) (offered m d s c.plan) v,
+  λ e. subst (λ (w : Verdict). IsVerdict (ends_by m d s) (offered m d s c.plan) w) (sym e) (is_verdict (ends_by m d s) (offered m d s c.plan)),
 )

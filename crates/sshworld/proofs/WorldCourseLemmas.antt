@@ -9,6 +9,7 @@ use Rattle.sshcore.specs.ConfigRules.{IsClient, IsServer}
 use Rattle.sshcore.specs.Ending.{Authenticated, Closed, Ending, Failed, Open}
 use Rattle.sshcore.specs.Endpoints.{Made, ending_of}
 use Rattle.sshcore.specs.Party.{Policy, client_party, server_party}
+use Rattle.sshworld.specs.Offered.{most_requests}
 use Rattle.sshworld.specs.declared.node.Node.{Node}
 use Rattle.sshworld.specs.declared.side.Side.{Side}
 use Rattle.sshworld.specs.declared.side.Side.TheVariants.{Client, Server}
@@ -106,19 +107,19 @@ module _ {S D : Type 0} (meaning : S → Meaning) (policy : D → Policy) (laws 
     pub keeps_course : KeepsCourse meaning policy w
     keeps_course u had =
         let hear = understands u in
-        course_heard laws (meaning w.suite) (policy w.decisions) lawful w.client_config w.server_config (wording_of (meaning w.suite) w.client_config w.server_config) hear w.client w.server (on hear) had.client_had had.server_had
+        course_heard laws (meaning w.suite) (policy w.decisions) lawful w.client_config w.server_config (wording_of (meaning w.suite) (policy w.decisions) w.client_config w.server_config) hear w.client w.server (on hear) had.client_had had.server_had
 
     pub keeps_headline : KeepsHeadline meaning policy w
     keeps_headline u had =
         let hear = understands u in
-        headline_of laws (meaning w.suite) (policy w.decisions) lawful w.client_config w.server_config (wording_of (meaning w.suite) w.client_config w.server_config) hear w.client w.server (on hear) had.client_had had.server_had
+        headline_of laws (meaning w.suite) (policy w.decisions) lawful w.client_config w.server_config (wording_of (meaning w.suite) (policy w.decisions) w.client_config w.server_config) hear w.client w.server (on hear) had.client_had had.server_had
         (Complete w) (λ k. (k.for_client, k.for_server))
 
     -- few rounds are enough
-    pub settles : HearsAll meaning policy w → HadMemory w → (r : ℕ) → length w.client_config.plan + 4 ≤ r
+    pub settles : HearsAll meaning policy w → HadMemory w → (r : ℕ) → most_requests w.client_config.plan + 4 ≤ r
         → HaveHeardIn meaning policy w (after_rounds (part_of_client_in meaning policy w) (part_of_server_in meaning policy w) r) → Complete w
     settles hear had r few counts =
-        let both = settled laws (meaning w.suite) (policy w.decisions) lawful w.client_config w.server_config (wording_of (meaning w.suite) w.client_config w.server_config) hear w.client w.server r (on hear) had.client_had had.server_had few counts in
+        let both = settled laws (meaning w.suite) (policy w.decisions) lawful w.client_config w.server_config (wording_of (meaning w.suite) (policy w.decisions) w.client_config w.server_config) hear w.client w.server r (on hear) had.client_had had.server_had few counts in
         record { for_client = both.0; for_server = both.1 }
 
   -- one turn, between worlds of one setup
@@ -158,7 +159,7 @@ module _ {S D : Type 0} (meaning : S → Meaning) (policy : D → Policy) (laws 
 -- what two accepted configs of which the ends understand each other give
 abbrev pub HearLaw : Type 0
 HearLaw = (m : Meaning) (d : Policy) (client : ClientData) (server : ServerData) → IsLawful m → AreUnderstood m d client server → IsClient client → IsServer server
-    → BothHear m d client server (wording_of m client server)
+    → BothHear m d client server (wording_of m d client server)
 
 module _ {S D : Type 0} (meaning : S → Meaning) (policy : D → Policy) (client_config : ClientData) (server_config : ServerData) (suite : S) (decisions : D) where
   -- a world of the node of this side, and the other one

@@ -1,3 +1,4 @@
+pub mod Judging
 pub mod Offered
 pub mod Verdicts
 pub mod VerdictLaw

@@ -1,25 +1,43 @@
--- Which requests a client offers to a server, to be authenticated: RFC 4252 sections 5 and 5.1.
+-- Which requests a client offers to a server, to be authenticated: RFC 4252 sections 5, 5.1 and 7. A request is an attempt of the
+-- plan, or its query, which is an attempt that asks.
 
-use Rattle.std.specs.Prelude.{ℕ, Bool, true, if◌then◌else◌, List, [], ◌∷◌, ◌++◌}
+use Rattle.std.specs.Prelude.{ℕ, ◌+◌, ◌&&◌, Bool, true, if◌then◌else◌, List, [], ◌∷◌, ◌++◌, length}
 use Rattle.sshneg.specs.ChoiceReadings.{is_in}
-use Rattle.sshcore.specs.ConfigData.{Attempt}
-use Rattle.sshcore.specs.Plan.{proving_name}
+use Rattle.sshpacket.specs.Suite.{Meaning}
+use Rattle.sshcore.specs.ConfigData.{Attempt, ServerData}
+use Rattle.sshcore.specs.Party.{Policy}
+use Rattle.sshcore.specs.Plan.{asks, behind_query, proving_name}
+use Rattle.sshworld.specs.Judging.{is_proved}
 
--- An attempt of the plan is made, behind those that were made before: the first one whatever its method, and each later one
+-- An attempt of the plan is made, behind the requests that were made before: the first one whatever its method, and each later one
 -- whose method the server lists in its FAILURE (RFC 4252 section 5.1).
 abbrev pub is_made : List (List ℕ) → List Attempt → Attempt → Bool
 is_made methods [] attempt = true
 is_made methods (first ∷ before) attempt = is_in methods (proving_name attempt.proving)
 
--- The attempts of what is left of a plan that are made, behind those that were made before, for as long as the server refuses
--- them. One that is skipped isn't made later (profile).
-abbrev pub offered_behind : List (List ℕ) → List Attempt → List Attempt → List Attempt
-offered_behind methods made [] = []
-offered_behind methods made (attempt ∷ later) =
-    if is_made methods made attempt then attempt ∷ offered_behind methods (made ++ attempt ∷ []) later
-    else offered_behind methods made later
+-- The server answers a query behind the requests made by PK_OK (RFC 4252 section 7).
+abbrev pub is_confirmed : Meaning → Policy → ServerData → List Attempt → Attempt → Bool
+is_confirmed m d server made attempt = asks attempt.proving && is_proved m d server (length made + 1) attempt
 
--- The requests that a client with this plan offers to a server with these methods: one for each attempt that is made, in the
--- order of the plan.
-abbrev pub offered : List (List ℕ) → List Attempt → List Attempt
-offered methods plan = offered_behind methods [] plan
+-- The requests of an attempt that is made: itself; or where it asks, its query, and itself behind a PK_OK.
+abbrev pub requests_for : Meaning → Policy → ServerData → List Attempt → Attempt → List Attempt
+requests_for m d server made attempt =
+    if is_confirmed m d server made attempt then attempt ∷ behind_query attempt ∷ [] else attempt ∷ []
+
+-- The requests of what is left of a plan, behind those that were made before, for as long as the server refuses them. An attempt
+-- that is skipped isn't made later (profile).
+abbrev pub offered_behind : Meaning → Policy → ServerData → List Attempt → List Attempt → List Attempt
+offered_behind m d server made [] = []
+offered_behind m d server made (attempt ∷ later) =
+    if is_made server.methods made attempt
+    then requests_for m d server made attempt ++ offered_behind m d server (made ++ requests_for m d server made attempt) later
+    else offered_behind m d server made later
+
+-- The requests that a client with this plan offers to a server, in the order of the plan.
+abbrev pub offered : Meaning → Policy → ServerData → List Attempt → List Attempt
+offered m d server plan = offered_behind m d server [] plan
+
+-- how many there are at the most: two for each attempt that asks, and one for each other
+abbrev pub most_requests : List Attempt → ℕ
+most_requests [] = 0
+most_requests (attempt ∷ later) = if asks attempt.proving then 2 + most_requests later else 1 + most_requests later

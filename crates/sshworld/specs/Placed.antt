@@ -27,11 +27,11 @@ pub record IsInPlace (role : Role) (own : Party) (before : Units) (payload : Lis
 -- All payloads that each side says in the course of two configs.
 abbrev pub said_by_client : Meaning → Policy → ClientData → ServerData → Units
 said_by_client m d client server =
-    said_after (part_of_client m d client server (wording_of m client server)) (part_of_client m d client server (wording_of m client server)).hears
+    said_after (part_of_client m d client server (wording_of m d client server)) (part_of_client m d client server (wording_of m d client server)).hears
 
 abbrev pub said_by_server : Meaning → Policy → ClientData → ServerData → Units
 said_by_server m d client server =
-    said_after (part_of_server m d client server (wording_of m client server)) (part_of_server m d client server (wording_of m client server)).hears
+    said_after (part_of_server m d client server (wording_of m d client server)) (part_of_server m d client server (wording_of m d client server)).hears
 
 -- All that either side says is in its place where the other hears it.
 pub record BothInPlace (m : Meaning) (d : Policy) (client : ClientData) (server : ServerData) : Type 0 where

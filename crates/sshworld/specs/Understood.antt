@@ -14,7 +14,7 @@ use Rattle.sshworld.specs.Agreement.{host_key_of_server}
 abbrev pub CanSign : Meaning → Proving → Type 0
 CanSign m ByNothing = Unit {0}
 CanSign m (ByPassword password) = Unit {0}
-CanSign m (ByKey algorithm secret) = Signs m algorithm secret
+CanSign m (ByKey algorithm secret ask) = Signs m algorithm secret
 
 -- The chosen method comes to one shared number of both random values; the server's host key signs, if the client trusts it; and
 -- so does each key of the client's plan.

@@ -1,31 +1,33 @@
--- How a server judges the requests that a client offers, and which of them ends authentication: RFC 4252 section 5.
+-- Which request that a client offers to a server ends authentication, and how: RFC 4252 sections 5 and 5.1.
 
-use Rattle.std.specs.Prelude.{ℕ, ◌+◌, ◌&&◌, ◌==◌, Bool, true, not, if◌then◌else◌, List, [], ◌∷◌, ◌++◌, length, Option, None, Some}
+use Rattle.std.specs.Prelude.{ℕ, ◌+◌, ◌&&◌, ◌==◌, Bool, not, if◌then◌else◌, List, [], ◌∷◌, ◌++◌, length, Option, None, Some}
 use Rattle.sshneg.specs.ChoiceReadings.{is_in}
+use Rattle.sshpacket.specs.Places.{flat_places}
 use Rattle.sshpacket.specs.Suite.{Meaning}
-use Rattle.sshcore.specs.ConfigData.{Attempt, ByKey, ByNothing, ByPassword, ClientData, Proving, ServerData}
-use Rattle.sshcore.specs.Party.{KeyProof, NoProof, PasswordProof, Policy, ProofData}
+use Rattle.sshcore.specs.ConfigData.{Attempt, ClientData, ServerData}
+use Rattle.sshcore.specs.Party.{Policy}
 use Rattle.sshcore.specs.Plan.{proving_name}
+use Rattle.sshcore.specs.Reached.{Tried, are_reached}
+use Rattle.sshworld.specs.Judging.{is_good}
 use Rattle.sshworld.specs.Offered.{offered}
 
--- What an attempt proves of its user: nothing, a password, or a key, of which the server sees the public half (RFC 4252
--- sections 5.2, 8 and 7).
-abbrev pub proved_by : Meaning → Proving → ProofData
-proved_by m ByNothing = NoProof
-proved_by m (ByPassword password) = PasswordProof password
-proved_by m (ByKey algorithm secret) = KeyProof algorithm (m.blob algorithm secret)
+-- What a request behind those made came to: for whom and for which service it was, and the method for which it was good, if it was.
+abbrev pub tried_by : Meaning → Policy → ServerData → List Attempt → Attempt → Tried
+tried_by m d server made attempt = record {
+  user = attempt.user;
+  service = attempt.service;
+  good = if is_good m d server (length made + 1) attempt then Some (proving_name attempt.proving) else None;
+}
 
--- The method may be used: `none` always (RFC 4252 section 5.2), `password` and `publickey` where the server has them.
-abbrev pub is_usable : List (List ℕ) → Proving → Bool
-is_usable methods ByNothing = true
-is_usable methods (ByPassword password) = is_in methods (proving_name (ByPassword password))
-is_usable methods (ByKey algorithm secret) = is_in methods (proving_name (ByKey algorithm secret))
+-- what each of these came to
+abbrev pub tried_of : Meaning → Policy → ServerData → List Attempt → List Tried
+tried_of m d server requests = flat_places (λ made attempt. tried_by m d server made attempt ∷ []) [] requests
 
--- Request number j, counted from 1, lets the user in: its method may be used, and the server decides that what is proved lets this user
--- in to this service.
-abbrev pub is_let_in : Meaning → Policy → ServerData → ℕ → Attempt → Bool
-is_let_in m d server j attempt =
-    is_usable server.methods attempt.proving && d.user j attempt.user attempt.service (proved_by m attempt.proving)
+-- A request behind those made lets the user in: it is good; and for all required methods requests were good in the unbroken run of
+-- requests for its user and its service that it ends.
+abbrev pub is_let_in : Meaning → Policy → ServerData → List Attempt → Attempt → Bool
+is_let_in m d server made attempt =
+    is_good m d server (length made + 1) attempt && are_reached server.required attempt.user attempt.service (tried_of m d server (made ++ attempt ∷ []))
 
 -- How requests of authentication end: at one for a service that the server doesn't have; at one that lets the user in; at the
 -- last that the server grants; or at none of them, and the client has no more to offer.
@@ -40,7 +42,7 @@ pub data How : Type 0 where
 abbrev pub ends_by : Meaning → Policy → ServerData → List Attempt → Attempt → Option How
 ends_by m d server made attempt =
     if not (is_in server.services attempt.service) then Some Unknown
-    else if is_let_in m d server (length made + 1) attempt then Some (Success attempt)
+    else if is_let_in m d server made attempt then Some (Success attempt)
     else if length made + 1 == server.tries then Some Limit
     else None
 
@@ -64,4 +66,4 @@ module _ {R : Type 0} where
 
 -- The verdict on what a client offers to a server.
 unfoldable pub verdict : Meaning → Policy → ClientData → ServerData → Verdict
-verdict m d client server = verdict_behind (ends_by m d server) [] (offered server.methods client.plan)
+verdict m d client server = verdict_behind (ends_by m d server) [] (offered m d server client.plan)

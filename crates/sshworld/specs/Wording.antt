@@ -5,7 +5,7 @@ use Rattle.sshpacket.specs.Stream.{Units}
 
 -- The payloads that a client and a server send each other, by what they are for: both KEXINITs; the KEXDH_INIT of a guess and
 -- that of the chosen method; KEXDH_REPLY, NEWKEYS, SERVICE_REQUEST and SERVICE_ACCEPT; the BANNER, if there is one; the
--- requests of authentication and the FAILUREs that answer them, by how many requests were made before; SUCCESS; and the
+-- requests of authentication and the FAILUREs and PK_OKs that answer them, by how many requests were made before; SUCCESS; and the
 -- DISCONNECTs, by their reason.
 pub record Wording : Type 0 where
   pub client_offer : List ℕ

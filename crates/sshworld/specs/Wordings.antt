@@ -1,18 +1,19 @@
 -- The payloads that two configs send each other in their course.
 
-use Rattle.std.specs.Prelude.{ℕ, false, List, [], Option, None, Some, Result, Ok, Err, slice_get}
-use Rattle.sshmsg.specs.Content.{Disconnect, KexInit, NewKeys, ServiceAccept, ServiceRequest, UserauthFailure, UserauthSuccess}
+use Rattle.std.specs.Prelude.{ℕ, ◌+◌, Bool, true, false, if◌then◌else◌, List, [], length, take, Option, None, Some, Result, Ok, Err, slice_get}
+use Rattle.sshmsg.specs.Content.{Content, Disconnect, KexInit, NewKeys, ServiceAccept, ServiceRequest, UserauthFailure, UserauthPkOk, UserauthSuccess}
 use Rattle.sshmsg.specs.Written.{written_message}
 use Rattle.sshneg.specs.declared.choice.NoCommon.{NoCommon}
 use Rattle.sshneg.specs.ChoiceReadings.{choice}
 use Rattle.sshneg.specs.Fields.{Algorithms}
 use Rattle.sshpacket.specs.Suite.{Meaning}
 use Rattle.sshcore.specs.Attempts.{request_of}
-use Rattle.sshcore.specs.ConfigData.{Attempt, ClientData, ServerData, client_offer, server_offer}
+use Rattle.sshcore.specs.ConfigData.{Attempt, ByKey, ByNothing, ByPassword, ClientData, Proving, ServerData, client_offer, server_offer}
 use Rattle.sshcore.specs.Exchange.{chosen_or, secret_of}
-use Rattle.sshcore.specs.Party.{client_party}
+use Rattle.sshcore.specs.Party.{Policy, client_party}
 use Rattle.sshcore.specs.Work.{banner_by, guessed_method, init_for, reply_in, userauth}
 use Rattle.sshworld.specs.Agreement.{answer_of_server, host_key_of_server, session_between}
+use Rattle.sshworld.specs.Judging.{is_proved}
 use Rattle.sshworld.specs.Offered.{offered}
 use Rattle.sshworld.specs.Wording.{Wording}
 
@@ -38,9 +39,25 @@ abbrev pub request_or : Meaning → List ℕ → Option Attempt → List ℕ
 request_or m session (Some attempt) = request_of m session attempt
 request_or m session None = []
 
+-- What answers a request that ends nothing, by whether its method may be used and the decision on it is yes: PK_OK to a query whose
+-- key would do (RFC 4252 section 7), else FAILURE, which tells partial success where the request is good (section 5.1).
+abbrev pub answer_by : Meaning → List (List ℕ) → Bool → Proving → Content
+answer_by m methods proved ByNothing = UserauthFailure methods proved
+answer_by m methods proved (ByPassword password) = UserauthFailure methods proved
+answer_by m methods proved (ByKey algorithm secret false) = UserauthFailure methods proved
+answer_by m methods proved (ByKey algorithm secret true) =
+    if proved then UserauthPkOk algorithm (m.blob algorithm secret) else UserauthFailure methods false
+
+abbrev pub answer_to : Meaning → Policy → ServerData → List Attempt → Attempt → Content
+answer_to m d server made attempt = answer_by m server.methods (is_proved m d server (length made + 1) attempt) attempt.proving
+
+abbrev pub answer_or : Meaning → Policy → ServerData → List Attempt → Option Attempt → List ℕ
+answer_or m d server made (Some attempt) = written_message (answer_to m d server made attempt)
+answer_or m d server made None = []
+
 -- The payloads of a course with these algorithms, in which the client makes its share for this method.
-abbrev pub wording_with : Meaning → ClientData → ServerData → List ℕ → Algorithms → Wording
-wording_with m client server kex algorithms = record {
+abbrev pub wording_with : Meaning → Policy → ClientData → ServerData → List ℕ → Algorithms → Wording
+wording_with m d client server kex algorithms = record {
   client_offer = written_message (KexInit (client_offer client));
   server_offer = written_message (KexInit (server_offer server));
   guess = init_for m (client_party client) (guessed_method (client_party client));
@@ -50,16 +67,16 @@ wording_with m client server kex algorithms = record {
   service_request = written_message (ServiceRequest userauth);
   service_accept = written_message (ServiceAccept userauth);
   banner = banner_by server.banner;
-  request = λ i. request_or m (session_between m client server algorithms) (slice_get (offered server.methods client.plan) i);
-  refusal = λ i. written_message (UserauthFailure server.methods false);
+  request = λ i. request_or m (session_between m client server algorithms) (slice_get (offered m d server client.plan) i);
+  refusal = λ i. answer_or m d server (take i (offered m d server client.plan)) (slice_get (offered m d server client.plan) i);
   success = written_message UserauthSuccess;
   disconnect = λ reason. written_message (Disconnect reason [] []);
 }
 
 -- The payloads of a course with this choice of algorithms.
-abbrev pub wording_by : Meaning → ClientData → ServerData → Result Algorithms NoCommon → Wording
-wording_by m client server r = wording_with m client server (method_used client r) (chosen_or r)
+abbrev pub wording_by : Meaning → Policy → ClientData → ServerData → Result Algorithms NoCommon → Wording
+wording_by m d client server r = wording_with m d client server (method_used client r) (chosen_or r)
 
 -- The payloads of the course of two configs.
-abbrev pub wording_of : Meaning → ClientData → ServerData → Wording
-wording_of m client server = wording_by m client server (choice m (client_offer client) (server_offer server))
+abbrev pub wording_of : Meaning → Policy → ClientData → ServerData → Wording
+wording_of m d client server = wording_by m d client server (choice m (client_offer client) (server_offer server))

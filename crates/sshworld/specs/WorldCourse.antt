@@ -17,13 +17,13 @@ use Rattle.sshworld.specs.Worlds.{Complete, HadMemory, WorldData}
 module _ {S D : Type 0} (meaning : S → Meaning) (policy : D → Policy) (w : WorldData S D) where
   -- both sides hear all that the other says in the course of the world's configs
   abbrev pub HearsAll : Type 0
-  HearsAll = BothHear (meaning w.suite) (policy w.decisions) w.client_config w.server_config (wording_of (meaning w.suite) w.client_config w.server_config)
+  HearsAll = BothHear (meaning w.suite) (policy w.decisions) w.client_config w.server_config (wording_of (meaning w.suite) (policy w.decisions) w.client_config w.server_config)
 
   -- where they do, both are on it
   abbrev pub IsOnCourse : Type 0
   IsOnCourse = HearsAll → BothOnCourse (meaning w.suite) (policy w.decisions)
-      (client_partner (meaning w.suite) (policy w.decisions) w.client_config w.server_config (wording_of (meaning w.suite) w.client_config w.server_config))
-      (server_partner (meaning w.suite) (policy w.decisions) w.client_config w.server_config (wording_of (meaning w.suite) w.client_config w.server_config)) w.client w.server
+      (client_partner (meaning w.suite) (policy w.decisions) w.client_config w.server_config (wording_of (meaning w.suite) (policy w.decisions) w.client_config w.server_config))
+      (server_partner (meaning w.suite) (policy w.decisions) w.client_config w.server_config (wording_of (meaning w.suite) (policy w.decisions) w.client_config w.server_config)) w.client w.server
 
   -- The two ends understand each other: what the configs ask of the suite is true of it.
   abbrev pub AreUnderstoodIn : Type 0
@@ -32,7 +32,7 @@ module _ {S D : Type 0} (meaning : S → Meaning) (policy : D → Policy) (w : W
   -- Where the two ends understand each other, and neither wanted memory, both sides are in the course of their configs.
   abbrev pub KeepsCourse : Type 0
   KeepsCourse = AreUnderstoodIn → HadMemory w
-      → IsCourseHeard (meaning w.suite) (policy w.decisions) w.client_config w.server_config (wording_of (meaning w.suite) w.client_config w.server_config) w.client w.server
+      → IsCourseHeard (meaning w.suite) (policy w.decisions) w.client_config w.server_config (wording_of (meaning w.suite) (policy w.decisions) w.client_config w.server_config) w.client w.server
 
   -- And each that has ended has the end that the outcome gives; and where nothing waits for either, both have ended.
   abbrev pub KeepsHeadline : Type 0

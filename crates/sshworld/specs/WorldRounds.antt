@@ -5,6 +5,7 @@ use Rattle.sshneg.specs.declared.role.Role.TheVariants as role
 use Rattle.sshpacket.specs.Suite.{Meaning}
 use Rattle.sshcore.specs.ConfigData.{ClientData, ServerData}
 use Rattle.sshcore.specs.Party.{Policy, client_party, server_party}
+use Rattle.sshworld.specs.Offered.{most_requests}
 use Rattle.sshworld.specs.declared.side.Side.{Side}
 use Rattle.sshworld.specs.declared.side.Side.TheVariants.{Client, Server}
 use Rattle.sshworld.specs.Course.{Part}
@@ -29,18 +30,18 @@ pub record HaveHeard (m : Meaning) (d : Policy) (client : ClientData) (server : 
 module _ {S D : Type 0} (meaning : S → Meaning) (policy : D → Policy) (w : WorldData S D) where
   -- the two parts of the course
   abbrev pub part_of_client_in : Part
-  part_of_client_in = part_of_client (meaning w.suite) (policy w.decisions) w.client_config w.server_config (wording_of (meaning w.suite) w.client_config w.server_config)
+  part_of_client_in = part_of_client (meaning w.suite) (policy w.decisions) w.client_config w.server_config (wording_of (meaning w.suite) (policy w.decisions) w.client_config w.server_config)
 
   abbrev pub part_of_server_in : Part
-  part_of_server_in = part_of_server (meaning w.suite) (policy w.decisions) w.client_config w.server_config (wording_of (meaning w.suite) w.client_config w.server_config)
+  part_of_server_in = part_of_server (meaning w.suite) (policy w.decisions) w.client_config w.server_config (wording_of (meaning w.suite) (policy w.decisions) w.client_config w.server_config)
 
   -- each side has heard at least so many units
   abbrev pub HaveHeardIn : UnitsHeard → Type 0
-  HaveHeardIn heard = HaveHeard (meaning w.suite) (policy w.decisions) w.client_config w.server_config (wording_of (meaning w.suite) w.client_config w.server_config) heard w.client w.server
+  HaveHeardIn heard = HaveHeard (meaning w.suite) (policy w.decisions) w.client_config w.server_config (wording_of (meaning w.suite) (policy w.decisions) w.client_config w.server_config) heard w.client w.server
 
   -- Where each has heard what so many rounds of the course bring, and those are enough, nothing waits for either.
   abbrev pub Settles : Type 0
-  Settles = AreUnderstoodIn meaning policy w → HadMemory w → (r : ℕ) → length w.client_config.plan + 4 ≤ r
+  Settles = AreUnderstoodIn meaning policy w → HadMemory w → (r : ℕ) → most_requests w.client_config.plan + 4 ≤ r
       → HaveHeardIn (after_rounds part_of_client_in part_of_server_in r) → Complete w
 
 module _ {S D : Type 0} (meaning : S → Meaning) (policy : D → Policy) where

@@ -1,13 +1,15 @@
 //! The law of courses.
 
-ghost use Rattle.std.specs.Prelude.{◌≡◌, ◌+◌, ◌≤◌, ℕ, length};
+ghost use Rattle.std.specs.Prelude.{◌≡◌, ◌+◌, ◌≤◌, ℕ, List, false, length};
+ghost use Rattle.std.specs.List.{AllByRecursion};
 ghost use Rattle.sshpacket.specs.Suite.{Meaning};
-ghost use Rattle.sshcore.specs.ConfigData.{ClientData, ServerData};
+ghost use Rattle.sshcore.specs.ConfigData.{Attempt, ClientData, ServerData};
 ghost use Rattle.sshcore.specs.Party.{Policy};
+ghost use Rattle.sshcore.specs.Plan.{asks};
 ghost use Rattle.sshworld.specs.Course.{Way, client_part, server_part, way_of};
 ghost use Rattle.sshworld.specs.Follows.{BothFollow, BothKeep};
 ghost use Rattle.sshworld.specs.Guesses.{Guess, guess_of};
-ghost use Rattle.sshworld.specs.Offered.{offered};
+ghost use Rattle.sshworld.specs.Offered.{most_requests, offered};
 ghost use Rattle.sshworld.specs.Outcome.{BothEnds, outcome};
 ghost use Rattle.sshworld.specs.Rounds.{Fit, IsCourse, after_rounds, all_heard, groups_said, requests_of};
 ghost use Rattle.sshworld.specs.VerdictLaw.{IsCounted};
@@ -16,7 +18,7 @@ ghost use Rattle.sshworld.specs.Wording.{Wording};
 
 /// The law of courses: the two parts of a course fit, so neither side ever waits for the other, and
 /// few rounds are enough for both to end. Takes no memory.
-#[tactic(auto, using(crate::proofs::FitLemmas::fits, crate::proofs::CourseLaws::of_outcome, crate::proofs::GroupsSaidLemmas::groups, crate::proofs::GroupsSaidLemmas::bound, crate::proofs::CountLemmas::counted_offered, crate::proofs::CourseLaws::few_of_way, crate::proofs::CourseLaws::few_groups, crate::proofs::CourseLaws::few_rounds))]
+#[tactic(auto, using(crate::proofs::FitLemmas::fits, crate::proofs::CourseLaws::of_outcome, crate::proofs::GroupsSaidLemmas::groups, crate::proofs::GroupsSaidLemmas::bound, crate::proofs::CountLemmas::counted_offered, crate::proofs::CourseLaws::few_of_way, crate::proofs::CourseLaws::few_groups, crate::proofs::CourseLaws::few_rounds, crate::proofs::CountLemmas::most_twice, crate::proofs::CountLemmas::most_once))]
 pub fn course_law()
     // Whatever the payloads, the guess, the way and the ends are, the two parts fit.
     ensures fit { (w : Wording) (guess : Guess) (way : Way) (ends : BothEnds) → Fit (client_part w guess way ends) (server_part w guess way ends) }
@@ -32,13 +34,16 @@ pub fn course_law()
         (server_part w (guess_of client server) (way_of m d client server) (outcome m d client server)) }
     // The verdict counts the requests that are made of those that are offered.
     ensures counted { (m : Meaning) (d : Policy) (client : ClientData) (server : ServerData)
-        → IsCounted (length (offered server.methods client.plan)) (verdict m d client server) }
-    // So a course has no more requests than the plan has attempts, and the bounds hold of these.
-    ensures requests { (m : Meaning) (d : Policy) (client : ClientData) (server : ServerData) → requests_of (way_of m d client server) ≤ length client.plan }
+        → IsCounted (length (offered m d server client.plan)) (verdict m d client server) }
+    // So a course has no more requests than the attempts of the plan have, and the bounds hold of these: two of an attempt that asks
+    // first, one of any other.
+    ensures twice { (plan : List Attempt) → most_requests plan ≤ length plan + length plan }
+    ensures once { (plan : List Attempt) → AllByRecursion (λ (attempt : Attempt). asks attempt.proving ≡ false) plan → most_requests plan ≡ length plan }
+    ensures requests { (m : Meaning) (d : Policy) (client : ClientData) (server : ServerData) → requests_of (way_of m d client server) ≤ most_requests client.plan }
     ensures attempts { (m : Meaning) (d : Policy) (client : ClientData) (server : ServerData) (w : Wording) (guess : Guess) (ends : BothEnds)
-        → groups_said (client_part w guess (way_of m d client server) ends).group (client_part w guess (way_of m d client server) ends).hears ≤ length client.plan + 3 }
+        → groups_said (client_part w guess (way_of m d client server) ends).group (client_part w guess (way_of m d client server) ends).hears ≤ most_requests client.plan + 3 }
     ensures settled { (m : Meaning) (d : Policy) (client : ClientData) (server : ServerData) (w : Wording) (guess : Guess) (ends : BothEnds) (r : ℕ)
-        → length client.plan + 4 ≤ r
+        → most_requests client.plan + 4 ≤ r
         → after_rounds (client_part w guess (way_of m d client server) ends) (server_part w guess (way_of m d client server) ends) r
         ≡ all_heard (client_part w guess (way_of m d client server) ends) (server_part w guess (way_of m d client server) ends) }
     // An endpoint that answers and stands as its part has it, at each place of what the other says, has said what its part has it

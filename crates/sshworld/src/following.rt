@@ -18,7 +18,7 @@ use crate::course_laws::course_law;
 /// all that the other says in their course as its own part of the course has it. Takes no memory.
 pub fn follows_law()
     ensures follows { (m : Meaning) (d : Policy) (client : ClientData) (server : ServerData) → IsLawful m → AreUnderstood m d client server
-        → IsClient client → IsServer server → BothFollow m d client server (wording_of m client server) }
+        → IsClient client → IsServer server → BothFollow m d client server (wording_of m d client server) }
     // All that either side says is in its place where the other hears it.
     ensures places { (m : Meaning) (d : Policy) (client : ClientData) (server : ServerData) → IsLawful m → AreUnderstood m d client server
         → IsClient client → IsServer server → BothInPlace m d client server }
@@ -39,7 +39,7 @@ pub fn follows_law()
 /// stands in its part, whatever prefix it has heard of what the other says. Takes no memory.
 pub fn keeps_law()
     ensures keeps { (m : Meaning) (d : Policy) (client : ClientData) (server : ServerData) → IsLawful m → AreUnderstood m d client server
-        → IsClient client → IsServer server → BothKeep m d client server (wording_of m client server) }
+        → IsClient client → IsServer server → BothKeep m d client server (wording_of m d client server) }
 {
     follows_law();
     course_law();

@@ -12,6 +12,7 @@ ghost use Rattle.sshcore.specs.Work.{making};
 ghost use Rattle.sshworld.specs.Course.{Part, said_after};
 ghost use Rattle.sshworld.specs.Follows.{BothKeep, IsInPart, part_of_client};
 ghost use Rattle.sshworld.specs.Headline.{AreInCourse, EndAs, HaveHeardAll, Told};
+ghost use Rattle.sshworld.specs.Offered.{most_requests};
 ghost use Rattle.sshworld.specs.Outcome.{outcome};
 ghost use Rattle.sshworld.specs.Rounds.{groups_said};
 ghost use Rattle.sshworld.specs.Wording.{Wording};
@@ -54,5 +55,5 @@ pub fn headline_law()
     // A client says something in few groups behind its first.
     ensures few { (m : Meaning) (d : Policy) (client : ClientData) (server : ServerData) (w : Wording) (told : Told)
         → IsInPart (part_of_client m d client server w) told.units told.answers told.end
-        → groups_said (part_of_client m d client server w).group (length told.units) ≤ length client.plan + 3 }
+        → groups_said (part_of_client m d client server w).group (length told.units) ≤ most_requests client.plan + 3 }
 {}

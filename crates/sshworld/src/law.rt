@@ -17,5 +17,5 @@ pub fn verdict_law()
     ensures only { (ends : List Attempt → Attempt → Option How) (requests : List Attempt) (v : Verdict) → IsVerdict ends requests v → v ≡ verdict_behind ends [] requests }
     // So it is of what a client offers to a server.
     ensures offered { (m : Meaning) (d : Policy) (client : ClientData) (server : ServerData) (v : Verdict)
-        → IsVerdict (ends_by m d server) (offered server.methods client.plan) v ↔ (v ≡ verdict m d client server) }
+        → IsVerdict (ends_by m d server) (offered m d server client.plan) v ↔ (v ≡ verdict m d client server) }
 {}

@@ -25,7 +25,7 @@ pub(crate) fn below_law()
 /// the other says in their course. Takes no memory.
 pub(crate) fn course_hearing_law()
     ensures hear { (m : Meaning) (d : Policy) (client : ClientData) (server : ServerData) → IsLawful m → AreUnderstood m d client server
-        → IsClient client → IsServer server → BothHear m d client server (wording_of m client server) }
+        → IsClient client → IsServer server → BothHear m d client server (wording_of m d client server) }
 {
     follows_law();
     keeps_law();

@@ -1,7 +1,7 @@
 use Rattle.std.proofs.Common.{refl}
-use Rattle.sshmsg.specs.Messages.{form_of, disconnect, ignore, init_of, unimplemented, debug, service_request, service_accept, newkeys, reply_of, userauth_request, userauth_success, userauth_banner}
+use Rattle.sshmsg.specs.Messages.{form_of, disconnect, ignore, init_of, unimplemented, debug, service_request, service_accept, newkeys, reply_of, userauth_request, userauth_success, userauth_banner, userauth_pk_ok}
 use Rattle.sshmsg.proofs.reading.read_numbered.Goals as goal
-use Rattle.sshmsg.proofs.reading.read_numbered.Goals.{in-1, in-2, in-3, in-4, in-5, in-6, in-21, in-30, in-31, in-50, in-52, in-53}
+use Rattle.sshmsg.proofs.reading.read_numbered.Goals.{in-1, in-2, in-3, in-4, in-5, in-6, in-21, in-30, in-31, in-50, in-52, in-53, in-60}
 
 pub returns : goal.returns
 unfolding form_of newkeys userauth_success
@@ -18,4 +18,5 @@ returns c = elim c.match-number.branch [
   | in-50 w ↦ (userauth_request, rw w.in-50.is refl, rw (w.message-is, w.reader-is) w.read_userauth_request-message.ensures)
   | in-52 w ↦ (userauth_success, rw w.in-52.is refl, rw (w.message-is, w.reader-is) refl)
   | in-53 w ↦ (userauth_banner, rw w.in-53.is refl, rw (w.message-is, w.reader-is) w.read_userauth_banner-message.ensures)
+  | in-60 w ↦ (userauth_pk_ok, rw w.in-60.is refl, rw (w.message-is, w.reader-is) w.read_userauth_pk_ok-message.ensures)
 ]

@@ -1,8 +1,8 @@
-use Rattle.std.proofs.Common.{refl, ap}
+use Rattle.std.proofs.Common.{refl, ap, ◌∙◌}
 use Rattle.std.proofs.lemmas.Result.{on_ok_weaker}
 use Rattle.sshcore.specs.Attempts.{attempt_reply}
 use Rattle.sshcore.specs.Kept.{kept_of}
-use Rattle.sshcore.proofs.AttemptLemmas.{next_accepted}
+use Rattle.sshcore.proofs.AttemptLemmas.{left_next, next_accepted}
 use Rattle.sshcore.proofs.GivesLemmas.{gives_by, gives_from}
 use Rattle.sshcore.proofs.state.State.hear_failure.Goals as goal
 
@@ -11,5 +11,5 @@ invariant_of-self-clause-accepted g c = next_accepted c.args.methods.now _ _ c.a
 
 pub returns-clause-gives : goal.returns-clause-gives
 returns-clause-gives g c = on_ok_weaker c.make_attempt.result (λ given strict next.
-    gives_by _ _ strict next _ _ _ _ _ _ (ap (attempt_reply (g.S.Suite.meaning c.args.suite.now) c.args.self.now.session.items) c.next_attempts-self.ensures)
+    gives_by _ _ strict next _ _ _ _ _ _ (ap (attempt_reply (g.S.Suite.meaning c.args.suite.now) c.args.self.now.session.items) (c.next_attempts-self.ensures ∙ left_next c.args.self.now.confirmed c.args.methods.now _))
     (gives_from _ _ strict next _ (kept_of c.args.self.now) _ _ _ _ refl (given strict next))) c.make_attempt.ensures.gives

@@ -1,38 +1,69 @@
-use Rattle.std.proofs.Common.{◌≡◌, false, rules, true}
-use Rattle.std.specs.Prelude.{nat_le}
+use Rattle.std.proofs.Common.{◌≡◌, ℕ, List, false, rules, true, sym, ap, ◌∙◌}
 use Rattle.std.proofs.lemmas.Result.{on_ok_weaker}
+use Rattle.sshmsg.specs.Content.{PublicKeyQuery, UserauthFailure}
 use Rattle.sshmsg.specs.View.{method_of}
+use Rattle.sshcore.specs.Authenticating.{counted_request, one_request}
 use Rattle.sshcore.specs.ConfigParty.{party_of}
-use Rattle.sshcore.specs.Kept.{kept_of}
-use Rattle.sshcore.specs.Requests.{is_good}
-use Rattle.sshcore.proofs.GivesLemmas.{gives_by}
-use Rattle.sshcore.proofs.RequestLemmas.{reply_elsewhere, reply_good, reply_last, reply_more}
+use Rattle.sshcore.specs.Kept.{Kept, kept_of}
+use Rattle.sshcore.specs.Known.{Known}
+use Rattle.sshcore.specs.Reached.{Tried}
+use Rattle.sshcore.specs.Requests.{is_good, more_reply, tried_reply}
+use Rattle.sshcore.proofs.GivesLemmas.{gives_by, gives_from}
+use Rattle.sshcore.proofs.RequestLemmas.{had, no_query, other_tried, query_tried, reply_elsewhere, reply_other, reply_query, tried_method, with_end}
 use Rattle.sshcore.proofs.state.State.hear_request.Goals as goal
 
 pub returns-in_default-clause-gives : goal.returns-in_default-clause-gives
 returns-in_default-clause-gives g c = on_ok_weaker c.fail.result (λ given strict next.
     gives_by _ _ strict next _ _ _ _ _ _ (reply_elsewhere _ _ _ _ _ _ _ c.service.result c.service.ensures.service c.in_default.is) (given strict next)) c.fail.ensures.gives
 
+pub returns-in-PublicKeyQuery-clause-gives : goal.returns-in-PublicKeyQuery-clause-gives
+returns-in-PublicKeyQuery-clause-gives g c = on_ok_weaker c.hear_query.result (λ given strict next.
+    gives_by _ _ strict next _ _ _ _ _ _ (reply_query (g.S.Suite.meaning c.args.suite.now) (g.D.Decisions.policy c.args.decisions.now) (party_of c.args.config.now) (kept_of c.args.self.now).known c.args.user.now c.args.service.now
+    (method_of c.args.method.now) c.service.result c.service.ensures.service c.in-Some.service c.in-Some.is c.in-PublicKeyQuery.algorithm.now c.in-PublicKeyQuery.key.now (ap method_of c.in-PublicKeyQuery.is)) (given strict next)) c.hear_query.ensures.gives
+
+pub returns-in-PublicKeyQuery-clause-stays : goal.returns-in-PublicKeyQuery-clause-stays
+returns-in-PublicKeyQuery-clause-stays g c =
+    let known : Known = (kept_of c.args.self.now).known in
+    let found = had _ c.args.service.now c.service.result c.in-Some.service c.service.ensures.service c.in-Some.is in
+    on_ok_weaker c.hear_query.result (λ stays goes_on.
+    with_end (kept_of c.args.self.now) (kept_of c.hear_query.new.self) _ (stays goes_on ∙ ap (λ (t : Tried). record (kept_of c.args.self.now) { known = counted_request known t; sending = (kept_of c.hear_query.new.self).sending })
+    (query_tried (g.S.Suite.meaning c.args.suite.now) (g.D.Decisions.policy c.args.decisions.now) (party_of c.args.config.now) known c.args.user.now c.args.service.now c.in-Some.service.now (method_of c.args.method.now) found.1
+    c.in-PublicKeyQuery.algorithm.now c.in-PublicKeyQuery.key.now (ap method_of c.in-PublicKeyQuery.is)))) c.hear_query.ensures.stays
+
 pub returns-then-branch-clause-gives : goal.returns-then-branch-clause-gives
 returns-then-branch-clause-gives g c =
     let good : is_good (g.S.Suite.meaning c.args.suite.now) (g.D.Decisions.policy c.args.decisions.now) (party_of c.args.config.now) (kept_of c.args.self.now).known
     c.args.user.now c.in-Some.service.now (method_of c.args.method.now) ≡ true = search rules in
-    on_ok_weaker c.succeed.result (λ given strict next.
-    gives_by _ _ strict next _ _ _ _ _ _ (reply_good _ _ _ _ _ _ _ c.service.result c.service.ensures.service c.in-Some.service c.in-Some.is good) (given strict next)) c.succeed.ensures.gives
+    let other = no_query c.args.method.now c.in_default-method.not-PublicKeyQuery in
+    on_ok_weaker c.hear_good.result (λ given strict next.
+    gives_by _ _ strict next _ _ _ _ _ _ (reply_other (g.S.Suite.meaning c.args.suite.now) (g.D.Decisions.policy c.args.decisions.now) (party_of c.args.config.now) (kept_of c.args.self.now).known c.args.user.now c.args.service.now
+    (method_of c.args.method.now) c.service.result c.service.ensures.service c.in-Some.service c.in-Some.is true (tried_method (g.S.Suite.meaning c.args.suite.now) (g.D.Decisions.policy c.args.decisions.now) (party_of c.args.config.now) (kept_of c.args.self.now).known c.args.user.now c.args.service.now (method_of c.args.method.now) other) good) (given strict next)) c.hear_good.ensures.gives
 
-pub returns-then-self-tries-clause-gives : goal.returns-then-self-tries-clause-gives
-returns-then-self-tries-clause-gives g c =
-    let bad : is_good (g.S.Suite.meaning c.args.suite.now) (g.D.Decisions.policy c.args.decisions.now) (party_of c.args.config.now) (kept_of c.args.self.now).known
-    c.args.user.now c.in-Some.service.now (method_of c.args.method.now) ≡ false = search rules in
-    let last : nat_le (party_of c.args.config.now).tries c.args.self.now.request ≡ true = search rules in
-    on_ok_weaker c.fail-then-self-tries.result (λ given strict next.
-    gives_by _ _ strict next _ _ _ _ _ _ (reply_last _ _ _ _ _ _ _ c.service.result c.service.ensures.service c.in-Some.service c.in-Some.is bad last) (given strict next))
-    c.fail-then-self-tries.ensures.gives
+pub returns-then-branch-clause-stays : goal.returns-then-branch-clause-stays
+returns-then-branch-clause-stays g c =
+    let good : is_good (g.S.Suite.meaning c.args.suite.now) (g.D.Decisions.policy c.args.decisions.now) (party_of c.args.config.now) (kept_of c.args.self.now).known
+    c.args.user.now c.in-Some.service.now (method_of c.args.method.now) ≡ true = search rules in
+    let found = had _ c.args.service.now c.service.result c.in-Some.service c.service.ensures.service c.in-Some.is in
+    on_ok_weaker c.hear_good.result (λ stays goes_on. stays goes_on ∙ ap (λ (t : Tried). record (kept_of c.args.self.now) { end = (kept_of c.hear_good.new.self).end; known = counted_request (kept_of c.args.self.now).known t; sending = (kept_of c.hear_good.new.self).sending })
+    (other_tried (g.S.Suite.meaning c.args.suite.now) (g.D.Decisions.policy c.args.decisions.now) (party_of c.args.config.now) (kept_of c.args.self.now).known c.args.user.now c.args.service.now c.in-Some.service.now (method_of c.args.method.now) found.1 true good)) c.hear_good.ensures.stays
 
 pub returns-clause-gives : goal.returns-clause-gives
 returns-clause-gives g c =
     let bad : is_good (g.S.Suite.meaning c.args.suite.now) (g.D.Decisions.policy c.args.decisions.now) (party_of c.args.config.now) (kept_of c.args.self.now).known
     c.args.user.now c.in-Some.service.now (method_of c.args.method.now) ≡ false = search rules in
-    let more : nat_le (party_of c.args.config.now).tries c.args.self.now.request ≡ false = search rules in
-    on_ok_weaker c.refuse.result (λ given strict next.
-    gives_by _ _ strict next _ _ _ _ _ _ (reply_more _ _ _ _ _ _ _ c.service.result c.service.ensures.service c.in-Some.service c.in-Some.is bad more) (given strict next)) c.refuse.ensures.gives
+    let other = no_query c.args.method.now c.in_default-method.not-PublicKeyQuery in
+    on_ok_weaker c.refuse_more.result (λ given strict next.
+    gives_by _ _ strict next _ _ _ _ _ _ (ap (λ (k : Kept). more_reply (party_of c.args.config.now) k.known (UserauthFailure (party_of c.args.config.now).methods false)) c.forget_others.ensures ∙ (reply_other (g.S.Suite.meaning c.args.suite.now) (g.D.Decisions.policy c.args.decisions.now) (party_of c.args.config.now) (kept_of c.args.self.now).known c.args.user.now c.args.service.now
+    (method_of c.args.method.now) c.service.result c.service.ensures.service c.in-Some.service c.in-Some.is false (tried_method (g.S.Suite.meaning c.args.suite.now) (g.D.Decisions.policy c.args.decisions.now) (party_of c.args.config.now) (kept_of c.args.self.now).known c.args.user.now c.args.service.now (method_of c.args.method.now) other) bad))
+    (gives_from _ _ strict next (kept_of c.forget_others.new.self) (kept_of c.args.self.now) _ _ _ _ (sym (ap (λ (k : Kept). k.sending) c.forget_others.ensures)) (given strict next))) c.refuse_more.ensures.gives
+
+pub returns-clause-stays : goal.returns-clause-stays
+returns-clause-stays g c =
+    let bad : is_good (g.S.Suite.meaning c.args.suite.now) (g.D.Decisions.policy c.args.decisions.now) (party_of c.args.config.now) (kept_of c.args.self.now).known
+    c.args.user.now c.in-Some.service.now (method_of c.args.method.now) ≡ false = search rules in
+    let found = had _ c.args.service.now c.service.result c.in-Some.service c.service.ensures.service c.in-Some.is in
+    on_ok_weaker c.refuse_more.result (λ stays goes_on.
+    with_end (kept_of c.args.self.now) (kept_of c.refuse_more.new.self) _ (stays goes_on
+    ∙ ap (λ (k : Kept). record k { known = one_request k.known; sending = (kept_of c.refuse_more.new.self).sending }) c.forget_others.ensures
+    ∙ ap (λ (t : Tried). record (kept_of c.args.self.now) { known = counted_request (kept_of c.args.self.now).known t; sending = (kept_of c.refuse_more.new.self).sending })
+    (other_tried (g.S.Suite.meaning c.args.suite.now) (g.D.Decisions.policy c.args.decisions.now) (party_of c.args.config.now) (kept_of c.args.self.now).known c.args.user.now c.args.service.now c.in-Some.service.now (method_of c.args.method.now) found.1 false bad))) c.refuse_more.ensures.stays

@@ -18,6 +18,6 @@ pub returns-clause-gives : goal.returns-clause-gives
 unfolding written_message
 returns-clause-gives g c = λ strict next.
     gives_moved _ _ strict next (kept_of c.args.self.now) (kept_of c.say.new.self) _ _ _ _ _ Open _ refl refl (ap (λ (k : Kept). k.end) c.in_ok-say.ensures.counts ∙ c.requires.open)
-    (gives_as _ _ strict next _ _ _ _ (written_message (UserauthFailure c.in_ok-methods.methods false) ∷ []) _ _
-    (ap (λ (l : List (List ℕ)). written_message (UserauthFailure l false) ∷ []) (c.in_ok-methods.ensures ∙ c.methods.ensures.methods))
+    (gives_as _ _ strict next _ _ _ _ (written_message (UserauthFailure c.in_ok-methods.methods c.args.partial) ∷ []) _ _
+    (ap (λ (l : List (List ℕ)). written_message (UserauthFailure l c.args.partial) ∷ []) (c.in_ok-methods.ensures ∙ c.methods.ensures.methods))
     (gives_one _ _ strict next _ _ _ _ _ _ _ _ refl c.in_ok-failure.ensures c.deref.ensures.value c.requires.open c.in_ok-say.ensures.spells c.in_ok-say.ensures.counts))

@@ -47,6 +47,7 @@ returns-in_default-clause-works g c = λ _.
       user_request = c.in_default.not-UserauthRequest;
       failure = c.in_default.not-UserauthFailure;
       success = c.in_default.not-UserauthSuccess;
+      confirmation = c.in_default.not-UserauthPkOk;
     } in
     let ignored = works.ignores (g.S.Suite.meaning c.args.suite.now) (g.D.Decisions.policy c.args.decisions.now) (role_of c.args.config.now) (party_of c.args.config.now) (kept_of c.args.self.now).known c.args.message.now none in
     works.plain_works _ _ _ _ _ _ _ _ _ has ignored.plain ignored.work_is c.requires.open refl

@@ -7,7 +7,7 @@ use Rattle.sshpacket.specs.declared.limits.TheConstants.{PACKET_LIMIT}
 use Rattle.sshcore.specs.ConfigParty.{role_of}
 use Rattle.sshcore.specs.Kept.{kept_of}
 use Rattle.sshcore.proofs.WorksLemmas as works
-use Rattle.sshcore.proofs.WorksLemmas.{has_place, on_three, on_two}
+use Rattle.sshcore.proofs.WorksLemmas.{has_place, on_two}
 use Rattle.sshcore.proofs.state.State.work_auth.Goals as goal
 
 pub hear_request-requires-clause-at : goal.hear_request-requires-clause-at
@@ -39,8 +39,8 @@ hear_success-requires-clause-at g c =
 pub returns-in-UserauthRequest-clause-works : goal.returns-in-UserauthRequest-clause-works
 returns-in-UserauthRequest-clause-works g c =
     let has = has_place c.messages_law.ensures.complete c.numbers_law.ensures.kind c.numbers_law.ensures.alike (role_of c.args.config.now) (kept_of c.args.self.now) c.args.payload.now (content_of c.args.message.now) c.requires.reads c.requires.spelled in
-    on_three c.hear_request.result c.hear_request.ensures.gives c.hear_request.ensures.keys c.hear_request.ensures.stands (λ gives keys stands _.
-    works.user_request_works _ _ _ _ _ _ _ _ _ _ has c.in-UserauthRequest.user.now c.in-UserauthRequest.service.now (method_of c.in-UserauthRequest.method) (ap content_of c.in-UserauthRequest.is) gives keys stands)
+    on_two c.hear_request.result c.hear_request.ensures.gives c.hear_request.ensures.stays (λ gives stays _.
+    works.user_request_works _ _ _ _ _ _ _ _ _ _ has c.in-UserauthRequest.user.now c.in-UserauthRequest.service.now (method_of c.in-UserauthRequest.method) (ap content_of c.in-UserauthRequest.is) gives stays)
 
 pub returns-in-UserauthFailure-clause-works : goal.returns-in-UserauthFailure-clause-works
 returns-in-UserauthFailure-clause-works g c =
@@ -53,3 +53,9 @@ returns-in-UserauthSuccess-clause-works g c =
     let has = has_place c.messages_law.ensures.complete c.numbers_law.ensures.kind c.numbers_law.ensures.alike (role_of c.args.config.now) (kept_of c.args.self.now) c.args.payload.now (content_of c.args.message.now) c.requires.reads c.requires.spelled in
     on_two c.hear_success.result c.hear_success.ensures.gives c.hear_success.ensures.stays (λ gives stays _.
     works.success_works _ _ _ _ _ _ _ _ _ _ has (ap content_of c.in-UserauthSuccess.is) gives stays)
+
+pub returns-in-UserauthPkOk-clause-works : goal.returns-in-UserauthPkOk-clause-works
+returns-in-UserauthPkOk-clause-works g c =
+    let has = has_place c.messages_law.ensures.complete c.numbers_law.ensures.kind c.numbers_law.ensures.alike (role_of c.args.config.now) (kept_of c.args.self.now) c.args.payload.now (content_of c.args.message.now) c.requires.reads c.requires.spelled in
+    on_two c.hear_pk_ok.result c.hear_pk_ok.ensures.gives c.hear_pk_ok.ensures.stays (λ gives stays _.
+    works.pk_ok_works _ _ _ _ _ _ _ _ _ _ has c.in-UserauthPkOk.algorithm.now c.in-UserauthPkOk.key.now (ap content_of c.in-UserauthPkOk.is) gives stays)

@@ -1,0 +1,20 @@
+use Rattle.std.proofs.Common.{◌≡◌, true, false, rules}
+use Rattle.std.specs.Prelude.{nat_le}
+use Rattle.std.proofs.lemmas.Result.{on_ok_weaker}
+use Rattle.sshcore.specs.ConfigParty.{party_of}
+use Rattle.sshcore.specs.Kept.{kept_of}
+use Rattle.sshcore.proofs.GivesLemmas.{gives_by}
+use Rattle.sshcore.proofs.RequestLemmas.{more_goes, more_last}
+use Rattle.sshcore.proofs.state.State.confirm_more.Goals as goal
+
+pub returns-then-tries-self-clause-gives : goal.returns-then-tries-self-clause-gives
+returns-then-tries-self-clause-gives g c =
+    let last : nat_le (party_of c.args.config.now).tries c.args.self.now.request ≡ true = search rules in
+    on_ok_weaker c.fail.result (λ given strict next.
+    gives_by _ _ strict next _ _ _ _ _ _ (more_last (party_of c.args.config.now) (kept_of c.args.self.now).known _ last) (given strict next)) c.fail.ensures.gives
+
+pub returns-clause-gives : goal.returns-clause-gives
+returns-clause-gives g c =
+    let more : nat_le (party_of c.args.config.now).tries c.args.self.now.request ≡ false = search rules in
+    on_ok_weaker c.confirm.result (λ given strict next.
+    gives_by _ _ strict next _ _ _ _ _ _ (more_goes (party_of c.args.config.now) (kept_of c.args.self.now).known _ more) (given strict next)) c.confirm.ensures.gives

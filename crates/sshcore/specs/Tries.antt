@@ -1,0 +1,74 @@
+-- What a request of authentication proves, and what it comes to: RFC 4252 sections 5 to 8.
+
+use Rattle.std.specs.Prelude.{ℕ, ◌+◌, ◌&&◌, Bool, false, if◌then◌else◌, List, [], ◌∷◌, codes, Option, None, Some, Result, Ok}
+use Rattle.sshwire.specs.TypeReadings.{is_name}
+use Rattle.sshwire.specs.declared.share_form.ShareForm.TheVariants.{Mpint}
+use Rattle.sshmsg.specs.declared.fault.MsgFault.{MsgFault}
+use Rattle.sshmsg.specs.declared.numbers.TheConstants.{SSH_MSG_USERAUTH_REQUEST}
+use Rattle.sshmsg.specs.Content.{Content, Method, NoMethod, Password, PublicKey, UserauthRequest}
+use Rattle.sshmsg.specs.Messages.{message_in}
+use Rattle.sshmsg.specs.Written.{method_name}
+use Rattle.sshneg.specs.declared.role.Role.{Role}
+use Rattle.sshneg.specs.ChoiceReadings.{is_in}
+use Rattle.sshneg.specs.Derivations.{signed_text}
+use Rattle.sshpacket.specs.Places.{flat_places}
+use Rattle.sshpacket.specs.Stream.{Units}
+use Rattle.sshpacket.specs.Suite.{Meaning}
+use Rattle.sshcore.specs.declared.table.Phase.TheVariants as phase
+use Rattle.sshcore.specs.Before.{count_kept, kept, stood}
+use Rattle.sshcore.specs.Exchange.{session_at}
+use Rattle.sshcore.specs.Party.{KeyProof, NoProof, Party, PasswordProof, Policy, ProofData}
+use Rattle.sshcore.specs.Phases.{leaving}
+use Rattle.sshcore.specs.Reached.{Tried}
+
+-- What a signature proves: that the user's side has the private key, if the algorithm is a name and the signature of the session
+-- identifier and the request is the key's (RFC 4252 section 7).
+abbrev pub signed_proof : Meaning → List ℕ → List ℕ → List ℕ → List ℕ → List ℕ → List ℕ → Option ProofData
+signed_proof m session user service algorithm key signature =
+    if is_name algorithm && m.verify algorithm key (signed_text session user service algorithm key) signature
+    then Some (KeyProof algorithm key) else None
+
+-- What a request proves of its user, if its method may be used and its proof holds: `none` always (RFC 4252 section 5.2), a
+-- password and a signature where the method is listed (sections 8 and 7). A query, a change of the password and any other method
+-- prove nothing.
+unfoldable pub proof_in : Meaning → Party → List ℕ → List ℕ → List ℕ → Method → Option ProofData
+proof_in m party session user service NoMethod = Some NoProof
+proof_in m party session user service (Password password) =
+    if is_in party.methods (codes "password") then Some (PasswordProof password) else None
+proof_in m party session user service (PublicKey algorithm key signature) =
+    if is_in party.methods (codes "publickey") then signed_proof m session user service algorithm key signature else None
+proof_in m party session user service _ = None
+
+-- the request of this number is good: it proves something, and the decision on that is yes
+abbrev pub is_decided : Policy → ℕ → List ℕ → List ℕ → Option ProofData → Bool
+is_decided d request user service None = false
+is_decided d request user service (Some proof) = d.user request user service proof
+
+abbrev pub is_good_at : Meaning → Policy → Party → List ℕ → ℕ → List ℕ → List ℕ → Method → Bool
+is_good_at m d party session request user service method = is_decided d request user service (proof_in m party session user service method)
+
+-- what it came to
+abbrev pub tried_with : List ℕ → List ℕ → Method → Bool → Tried
+tried_with user service method good = record { user = user; service = service; good = if good then Some (method_name method) else None }
+
+abbrev pub tried_by : Meaning → Policy → Party → List ℕ → ℕ → Result Content MsgFault → List Tried
+tried_by m d party session request (Ok (UserauthRequest user service method)) =
+    tried_with user service method (is_good_at m d party session request user service method) ∷ []
+tried_by m d party session request _ = []
+
+unfoldable pub tried_in : Meaning → Policy → Party → List ℕ → ℕ → List ℕ → List Tried
+tried_in m d party session request payload = tried_by m d party session request (message_in Mpint payload)
+
+-- the session identifier, once it is known
+abbrev pub session_known : Meaning → Role → Party → List ℕ → Units → List ℕ
+session_known m role party version before = if stood role party.offer (leaving role phase.Exchange) before then session_at m role party version before else []
+
+-- What the requests of these payloads came to, in order: each with its number from 1.
+abbrev pub tried_place : Meaning → Policy → Role → Party → List ℕ → Units → List ℕ → List Tried
+tried_place m d role party version before payload =
+    if kept role party.offer SSH_MSG_USERAUTH_REQUEST before payload
+    then tried_in m d party (session_known m role party version before) (count_kept role party.offer SSH_MSG_USERAUTH_REQUEST before + 1) payload
+    else []
+
+unfoldable pub tried_at : Meaning → Policy → Role → Party → List ℕ → Units → List Tried
+tried_at m d role party version before = flat_places (tried_place m d role party version) [] before
