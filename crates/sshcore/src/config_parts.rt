@@ -65,7 +65,7 @@ impl Credential {
     }
 
     /// Whether the server is asked first if the key would do. Takes no memory.
-    pub(crate) fn asks(&self) -> bool
+    pub fn asks(&self) -> bool
         ensures { result ≡ asks (proving_of self.now) }
     {
         match self {

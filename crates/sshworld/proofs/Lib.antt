@@ -1,5 +1,6 @@
 pub mod VerdictLemmas
 pub mod JudgeLemmas
+pub mod ProgressLemmas
 pub mod SessionLemmas
 pub mod OutcomeLemmas
 pub mod RoundLemmas

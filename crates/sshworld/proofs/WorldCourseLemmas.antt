@@ -237,9 +237,9 @@ module _ {S D : Type 0} (meaning : S → Meaning) (policy : D → Policy) where
   -- So few rounds leave nothing that waits.
   pub bound : (old new : WorldData S D) (r : ℕ) → IsSameSetup old new → (HadMemory old → HadMemory new) → HeardAfter old new r
       → (AreUnderstoodIn meaning policy new → HearsAll meaning policy new) → Settles meaning policy new
-      → AreUnderstoodIn meaning policy old → HadMemory old → length old.client_config.plan + 4 ≤ r → Complete new
+      → AreUnderstoodIn meaning policy old → HadMemory old → most_requests old.client_config.plan + 4 ≤ r → Complete new
   bound old new r same =
       let e = same_world old new same in
       subst (λ (v : WorldData S D). (HadMemory old → HadMemory v) → HeardAfter old v r → (AreUnderstoodIn meaning policy v → HearsAll meaning policy v) → Settles meaning policy v
-      → AreUnderstoodIn meaning policy old → HadMemory old → length old.client_config.plan + 4 ≤ r → Complete v) (sym e)
+      → AreUnderstoodIn meaning policy old → HadMemory old → most_requests old.client_config.plan + 4 ≤ r → Complete v) (sym e)
       (λ still heard understands settles u had few. settles u (still had) r few (heard (understands u) had))

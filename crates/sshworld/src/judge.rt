@@ -1,6 +1,6 @@
 //! How a server judges the requests that a client offers (RFC 4252).
 
-ghost use Rattle.std.specs.Prelude.{◌≡◌, ◌+◌, ◌≤◌, IfOk, List, length, map, option_map, string_bytes};
+ghost use Rattle.std.specs.Prelude.{◌≡◌, ◌≤◌, ◌+◌, IfOk, List, length, map, option_map, string_bytes};
 ghost use Rattle.std.specs.List.{AllByRecursion, list_any};
 ghost use Rattle.std.specs.Str.{bytes_eq};
 ghost use Rattle.sshneg.specs.ChoiceReadings.{is_in};
@@ -8,9 +8,13 @@ ghost use Rattle.sshcore.specs.declared.config_parts.TheConstants.{PLAN_LIMIT};
 ghost use Rattle.sshcore.specs.ConfigData as config_data;
 ghost use Rattle.sshcore.specs.ConfigRules.{IsAttempt};
 ghost use Rattle.sshcore.specs.ConfigView.{attempt_of, proving_of};
-ghost use Rattle.sshworld.specs.JudgedView.{how_of};
-ghost use Rattle.sshworld.specs.Verdicts.{ends_by, is_let_in, is_usable, proved_by, verdict};
+ghost use Rattle.sshworld.specs.JudgedView.{IsBehind, IsSoFar, how_of};
+ghost use Rattle.sshworld.specs.Judging.{is_proved, is_usable, proved_by};
+ghost use Rattle.sshworld.specs.Offered.{requests_for};
+ghost use Rattle.sshworld.specs.VerdictLaw.{ends_among};
+ghost use Rattle.sshworld.specs.Verdicts.{ends_by, verdict};
 
+use crate::progress::Progress;
 use sshcore::{Attempt, ClientConfig, Credential, Decisions, Proof, ServerConfig};
 use sshpacket::Suite;
 use sshwire::Memory;
@@ -21,7 +25,7 @@ use std::alloc::Global;
 pub(crate) enum Judged<'a> {
     /// One is for a service that the server doesn't have.
     Unknown,
-    /// That of this attempt lets the user in.
+    /// One of this attempt lets the user in.
     Success(&'a Attempt),
     /// One is the last that the server grants.
     Limit,
@@ -30,7 +34,8 @@ pub(crate) enum Judged<'a> {
 }
 
 /// How the requests of the client's plan end (RFC 4252 section 5): the plan is gone through once, and
-/// each request that is made is judged. Answers `Memory` for want of memory, as each function below.
+/// the requests of each attempt that is made are judged. Answers `Memory` for want of memory, as each
+/// function below.
 pub(crate) fn judge<'a, S: Suite, D: Decisions>(
     alloc: Global,
     client: &'a ClientConfig,
@@ -40,11 +45,11 @@ pub(crate) fn judge<'a, S: Suite, D: Decisions>(
 ) -> Result<Judged<'a>, Memory>
     ensures { IfOk result (λ judged. how_of judged ≡ (verdict (S.meaning suite.now) (D.policy decisions.now) client.now server.now).how) }
 {
-    let mut made: u32 = 0;
+    let mut progress = Progress::new();
     for attempt in plan_of(client) {
-        if made == 0 || lists(server, attempt.credential.method()) {
-            made += 1;
-            if let Some(judged) = ends_by(alloc, server, suite, decisions, made, attempt)? {
+        if progress.requests == 0 || lists(server, attempt.credential.method()) {
+            let judged = judge_attempt(alloc, server, suite, decisions, &mut progress, attempt)?;
+            if let Some(judged) = judged {
                 return Ok(judged);
             }
         }
@@ -61,34 +66,43 @@ fn plan_of(client: &ClientConfig) -> &[Attempt]
     &client.parts().plan
 }
 
-/// How this request, which has this number from 1, ends those made before it, if it does.
-fn ends_by<'a, S: Suite, D: Decisions>(
+/// How the requests of this attempt end those made before them, if one does: its query, if it asks, and
+/// then itself, if the query is confirmed (RFC 4252 section 7).
+fn judge_attempt<'a, S: Suite, D: Decisions>(
     alloc: Global,
     server: &ServerConfig,
     suite: &S,
     decisions: &D,
-    number: u32,
+    progress: &mut Progress<'a>,
     attempt: &'a Attempt,
 ) -> Result<Option<Judged<'a>>, Memory>
-    requires { IsAttempt (attempt_of attempt.now) }
-    ensures { IfOk result (λ judged. (made : List config_data.Attempt) → number ≡ length made + 1
-        → option_map how_of judged ≡ ends_by (S.meaning suite.now) (D.policy decisions.now) server.now made (attempt_of attempt.now)) }
+    requires attempt { IsAttempt (attempt_of attempt.now) }
+    requires few { progress.old.requests ≤ 126 }
+    ensures ends { IfOk result (λ judged. (made : List config_data.Attempt)
+        → IsSoFar (S.meaning suite.now) (D.policy decisions.now) server.now made progress.old
+        → option_map how_of judged ≡ ends_among (ends_by (S.meaning suite.now) (D.policy decisions.now) server.now) made
+            (requests_for (S.meaning suite.now) (D.policy decisions.now) server.now made (attempt_of attempt.now))) }
+    ensures behind { IfOk result (λ judged. (made : List config_data.Attempt)
+        → IsSoFar (S.meaning suite.now) (D.policy decisions.now) server.now made progress.old
+        → IsBehind (S.meaning suite.now) (D.policy decisions.now) server.now made
+            (requests_for (S.meaning suite.now) (D.policy decisions.now) server.now made (attempt_of attempt.now)) judged progress.new) }
+    ensures few { progress.new.requests ≤ progress.old.requests + 2 }
 {
-    if !has(&server.parts().services, &attempt.service) {
-        return Ok(Some(Judged::Unknown));
+    let proved = is_proved(alloc, server, suite, decisions, progress.requests + 1, attempt)?;
+    if !attempt.credential.asks() {
+        return Ok(progress.judge_request(server, attempt, proved));
     }
-    if is_let_in(alloc, server, suite, decisions, number, attempt)? {
-        return Ok(Some(Judged::Success(attempt)));
+    let judged = progress.judge_request(server, attempt, false);
+    if judged.is_some() || !proved {
+        return Ok(judged);
     }
-    if number == server.parts().tries {
-        return Ok(Some(Judged::Limit));
-    }
-    Ok(None)
+    let proved = is_proved(alloc, server, suite, decisions, progress.requests + 1, attempt)?;
+    Ok(progress.judge_request(server, attempt, proved))
 }
 
-/// Whether the request of this number lets the user in: its method may be used, and the decision is yes.
-/// The decision is asked of nothing else.
-fn is_let_in<S: Suite, D: Decisions>(
+/// Whether the request of this number is proved: its method may be used, and the decision is yes. The
+/// decision is asked of nothing else.
+fn is_proved<S: Suite, D: Decisions>(
     alloc: Global,
     server: &ServerConfig,
     suite: &S,
@@ -97,7 +111,7 @@ fn is_let_in<S: Suite, D: Decisions>(
     attempt: &Attempt,
 ) -> Result<bool, Memory>
     requires { IsAttempt (attempt_of attempt.now) }
-    ensures { IfOk result (λ lets_in. lets_in ≡ is_let_in (S.meaning suite.now) (D.policy decisions.now) server.now number (attempt_of attempt.now)) }
+    ensures { IfOk result (λ proved. proved ≡ is_proved (S.meaning suite.now) (D.policy decisions.now) server.now number (attempt_of attempt.now)) }
 {
     if !is_usable(server, &attempt.credential) {
         return Ok(false);
@@ -138,6 +152,7 @@ fn decide<S: Suite, D: Decisions>(
         Credential::PublicKey {
             algorithm,
             private_key,
+            ..
         } => {
             let blob = suite.blob(alloc, algorithm, private_key)?;
             let proof = Proof::Key {
@@ -157,7 +172,7 @@ fn lists(server: &ServerConfig, method: &str) -> bool
 }
 
 /// Whether a name stands among these.
-fn has(names: &[String], name: &str) -> bool
+pub(crate) fn has(names: &[String], name: &str) -> bool
     ensures { result ≡ is_in (map string_bytes names.now) name.now }
 {
     is_one_of(names, name)

@@ -10,6 +10,7 @@ mod law;
 mod link_laws;
 mod node;
 mod prediction;
+mod progress;
 mod session;
 mod session_laws;
 mod side;

@@ -1,8 +1,9 @@
 //! Two endpoints and the bytes between them.
 
-ghost use Rattle.std.specs.Prelude.{◌≡◌, ◌≢◌, ◌↔◌, ◌+◌, ◌≤◌, IfOk, IsTrue, Ok, OnErr, OnOk, length, min};
+ghost use Rattle.std.specs.Prelude.{◌≡◌, ◌≢◌, ◌↔◌, ◌+◌, ◌≤◌, IfOk, IsTrue, Ok, OnErr, OnOk, min};
 ghost use Rattle.sshcore.specs.Ending.{Open, ending};
 ghost use Rattle.sshworld.specs.Conversed.{EachReplies, IsNew};
+ghost use Rattle.sshworld.specs.Offered.{most_requests};
 ghost use Rattle.sshworld.specs.Deliveries.{Delivered, DoneAll, Refused, RefusedAll, Round, RoundInto, Rounds, RoundsInto, Runs, RunsInto};
 ghost use Rattle.sshworld.specs.WorldCourse.{AreUnderstoodIn, HearsAll, IsOnCourse, KeepsCourse, KeepsHeadline};
 ghost use Rattle.sshworld.specs.WorldRounds.{HearsRound, HearsTurn, Settles};
@@ -215,9 +216,9 @@ impl<'a, S: Suite, D: Decisions> World<'a, S, D> {
         ensures replies { EachReplies S.meaning D.policy self.new }
         ensures course { KeepsCourse S.meaning D.policy self.new }
         ensures headline { KeepsHeadline S.meaning D.policy self.new }
-        // Four rounds more than the client's plan has attempts leave a complete world, from any world that had memory and of which
-        // the two ends understand each other.
-        ensures bound { OnOk result (AreUnderstoodIn S.meaning D.policy self.old → HadMemory self.old → length self.old.client_config.plan + 4 ≤ rounds → Complete self.new) }
+        // Four rounds more than the client's plan has requests at the most (two of an attempt that asks first, one of any other) leave a
+        // complete world, from any world that had memory and of which the two ends understand each other.
+        ensures bound { OnOk result (AreUnderstoodIn S.meaning D.policy self.old → HadMemory self.old → most_requests self.old.client_config.plan + 4 ≤ rounds → Complete self.new) }
     {
         for _ in 0..rounds {
             self.round()?;

@@ -1,6 +1,7 @@
-use Rattle.std.proofs.Common.{◌+◌, ◌≤◌, length, arith}
+use Rattle.std.proofs.Common.{◌+◌, ◌≤◌, arith}
 use Rattle.sshworld.proofs.DeliveryLemmas.{at_err, round_more, rounds_into, same_then}
 use Rattle.sshworld.proofs.WorldCourseLemmas.{bound, heard_more}
+use Rattle.sshworld.specs.Offered.{most_requests}
 use Rattle.sshworld.proofs.world.World.settle.Goals as goal
 
 pub loop-preserved : goal.loop-preserved
@@ -21,5 +22,5 @@ returns-in_err-round-clause-stopped g c = at_err c.from_residual.result
 pub returns-clause-bound : goal.returns-clause-bound
 returns-clause-bound g c = λ understood had few.
     let i = c.loop.invariant in
-    let enough : length c.args.self.now.client_config.plan + 4 ≤ c.loop.counter = omega (arith, c.loop-test.false, few) in
+    let enough : most_requests c.args.self.now.client_config.plan + 4 ≤ c.loop.counter = omega (arith, c.loop-test.false, few) in
     bound g.S.Suite.meaning g.D.Decisions.policy c.args.self.now c.loop.self c.loop.counter i.setup i.still i.heard c.holds.ensures.understands c.holds.ensures.settles understood had enough
