@@ -9,8 +9,8 @@ use Rattle.sshworld.specs.declared.side.Side.TheVariants.{Client, Server}
 use Rattle.sshlab.specs.declared.scenario_line.Step.{Step}
 use Rattle.sshsuites.specs.LabRules.{Allowance, LabRules, proof_by}
 use Rattle.sshlab.specs.ScenarioDrafts.{Drafted, drafted, no_lines}
-use Rattle.sshlab.specs.ScenarioParts.{allowance_in, attempt_in, banner_in, can_be_proved, client_of_lines, denied_in, distrusted_in, guess_in, host_key_algorithms_in, host_key_in, methods_in, notice_in, rules_of_lines, server_of_lines, services_in, set_or, side_of_lines, some_or, step_in, steps_of_lines, tries_in}
-use Rattle.sshlab.specs.Scenarios.{Allows, Denies, Distrusts, Does, Holds, Notes, OfClient, OfServer, OfSide, Saying, SetBanner, SetGuess, SetHostKeys, SetMethods, SetServices, SetTries, Tries}
+use Rattle.sshlab.specs.ScenarioParts.{allowance_in, attempt_in, banner_in, can_be_proved, client_of_lines, denied_in, distrusted_in, guess_in, host_key_algorithms_in, host_key_in, methods_in, required_in, notice_in, rules_of_lines, server_of_lines, services_in, set_or, side_of_lines, some_or, step_in, steps_of_lines, tries_in}
+use Rattle.sshlab.specs.Scenarios.{Allows, Denies, Distrusts, Does, Holds, Notes, OfClient, OfServer, OfSide, Saying, SetBanner, SetGuess, SetHostKeys, SetMethods, SetRequired, SetServices, SetTries, Tries}
 use Rattle.sshlab.proofs.ScenarioDraftLemmas.{on, step_on}
 
 -- the client's parts
@@ -53,6 +53,7 @@ server_from s sayings = record {
   host_keys = s.host_keys;
   services = set_or s.services (filter_map services_in sayings);
   methods = set_or s.methods (filter_map methods_in sayings);
+  required = set_or s.required (filter_map required_in sayings);
   tries = set_or s.tries (filter_map tries_in sayings);
   banner = set_or s.banner (filter_map banner_in sayings);
   notices = s.notices ++ filter_map notice_in sayings;
@@ -65,6 +66,7 @@ server_step d (OfSide Server value) sayings = refl
 server_step d (OfClient value) sayings = refl
 server_step d (OfServer (SetServices names)) sayings = refl
 server_step d (OfServer (SetMethods names)) sayings = refl
+server_step d (OfServer (SetRequired names)) sayings = refl
 server_step d (OfServer (SetTries tries)) sayings = refl
 server_step d (OfServer (SetBanner text)) sayings = refl
 server_step d (Tries attempt) sayings = refl

@@ -82,7 +82,7 @@ module _ (line : List ℕ) (d : Drafted) where
 pub named : (proving : Proving) → can_be_proved proving ≡ true → IsNamed proving
 named ByNothing e = tt
 named (ByPassword password) e = tt
-named (ByKey algorithm secret) e = name_from_test algorithm e
+named (ByKey algorithm secret ask) e = name_from_test algorithm e
 
 not_tested_by : (algorithm : List ℕ) (b : Bool) → is_name algorithm ≡ b → (IsName algorithm → ⊥) → b ≡ false
 not_tested_by algorithm true e none = absurd (none (name_from_test algorithm e))

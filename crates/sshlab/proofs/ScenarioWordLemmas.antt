@@ -1,7 +1,7 @@
 -- What is said by the fields of a line, as the code sees them: lent.
 
 use Rattle.std.proofs.Common.{◌≡◌, ℕ, zero, suc, List, [], ◌∷◌, length, drop, map, refl, sym, ap}
-use Rattle.std.specs.Prelude.{◌==◌, ◌&&◌, Bool, if◌then◌else◌, Option, None, Some, codes, nat_le, option_map, slice_index_or}
+use Rattle.std.specs.Prelude.{◌==◌, ◌&&◌, Bool, true, false, if◌then◌else◌, Option, None, Some, codes, nat_le, option_map, slice_index_or}
 use Rattle.std.specs.Borrow.{Bor}
 use Rattle.std.specs.Str.{bytes_eq}
 use Rattle.std.proofs.lemmas.List.{drop-map, length-map}
@@ -9,7 +9,7 @@ use Rattle.sshcore.specs.ConfigData.{ByKey, ByNothing, ByPassword, Proving}
 use Rattle.sshlab.specs.declared.scenario_line.Step.{Step}
 use Rattle.sshlab.specs.ScenarioFields.{bytes_of, number_of, side_of}
 use Rattle.sshlab.specs.ScenarioView.{texts}
-use Rattle.sshlab.specs.Scenarios.{Allows, Denies, Distrusts, Does, Holds, Notes, Saying, Tries, client_value, delivery, field, proving, rounds, said_by, said_of_client, said_of_server, server_value, step}
+use Rattle.sshlab.specs.Scenarios.{Allows, Denies, Distrusts, Does, Holds, Notes, Saying, Tries, attempting, client_value, delivery, field, proving, rounds, said_by, said_of_client, said_of_server, server_value, step}
 
 abbrev pub Lent : Type 0
 Lent = List (Bor (List ℕ))
@@ -45,13 +45,18 @@ step_seen fields = rw (count_of fields, field_text fields 0, field_text fields 1
 pub proving_seen : (fields : Lent) → proving (texts fields) ≡ (
     if is_form fields (codes "none") 1 then Some ByNothing
     else if is_form fields (codes "password") 2 then option_map ByPassword (bytes_of (lent fields 1))
-    else if is_form fields (codes "publickey") 3 then option_map (ByKey (lent fields 1)) (bytes_of (lent fields 2)) else None)
+    else if is_form fields (codes "publickey") 3 then option_map (λ secret. ByKey (lent fields 1) secret false) (bytes_of (lent fields 2)) else None)
 unfolding proving
 proving_seen fields = rw (count_of fields, field_text fields 0, field_text fields 1, field_text fields 2) refl
 
+pub attempting_seen : (fields : Lent) → attempting (texts fields) ≡ (
+    if is_form fields (codes "query") 3 then option_map (λ secret. ByKey (lent fields 1) secret true) (bytes_of (lent fields 2)) else proving (texts fields))
+unfolding attempting
+attempting_seen fields = rw (count_of fields, field_text fields 0, field_text fields 1, field_text fields 2) refl
+
 pub of_client_seen : (fields : Lent) → said_of_client (texts fields) ≡ (
     if is_start fields (codes "try") 3 then
-    option_map (λ proof. Tries (record { user = lent fields 1; service = lent fields 2; proving = proof })) (proving (texts (drop 3 fields)))
+    option_map (λ proof. Tries (record { user = lent fields 1; service = lent fields 2; proving = proof })) (attempting (texts (drop 3 fields)))
     else if length fields == 2 then client_value (lent fields 0) (lent fields 1) else None)
 unfolding said_of_client
 of_client_seen fields = rw (count_of fields, rest_of 3 fields, field_text fields 0, field_text fields 1, field_text fields 2) refl

@@ -10,7 +10,7 @@ use Rattle.sshlab.specs.declared.scenario_line.Step.{Step}
 use Rattle.sshsuites.specs.LabParties.{lab_client, lab_server}
 use Rattle.sshsuites.specs.LabRules.{Allowance, LabRules, proof_by}
 use Rattle.sshlab.specs.ScenarioSettings.{with_side}
-use Rattle.sshlab.specs.Scenarios.{Allows, Denies, Distrusts, Does, Holds, Notes, OfClient, OfServer, OfSide, Saying, SetBanner, SetGuess, SetHostKeys, SetMethods, SetServices, SetTries, SideValue, Tries}
+use Rattle.sshlab.specs.Scenarios.{Allows, Denies, Distrusts, Does, Holds, Notes, OfClient, OfServer, OfSide, Saying, SetBanner, SetGuess, SetHostKeys, SetMethods, SetRequired, SetServices, SetTries, SideValue, Tries}
 
 -- the value that the lines set, which stands once at most, else the default
 abbrev pub set_or : {A : Type 0} → A → List A → A
@@ -51,6 +51,10 @@ abbrev pub methods_in : Saying → Option (List (List ℕ))
 methods_in (OfServer (SetMethods names)) = Some names
 methods_in saying = None
 
+abbrev pub required_in : Saying → Option (List (List ℕ))
+required_in (OfServer (SetRequired names)) = Some names
+required_in saying = None
+
 abbrev pub tries_in : Saying → Option ℕ
 tries_in (OfServer (SetTries tries)) = Some tries
 tries_in saying = None
@@ -70,7 +74,7 @@ distrusted_in saying = None
 
 -- a key whose algorithm isn't a name is no request's
 abbrev pub can_be_proved : Proving → Bool
-can_be_proved (ByKey algorithm secret) = is_name algorithm
+can_be_proved (ByKey algorithm secret ask) = is_name algorithm
 can_be_proved proving = true
 
 -- who is let in, and by what
@@ -106,6 +110,7 @@ server_of_lines sayings = record {
   host_keys = some_or lab_server.host_keys (filter_map host_key_in sayings);
   services = set_or lab_server.services (filter_map services_in sayings);
   methods = set_or lab_server.methods (filter_map methods_in sayings);
+  required = set_or lab_server.required (filter_map required_in sayings);
   tries = set_or lab_server.tries (filter_map tries_in sayings);
   banner = set_or lab_server.banner (filter_map banner_in sayings);
   notices = filter_map notice_in sayings;

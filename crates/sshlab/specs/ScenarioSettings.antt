@@ -6,7 +6,7 @@ use Rattle.sshworld.specs.declared.side.Side.{Side}
 use Rattle.sshworld.specs.declared.side.Side.TheVariants.{Client, Server}
 use Rattle.sshlab.specs.declared.scenario_settings.Setting.{Setting}
 use Rattle.sshlab.specs.declared.scenario_settings.Setting.TheVariants as setting
-use Rattle.sshlab.specs.Scenarios.{ClientValue, OfClient, OfServer, OfSide, Saying, ServerValue, SetBanner, SetCipherToClient, SetCipherToServer, SetCookie, SetGuess, SetHostKeys, SetKex, SetMacToClient, SetMacToServer, SetMethods, SetRandom, SetSeed, SetServices, SetStrict, SetTries, SetVersion, SideValue}
+use Rattle.sshlab.specs.Scenarios.{ClientValue, OfClient, OfServer, OfSide, Saying, ServerValue, SetBanner, SetCipherToClient, SetCipherToServer, SetCookie, SetGuess, SetHostKeys, SetKex, SetMacToClient, SetMacToServer, SetMethods, SetRandom, SetRequired, SetSeed, SetServices, SetStrict, SetTries, SetVersion, SideValue}
 
 abbrev pub side_setting : SideValue → Setting
 side_setting (SetVersion text) = setting.Version
@@ -27,6 +27,7 @@ client_setting (SetGuess guess) = setting.Guess
 abbrev pub server_setting : ServerValue → Setting
 server_setting (SetServices names) = setting.Services
 server_setting (SetMethods names) = setting.Methods
+server_setting (SetRequired names) = setting.Required
 server_setting (SetTries tries) = setting.Tries
 server_setting (SetBanner text) = setting.Banner
 
@@ -57,5 +58,6 @@ with_client client (SetGuess guess) = record client { guess = guess }
 abbrev pub with_server : ServerData → ServerValue → ServerData
 with_server server (SetServices names) = record server { services = names }
 with_server server (SetMethods names) = record server { methods = names }
+with_server server (SetRequired names) = record server { required = names }
 with_server server (SetTries tries) = record server { tries = tries }
 with_server server (SetBanner text) = record server { banner = Some text }

@@ -11,7 +11,7 @@ use Rattle.sshlab.specs.declared.scenario_line.ServerSetting.{ServerSetting}
 use Rattle.sshlab.specs.declared.scenario_line.ServerSetting.TheVariants as server
 use Rattle.sshlab.specs.declared.scenario_line.Statement.{Statement}
 use Rattle.sshlab.specs.declared.scenario_line.Statement.TheVariants as statement
-use Rattle.sshlab.specs.Scenarios.{Allows, ClientValue, Denies, Distrusts, Does, Holds, Notes, OfClient, OfServer, OfSide, Saying, ServerValue, SetBanner, SetCipherToClient, SetCipherToServer, SetCookie, SetGuess, SetHostKeys, SetKex, SetMacToClient, SetMacToServer, SetMethods, SetRandom, SetSeed, SetServices, SetStrict, SetTries, SetVersion, SideValue, Tries}
+use Rattle.sshlab.specs.Scenarios.{Allows, ClientValue, Denies, Distrusts, Does, Holds, Notes, OfClient, OfServer, OfSide, Saying, ServerValue, SetBanner, SetCipherToClient, SetCipherToServer, SetCookie, SetGuess, SetHostKeys, SetKex, SetMacToClient, SetMacToServer, SetMethods, SetRandom, SetRequired, SetSeed, SetServices, SetStrict, SetTries, SetVersion, SideValue, Tries}
 
 -- texts that are lent
 abbrev pub texts : List (Bor (List ℕ)) → List (List ℕ)
@@ -36,6 +36,7 @@ client_value_of (client.Guess guess) = SetGuess guess
 abbrev pub server_value_of : ServerSetting → ServerValue
 server_value_of (server.Services names) = SetServices (map string_bytes names.items)
 server_value_of (server.Methods names) = SetMethods (map string_bytes names.items)
+server_value_of (server.Required names) = SetRequired (map string_bytes names.items)
 server_value_of (server.Tries tries) = SetTries tries
 server_value_of (server.Banner text) = SetBanner text.items
 

@@ -1,6 +1,6 @@
 -- What the lines of a scenario say.
 
-use Rattle.std.specs.Prelude.{ℕ, ◌==◌, ◌&&◌, ◌||◌, nat_le, Bool, if◌then◌else◌, List, [], length, drop, codes, Option, Some, None, option_map, slice_index, slice_index_or}
+use Rattle.std.specs.Prelude.{ℕ, ◌==◌, ◌&&◌, ◌||◌, nat_le, Bool, true, false, if◌then◌else◌, List, [], length, drop, codes, Option, Some, None, option_map, slice_index, slice_index_or}
 use Rattle.std.specs.List.{list_all, list_any}
 use Rattle.std.specs.Str.{bytes_eq}
 use Rattle.sshcore.specs.ConfigData.{Attempt, ByKey, ByNothing, ByPassword, HostKey, Proving}
@@ -33,6 +33,7 @@ pub data ClientValue : Type 0 where
 pub data ServerValue : Type 0 where
   SetServices : List (List ℕ) → ServerValue
   SetMethods : List (List ℕ) → ServerValue
+  SetRequired : List (List ℕ) → ServerValue
   SetTries : ℕ → ServerValue
   SetBanner : List ℕ → ServerValue
 
@@ -91,6 +92,7 @@ unfoldable pub server_value : List ℕ → List ℕ → Option Saying
 server_value name value =
     if bytes_eq name (codes "services") then Some (OfServer (SetServices (list_of value)))
     else if bytes_eq name (codes "methods") then Some (OfServer (SetMethods (list_of value)))
+    else if bytes_eq name (codes "required") then Some (OfServer (SetRequired (list_of value)))
     else if bytes_eq name (codes "tries") then option_map (λ tries. OfServer (SetTries tries)) (number_of value)
     else if bytes_eq name (codes "banner") then option_map (λ text. OfServer (SetBanner text)) (bytes_of value)
     else option_map (OfSide Server) (side_value name value)
@@ -100,7 +102,12 @@ unfoldable pub proving : Fields → Option Proving
 proving fields =
     if has_form fields (codes "none") 1 then Some ByNothing
     else if has_form fields (codes "password") 2 then option_map ByPassword (bytes_of (field fields 1))
-    else if has_form fields (codes "publickey") 3 then option_map (ByKey (field fields 1)) (bytes_of (field fields 2)) else None
+    else if has_form fields (codes "publickey") 3 then option_map (λ secret. ByKey (field fields 1) secret false) (bytes_of (field fields 2)) else None
+
+-- how an attempt proves its user by these fields: as above, or `query ALG HEX`, by a key about which the server is asked first
+unfoldable pub attempting : Fields → Option Proving
+attempting fields =
+    if has_form fields (codes "query") 3 then option_map (λ secret. ByKey (field fields 1) secret true) (bytes_of (field fields 2)) else proving fields
 
 -- a delivery to a side
 abbrev pub delivery : Option Side → Option ℕ → Option Step
@@ -118,11 +125,11 @@ step fields =
     if has_form fields (codes "deliver") 3 then delivery (side_of (field fields 1)) (number_of (field fields 2))
     else if has_form fields (codes "settle") 2 then rounds (number_of (field fields 1)) else None
 
--- what is said by the fields behind `client`: `try USER SERVICE PROOF`, or a setting
+-- what is said by the fields behind `client`: `try USER SERVICE PROOF`, `try USER SERVICE query ALG HEX`, or a setting
 unfoldable pub said_of_client : Fields → Option Saying
 said_of_client fields =
     if begins_with_word fields (codes "try") 3 then
-    option_map (λ proof. Tries (record { user = field fields 1; service = field fields 2; proving = proof })) (proving (drop 3 fields))
+    option_map (λ proof. Tries (record { user = field fields 1; service = field fields 2; proving = proof })) (attempting (drop 3 fields))
     else if length fields == 2 then client_value (field fields 0) (field fields 1) else None
 
 -- what is said by the fields behind `server`: `hostkey ALG HEX`, `notice HEX`, or a setting

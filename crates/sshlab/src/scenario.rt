@@ -26,12 +26,14 @@
 //! | `client guess YN` | `no` |
 //! | `server services LIST` | `ssh-connection` |
 //! | `server methods LIST` | `password,publickey` |
+//! | `server required LIST` (of its methods) | `-` |
 //! | `server tries N` | 6 |
 //! | `server banner HEX` | no banner |
 //!
 //! | Line, any number of times | Meaning |
 //! |---|---|
 //! | `client try USER SERVICE PROOF` | an attempt of the client's plan |
+//! | `client try USER SERVICE query ALG HEX` | one by a key about which the server is asked first |
 //! | `server hostkey ALG HEX` | a host key, with its private key; with no such line the server has the key 00 for `h` |
 //! | `server notice HEX` | a line before the server's version line |
 //! | `distrust ALG` | host keys of this algorithm aren't trusted |

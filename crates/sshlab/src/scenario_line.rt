@@ -4,7 +4,7 @@ ghost use Rattle.std.specs.Prelude.{◌≡◌, ◌==◌, Err, IfOk, None, Some, 
 ghost use Rattle.std.specs.List.{list_all, list_any};
 ghost use Rattle.sshcore.specs.ConfigView.{proving_of};
 ghost use Rattle.sshlab.specs.ScenarioFields.{side_of};
-ghost use Rattle.sshlab.specs.Scenarios.{client_value, is_line_byte, is_text, proving, said_by, said_in_fields, said_of_client, said_of_server, says_nothing, server_value, side_value, statement, step};
+ghost use Rattle.sshlab.specs.Scenarios.{attempting, client_value, is_line_byte, is_text, proving, said_by, said_in_fields, said_of_client, said_of_server, says_nothing, server_value, side_value, statement, step};
 ghost use Rattle.sshlab.specs.ScenarioView.{saying_of, side_value_of, texts};
 ghost use Rattle.sshlab.specs.declared.scenario_fields.LineFault.TheVariants as fault;
 
@@ -81,6 +81,7 @@ pub(crate) enum ClientSetting {
 pub(crate) enum ServerSetting {
     Services(Vec<String>),
     Methods(Vec<String>),
+    Required(Vec<String>),
     Tries(u32),
     Banner(Vec<u8>),
 }
@@ -179,7 +180,7 @@ fn said_of_client(alloc: Global, fields: &[&str]) -> Result<Statement, LineFault
         ["try", user, service, ref proof @ ..] => Ok(Statement::Try(Attempt {
             user: text_of(alloc, user)?,
             service: text_of(alloc, service)?,
-            credential: credential_of(alloc, proof)?,
+            credential: attempted_by(alloc, proof)?,
         })),
         [name, value] => client_setting(alloc, name, value),
         _ => Err(LineFault::Form),
@@ -250,8 +251,26 @@ fn credential_of(alloc: Global, fields: &[&str]) -> Result<Credential, LineFault
         ["publickey", algorithm, private_key] => Ok(Credential::PublicKey {
             algorithm: text_of(alloc, algorithm)?,
             private_key: bytes_of(alloc, private_key)?,
+            ask: false,
         }),
         _ => Err(LineFault::Form),
+    }
+}
+
+/// How an attempt proves its user by these fields: as above, or `query ALG HEX`, by a key about which the
+/// server is asked first.
+#[tactic(auto, unfolding(crate::specs::Scenarios::attempting))]
+fn attempted_by(alloc: Global, fields: &[&str]) -> Result<Credential, LineFault>
+    ensures value { IfOk result (λ credential. attempting (texts fields.now) ≡ Some (proving_of credential)) }
+    ensures form { result ≡ Err fault.Form → attempting (texts fields.now) ≡ None }
+{
+    match *fields {
+        ["query", algorithm, private_key] => Ok(Credential::PublicKey {
+            algorithm: text_of(alloc, algorithm)?,
+            private_key: bytes_of(alloc, private_key)?,
+            ask: true,
+        }),
+        _ => credential_of(alloc, fields),
     }
 }
 
@@ -279,6 +298,7 @@ fn server_setting(alloc: Global, name: &str, value: &str) -> Result<Statement, L
     match name {
         "services" => Ok(Statement::Server(ServerSetting::Services(list_of(alloc, value)?))),
         "methods" => Ok(Statement::Server(ServerSetting::Methods(list_of(alloc, value)?))),
+        "required" => Ok(Statement::Server(ServerSetting::Required(list_of(alloc, value)?))),
         "tries" => Ok(Statement::Server(ServerSetting::Tries(number_of(value)?))),
         "banner" => Ok(Statement::Server(ServerSetting::Banner(bytes_of(alloc, value)?))),
         _ => Ok(Statement::Either(Side::Server, side_setting(alloc, name, value)?)),

@@ -26,6 +26,7 @@ pub(crate) enum Setting {
     Guess,
     Services,
     Methods,
+    Required,
     Tries,
     Banner,
 }
@@ -74,6 +75,7 @@ fn server_setting(setting: &ServerSetting) -> Setting
     match setting {
         ServerSetting::Services(_) => Setting::Services,
         ServerSetting::Methods(_) => Setting::Methods,
+        ServerSetting::Required(_) => Setting::Required,
         ServerSetting::Tries(_) => Setting::Tries,
         ServerSetting::Banner(_) => Setting::Banner,
     }
@@ -114,6 +116,7 @@ pub(crate) fn set_server(parts: &mut ServerParts, setting: ServerSetting)
     match setting {
         ServerSetting::Services(names) => parts.services = names,
         ServerSetting::Methods(names) => parts.methods = names,
+        ServerSetting::Required(names) => parts.required = names,
         ServerSetting::Tries(tries) => parts.tries = tries,
         ServerSetting::Banner(text) => parts.banner = Some(text),
     }

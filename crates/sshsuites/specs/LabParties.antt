@@ -32,6 +32,7 @@ lab_server = record {
   host_keys = lab_host_key ∷ [];
   services = codes "ssh-connection" ∷ [];
   methods = codes "password" ∷ codes "publickey" ∷ [];
+  required = [];
   tries = 6;
   banner = None;
   notices = [];

@@ -22,7 +22,7 @@ pub record LabRules : Type 0 where
 abbrev pub proof_by : Proving → ProofData
 proof_by ByNothing = NoProof
 proof_by (ByPassword password) = PasswordProof password
-proof_by (ByKey algorithm secret) = KeyProof algorithm (lab_blob algorithm secret)
+proof_by (ByKey algorithm secret ask) = KeyProof algorithm (lab_blob algorithm secret)
 
 -- two proofs are the same
 abbrev pub is_proof : ProofData → ProofData → Bool

@@ -137,6 +137,7 @@ fn proof_by(alloc: Global, credential: &Credential) -> Result<OwnProof, Memory>
         Credential::PublicKey {
             algorithm,
             private_key,
+            ..
         } => Ok(OwnProof::Key {
             algorithm: String::from_str(alloc, algorithm)?,
             blob: blob(alloc, algorithm, private_key)?,

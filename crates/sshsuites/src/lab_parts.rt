@@ -25,8 +25,8 @@ pub fn lab_client_parts(alloc: Global) -> Result<ClientParts, Memory>
 }
 
 /// The parts of a server with the same algorithms, strict: the private key of its host key `h` is the
-/// byte 00, its service `ssh-connection`, and its methods `password` and `publickey`, with 6 tries, no
-/// banner and no notice lines; the cookie is 16 bytes ff, the exchange random 32 bytes 33 and the
+/// byte 00, its service `ssh-connection`, and its methods `password` and `publickey`, none of them
+/// required, with 6 tries, no banner and no notice lines; the cookie is 16 bytes ff, the exchange random 32 bytes 33 and the
 /// padding seed 32 bytes 44, all hexadecimal. Answers `Memory` for want of memory.
 pub fn lab_server_parts(alloc: Global) -> Result<ServerParts, Memory>
     ensures { IfOk result (λ parts. server_data parts ≡ lab_server) }
@@ -41,6 +41,7 @@ pub fn lab_server_parts(alloc: Global) -> Result<ServerParts, Memory>
         host_keys,
         services,
         methods,
+        required: Vec::new(alloc),
         tries: 6,
         banner: None,
         notice_lines: Vec::new(alloc),
