@@ -47,7 +47,7 @@ module _ (m : Meaning) (d : Policy) (role : Role) (party : Party) where
 
 module _ {S D : Type 0} (meaning : S → Meaning) (policy : D → Policy) where
   module _ (laws : Laws) (below : Below) (c : ClientData) (s : ServerData) (client server : EndpointData S D) (client_heard client_said server_heard server_said : List ℕ)
-      (lawful : IsLawful (meaning client.suite)) (hear : BothHear (meaning client.suite) (policy client.decisions) c s (wording_of (meaning client.suite) c s))
+      (lawful : IsLawful (meaning client.suite)) (hear : BothHear (meaning client.suite) (policy client.decisions) c s (wording_of (meaning client.suite) (policy client.decisions) c s))
       (j : AreJoined meaning policy c s client server client_heard client_said server_heard server_said) (a b : AgreedData)
       (is : ending_of client ≡ Authenticated a) (other_is : ending_of server ≡ Authenticated b) where
     client_history : History (meaning client.suite) (policy client.decisions) Client (client_party c) j.client_after.units j.client_after.rest None j.client_after.answers (Authenticated a) client_heard client_said
@@ -70,7 +70,7 @@ module _ {S D : Type 0} (meaning : S → Meaning) (policy : D → Policy) where
     joined_heard =
         let p = j.client_after in
         let q = j.server_after in
-        all_heard laws below (meaning client.suite) (policy client.decisions) lawful c s (wording_of (meaning client.suite) c s) hear p.units p.answers p.rest client_heard client_said a client_history
+        all_heard laws below (meaning client.suite) (policy client.decisions) lawful c s (wording_of (meaning client.suite) (policy client.decisions) c s) hear p.units p.answers p.rest client_heard client_said a client_history
         q.units q.answers q.rest server_heard server_said b server_history j.to_client j.to_server
 
     pub joined_crosswise : (one other : Session) → IsSession (meaning client.suite) client.role client.party j.client_after.units j.client_after.answers a one
@@ -78,7 +78,7 @@ module _ {S D : Type 0} (meaning : S → Meaning) (policy : D → Policy) where
     joined_crosswise one other t u =
         let p = j.client_after in
         let q = j.server_after in
-        crosswise laws below (meaning client.suite) (policy client.decisions) lawful c s (wording_of (meaning client.suite) c s) hear p.units p.answers p.rest client_heard client_said a client_history
+        crosswise laws below (meaning client.suite) (policy client.decisions) lawful c s (wording_of (meaning client.suite) (policy client.decisions) c s) hear p.units p.answers p.rest client_heard client_said a client_history
         q.units q.answers q.rest server_heard server_said b server_history j.to_client j.to_server one other
         (subst (λ (r : Role). IsSession (meaning client.suite) r (client_party c) p.units p.answers a one) j.is_client
         (subst (λ (x : Party). IsSession (meaning client.suite) client.role x p.units p.answers a one) j.of_client t))

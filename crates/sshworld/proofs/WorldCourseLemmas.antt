@@ -65,8 +65,8 @@ module _ {S D : Type 0} (meaning : S → Meaning) (policy : D → Policy) (clien
       → ending_of client.endpoint ≢ Failed fault.Cut → ending_of server.endpoint ≢ Failed fault.Cut → IsOnCourse meaning policy (seen client_config server_config suite decisions client server)
   made_on_course laws client server s none other_none whole other_whole hear =
       begins laws (meaning suite) (policy decisions)
-      (client_partner (meaning suite) (policy decisions) client_config server_config (wording_of (meaning suite) client_config server_config))
-      (server_partner (meaning suite) (policy decisions) client_config server_config (wording_of (meaning suite) client_config server_config))
+      (client_partner (meaning suite) (policy decisions) client_config server_config (wording_of (meaning suite) (policy decisions) client_config server_config))
+      (server_partner (meaning suite) (policy decisions) client_config server_config (wording_of (meaning suite) (policy decisions) client_config server_config))
       (half_of client) (half_of server) none other_none
       (node_history meaning policy role.Client (client_party client_config) suite decisions client server s.client_stands whole)
       (node_history meaning policy role.Server (server_party server_config) suite decisions server client s.server_stands other_whole)
@@ -77,12 +77,12 @@ module _ {S D : Type 0} (meaning : S → Meaning) (policy : D → Policy) (clien
       → Receives meaning policy their.sent.items own next → IsOnCourse meaning policy (seen_at meaning policy client_config server_config suite decisions to next their)
   received_on_course laws lawful Client own their next s on whole r hear =
       stays_on_course meaning policy laws suite decisions lawful
-      (client_partner (meaning suite) (policy decisions) client_config server_config (wording_of (meaning suite) client_config server_config))
-      (server_partner (meaning suite) (policy decisions) client_config server_config (wording_of (meaning suite) client_config server_config))
+      (client_partner (meaning suite) (policy decisions) client_config server_config (wording_of (meaning suite) (policy decisions) client_config server_config))
+      (server_partner (meaning suite) (policy decisions) client_config server_config (wording_of (meaning suite) (policy decisions) client_config server_config))
       hear.to_client own next their (on hear) (received meaning policy client_config server_config suite decisions Client own their next s r).client_stands whole r
   received_on_course laws lawful Server own their next s on whole r hear =
-      let cp : Partner = client_partner (meaning suite) (policy decisions) client_config server_config (wording_of (meaning suite) client_config server_config) in
-      let sp : Partner = server_partner (meaning suite) (policy decisions) client_config server_config (wording_of (meaning suite) client_config server_config) in
+      let cp : Partner = client_partner (meaning suite) (policy decisions) client_config server_config (wording_of (meaning suite) (policy decisions) client_config server_config) in
+      let sp : Partner = server_partner (meaning suite) (policy decisions) client_config server_config (wording_of (meaning suite) (policy decisions) client_config server_config) in
       flip_course (meaning suite) (policy decisions) sp cp (half_of next) (half_of their)
       (stays_on_course meaning policy laws suite decisions lawful sp cp hear.to_server own next their (flip_course (meaning suite) (policy decisions) cp sp (half_of their) (half_of own) (on hear))
       (received meaning policy client_config server_config suite decisions Server own their next s r).server_stands whole r)
@@ -133,16 +133,16 @@ module _ {S D : Type 0} (meaning : S → Meaning) (policy : D → Policy) (laws 
     turned_so lawful Client hear on later had had_new all heard counts =
         let on_old = on hear in
         let same : server_new ≡ server = all.sender in
-        let on_new = subst (λ (q : Half). BothOnCourse (meaning suite) (policy decisions) (client_partner (meaning suite) (policy decisions) c s (wording_of (meaning suite) c s)) (server_partner (meaning suite) (policy decisions) c s (wording_of (meaning suite) c s)) client_new q) same (later hear) in
+        let on_new = subst (λ (q : Half). BothOnCourse (meaning suite) (policy decisions) (client_partner (meaning suite) (policy decisions) c s (wording_of (meaning suite) (policy decisions) c s)) (server_partner (meaning suite) (policy decisions) c s (wording_of (meaning suite) (policy decisions) c s)) client_new q) same (later hear) in
         subst (λ (q : Half). HaveHeardIn meaning policy (w client_new q) (turn (part_of_client_in meaning policy (w client server)) (part_of_server_in meaning policy (w client server)) Client heard)) (sym same)
-        (client_turn laws (meaning suite) (policy decisions) lawful c s (wording_of (meaning suite) c s) hear client client_new server heard on_old on_new had_new.client_had had.server_had
+        (client_turn laws (meaning suite) (policy decisions) lawful c s (wording_of (meaning suite) (policy decisions) c s) hear client client_new server heard on_old on_new had_new.client_had had.server_had
         (taken_all client client_new server all.receiver on_old.own_side.replies.moved_within) counts)
     turned_so lawful Server hear on later had had_new all heard counts =
         let on_old = on hear in
         let same : client_new ≡ client = all.sender in
-        let on_new = subst (λ (q : Half). BothOnCourse (meaning suite) (policy decisions) (client_partner (meaning suite) (policy decisions) c s (wording_of (meaning suite) c s)) (server_partner (meaning suite) (policy decisions) c s (wording_of (meaning suite) c s)) q server_new) same (later hear) in
+        let on_new = subst (λ (q : Half). BothOnCourse (meaning suite) (policy decisions) (client_partner (meaning suite) (policy decisions) c s (wording_of (meaning suite) (policy decisions) c s)) (server_partner (meaning suite) (policy decisions) c s (wording_of (meaning suite) (policy decisions) c s)) q server_new) same (later hear) in
         subst (λ (q : Half). HaveHeardIn meaning policy (w q server_new) (turn (part_of_client_in meaning policy (w client server)) (part_of_server_in meaning policy (w client server)) Server heard)) (sym same)
-        (server_turn laws (meaning suite) (policy decisions) lawful c s (wording_of (meaning suite) c s) hear client server server_new heard on_old on_new had.client_had had_new.server_had
+        (server_turn laws (meaning suite) (policy decisions) lawful c s (wording_of (meaning suite) (policy decisions) c s) hear client server server_new heard on_old on_new had.client_had had_new.server_had
         (taken_all server server_new client all.receiver on_old.their_side.replies.moved_within) counts)
 
   -- All that waits to one side: both have heard what that turn brings.
