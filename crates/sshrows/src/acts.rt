@@ -5,7 +5,7 @@ use crate::endpoints::{Subject, talk};
 use crate::names::Names;
 use crate::row::Line;
 use crate::stop::Stop;
-use crate::texts::{same_text, shows, wrong};
+use crate::texts::{nothing_behind, same_text, shows, wrong};
 use crate::worlds::{judge_prediction, judge_world};
 use sshcore::{Decisions, Endpoint, Proof};
 use sshlab::{Scenario, ScenarioFault, TEXT_LIMIT};
@@ -68,12 +68,16 @@ pub(crate) fn act(
                 ),
                 "world" => judge_world(alloc, &scenario, rest),
                 "predict" => judge_prediction(alloc, &scenario, rest),
+                "accepted" => nothing_behind(alloc, rest),
                 _ => wrong(alloc, line, "config", role, "accepted"),
             }
         }
         Err(ScenarioFault::Memory) => Err(Stop::Memory),
         Err(fault) => match word {
-            "refused" => shows(alloc, line, "config", role, &fault),
+            "refused" => {
+                shows(alloc, line, "config", role, &fault)?;
+                nothing_behind(alloc, rest)
+            }
             _ => shows(alloc, line, "config", "accepted", &fault),
         },
     }

@@ -4,7 +4,7 @@ use crate::names::Names;
 use crate::row::Line;
 use crate::stop::Stop;
 use crate::terms::bytes_of;
-use crate::texts::{same_text, wrong, yes_or_no};
+use crate::texts::{flag_of, same_text, wrong, yes_or_no};
 use sshmsg::{KexInit, Message, read};
 use sshneg::{Chosen, Role, choose, guess_right, strict_of};
 use sshsuites::LabSuite;
@@ -76,11 +76,21 @@ fn judge_strict(
 ) -> Result<(), Stop> {
     let (role, rest) = rest.split_once(' ').unwrap_or((rest, ""));
     let (willing, wanted) = rest.split_once(' ').unwrap_or((rest, ""));
-    let strict = match role {
-        "client" => strict_of(willing == "yes", Role::Client, server),
-        _ => strict_of(willing == "yes", Role::Server, client),
+    let willing = flag_of(alloc, line, willing)?;
+    let strict = match role_of(alloc, line, role)? {
+        Role::Client => strict_of(willing, Role::Client, server),
+        Role::Server => strict_of(willing, Role::Server, client),
     };
     same_text(alloc, line, "strict", wanted, yes_or_no(strict))
+}
+
+/// The role that the word names.
+pub(crate) fn role_of(alloc: Global, line: &Line<'_>, word: &str) -> Result<Role, Stop> {
+    match word {
+        "client" => Ok(Role::Client),
+        "server" => Ok(Role::Server),
+        _ => wrong(alloc, line, "role", "client or server", word),
+    }
 }
 
 /// The positions, from 0: methods, host key algorithms, ciphers, MACs and compressions, to the server first.

@@ -2,6 +2,7 @@
 
 ghost use Rattle.std.specs.Prelude.{◌<◌, ◌^◌, length};
 
+use crate::below_choices::role_of;
 use crate::below_texts::text_with;
 use crate::names::Names;
 use crate::row::Line;
@@ -129,10 +130,7 @@ fn judge_keys(alloc: Global, line: &Line<'_>, parts: &Parts, words: &str) -> Res
     let (role, words) = words.split_once(' ').unwrap_or((words, ""));
     let (cipher, words) = words.split_once(' ').unwrap_or((words, ""));
     let (mac, _) = words.split_once(' ').unwrap_or((words, ""));
-    let sender = match role {
-        "client" => Role::Client,
-        _ => Role::Server,
-    };
+    let sender = role_of(alloc, line, role)?;
     let found = text_of_keys(alloc, line, parts, sender, cipher, mac)?;
     same_text(alloc, line, "keys", words, &found)
 }

@@ -5,7 +5,7 @@ use crate::names::Names;
 use crate::row::Line;
 use crate::stop::Stop;
 use crate::terms::bytes_of;
-use crate::texts::{same_text, shows, wrong};
+use crate::texts::{number_of, same_text, shows, wrong};
 use sshwire::{LineReader, LineStep};
 use std::alloc::Global;
 
@@ -28,9 +28,7 @@ pub(crate) fn judge_hearing(
     lines: &[Line<'_>],
     piece_len: usize,
 ) -> Result<(), Stop> {
-    let Ok(others) = others.parse::<u32>() else {
-        return wrong(alloc, line, "lines", "a number", others);
-    };
+    let others = number_of(alloc, line, others)?;
     let end = String::from_str(alloc, "open")?;
     let mut hearer = Hearer {
         reader: LineReader::new(alloc, others),

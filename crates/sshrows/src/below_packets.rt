@@ -5,7 +5,7 @@ use crate::names::Names;
 use crate::row::Line;
 use crate::stop::Stop;
 use crate::terms::bytes_of;
-use crate::texts::{same_bytes, same_text, shows, wrong};
+use crate::texts::{flag_of, number_of, same_bytes, same_text, shows, wrong};
 use sshpacket::{KeyParts, Keys, PacketReader, PacketStep, Suite, write_clear, write_sealed};
 use sshwire::{PAYLOAD_LIMIT, as_name};
 use std::alloc::Global;
@@ -134,11 +134,12 @@ fn use_keys(
     rest: &str,
 ) -> Result<(), Stop> {
     let (reset, terms) = rest.split_once(' ').unwrap_or((rest, ""));
+    let reset = flag_of(alloc, line, reset)?;
     let (keys, _) = keys_of(alloc, names, line, terms)?;
     if !receiver.reader.is_idle() {
         return wrong(alloc, line, "held", "nothing", "a part of a packet");
     }
-    receiver.reader.use_keys(keys, reset == "yes");
+    receiver.reader.use_keys(keys, reset);
     Ok(())
 }
 
@@ -242,7 +243,7 @@ fn put_packet<'a, S: Suite>(
     let (number, words) = words.split_once(' ').unwrap_or((words, ""));
     let (seed, words) = words.split_once(' ').unwrap_or((words, "-"));
     let (payload, words) = words.split_once(' ').unwrap_or((words, "-"));
-    let number = number.parse::<u32>().unwrap_or(0);
+    let number = number_of(alloc, line, number)?;
     let seed = bytes_of(alloc, names, line, seed)?;
     let payload = bytes_of(alloc, names, line, payload)?;
     if payload.is_empty() || payload.len() > PAYLOAD_LIMIT || seed.len() > PAYLOAD_LIMIT {

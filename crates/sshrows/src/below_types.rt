@@ -5,7 +5,7 @@ use crate::names::Names;
 use crate::row::Line;
 use crate::stop::Stop;
 use crate::terms::bytes_of;
-use crate::texts::{same_bytes, same_text, wrong, yes_or_no};
+use crate::texts::{flag_of, number_of, same_bytes, same_text, wrong, yes_or_no};
 use sshwire::{
     BorrowedNameList, Mpint, NameList, Reader, VersionLine, WireFault, as_name, put_boolean,
     put_mpint, put_string, put_u32,
@@ -126,8 +126,8 @@ pub(crate) fn judge_putting(alloc: Global, names: &Names, lines: &[Line<'_>]) ->
 fn put(alloc: Global, names: &Names, line: &Line<'_>, out: &mut Vec<u8>) -> Result<(), Stop> {
     let (call, rest) = line.text.split_once(' ').unwrap_or((line.text, ""));
     match call {
-        "boolean" => Ok(put_boolean(out, rest == "yes")?),
-        "u32" => Ok(put_u32(out, rest.parse::<u32>().unwrap_or(0))?),
+        "boolean" => Ok(put_boolean(out, flag_of(alloc, line, rest)?)?),
+        "u32" => Ok(put_u32(out, number_of(alloc, line, rest)?)?),
         _ => {
             let bytes = bytes_of(alloc, names, line, rest)?;
             put_bytes(alloc, line, call, &bytes, out)

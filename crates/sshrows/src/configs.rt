@@ -7,7 +7,7 @@ use crate::parts::{client_by, server_by};
 use crate::row::Line;
 use crate::stop::Stop;
 use crate::terms::bytes_of;
-use crate::texts::{same_bytes, same_text, shows, wrong};
+use crate::texts::{nothing_behind, same_bytes, same_text, shows, wrong};
 use sshcore::{ClientConfig, ConfigFault, Endpoint, ServerConfig};
 use sshmsg::{KexInit, Message, write};
 use sshsuites::LabSuite;
@@ -28,6 +28,9 @@ pub(crate) fn judge_config(
     let Some((line, rest)) = judged.split_first() else {
         return wrong(alloc, row, "row", "what comes of the config", "none");
     };
+    if line.text != "generous" {
+        nothing_behind(alloc, rest)?;
+    }
     match role {
         "client" => {
             let parts = client_by(alloc, names, parts)?;

@@ -2,7 +2,7 @@
 
 use crate::row::Line;
 use crate::stop::Stop;
-use crate::texts::{same_text, shows, text_of_agreed, text_of_end, wrong, yes_or_no};
+use crate::texts::{number_of, same_text, shows, text_of_agreed, text_of_end, wrong, yes_or_no};
 use sshcore::End;
 use sshlab::Scenario;
 use sshsuites::{LabDecisions, LabSuite};
@@ -45,9 +45,9 @@ fn step(alloc: Global, line: &Line<'_>, world: &mut LabWorld<'_>) -> Result<(), 
     let (word, rest) = line.text.split_once(' ').unwrap_or((line.text, ""));
     match word {
         "move" => deliver(alloc, line, world, rest),
-        "run" => run(alloc, world, rest),
-        "rounds" => Ok(world.settle(rest.parse::<u32>().unwrap_or(0))?),
-        "turns" => alternate(world, rest.parse::<u32>().unwrap_or(0)),
+        "run" => run(alloc, line, world, rest),
+        "rounds" => Ok(world.settle(number_of(alloc, line, rest)?)?),
+        "turns" => alternate(world, number_of(alloc, line, rest)?),
         "complete" => same_text(alloc, line, "complete", rest, yes_or_no(world.complete())),
         _ => judge_ends(alloc, line, world.ends()),
     }
@@ -62,17 +62,17 @@ fn deliver(
 ) -> Result<(), Stop> {
     let (side, rest) = rest.split_once(' ').unwrap_or((rest, ""));
     let (count, wanted) = rest.split_once(' ').unwrap_or((rest, ""));
-    let to = if side == "client" {
-        Side::Client
-    } else {
-        Side::Server
+    let to = match side {
+        "client" => Side::Client,
+        "server" => Side::Server,
+        _ => return wrong(alloc, line, "side", "client or server", side),
     };
-    let moved = world.deliver(to, count.parse::<u32>().unwrap_or(0))?;
+    let moved = world.deliver(to, number_of(alloc, line, count)?)?;
     shows(alloc, line, "moved", wanted, &moved)
 }
 
 /// `SIDE COUNT SIDE COUNT ..`: a schedule, done by one call.
-fn run(alloc: Global, world: &mut LabWorld<'_>, words: &str) -> Result<(), Stop> {
+fn run(alloc: Global, line: &Line<'_>, world: &mut LabWorld<'_>, words: &str) -> Result<(), Stop> {
     let mut schedule = Vec::new(alloc);
     let mut to = Side::Client;
     for word in words.split(' ') {
@@ -80,7 +80,7 @@ fn run(alloc: Global, world: &mut LabWorld<'_>, words: &str) -> Result<(), Stop>
             "client" => to = Side::Client,
             "server" => to = Side::Server,
             _ => {
-                let count = word.parse::<u32>().unwrap_or(0);
+                let count = number_of(alloc, line, word)?;
                 schedule.push(Delivery { to, count })?;
             }
         }
