@@ -73,16 +73,25 @@ pub(crate) fn talk<D: Decisions>(
     lines: &[Line<'_>],
 ) -> Result<(), Stop> {
     let mut subject = subject;
-    let place = lines
-        .iter()
-        .position(|line| line.text.starts_with("session "));
-    let (steps, handed) = lines.split_at(place.unwrap_or(lines.len()).min(lines.len()));
+    let place = place_of_session(lines);
+    let steps = lines.get(..place).unwrap_or(lines);
+    let handed = lines.get(place..).unwrap_or(&[]);
     talk_on(alloc, names, row, &mut subject, steps)?;
     if handed.is_empty() {
         return Ok(());
     }
     let session = session_of(subject);
     judge_session(alloc, &session, handed)
+}
+
+/// The place of the first line of a session; that behind all lines where there is none.
+fn place_of_session(lines: &[Line<'_>]) -> usize {
+    for (place, line) in lines.iter().enumerate() {
+        if line.text.starts_with("session ") {
+            return place;
+        }
+    }
+    lines.len()
 }
 
 /// What the endpoint hands over.
