@@ -3,5 +3,4 @@
 #![tactic(auto)]
 
 pub mod bytes;
-pub mod lab;
 pub mod pieces;
