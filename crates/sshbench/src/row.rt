@@ -18,18 +18,12 @@ pub(crate) enum Beside {
     Digests,
     /// Comparing as many names with as many others.
     Comparing,
-    /// The same work for a tenth of the bytes, or of the deliveries.
+    /// The same work for a tenth of the bytes.
     Tenth,
     /// The suite's calls alone, with the same arguments.
     Calls,
     /// The same work in pieces that are as large as can be.
     Whole,
-    /// The two endpoints alone, with nothing round them.
-    Endpoints,
-    /// Decoding the same digits by the crate `hex` in one call.
-    Decoding,
-    /// What `show` does with the same recording.
-    Show,
 }
 
 impl fmt::Display for Beside {
@@ -43,9 +37,6 @@ impl fmt::Display for Beside {
             Beside::Tenth => "a tenth of it",
             Beside::Calls => "the suite's calls",
             Beside::Whole => "whole",
-            Beside::Endpoints => "the endpoints",
-            Beside::Decoding => "decoding by hex",
-            Beside::Show => "show",
         })
     }
 }

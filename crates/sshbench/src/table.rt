@@ -9,7 +9,6 @@ use crate::packets::{Load, PIECE_LENS, Stream};
 use crate::row::{Beside, Row, print_row};
 use crate::talk::{Lab, Reach, WHOLE, talk};
 use crate::work::{Act, Work, print_both};
-use crate::{recordings, scripts};
 use std::io::Write;
 use std::time::{Duration, Instant};
 
@@ -62,9 +61,7 @@ pub(crate) fn print(rt: &HostRuntime, kexinit: &[u8]) -> Result<(), Fault> {
     print_choices(rt)?;
     print_packets(rt)?;
     print_talks(rt, Reach::Service, "negotiation", "negotiation by 1")?;
-    print_talks(rt, Reach::User, "session", "session by 1")?;
-    scripts::print(rt)?;
-    recordings::print(rt)
+    print_talks(rt, Reach::User, "session", "session by 1")
 }
 
 /// Times reads of messages without lists, and prints their rows.

@@ -48,7 +48,7 @@ fn has_no_attempt(end: &End) -> bool {
 }
 
 /// Whether a side waits for more.
-pub(crate) fn is_open(end: &End) -> bool {
+fn is_open(end: &End) -> bool {
     match end {
         End::Open => true,
         _ => false,
@@ -56,7 +56,7 @@ pub(crate) fn is_open(end: &End) -> bool {
 }
 
 /// Whether the user is authenticated at a side.
-pub(crate) fn is_user(end: &End) -> bool {
+fn is_user(end: &End) -> bool {
     match end {
         End::Authenticated(_) => true,
         _ => false,

@@ -6,11 +6,8 @@ use crate::fault::Fault;
 use crate::kexinit::{copy, read_and_write};
 use crate::lent::{own, read_only};
 use crate::packets::Stream;
-use crate::recordings::{Engine, Recording};
 use crate::row::{Beside, Row, print_row};
-use crate::scripts::{Stand, read_and_run, run};
 use crate::talk::{Lab, talk};
-use sshlab::Scenario;
 use std::alloc::Global;
 use std::time::{Duration, Instant};
 
@@ -31,14 +28,6 @@ pub(crate) enum Work<'a> {
     Talk(&'a Lab, usize),
     /// The suite's calls of such a talk.
     Calls(&'a Calls),
-    /// Reads and runs the scenario of a text.
-    Script(&'a [u8], Stand),
-    /// Runs a scenario, at whose end both sides are authenticated.
-    Run(&'a Scenario),
-    /// An engine tells a recording.
-    Tell(&'a Recording, Engine),
-    /// Decodes the recording's digits in one call.
-    Decode(&'a Recording),
 }
 
 /// What is done with a stream of packets.
@@ -86,10 +75,6 @@ impl Work<'_> {
             Work::Packets(stream, act) => act.once(alloc, stream, out),
             Work::Talk(lab, piece_len) => say(alloc, lab, piece_len),
             Work::Calls(calls) => calls.make(alloc),
-            Work::Script(text, stand) => read_and_run(alloc, text, stand),
-            Work::Run(scenario) => run(alloc, scenario, Stand::Authenticated),
-            Work::Tell(recording, engine) => recording.tell(alloc, engine, out),
-            Work::Decode(recording) => recording.decode(alloc),
         }
     }
 
@@ -97,7 +82,6 @@ impl Work<'_> {
     fn judge(self, out: &[u8]) -> Result<(), Fault> {
         match self {
             Work::Packets(stream, act) => act.judge(stream, out),
-            Work::Tell(recording, engine) => recording.judge(engine, out),
             _ => Ok(()),
         }
     }
