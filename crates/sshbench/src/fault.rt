@@ -81,3 +81,8 @@ impl From<io::Error> for Fault {
         Fault::System
     }
 }
+
+/// What holds, or else the answer isn't the one that had to come.
+pub(crate) fn holds(so: bool) -> Result<(), Fault> {
+    if so { Ok(()) } else { Err(Fault::Otherwise) }
+}

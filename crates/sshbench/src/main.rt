@@ -5,7 +5,6 @@
 //! piece by piece, and prints how long the reading took.
 #![tactic(auto)]
 
-mod calls;
 mod choices;
 mod digests;
 mod fault;
@@ -14,7 +13,6 @@ mod lent;
 mod long;
 mod packets;
 mod row;
-mod sent;
 mod table;
 mod talk;
 mod work;

@@ -1,12 +1,11 @@
 //! What is timed, as data.
 
-use crate::calls::{Calls, holds};
 use crate::digests::digest;
-use crate::fault::Fault;
+use crate::fault::{Fault, holds};
 use crate::kexinit::{copy, read_and_write};
 use crate::lent::{own, read_only};
 use crate::packets::Stream;
-use crate::row::{Beside, Row, print_row};
+use crate::row::{Row, print_row};
 use crate::talk::{Lab, talk};
 use std::alloc::Global;
 use std::time::{Duration, Instant};
@@ -26,8 +25,6 @@ pub(crate) enum Work<'a> {
     Packets(&'a Stream, Act),
     /// Two endpoints talk in pieces of so many bytes.
     Talk(&'a Lab, usize),
-    /// The suite's calls of such a talk.
-    Calls(&'a Calls),
 }
 
 /// What is done with a stream of packets.
@@ -74,7 +71,6 @@ impl Work<'_> {
             Work::Own(payload) => own(alloc, payload),
             Work::Packets(stream, act) => act.once(alloc, stream, out),
             Work::Talk(lab, piece_len) => say(alloc, lab, piece_len),
-            Work::Calls(calls) => calls.make(alloc),
         }
     }
 
@@ -93,22 +89,15 @@ fn say(alloc: Global, lab: &Lab, piece_len: usize) -> Result<(), Fault> {
     Ok(())
 }
 
-/// Times a work and what stands beside it, as often, and prints the row.
+/// Times a work and what stands beside it, and prints the row.
 pub(crate) fn print_both(
     rt: &HostRuntime,
-    name: &str,
-    rounds: u32,
+    row: Row<'_>,
     work: Work<'_>,
     other: Work<'_>,
-    beside: Beside,
 ) -> Result<(), Fault> {
-    let row = Row {
-        rounds,
-        work: time(rt, work, rounds)?,
-        other: time(rt, other, rounds)?,
-        beside,
-    };
-    print_row(rt, name, &row)
+    let took = time(rt, work, row.rounds)?;
+    print_row(rt, row, took, time(rt, other, row.rounds)?)
 }
 
 /// Times a work, and judges what is left.
