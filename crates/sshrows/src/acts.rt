@@ -41,14 +41,11 @@ pub(crate) fn act(
     let Some((line, rest)) = lines.split_first() else {
         return wrong(alloc, row, "row", "an act", "none");
     };
-    if text.len() > TEXT_LIMIT {
-        return wrong(alloc, row, "row", "a scenario", "too many bytes");
-    }
     let (word, role) = line.head();
     if word == "config" {
         return judge_config(alloc, names, line, role, rest, piece_len);
     }
-    match scenario_of(alloc, text)? {
+    match scenario_of(alloc, row, text)? {
         Ok(scenario) => act_by(alloc, names, line, &scenario, rest, piece_len),
         Err(fault) => {
             let wanted = if word == "refused" { role } else { "accepted" };
@@ -59,7 +56,14 @@ pub(crate) fn act(
 }
 
 /// The scenario of the text, or why it is refused.
-fn scenario_of(alloc: Global, text: &[u8]) -> Result<Result<Box<Scenario>, ScenarioFault>, Stop> {
+fn scenario_of(
+    alloc: Global,
+    row: &Line<'_>,
+    text: &[u8],
+) -> Result<Result<Box<Scenario>, ScenarioFault>, Stop> {
+    if text.len() > TEXT_LIMIT {
+        return wrong(alloc, row, "row", "a scenario", "too many bytes");
+    }
     match Scenario::parse(alloc, text) {
         Ok(scenario) => Ok(Ok(Box::new(alloc, scenario)?)),
         Err(ScenarioFault::Memory) => Err(Stop::Memory),
