@@ -90,6 +90,10 @@ def rows(file):
     row(file, "choice of the last of a hundred", lists(many, many, many, many), lists(other, other, other, other),
         "chosen 99 99 99 99 0 0 0 0")
     pairs(file)
+    compared(file)
+    for field in range(2, 8):
+        orders(file, field)
+    guesses(file)
     strict(file)
 
 
@@ -102,6 +106,39 @@ def pairs(file):
         row(file, "choice %s %s, %s %s" % tuple("|".join(x) for x in client + server), lists(*client), lists(*server))
     for ours, theirs in ((("h", "g"), ("h",)), (("h", "g"), ("g", "h")), (("h",), ())):
         row(file, "guess by host keys %s and %s" % ("|".join(ours), "|".join(theirs) or "none"), lists(("a",), ours), lists(("a",), theirs))
+
+
+def compared(file):
+    """Names are compared whole and to the letter, and the first place of a name is told."""
+    some = [("a",), ("aa",), ("A",), ("aa", "a"), ("A", "a"), ("a", "aa"), ("aa", "a", "a")]
+    for ours, theirs in itertools.product(some, repeat=2):
+        row(file, "choice of methods %s and %s" % ("|".join(ours), "|".join(theirs)), lists(ours, ("h",)), lists(theirs, ("h",)))
+        row(file, "choice of host keys %s and %s" % ("|".join(ours), "|".join(theirs)), lists(("a", "b"), ours), lists(("b", "a"), theirs))
+
+
+def orders(file, field):
+    """Each client's list of one cipher, MAC or compression with each server's. The other five are at other places, each its own."""
+    some = [()] + [k for n in (1, 2) for k in itertools.permutations(("p", "pp", "P"), n)] + [("P", "pp", "p"), ("pp", "p", "p")]
+    client, server = [("a",), ("h",)], [("a",), ("h",)]
+    for other in range(2, 8):
+        own = ["o%d%d" % (other, n) for n in range(other - 1)]
+        client.append(tuple(own + ["n%d" % other, "m%d" % other]))
+        server.append(("m%d" % other, "n%d" % other))
+    for ours, theirs in itertools.product(some, repeat=2):
+        client[field], server[field] = ours, theirs
+        row(file, "choice of %s, %s and %s" % (FIELDS[field], "|".join(ours) or "none", "|".join(theirs) or "none"), tuple(client),
+            tuple(server))
+
+
+def guesses(file):
+    """The first method and the first host key decide, markers left out of the methods; nothing else does."""
+    kexes = [(), ("a",), ("b",), ("a", "b"), ("b", "a"), ("ext-info-c", "a"), (MARKERS[3], "b", "a"), ("ext-info-s", MARKERS[2])]
+    hosts = [(), ("h",), ("g",), ("h", "g"), ("g", "h"), ("ext-info-c", "h"), ("hh",)]
+    empty = ((),) * 6
+    for ours, theirs in itertools.product(itertools.product(kexes, hosts), repeat=2):
+        # every pair of methods with the first host keys, and every pair of host keys with the first methods
+        if {ours[1], theirs[1]} <= {("h",), ("h", "g"), ("g",)} or {ours[0], theirs[0]} <= {("a",), ("a", "b")}:
+            row(file, "guess %s %s, %s %s" % tuple("|".join(x) or "none" for x in ours + theirs), ours + empty, theirs + empty)
 
 
 def strict(file):

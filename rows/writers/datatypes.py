@@ -4,7 +4,7 @@ from lab import *
 MPINTS = [b"", bytes.fromhex("09a378f9b2e332a7"), b"\x00\x80", b"\xed\xcc", bytes.fromhex("ff21524111"), b"\xff", b"\x7f", b"\x01",
           b"\x00\xff", b"\x80", b"\xff\x7f"]
 NO_MPINTS = [b"\x00\x7f", b"\x00", b"\xff\x80", b"\x00\x00", b"\x00\x01", b"\xff\xff", b"\x00\x00\x80"]
-LISTS = ["", "zlib", "zlib,none", "a,b,a", "x" * 64, "!", "~", "a" + ",a" * 99]
+LISTS = ["", "zlib", "zlib,none", "a,b,a", "x" * 64, "!", "~", "a" + ",a" * 99, "a" + ",a" * 999]
 NO_LISTS = [",a", "a,", "a,,b", ",", "a b", "a\x7f", " ", "\x00", "a,\x1f", "a,\xc3\xa9", "x" * 65, "a," + "x" * 65]
 
 
@@ -72,5 +72,10 @@ def alone(file):
     file.row("mpints by themselves", "parses", ["mpint yes " + hexa(b) for b in MPINTS], ["mpint V3 " + hexa(b) for b in NO_MPINTS])
     good = ["SSH-2.0-lab_1 of today\r\n", "SSH-2.0-x\r\n", "SSH-2.0-x \r\n", "SSH-2.0-x y-z\r\n", "SSH-2.0-" + "x" * 245 + "\r\n"]
     bad = ["SSH-2.0-x\n", "SSH-2.0-x", "", "SSH-2.0-\r\n", "SSH-1.99-x\r\n", "SSH-2.0-a-b\r\n", "SSH-2.0-x\r\n\r\n", "ssh-2.0-x\r\n", "n\r\n"]
+    lines = []
+    for byte in range(256):
+        for front, taken in ((b"SSH-2.0-a", 32 <= byte <= 126 and byte != 45), (b"SSH-2.0-a b", 32 <= byte <= 126)):
+            lines.append("version %s %s" % ("yes" if taken else "V4", hexa(front + bytes([byte]) + b"c\r\n")))
+    file.row("version lines with each byte", "parses", lines)
     file.row("version lines by themselves", "parses", ["version yes " + hexa(t.encode()) for t in good],
              ["version V4 " + hexa(t.encode()) for t in bad], "version V5 " + hexa(("SSH-2.0-" + "x" * 246 + "\r\n").encode()))

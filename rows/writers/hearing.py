@@ -12,6 +12,12 @@ def rows(file):
     for line, used in ((b"SSH-2.0-x\n", 10), (b"SSH-1.99-x\r\n", 12), (b"SSH-2.0-\r\n", 10), (b"SSH-2.0-a-b\r\n", 13), (b"a\0b", 2),
                        (b"SSH-\r\n", 6), (b"SSH-2.0-x\r\r\n", 12), (b"SSH-2.0-\xe9\r\n", 11)):
         file.row("lines refuse %s" % line.hex(), "lines 20", part(used, line, b"more"), "end refused V4", "held 0", again("V4"))
+    for front in (b"SSH-2.0-a", b"SSH-2.0-a b"):
+        for byte in (1, 9, 31, 32, 45, 126, 127, 128, 255):
+            text = front + bytes([byte]) + b"c"
+            taken = 32 <= byte <= 126 and (byte != 45 or b" " in front)
+            file.row("lines %s byte %d behind %s" % ("take" if taken else "refuse", byte, front.hex()), "lines 0", feed(text + b"\r"), "end open",
+                     part(1, b"\nmore"), "end " + ("version " + hexa(text) if taken else "refused V4"), "held 0")
     for place in range(13):
         line = b"SSH-2.0-x y\r\n"
         file.row("lines refuse a NUL at %d" % place, "lines 20", feed(line[:place]), "held %d" % place, part(1, b"\0" + line[place:]),

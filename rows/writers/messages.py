@@ -175,4 +175,60 @@ def long(file):
     file.row("message KEXDH_INIT, 4096 bytes", "message mpint 1e 00001000 4096*55", "writes 1e 00001000 4096*55")
     file.row("message IGNORE, the longest", "message mpint 02 00007ffb 32763*55", "writes 02 00007ffb 32763*55")
     file.row("message IGNORE, a byte too long", "message mpint 02 00007ffc 32764*55", "too long")
+    longest(file)
     file.row("message EXT_INFO, a thousand pairs", "message mpint 07 000003e8 8000*00", "tells 7" + " -" * 2000, "writes 07 000003e8 8000*00")
+
+
+def longest(file):
+    """Of each message with a field that may be long: one of 32768 bytes, which is written, and one of a byte more."""
+    def head(name, *strings):
+        return b"\x32" + string("u") + string("s") + string(name) + b"".join(strings)
+
+    s = string
+    # form, what stands before the field, the field's length (none where the field goes on to the end), and what stands behind
+    cases = [("mpint", "DISCONNECT, description", b"\x01" + u(2), True, s("en")), ("mpint", "DISCONNECT, language", b"\x01" + u(2) + s("x"), True, b""),
+             ("mpint", "DEBUG, text", b"\x04\x01", True, s("en")), ("mpint", "DEBUG, language", b"\x04\x00" + s("x"), True, b""),
+             ("mpint", "SERVICE_REQUEST", b"\x05", True, b""), ("mpint", "SERVICE_ACCEPT", b"\x06", True, b""),
+             ("mpint", "EXT_INFO, name", b"\x07" + u(2) + s("a") + s("b"), True, s("c")),
+             ("mpint", "EXT_INFO, value", b"\x07" + u(2) + s("a") + s("b") + s("c"), True, b""),
+             ("mpint", "KEXDH_INIT", b"\x1e", True, b""), ("octets", "KEX_ECDH_INIT", b"\x1e", True, b""),
+             ("mpint", "user", b"\x32", True, s("s") + s("none")), ("mpint", "service", b"\x32" + s("u"), True, s("none")),
+             ("mpint", "password", head("password", b"\x00"), True, b""), ("mpint", "old password", head("password", b"\x01"), True, s("q")),
+             ("mpint", "new password", head("password", b"\x01", s("p")), True, b""),
+             ("mpint", "algorithm of a query", head("publickey", b"\x00"), True, s("k")),
+             ("mpint", "key of a query", head("publickey", b"\x00", s("h")), True, b""),
+             ("mpint", "algorithm of a key", head("publickey", b"\x01"), True, s("k") + s("z")),
+             ("mpint", "key", head("publickey", b"\x01", s("h")), True, s("z")),
+             ("mpint", "signature", head("publickey", b"\x01", s("h"), s("k")), True, b""),
+             ("mpint", "fields of another method", head("hostbased"), False, b""), ("mpint", "another method", b"\x32" + s("u") + s("s"), True, b"x"),
+             ("mpint", "BANNER, text", b"\x35", True, s("en")), ("mpint", "BANNER, language", b"\x35" + s("x"), True, b"")]
+    for form, kind in (("mpint", "KEXDH_REPLY"), ("octets", "KEX_ECDH_REPLY")):
+        cases += [(form, kind + ", host key", b"\x1f", True, s(b"\x01") + s("s")), (form, kind + ", share", b"\x1f" + s("k"), True, s("s")),
+                  (form, kind + ", signature", b"\x1f" + s("k") + s(b"\x01"), True, b"")]
+    file.shared.append("bytes long 32769*61")
+    file.shared.append("bytes names 504*" + (b"n" * 64 + b",").hex())
+    for form, name, front, counted, back in cases:
+        for size in (32768, 32769):
+            n = size - len(front) - len(back) - (4 if counted else 0)
+            payload = " ".join(x for x in (front.hex(), u(n).hex() if counted else "", "$long:0:%d" % n, back.hex()) if x)
+            file.row("message %s, %d bytes" % (name, size), "message %s %s" % (form, payload),
+                     "writes " + payload if size == 32768 else "too long")
+    full_lists(file)
+
+
+def full_lists(file):
+    """The same of a FAILURE and of each list of a KEXINIT: names of 64 bytes fill them, and a short one more."""
+    def full(length):
+        count = (length - 1) // 65
+        return "%s $names:0:%d %d*79" % (u(length).hex(), count * 65, length - count * 65)
+
+    for size in (32768, 32769):
+        payloads = [("FAILURE", "33 %s 00" % full(size - 6))]
+        for place in range(10):
+            # the other nine lists have one name of one byte
+            lists = ["00000001 78"] * 10
+            lists[place] = full(size - 17 - 40 - 5 - 9)
+            payloads.append(("KEXINIT, list %d" % place, "14 16*00 %s 00 00000000" % " ".join(lists)))
+        for name, payload in payloads:
+            file.row("message %s, %d bytes" % (name, size), "message mpint " + payload,
+                     "writes " + payload if size == 32768 else "too long")

@@ -64,6 +64,7 @@ def rows(file):
             if keys:
                 tags(file, suite, keys, name, start)
         behind(file, suite)
+        one_piece(file, suite)
 
 
 def lengths(file, suite, keys, name, start):
@@ -100,7 +101,7 @@ def limits(file, suite, keys, name, start):
     clear = lambda n: xor(u32(n), stream(keys, 0, 4)) if keys and suite == "lab" else u32(n)
     for n in (shortest, shortest + block, longest - block, longest):
         file.row("packet %s, length %d" % (name, n), start, feed(clear(n)), "held 4", "end open")
-    for n in (0, 1, 4, shortest - 1, shortest + 1, shortest + 2, shortest + block - 1, longest - 1, longest + 1, longest + block, 65536,
+    for n in (0, 1, 4, shortest - 1, shortest + 1, shortest + 2, shortest + 4, shortest + block - 1, longest - 1, longest + 1, longest + block, 65536,
               2147483648, 4294967295):
         if n + counted < shortest + counted or (n + counted) % block or n > longest:
             file.row("packet %s, refused length %d" % (name, n), start, feed(clear(n)[:3]), "end open", "held 3",
@@ -127,11 +128,39 @@ def tags(file, suite, keys, name, start):
         bad = data[:place] + bytes([data[place] ^ 1]) + data[place + 1:]
         file.row("packet %s, byte %d changed" % (name, place), start, feed(bad[:-1]), "end open", part(1, bad[-1:], b"m"), "end refused P4",
                  "held 0", again("P4"))
+    if suite == "lab":
+        clear = clear_packet(suite, keys, 0, b"payload")
+        data = sealed_raw(suite, keys, 0, clear)[:-32] + sealed_raw(suite, keys, 1, clear)[-32:]
+        file.row("packet %s, the tag of another number" % name, start, feed(data), "end refused P4")
     if suite == "second":
         data = packet_of(suite, keys, 1, b"payload")
         file.row("packet %s, another number" % name, start, feed(data), "end refused P4")
     file.row("packet %s, wrong tag and padding" % name, start, feed(raw(suite, keys, 28 if suite == "lab" else 32, 3)[:-1] + b"\0"),
              "end refused P4")
+
+
+def one_piece(file, suite):
+    """The longest packet in clear, and twelve packets: six in clear in one piece, and six sealed in another."""
+    file.row("packet %s, the longest in clear" % suite, "packets " + suite, "feed 000088b4 04 34994*07", "came -", "held 34999", "feed 07",
+             "came 000088af 34991*07", "held 0", "end open")
+    keys = keys_for("c")
+    clear = [b"\x07" * n for n in (1, 17, 32768, 25, 33, 1)]
+    sealed = [b"\x07" * n for n in (1, 32768, 100, 1000, 8, 9)]
+    first = b"".join(packet_of(suite, None, n, payload) for n, payload in enumerate(clear))
+    second = b"".join(packet_of(suite, keys, n + 6, payload) for n, payload in enumerate(sealed))
+    file.row("packets %s, twelve in two pieces" % suite, "packets " + suite, "feed " + runs(first), came_again(clear), "held 0",
+             "keys no " + words(keys), feed(second), came_again(sealed), "held 0", "end open")
+
+
+def came_again(payloads):
+    return "came " + " ".join("%s %d*%02x" % (u32(len(p)).hex(), len(p), p[0]) for p in payloads)
+
+
+def runs(data):
+    """The bytes as terms, with 32768 equal ones as one term."""
+    long = b"\x07" * 32768
+    front, back = data.split(long)
+    return "%s 32768*07 %s" % (front.hex(), back.hex())
 
 
 def behind(file, suite):

@@ -19,6 +19,7 @@ def rows(file):
     file.row("a client without attempts is let in", "predict", "client authenticated al ssh-connection")
     file.row("a world stands still", "world", "rounds 9", "client open", "server open")
     below(file, t)
+    unjudged(file, t)
 
 
 def below(file, t):
@@ -37,3 +38,26 @@ def below(file, t):
     file.row("the client's first host key isn't chosen", "choose %s %s" % (hexa(t.ci), hexa(t.si)), "chosen 0 1 0 0 0 0 0 0")
     file.row("a client that isn't willing is strict", "choose %s %s" % (hexa(t.ci), hexa(t.si)), "strict client no yes")
     file.row("an exchange has nine parts' length", "derive", "part 41", "exchange 00000001 41" + " 00000000" * 8)
+
+
+def unjudged(file, t):
+    """Rows that ask for nothing, that have lines nobody reads, and words that stand for nothing."""
+    file.row("a world that is moved and not judged", "world", "client open", "rounds 9")
+    file.row("a world moves rounds without a number", "world", "rounds x", "client open")
+    file.row("a world moves turns without a number", "world", "turns x", "client open")
+    file.row("a delivery without a number", "world", "move server x 0")
+    file.row("a delivery to nobody", "world", "move nobody 0 0")
+    file.row("a schedule without a number", "world", "run server x", "client open")
+    file.row("a line behind a refusal", "server tries 0", "refused server config C9", "client open")
+    file.row("a line behind an acceptance", "accepted", "client open")
+    file.row("a line behind the attempts of a config", "config client", "attempts 0", "end open")
+    file.row("a line behind a refused config", "config client", "kex", "refused C1", "end open")
+    file.row("a message alone", "message mpint 15")
+    file.row("a prediction alone", "predict")
+    file.row("a refused setting is accepted", "server tries 0", "accepted")
+    file.row("nobody is strict", "choose %s %s" % (hexa(t.ci), hexa(t.si)), "strict nobody yes yes")
+    file.row("a put flag is neither yes nor no", "puts", "boolean x", "says 00")
+    file.row("a put number is no number", "puts", "u32 x", "says 00000000")
+    file.row("put bytes that aren't judged", "puts", "u32 7")
+    file.row("a part of nothing", "derive", "part 41")
+    file.row("keys for nothing", "packets lab", "keys yes c m 00 00 00")

@@ -1,6 +1,6 @@
 //! A choice over lists of 50 names of 19 bytes, where the last of each is the one that both have.
 
-use crate::fault::Fault;
+use crate::fault::{Fault, holds};
 use crate::kexinit::payload_of;
 use sshmsg::{KexInit, Message, read};
 use sshneg::{Chosen, choose};
@@ -30,14 +30,16 @@ impl Payloads {
 /// The KEXINITs of both sides.
 #[derive(Drop)]
 pub(crate) struct Offers<'a> {
-    client: Box<Message<'a>>,
-    server: Box<Message<'a>>,
+    client: Box<KexInit<'a>>,
+    server: Box<KexInit<'a>>,
 }
 
-/// The message of a payload.
-fn offer(alloc: Global, payload: &[u8]) -> Result<Box<Message<'_>>, Fault> {
-    let message = read(alloc, payload)?;
-    Ok(Box::new(alloc, message)?)
+/// The KEXINIT of a payload.
+fn offer(alloc: Global, payload: &[u8]) -> Result<Box<KexInit<'_>>, Fault> {
+    match read(alloc, payload)? {
+        Message::KexInit(kexinit) => Ok(kexinit),
+        _ => Err(Fault::Otherwise),
+    }
 }
 
 impl<'a> Offers<'a> {
@@ -60,11 +62,7 @@ impl<'a> Offers<'a> {
             compression_client_to_server: LAST,
             compression_server_to_client: LAST,
         };
-        match (&*self.client, &*self.server) {
-            (Message::KexInit(client), Message::KexInit(server))
-                if choose(client, server, &LabSuite) == Ok(wanted) => { Ok(()) }
-            _ => Err(Fault::Otherwise),
-        }
+        holds(choose(&self.client, &self.server, &LabSuite) == Ok(wanted))
     }
 
     /// Compares each method of the client's with each of the server's, eight times, and judges how
@@ -72,18 +70,9 @@ impl<'a> Offers<'a> {
     pub(crate) fn compare(&self) -> Result<(), Fault> {
         let mut equal = 0u32;
         for _ in 0..8 {
-            if let (Message::KexInit(client), Message::KexInit(server)) = (
-                &*self.client,
-                &*self.server,
-            ) {
-                equal = equal.saturating_add(count_equal(client, server));
-            }
+            equal = equal.saturating_add(count_equal(&self.client, &self.server));
         }
-        if equal == 8 {
-            Ok(())
-        } else {
-            Err(Fault::Otherwise)
-        }
+        holds(equal == 8)
     }
 }
 

@@ -20,10 +20,6 @@ pub(crate) enum Fault {
     Packet,
     /// The lab's parts were refused.
     Config,
-    /// A scenario of this program's own wasn't read.
-    Scenario,
-    /// A recording of this program's own wasn't told.
-    Recording,
     /// What came out isn't what had to, such as what was written and what was read.
     Otherwise,
     /// The clock, the words or the output failed.
@@ -38,8 +34,6 @@ impl fmt::Display for Fault {
             Fault::Read => "a message wasn't read",
             Fault::Packet => "a packet wasn't read",
             Fault::Config => "no config",
-            Fault::Scenario => "a scenario wasn't read",
-            Fault::Recording => "a recording wasn't told",
             Fault::Otherwise => "written otherwise than read",
             Fault::System => "the clock, the words or the output failed",
         })
@@ -86,4 +80,9 @@ impl From<io::Error> for Fault {
     fn from(_: io::Error) -> Fault {
         Fault::System
     }
+}
+
+/// What holds, or else the answer isn't the one that had to come.
+pub(crate) fn holds(so: bool) -> Result<(), Fault> {
+    if so { Ok(()) } else { Err(Fault::Otherwise) }
 }

@@ -1,7 +1,6 @@
 //! A long stream that is made piece by piece, so that no more than a batch of it is ever held.
 
-use crate::calls::holds;
-use crate::fault::Fault;
+use crate::fault::{Fault, holds};
 use crate::packets::{keys, payload, put_packet, read_piece};
 use sshpacket::{Keys, PacketReader};
 use std::io::Write;

@@ -5,7 +5,6 @@
 //! piece by piece, and prints how long the reading took.
 #![tactic(auto)]
 
-mod calls;
 mod choices;
 mod digests;
 mod fault;
@@ -13,10 +12,7 @@ mod kexinit;
 mod lent;
 mod long;
 mod packets;
-mod recordings;
 mod row;
-mod scripts;
-mod sent;
 mod table;
 mod talk;
 mod work;
@@ -70,16 +66,6 @@ fn check(rt: &HostRuntime) -> Result<(), Fault> {
     writeln!(rt.stdout(), "negotiation ok")?;
     talk::check(alloc, Reach::User)?;
     writeln!(rt.stdout(), "session ok")?;
-    check_programs(rt)
-}
-
-/// Checks the rows of what the program `sshlab` does.
-fn check_programs(rt: &HostRuntime) -> Result<(), Fault> {
-    let alloc = rt.alloc();
-    scripts::check(alloc)?;
-    writeln!(rt.stdout(), "scenarios ok")?;
-    recordings::check(alloc)?;
-    writeln!(rt.stdout(), "recordings ok")?;
     Ok(())
 }
 

@@ -1,15 +1,13 @@
 //! Times, and their ratios.
 
-use crate::calls::Calls;
 use crate::choices::{Offers, Payloads};
 use crate::digests::digest;
 use crate::fault::Fault;
 use crate::lent::{Kind, payload};
 use crate::packets::{Load, PIECE_LENS, Stream};
-use crate::row::{Beside, Row, print_row};
-use crate::talk::{Lab, Reach, WHOLE, talk};
+use crate::row::{Row, print_row};
+use crate::talk::{Lab, Reach, WHOLE};
 use crate::work::{Act, Work, print_both};
-use crate::{recordings, scripts};
 use std::io::Write;
 use std::time::{Duration, Instant};
 
@@ -49,56 +47,44 @@ pub(crate) fn print(rt: &HostRuntime, kexinit: &[u8]) -> Result<(), Fault> {
         rt.stdout(),
         "work                             rounds  work us  other us    ratio  other"
     )?;
-    let (work, other) = (Work::Kexinit(kexinit), Work::Copy(kexinit));
-    print_both(
-        rt,
-        "kexinit read and written",
-        ROUNDS,
-        work,
-        other,
-        Beside::Copying,
-    )?;
-    print_messages(rt)?;
-    print_choices(rt)?;
-    print_packets(rt)?;
-    print_talks(rt, Reach::Service, "negotiation", "negotiation by 1")?;
-    print_talks(rt, Reach::User, "session", "session by 1")?;
-    scripts::print(rt)?;
-    recordings::print(rt)
-}
-
-/// Times reads of messages without lists, and prints their rows.
-fn print_messages(rt: &HostRuntime) -> Result<(), Fault> {
+    let row = row("kexinit read and written", "copying", ROUNDS);
+    print_both(rt, row, Work::Kexinit(kexinit), Work::Copy(kexinit))?;
     for (kind, len) in MESSAGES {
         print_message(rt, kind, len)?;
     }
-    Ok(())
+    print_choices(rt)?;
+    print_packets(rt)?;
+    print_talks(rt)
+}
+
+/// A row of this name.
+fn row<'a>(name: &'a str, beside: &'a str, rounds: u32) -> Row<'a> {
+    Row {
+        name,
+        beside,
+        rounds,
+    }
 }
 
 /// Times reads of such a message beside owned copies of its payload.
 fn print_message(rt: &HostRuntime, kind: Kind, len: usize) -> Result<(), Fault> {
     let name = format!(in rt.alloc(); "{kind} with {len} bytes read")?;
     let payload = payload(rt.alloc(), kind, len)?;
-    let (work, other) = (Work::Read(&payload, len), Work::Own(&payload));
-    print_both(rt, &name, QUICK_ROUNDS, work, other, Beside::Owning)
+    let row = row(&name, "owned copy", QUICK_ROUNDS);
+    print_both(rt, row, Work::Read(&payload, len), Work::Own(&payload))
 }
 
 /// Times choices beside comparisons of the names of eight lists.
 fn print_choices(rt: &HostRuntime) -> Result<(), Fault> {
     let payloads = Payloads::new(rt.alloc())?;
-    let row = time_offers(rt, &Offers::new(rt.alloc(), &payloads)?)?;
-    print_row(rt, "choice, 50 names a list", &row)
+    print_offers(rt, &Offers::new(rt.alloc(), &payloads)?)
 }
 
-/// The row of these offers.
-fn time_offers(rt: &HostRuntime, offers: &Offers<'_>) -> Result<Row, Fault> {
-    let work = time_choices(rt, offers)?;
-    Ok(Row {
-        rounds: CHOICES,
-        work,
-        other: time_comparisons(rt, offers)?,
-        beside: Beside::Comparing,
-    })
+/// The same of these offers.
+fn print_offers(rt: &HostRuntime, offers: &Offers<'_>) -> Result<(), Fault> {
+    let row = row("choice, 50 names a list", "comparing names", CHOICES);
+    let took = time_choices(rt, offers)?;
+    print_row(rt, row, took, time_comparisons(rt, offers)?)
 }
 
 /// Times choices.
@@ -122,30 +108,31 @@ fn time_comparisons(rt: &HostRuntime, offers: &Offers<'_>) -> Result<Duration, F
 /// Times reads of streams of packets, and prints their rows.
 fn print_packets(rt: &HostRuntime) -> Result<(), Fault> {
     for payload_len in [1, 1024, 32768] {
-        print_clear(rt, clear(payload_len))?;
+        print_clear(rt, payload_len)?;
     }
     for payload_len in [1024, 32768] {
-        let sealed = true;
-        let load = Load {
-            sealed,
-            payload_len,
-        };
-        print_sealed(rt, load)?;
+        print_sealed(rt, payload_len)?;
     }
     print_ten_times(rt)
 }
 
-/// Packets in clear.
-fn clear(payload_len: usize) -> Load {
-    Load {
-        sealed: false,
+/// A stream of packets in clear or sealed.
+fn stream(
+    rt: &HostRuntime,
+    sealed: bool,
+    payload_len: usize,
+    stream_len: u32,
+) -> Result<Stream, Fault> {
+    let load = Load {
+        sealed,
         payload_len,
-    }
+    };
+    Stream::new(rt.alloc(), load, load.count(stream_len))
 }
 
 /// Times reads of packets in clear, and prints the rows.
-fn print_clear(rt: &HostRuntime, load: Load) -> Result<(), Fault> {
-    let stream = Stream::new(rt.alloc(), load, load.count(STREAM_LEN))?;
+fn print_clear(rt: &HostRuntime, payload_len: usize) -> Result<(), Fault> {
+    let stream = stream(rt, false, payload_len, STREAM_LEN)?;
     for piece_len in PIECE_LENS {
         print_pieces(rt, &stream, piece_len)?;
     }
@@ -154,66 +141,61 @@ fn print_clear(rt: &HostRuntime, load: Load) -> Result<(), Fault> {
 
 /// Times reads of a stream in pieces of so many bytes beside both ways of copying it.
 fn print_pieces(rt: &HostRuntime, stream: &Stream, piece_len: usize) -> Result<(), Fault> {
+    let rounds = if piece_len == 1 { SLOW_READS } else { READS };
+    let copy = Act::Copy(piece_len);
+    print_read(rt, stream, piece_len, row("", "copying", rounds), copy)?;
+    let over = Act::CopyOver(piece_len);
+    print_read(rt, stream, piece_len, row("", "copying over", rounds), over)
+}
+
+/// Times reads of a stream in such pieces beside another act, and prints the row under the stream's name.
+fn print_read(
+    rt: &HostRuntime,
+    stream: &Stream,
+    piece_len: usize,
+    row: Row<'_>,
+    other: Act,
+) -> Result<(), Fault> {
     let load = stream.load;
     let name = format!(in rt.alloc(); "{load} by {piece_len}")?;
-    let rounds = if piece_len == 1 { SLOW_READS } else { READS };
     let work = Work::Packets(stream, Act::Read(piece_len));
-    let copy = Work::Packets(stream, Act::Copy(piece_len));
-    print_both(rt, &name, rounds, work, copy, Beside::Copying)?;
-    let over = Work::Packets(stream, Act::CopyOver(piece_len));
-    print_both(rt, &name, rounds, work, over, Beside::CopyingOver)
+    let row = Row { name: &name, ..row };
+    print_both(rt, row, work, Work::Packets(stream, other))
 }
 
 /// Times reads of sealed packets in large pieces, and prints the row.
-fn print_sealed(rt: &HostRuntime, load: Load) -> Result<(), Fault> {
-    let stream = Stream::new(rt.alloc(), load, load.count(STREAM_LEN))?;
-    let name = format!(in rt.alloc(); "{load} by 65536")?;
-    let work = Work::Packets(&stream, Act::Read(65536));
-    let other = Work::Packets(&stream, Act::Digest(digest(&stream)));
-    print_both(rt, &name, SLOW_READS, work, other, Beside::Digests)
+fn print_sealed(rt: &HostRuntime, payload_len: usize) -> Result<(), Fault> {
+    let stream = stream(rt, true, payload_len, STREAM_LEN)?;
+    let other = Act::Digest(digest(&stream));
+    print_read(rt, &stream, 65536, row("", "digests", SLOW_READS), other)
 }
 
 /// Times reads of a long stream of packets in clear, and of one with a tenth of its packets.
 fn print_ten_times(rt: &HostRuntime) -> Result<(), Fault> {
-    let load = clear(1024);
-    let tenth = load.count(200_000);
-    let short = Stream::new(rt.alloc(), load, tenth)?;
-    let long = Stream::new(rt.alloc(), load, tenth.saturating_mul(10))?;
-    let work = Work::Packets(&long, Act::Read(1448));
-    let other = Work::Packets(&short, Act::Read(1448));
+    let short = stream(rt, false, 1024, 200_000)?;
+    let long = stream(rt, false, 1024, 2_000_000)?;
+    let row = row("2 MB of clear packets by 1448", "a tenth of it", READS);
+    let act = Act::Read(1448);
     print_both(
         rt,
-        "2 MB of clear packets by 1448",
-        READS,
-        work,
-        other,
-        Beside::Tenth,
+        row,
+        Work::Packets(&long, act),
+        Work::Packets(&short, act),
     )
 }
 
-/// Times talks that come so far, whole and by single bytes, and prints a row for each.
-fn print_talks(rt: &HostRuntime, reach: Reach, name: &str, by_bytes: &str) -> Result<(), Fault> {
-    let lab = Lab::new(rt.alloc(), reach)?;
-    print_whole(rt, &lab, name)?;
-    print_bytes(rt, &lab, by_bytes)
+/// Times talks by single bytes beside whole ones, and whole sessions beside negotiations.
+fn print_talks(rt: &HostRuntime) -> Result<(), Fault> {
+    let negotiation = Lab::new(rt.alloc(), Reach::Service)?;
+    let (work, other) = (Work::Talk(&negotiation, 1), Work::Talk(&negotiation, WHOLE));
+    print_both(rt, row("negotiation by 1", "whole", TALKS), work, other)?;
+    print_session(rt, other)
 }
 
-/// Times whole talks beside the suite's calls alone.
-fn print_whole(rt: &HostRuntime, lab: &Lab, name: &str) -> Result<(), Fault> {
-    let calls = calls_of(rt, lab)?;
-    let (work, other) = (Work::Talk(lab, WHOLE), Work::Calls(&calls));
-    print_both(rt, name, TALKS, work, other, Beside::Calls)
-}
-
-/// Times talks by single bytes beside whole ones.
-fn print_bytes(rt: &HostRuntime, lab: &Lab, name: &str) -> Result<(), Fault> {
-    let (work, other) = (Work::Talk(lab, 1), Work::Talk(lab, WHOLE));
-    print_both(rt, name, TALKS, work, other, Beside::Whole)
-}
-
-/// The suite's calls of such a talk.
-fn calls_of(rt: &HostRuntime, lab: &Lab) -> Result<Box<Calls>, Fault> {
-    let said = talk(rt.alloc(), lab, WHOLE)?;
-    let calls = Calls::new(rt.alloc(), &said)?;
-    Ok(Box::new(rt.alloc(), calls)?)
+/// Times sessions by single bytes beside whole ones, and these beside negotiations.
+fn print_session(rt: &HostRuntime, negotiation: Work<'_>) -> Result<(), Fault> {
+    let lab = Lab::new(rt.alloc(), Reach::User)?;
+    let (work, other) = (Work::Talk(&lab, 1), Work::Talk(&lab, WHOLE));
+    print_both(rt, row("session by 1", "whole", TALKS), work, other)?;
+    print_both(rt, row("session", "negotiation", TALKS), other, negotiation)
 }

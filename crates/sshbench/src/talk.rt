@@ -1,7 +1,6 @@
 //! Two endpoints of the lab that talk, from their making up to SERVICE_ACCEPT or to the authenticated user.
 
-use crate::calls::Calls;
-use crate::fault::Fault;
+use crate::fault::{Fault, holds};
 use sshcore::{
     Attempt, ClientConfig, ClientParts, Credential, End, Endpoint, Fault as Cause, ServerConfig,
 };
@@ -48,7 +47,7 @@ fn has_no_attempt(end: &End) -> bool {
 }
 
 /// Whether a side waits for more.
-pub(crate) fn is_open(end: &End) -> bool {
+fn is_open(end: &End) -> bool {
     match end {
         End::Open => true,
         _ => false,
@@ -56,7 +55,7 @@ pub(crate) fn is_open(end: &End) -> bool {
 }
 
 /// Whether the user is authenticated at a side.
-pub(crate) fn is_user(end: &End) -> bool {
+fn is_user(end: &End) -> bool {
     match end {
         End::Authenticated(_) => true,
         _ => false,
@@ -130,10 +129,8 @@ impl Lab {
 /// What both sides said.
 #[derive(Drop)]
 pub(crate) struct Said {
-    pub(crate) client: Vec<u8>,
-    pub(crate) server: Vec<u8>,
-    /// How many bytes of the client's the server was given; the client was given all of the server's.
-    pub(crate) heard: usize,
+    client: Vec<u8>,
+    server: Vec<u8>,
 }
 
 /// An endpoint of the lab.
@@ -218,21 +215,16 @@ pub(crate) fn talk(alloc: Global, lab: &Lab, piece_len: usize) -> Result<Said, F
         Ok(Said {
             client: client.said,
             server: server.said,
-            heard: server.given,
         })
     } else {
         Err(Fault::Otherwise)
     }
 }
 
-/// Talks whole and by single bytes, which has to be the same, and makes the suite's calls alone.
+/// Talks whole and by single bytes, which has to be the same.
 pub(crate) fn check(alloc: Global, reach: Reach) -> Result<(), Fault> {
     let lab = Lab::new(alloc, reach)?;
     let whole = talk(alloc, &lab, WHOLE)?;
     let bytes = talk(alloc, &lab, 1)?;
-    if whole.client == bytes.client && whole.server == bytes.server {
-        Calls::new(alloc, &whole)?.make(alloc)
-    } else {
-        Err(Fault::Otherwise)
-    }
+    holds(whole.client == bytes.client && whole.server == bytes.server)
 }

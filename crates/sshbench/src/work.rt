@@ -1,16 +1,12 @@
 //! What is timed, as data.
 
-use crate::calls::{Calls, holds};
 use crate::digests::digest;
-use crate::fault::Fault;
+use crate::fault::{Fault, holds};
 use crate::kexinit::{copy, read_and_write};
 use crate::lent::{own, read_only};
 use crate::packets::Stream;
-use crate::recordings::{Engine, Recording};
-use crate::row::{Beside, Row, print_row};
-use crate::scripts::{Stand, read_and_run, run};
+use crate::row::{Row, print_row};
 use crate::talk::{Lab, talk};
-use sshlab::Scenario;
 use std::alloc::Global;
 use std::time::{Duration, Instant};
 
@@ -29,16 +25,6 @@ pub(crate) enum Work<'a> {
     Packets(&'a Stream, Act),
     /// Two endpoints talk in pieces of so many bytes.
     Talk(&'a Lab, usize),
-    /// The suite's calls of such a talk.
-    Calls(&'a Calls),
-    /// Reads and runs the scenario of a text.
-    Script(&'a [u8], Stand),
-    /// Runs a scenario, at whose end both sides are authenticated.
-    Run(&'a Scenario),
-    /// An engine tells a recording.
-    Tell(&'a Recording, Engine),
-    /// Decodes the recording's digits in one call.
-    Decode(&'a Recording),
 }
 
 /// What is done with a stream of packets.
@@ -85,11 +71,6 @@ impl Work<'_> {
             Work::Own(payload) => own(alloc, payload),
             Work::Packets(stream, act) => act.once(alloc, stream, out),
             Work::Talk(lab, piece_len) => say(alloc, lab, piece_len),
-            Work::Calls(calls) => calls.make(alloc),
-            Work::Script(text, stand) => read_and_run(alloc, text, stand),
-            Work::Run(scenario) => run(alloc, scenario, Stand::Authenticated),
-            Work::Tell(recording, engine) => recording.tell(alloc, engine, out),
-            Work::Decode(recording) => recording.decode(alloc),
         }
     }
 
@@ -97,7 +78,6 @@ impl Work<'_> {
     fn judge(self, out: &[u8]) -> Result<(), Fault> {
         match self {
             Work::Packets(stream, act) => act.judge(stream, out),
-            Work::Tell(recording, engine) => recording.judge(engine, out),
             _ => Ok(()),
         }
     }
@@ -109,22 +89,15 @@ fn say(alloc: Global, lab: &Lab, piece_len: usize) -> Result<(), Fault> {
     Ok(())
 }
 
-/// Times a work and what stands beside it, as often, and prints the row.
+/// Times a work and what stands beside it, and prints the row.
 pub(crate) fn print_both(
     rt: &HostRuntime,
-    name: &str,
-    rounds: u32,
+    row: Row<'_>,
     work: Work<'_>,
     other: Work<'_>,
-    beside: Beside,
 ) -> Result<(), Fault> {
-    let row = Row {
-        rounds,
-        work: time(rt, work, rounds)?,
-        other: time(rt, other, rounds)?,
-        beside,
-    };
-    print_row(rt, name, &row)
+    let took = time(rt, work, row.rounds)?;
+    print_row(rt, row, took, time(rt, other, row.rounds)?)
 }
 
 /// Times a work, and judges what is left.

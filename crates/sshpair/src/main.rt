@@ -9,6 +9,7 @@ use sshcore::{Attempt, ClientConfig, Credential, Direction, Endpoint, ServerConf
 use sshpacket::{PacketReader, PacketStep, write_sealed};
 use sshsuites::{LabDecisions, LabSuite, lab_client_parts, lab_server_parts};
 use std::alloc::Global;
+use std::io::Write;
 
 /// How often each side is given what the other has said.
 const ROUNDS: u32 = 4;
@@ -160,8 +161,9 @@ fn carry(
     requires short { length message.now ≤ 32768 }
 {
     let packet = seal(rt.alloc(), message, outgoing)?;
-    let heard = open(rt.alloc(), &packet, incoming)?;
-    println!(rt; "{reader} read {heard}")?;
+    print!(rt; "{reader} read ")?;
+    open(rt, &packet, incoming)?;
+    println!(rt)?;
     Ok(())
 }
 
@@ -176,14 +178,12 @@ fn seal(alloc: Global, message: &[u8], outgoing: &Direction) -> anyhow::Result<V
     Ok(packet)
 }
 
-/// The message of a packet.
-fn open(alloc: Global, packet: &[u8], incoming: Direction) -> anyhow::Result<String> {
-    let mut reader = PacketReader::with_keys(alloc, incoming.keys, incoming.sequence_number);
+/// Prints the message of a packet.
+fn open(rt: &HostRuntime, packet: &[u8], incoming: Direction) -> anyhow::Result<()> {
+    let (keys, number) = (incoming.keys, incoming.sequence_number);
+    let mut reader = PacketReader::with_keys(rt.alloc(), keys, number);
     match reader.next(&LabSuite, packet)? {
-        PacketStep::Payload { payload, .. } => {
-            let text = str::from_utf8(payload)?;
-            Ok(String::from_str(alloc, text)?)
-        }
+        PacketStep::Payload { payload, .. } => Ok(rt.stdout().write_all(payload)?),
         PacketStep::More => bail!("not whole"),
     }
 }

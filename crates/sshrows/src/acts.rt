@@ -1,15 +1,14 @@
 //! The acts of rows.
 
 use crate::configs::judge_config;
-use crate::endpoints::{Subject, talk};
+use crate::endpoints::{client_of, server_of, talk};
 use crate::names::Names;
-use crate::row::Line;
 use crate::stop::Stop;
-use crate::texts::{same_text, shows, wrong};
+use crate::texts::{nothing_behind, same_text, shows, wrong};
+use crate::words::Line;
 use crate::worlds::{judge_prediction, judge_world};
-use sshcore::{Decisions, Endpoint, Proof};
+use sshcore::{Decisions, Proof};
 use sshlab::{Scenario, ScenarioFault, TEXT_LIMIT};
-use sshsuites::LabSuite;
 use std::alloc::Global;
 
 /// Decisions that say yes to whatever they are asked.
@@ -42,40 +41,61 @@ pub(crate) fn act(
     let Some((line, rest)) = lines.split_first() else {
         return wrong(alloc, row, "row", "an act", "none");
     };
-    if text.len() > TEXT_LIMIT {
-        return wrong(alloc, row, "row", "a scenario", "too many bytes");
-    }
-    let (word, role) = line.text.split_once(' ').unwrap_or((line.text, ""));
+    let (word, role) = line.head();
     if word == "config" {
         return judge_config(alloc, names, line, role, rest, piece_len);
     }
-    match Scenario::parse(alloc, text) {
-        Ok(scenario) => {
-            let scenario = Box::new(alloc, scenario)?;
-            match word {
-                "begin" => begin(
-                    alloc,
-                    names,
-                    line,
-                    &scenario,
-                    &scenario.decisions,
-                    role,
-                    rest,
-                    piece_len,
-                ),
-                "generous" => begin(
-                    alloc, names, line, &scenario, &Generous, role, rest, piece_len,
-                ),
-                "world" => judge_world(alloc, &scenario, rest),
-                "predict" => judge_prediction(alloc, &scenario, rest),
-                _ => wrong(alloc, line, "config", role, "accepted"),
-            }
+    match scenario_of(alloc, row, text)? {
+        Ok(scenario) => act_by(alloc, names, line, &scenario, rest, piece_len),
+        Err(fault) => {
+            let wanted = if word == "refused" { role } else { "accepted" };
+            shows(alloc, line, "config", wanted, &fault)?;
+            nothing_behind(alloc, rest)
         }
+    }
+}
+
+/// The scenario of the text, or why it is refused.
+fn scenario_of(
+    alloc: Global,
+    row: &Line<'_>,
+    text: &[u8],
+) -> Result<Result<Box<Scenario>, ScenarioFault>, Stop> {
+    if text.len() > TEXT_LIMIT {
+        return wrong(alloc, row, "row", "a scenario", "too many bytes");
+    }
+    match Scenario::parse(alloc, text) {
+        Ok(scenario) => Ok(Ok(Box::new(alloc, scenario)?)),
         Err(ScenarioFault::Memory) => Err(Stop::Memory),
-        Err(fault) => match word {
-            "refused" => shows(alloc, line, "config", role, &fault),
-            _ => shows(alloc, line, "config", "accepted", &fault),
-        },
+        Err(fault) => Ok(Err(fault)),
+    }
+}
+
+/// Does the act over an accepted scenario.
+fn act_by(
+    alloc: Global,
+    names: &Names,
+    line: &Line<'_>,
+    scenario: &Scenario,
+    rest: &[Line<'_>],
+    piece_len: usize,
+) -> Result<(), Stop> {
+    let (word, role) = line.head();
+    match word {
+        "begin" => begin(
+            alloc,
+            names,
+            line,
+            scenario,
+            &scenario.decisions,
+            rest,
+            piece_len,
+        ),
+        "generous" => begin(alloc, names, line, scenario, &Generous, rest, piece_len),
+        "world" => judge_world(alloc, scenario, rest),
+        "predict" => judge_prediction(alloc, scenario, rest),
+        "accepted" => nothing_behind(alloc, rest),
+        _ => wrong(alloc, line, "config", role, "accepted"),
     }
 }
 
@@ -86,22 +106,19 @@ fn begin<D: Decisions>(
     line: &Line<'_>,
     scenario: &Scenario,
     decisions: &D,
-    role: &str,
     lines: &[Line<'_>],
     piece_len: usize,
 ) -> Result<(), Stop> {
-    let mut out = Vec::new(alloc);
-    let endpoint = match role {
-        "client" => Endpoint::client(alloc, &scenario.client, &LabSuite, decisions, &mut out)?,
-        "server" => Endpoint::server(alloc, &scenario.server, &LabSuite, decisions, &mut out)?,
-        _ => return same_text(alloc, line, "act", "client or server", role),
-    };
-    let endpoint = Box::new(alloc, endpoint)?;
-    let talk_of = Subject {
-        endpoint,
-        out,
-        piece_len,
-        judged: false,
-    };
-    talk(alloc, names, line, talk_of, lines)
+    let (_, role) = line.head();
+    match role {
+        "client" => {
+            let subject = client_of(alloc, &scenario.client, decisions, piece_len)?;
+            talk(alloc, names, line, subject, lines)
+        }
+        "server" => {
+            let subject = server_of(alloc, &scenario.server, decisions, piece_len)?;
+            talk(alloc, names, line, subject, lines)
+        }
+        _ => same_text(alloc, line, "act", "client or server", role),
+    }
 }

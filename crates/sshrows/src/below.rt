@@ -7,10 +7,10 @@ use crate::below_messages::judge_message;
 use crate::below_packets::judge_packets;
 use crate::below_types::{judge_parsing, judge_putting, judge_reading};
 use crate::names::Names;
-use crate::row::Line;
 use crate::stop::Stop;
 use crate::terms::bytes_of;
 use crate::texts::wrong;
+use crate::words::Line;
 use sshsuites::{KemSuite, LabSuite};
 use std::alloc::Global;
 
@@ -32,7 +32,7 @@ pub(crate) fn judge_below(
     let Some((line, rest)) = lines.split_first() else {
         return Ok(());
     };
-    let (word, terms) = line.text.split_once(' ').unwrap_or((line.text, ""));
+    let (word, terms) = line.head();
     match word {
         "message" => judge_message(alloc, names, line, terms, rest),
         "lines" => judge_hearing(alloc, names, line, terms, rest, piece_len),

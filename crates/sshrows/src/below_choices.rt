@@ -1,10 +1,10 @@
 //! Rows of choices, guesses and strictness.
 
 use crate::names::Names;
-use crate::row::Line;
 use crate::stop::Stop;
 use crate::terms::bytes_of;
-use crate::texts::{same_text, wrong, yes_or_no};
+use crate::texts::{flag_of, same_text, wrong, yes_or_no};
+use crate::words::{Line, split_word};
 use sshmsg::{KexInit, Message, read};
 use sshneg::{Chosen, Role, choose, guess_right, strict_of};
 use sshsuites::LabSuite;
@@ -18,13 +18,34 @@ pub(crate) fn judge_choice(
     terms: &str,
     lines: &[Line<'_>],
 ) -> Result<(), Stop> {
-    let (client, server) = terms.split_once(' ').unwrap_or((terms, "-"));
+    let (client, server) = split_word(terms);
     let client = bytes_of(alloc, names, line, client)?;
     let server = bytes_of(alloc, names, line, server)?;
-    let client = kexinit_of(alloc, line, &client)?;
-    let server = kexinit_of(alloc, line, &server)?;
+    judge_payloads(alloc, line, &client, &server, lines)
+}
+
+/// Judges what is chosen over these payloads.
+fn judge_payloads(
+    alloc: Global,
+    line: &Line<'_>,
+    client: &[u8],
+    server: &[u8],
+    lines: &[Line<'_>],
+) -> Result<(), Stop> {
+    let client = kexinit_of(alloc, line, client)?;
+    let server = kexinit_of(alloc, line, server)?;
+    judge_all(alloc, lines, &client, &server)
+}
+
+/// Judges what is chosen over these messages.
+fn judge_all(
+    alloc: Global,
+    lines: &[Line<'_>],
+    client: &KexInit<'_>,
+    server: &KexInit<'_>,
+) -> Result<(), Stop> {
     for line in lines {
-        judge(alloc, line, &client, &server)?;
+        judge(alloc, line, client, server)?;
     }
     Ok(())
 }
@@ -48,13 +69,10 @@ fn judge(
     client: &KexInit<'_>,
     server: &KexInit<'_>,
 ) -> Result<(), Stop> {
-    let (word, rest) = line.text.split_once(' ').unwrap_or((line.text, ""));
+    let (word, rest) = line.head();
     match word {
         "chosen" | "none" => {
-            let found = match choose(client, server, &LabSuite) {
-                Ok(chosen) => text_of_chosen(alloc, &chosen)?,
-                Err(field) => format!(in alloc; "none {field}")?,
-            };
+            let found = text_of_choice(alloc, client, server)?;
             same_text(alloc, line, "chosen", line.text, &found)
         }
         "guess" => {
@@ -74,29 +92,57 @@ fn judge_strict(
     server: &KexInit<'_>,
     rest: &str,
 ) -> Result<(), Stop> {
-    let (role, rest) = rest.split_once(' ').unwrap_or((rest, ""));
-    let (willing, wanted) = rest.split_once(' ').unwrap_or((rest, ""));
-    let strict = match role {
-        "client" => strict_of(willing == "yes", Role::Client, server),
-        _ => strict_of(willing == "yes", Role::Server, client),
+    let (role, rest) = split_word(rest);
+    let (willing, wanted) = split_word(rest);
+    let willing = flag_of(alloc, line, willing)?;
+    let strict = match role_of(alloc, line, role)? {
+        Role::Client => strict_of(willing, Role::Client, server),
+        Role::Server => strict_of(willing, Role::Server, client),
     };
     same_text(alloc, line, "strict", wanted, yes_or_no(strict))
 }
 
+/// The role that the word names.
+pub(crate) fn role_of(alloc: Global, line: &Line<'_>, word: &str) -> Result<Role, Stop> {
+    match word {
+        "client" => Ok(Role::Client),
+        "server" => Ok(Role::Server),
+        _ => wrong(alloc, line, "role", "client or server", word),
+    }
+}
+
+/// What is chosen, or the first field without a choice.
+fn text_of_choice(
+    alloc: Global,
+    client: &KexInit<'_>,
+    server: &KexInit<'_>,
+) -> Result<String, AllocError> {
+    match choose(client, server, &LabSuite) {
+        Ok(chosen) => text_of_chosen(alloc, &chosen),
+        Err(field) => format!(in alloc; "none {field}"),
+    }
+}
+
 /// The positions, from 0: methods, host key algorithms, ciphers, MACs and compressions, to the server first.
 fn text_of_chosen(alloc: Global, chosen: &Chosen) -> Result<String, AllocError> {
-    let first = format!(in alloc;
-        "chosen {} {} {} {}",
+    let mut text = String::from_str(alloc, "chosen")?;
+    for position in [
         chosen.kex,
         chosen.host_key,
         chosen.encryption_client_to_server,
-        chosen.encryption_server_to_client
-    )?;
-    format!(in alloc;
-        "{first} {} {} {} {}",
+        chosen.encryption_server_to_client,
         chosen.mac_client_to_server,
         chosen.mac_server_to_client,
         chosen.compression_client_to_server,
-        chosen.compression_server_to_client
-    )
+        chosen.compression_server_to_client,
+    ] {
+        put_number(alloc, &mut text, position)?;
+    }
+    Ok(text)
+}
+
+/// Appends a blank and the number.
+fn put_number(alloc: Global, text: &mut String, number: usize) -> Result<(), AllocError> {
+    let digits = format!(in alloc; " {number}")?;
+    text.push_str(&digits)
 }

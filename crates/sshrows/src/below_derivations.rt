@@ -2,12 +2,13 @@
 
 ghost use Rattle.std.specs.Prelude.{◌<◌, ◌^◌, length};
 
+use crate::below_choices::role_of;
 use crate::below_texts::text_with;
 use crate::names::Names;
-use crate::row::Line;
 use crate::stop::Stop;
 use crate::terms::bytes_of;
 use crate::texts::{same_bytes, same_text, wrong};
+use crate::words::{Line, split_word};
 use sshneg::{Exchange, KeyMaterial, Role, exchange_input, keys_of, signed_request};
 use sshsuites::LabSuite;
 use sshwire::as_name;
@@ -24,12 +25,22 @@ pub(crate) fn judge_derivations(
     lines: &[Line<'_>],
 ) -> Result<(), Stop> {
     let mut parts = Vec::new(alloc);
+    judge_all(alloc, names, lines, &mut parts)
+}
+
+/// Names and judges, line by line.
+fn judge_all(
+    alloc: Global,
+    names: &Names,
+    lines: &[Line<'_>],
+    parts: &mut Parts,
+) -> Result<(), Stop> {
     for line in lines {
-        let (word, rest) = line.text.split_once(' ').unwrap_or((line.text, ""));
+        let (word, rest) = line.head();
         if word == "part" {
-            add_part(alloc, names, line, &mut parts, rest)?;
+            add_part(alloc, names, line, parts, rest)?;
         } else {
-            judge(alloc, names, line, &parts, word, rest)?;
+            judge(alloc, names, line, parts, word, rest)?;
             parts.clear();
         }
     }
@@ -73,23 +84,29 @@ fn judge(
 ) -> Result<(), Stop> {
     match word {
         "exchange" => {
-            let wanted = bytes_of(alloc, names, line, rest)?;
-            same_bytes(
-                alloc,
-                line,
-                "exchange",
-                &wanted,
-                &exchange_of(alloc, parts)?,
-            )
+            let found = exchange_of(alloc, parts)?;
+            judge_bytes(alloc, names, line, "exchange", rest, &found)
         }
         "signed" => {
-            let wanted = bytes_of(alloc, names, line, rest)?;
             let found = signed_of(alloc, line, parts)?;
-            same_bytes(alloc, line, "signed", &wanted, &found)
+            judge_bytes(alloc, names, line, "signed", rest, &found)
         }
         "keys" => judge_keys(alloc, line, parts, rest),
         _ => wrong(alloc, line, "line", "a word of derivations", word),
     }
+}
+
+/// The terms have to be these bytes.
+fn judge_bytes(
+    alloc: Global,
+    names: &Names,
+    line: &Line<'_>,
+    what: &'static str,
+    terms: &str,
+    found: &[u8],
+) -> Result<(), Stop> {
+    let wanted = bytes_of(alloc, names, line, terms)?;
+    same_bytes(alloc, line, what, &wanted, found)
 }
 
 /// What is hashed of eight parts.
@@ -126,13 +143,10 @@ fn signed_of(alloc: Global, line: &Line<'_>, parts: &Parts) -> Result<Vec<u8>, S
 
 /// The keys of four parts (method, shared number, hash and session) for a sender, a cipher and a MAC.
 fn judge_keys(alloc: Global, line: &Line<'_>, parts: &Parts, words: &str) -> Result<(), Stop> {
-    let (role, words) = words.split_once(' ').unwrap_or((words, ""));
-    let (cipher, words) = words.split_once(' ').unwrap_or((words, ""));
-    let (mac, _) = words.split_once(' ').unwrap_or((words, ""));
-    let sender = match role {
-        "client" => Role::Client,
-        _ => Role::Server,
-    };
+    let (role, words) = split_word(words);
+    let (cipher, words) = split_word(words);
+    let (mac, _) = split_word(words);
+    let sender = role_of(alloc, line, role)?;
     let found = text_of_keys(alloc, line, parts, sender, cipher, mac)?;
     same_text(alloc, line, "keys", words, &found)
 }

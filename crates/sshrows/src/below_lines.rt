@@ -2,10 +2,10 @@
 
 use crate::below_texts::{code_of_wire, text_with};
 use crate::names::Names;
-use crate::row::Line;
 use crate::stop::Stop;
-use crate::terms::bytes_of;
-use crate::texts::{same_text, shows, wrong};
+use crate::terms::{bytes_of, count_of};
+use crate::texts::{number_of, same_count, same_text, shows, wrong};
+use crate::words::{Line, split_word};
 use sshwire::{LineReader, LineStep};
 use std::alloc::Global;
 
@@ -28,36 +28,43 @@ pub(crate) fn judge_hearing(
     lines: &[Line<'_>],
     piece_len: usize,
 ) -> Result<(), Stop> {
-    let Ok(others) = others.parse::<u32>() else {
-        return wrong(alloc, line, "lines", "a number", others);
-    };
+    let others = number_of(alloc, line, others)?;
     let end = String::from_str(alloc, "open")?;
     let mut hearer = Hearer {
         reader: LineReader::new(alloc, others),
         end,
         piece_len,
     };
+    steps(alloc, names, lines, &mut hearer)
+}
+
+/// Does or judges lines.
+fn steps(
+    alloc: Global,
+    names: &Names,
+    lines: &[Line<'_>],
+    hearer: &mut Hearer,
+) -> Result<(), Stop> {
     for line in lines {
-        step(alloc, names, line, &mut hearer)?;
+        step(alloc, names, line, hearer)?;
     }
     Ok(())
 }
 
 /// Judges one line.
 fn step(alloc: Global, names: &Names, line: &Line<'_>, hearer: &mut Hearer) -> Result<(), Stop> {
-    let (word, rest) = line.text.split_once(' ').unwrap_or((line.text, ""));
+    let (word, rest) = line.head();
     match word {
         "feed" => {
             let piece = bytes_of(alloc, names, line, rest)?;
             let used = used_of(alloc, hearer, &piece)?;
-            let wanted = format!(in alloc; "{}", piece.len())?;
-            shows(alloc, line, "used", &wanted, &used)
+            same_count(alloc, line, "used", piece.len(), used)
         }
         "part" => {
-            let (wanted, terms) = rest.split_once(' ').unwrap_or((rest, "-"));
+            let (count, terms) = split_word(rest);
             let piece = bytes_of(alloc, names, line, terms)?;
             let used = used_of(alloc, hearer, &piece)?;
-            shows(alloc, line, "used", wanted, &used)
+            same_count(alloc, line, "used", count_of(count), used)
         }
         "held" => shows(alloc, line, "held", rest, &hearer.reader.buffered()),
         "end" => same_text(alloc, line, "end", rest, &hearer.end),

@@ -3,10 +3,10 @@
 use crate::below_texts::code_of_message;
 use crate::below_told::text_of_message;
 use crate::names::Names;
-use crate::row::Line;
 use crate::stop::Stop;
 use crate::terms::bytes_of;
-use crate::texts::{same_bytes, same_text, wrong};
+use crate::texts::{BEFORE, same_text, stands_behind, wrong};
+use crate::words::{Line, split_word};
 use sshmsg::{Message, MsgFault, read_exchange, write};
 use sshwire::ShareForm;
 use std::alloc::Global;
@@ -19,7 +19,7 @@ pub(crate) fn judge_message(
     terms: &str,
     lines: &[Line<'_>],
 ) -> Result<(), Stop> {
-    let (form, terms) = terms.split_once(' ').unwrap_or((terms, "-"));
+    let (form, terms) = split_word(terms);
     let form = match form {
         "mpint" => ShareForm::Mpint,
         "octets" => ShareForm::OctetString,
@@ -27,8 +27,19 @@ pub(crate) fn judge_message(
         _ => return wrong(alloc, line, "form", "mpint, octets or hybrid", form),
     };
     let payload = bytes_of(alloc, names, line, terms)?;
+    judge_all(alloc, names, lines, &payload, form)
+}
+
+/// Judges a payload by lines.
+fn judge_all(
+    alloc: Global,
+    names: &Names,
+    lines: &[Line<'_>],
+    payload: &[u8],
+    form: ShareForm,
+) -> Result<(), Stop> {
     for line in lines {
-        judge(alloc, names, line, &payload, form)?;
+        judge(alloc, names, line, payload, form)?;
     }
     Ok(())
 }
@@ -44,16 +55,29 @@ fn judge(
     if line.text == "cuts" {
         return judge_cuts(alloc, line, payload, form);
     }
-    match read_exchange(alloc, payload, form) {
-        Ok(message) => {
-            let message = Box::new(alloc, message)?;
-            judge_read(alloc, names, line, &message)
-        }
-        Err(fault) => {
-            let found = code_of_message(alloc, fault)?;
-            same_text(alloc, line, "message", line.text, &found)
-        }
+    match message_of(alloc, payload, form)? {
+        Ok(message) => judge_read(alloc, names, line, &message),
+        Err(fault) => judge_refused(alloc, line, fault),
     }
+}
+
+/// The message that the payload spells, or why it spells none.
+fn message_of<'a>(
+    alloc: Global,
+    payload: &'a [u8],
+    form: ShareForm,
+) -> Result<Result<Box<Message<'a>>, MsgFault>, Stop> {
+    match read_exchange(alloc, payload, form) {
+        Ok(message) => Ok(Ok(Box::new(alloc, message)?)),
+        Err(MsgFault::Memory) => Err(Stop::Memory),
+        Err(fault) => Ok(Err(fault)),
+    }
+}
+
+/// The payload was refused, which has to be what the line says.
+fn judge_refused(alloc: Global, line: &Line<'_>, fault: MsgFault) -> Result<(), Stop> {
+    let found = code_of_message(alloc, fault)?;
+    same_text(alloc, line, "message", line.text, &found)
 }
 
 /// `tells FIELDS`, `writes TERMS` or `too long`.
@@ -63,7 +87,7 @@ fn judge_read(
     line: &Line<'_>,
     message: &Message<'_>,
 ) -> Result<(), Stop> {
-    let (word, rest) = line.text.split_once(' ').unwrap_or((line.text, ""));
+    let (word, rest) = line.head();
     match word {
         "tells" => {
             let found = text_of_message(alloc, message)?;
@@ -81,9 +105,6 @@ fn judge_read(
     }
 }
 
-/// What is written before each message.
-const BEFORE: &[u8] = b"before";
-
 /// The message has to be written as these bytes, behind what stood there.
 fn judge_written(
     alloc: Global,
@@ -96,41 +117,36 @@ fn judge_written(
     }
     let mut out = Vec::from_slice(alloc, BEFORE)?;
     write(message, &mut out)?;
-    same_bytes(
-        alloc,
-        line,
-        "before what is written",
-        BEFORE,
-        out.get(..BEFORE.len()).unwrap_or(&[]),
-    )?;
-    same_bytes(
-        alloc,
-        line,
-        "written",
-        wanted,
-        out.get(BEFORE.len()..).unwrap_or(&[]),
-    )
+    stands_behind(alloc, line, wanted, &out)
 }
 
 /// Each beginning that is shorter has to be refused, and the payload with a byte behind it.
 fn judge_cuts(alloc: Global, line: &Line<'_>, payload: &[u8], form: ShareForm) -> Result<(), Stop> {
-    for len in 0..payload.len() {
-        is_malformed(alloc, line, payload.get(..len).unwrap_or(&[]), form)?;
-    }
+    cut(alloc, line, payload, form)?;
     let mut longer = Vec::from_slice(alloc, payload)?;
     longer.push(0)?;
     is_malformed(alloc, line, &longer, form)
 }
 
+/// Each beginning that is shorter has to be refused.
+fn cut(alloc: Global, line: &Line<'_>, payload: &[u8], form: ShareForm) -> Result<(), Stop> {
+    for len in 0..payload.len() {
+        is_malformed(alloc, line, payload.get(..len).unwrap_or(&[]), form)?;
+    }
+    Ok(())
+}
+
 /// The bytes have to be refused as a malformed message of their number.
 fn is_malformed(alloc: Global, line: &Line<'_>, bytes: &[u8], form: ShareForm) -> Result<(), Stop> {
     let number = bytes.first().copied().unwrap_or(0);
-    match read_exchange(alloc, bytes, form).err() {
-        Some(MsgFault::Malformed(found)) if found == number => Ok(()),
-        Some(MsgFault::Memory) => Err(Stop::Memory),
-        _ => {
-            let found = format!(in alloc; "another answer to {} bytes", bytes.len())?;
-            wrong(alloc, line, "cut", "refused M2 by its number", &found)
-        }
+    match message_of(alloc, bytes, form)? {
+        Err(MsgFault::Malformed(found)) if found == number => Ok(()),
+        _ => wrong_cut(alloc, line, bytes.len()),
     }
+}
+
+/// A beginning of so many bytes was read, or refused otherwise.
+fn wrong_cut(alloc: Global, line: &Line<'_>, len: usize) -> Result<(), Stop> {
+    let found = format!(in alloc; "another answer to {len} bytes")?;
+    wrong(alloc, line, "cut", "refused M2 by its number", &found)
 }

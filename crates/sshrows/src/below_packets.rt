@@ -2,10 +2,12 @@
 
 use crate::below_texts::code_of_packet;
 use crate::names::Names;
-use crate::row::Line;
 use crate::stop::Stop;
-use crate::terms::bytes_of;
-use crate::texts::{same_bytes, same_text, shows, wrong};
+use crate::terms::{bytes_of, count_of, put_string};
+use crate::texts::{
+    BEFORE, flag_of, number_of, same_bytes, same_count, same_text, shows, stands_behind, wrong,
+};
+use crate::words::{Line, split_word};
 use sshpacket::{KeyParts, Keys, PacketReader, PacketStep, Suite, write_clear, write_sealed};
 use sshwire::{PAYLOAD_LIMIT, as_name};
 use std::alloc::Global;
@@ -36,8 +38,19 @@ pub(crate) fn judge_packets<S: Suite>(
         end: "open",
         piece_len,
     };
+    steps(alloc, names, suite, lines, &mut receiver)
+}
+
+/// Does or judges lines; behind them all payloads that came have to be judged.
+fn steps<S: Suite>(
+    alloc: Global,
+    names: &Names,
+    suite: &S,
+    lines: &[Line<'_>],
+    receiver: &mut Receiver,
+) -> Result<(), Stop> {
     for line in lines {
-        step(alloc, names, suite, line, &mut receiver)?;
+        step(alloc, names, suite, line, receiver)?;
     }
     match lines.last() {
         Some(line) => same_bytes(alloc, line, "came and not judged", &[], &receiver.came),
@@ -53,20 +66,35 @@ fn step<S: Suite>(
     line: &Line<'_>,
     receiver: &mut Receiver,
 ) -> Result<(), Stop> {
-    let (word, rest) = line.text.split_once(' ').unwrap_or((line.text, ""));
+    let (word, rest) = line.head();
     match word {
         "feed" => {
             let piece = bytes_of(alloc, names, line, rest)?;
             let used = used_of(suite, receiver, &piece)?;
-            let wanted = format!(in alloc; "{}", piece.len())?;
-            shows(alloc, line, "used", &wanted, &used)
+            same_count(alloc, line, "used", piece.len(), used)
         }
         "part" => {
-            let (wanted, terms) = rest.split_once(' ').unwrap_or((rest, "-"));
+            let (count, terms) = split_word(rest);
             let piece = bytes_of(alloc, names, line, terms)?;
             let used = used_of(suite, receiver, &piece)?;
-            shows(alloc, line, "used", wanted, &used)
+            same_count(alloc, line, "used", count_of(count), used)
         }
+        "keys" => use_keys(alloc, names, line, receiver, rest),
+        "clear" | "sealed" => judge_written(alloc, names, suite, line, word, rest),
+        _ => look(alloc, names, line, receiver, word, rest),
+    }
+}
+
+/// Judges how the reader stands.
+fn look(
+    alloc: Global,
+    names: &Names,
+    line: &Line<'_>,
+    receiver: &mut Receiver,
+    word: &str,
+    rest: &str,
+) -> Result<(), Stop> {
+    match word {
         "came" => {
             let wanted = bytes_of(alloc, names, line, rest)?;
             same_bytes(alloc, line, "came", &wanted, &receiver.came)?;
@@ -75,8 +103,6 @@ fn step<S: Suite>(
         }
         "held" => shows(alloc, line, "held", rest, &receiver.reader.buffered()),
         "end" => same_text(alloc, line, "end", rest, receiver.end),
-        "keys" => use_keys(alloc, names, line, receiver, rest),
-        "clear" | "sealed" => judge_written(alloc, names, suite, line, word, rest),
         _ => wrong(alloc, line, "line", "a word of packets", word),
     }
 }
@@ -116,9 +142,7 @@ fn hear<S: Suite>(suite: &S, receiver: &mut Receiver, left: &[u8]) -> Result<usi
     match receiver.reader.next(suite, left) {
         Ok(PacketStep::More) => {}
         Ok(PacketStep::Payload { payload, .. }) => {
-            let len = u32::try_from(payload.len()).unwrap_or(u32::MAX);
-            receiver.came.extend_from_slice(&len.to_be_bytes())?;
-            receiver.came.extend_from_slice(payload)?;
+            put_string(&mut receiver.came, payload)?;
         }
         Err(fault) => receiver.end = code_of_packet(fault)?,
     }
@@ -133,12 +157,13 @@ fn use_keys(
     receiver: &mut Receiver,
     rest: &str,
 ) -> Result<(), Stop> {
-    let (reset, terms) = rest.split_once(' ').unwrap_or((rest, ""));
+    let (reset, terms) = split_word(rest);
+    let reset = flag_of(alloc, line, reset)?;
     let (keys, _) = keys_of(alloc, names, line, terms)?;
     if !receiver.reader.is_idle() {
         return wrong(alloc, line, "held", "nothing", "a part of a packet");
     }
-    receiver.reader.use_keys(keys, reset == "yes");
+    receiver.reader.use_keys(keys, reset);
     Ok(())
 }
 
@@ -149,11 +174,11 @@ fn keys_of<'a>(
     line: &Line<'_>,
     words: &'a str,
 ) -> Result<(Keys, &'a str), Stop> {
-    let (cipher, words) = words.split_once(' ').unwrap_or((words, ""));
-    let (mac, words) = words.split_once(' ').unwrap_or((words, ""));
-    let (iv, words) = words.split_once(' ').unwrap_or((words, "-"));
-    let (enc, words) = words.split_once(' ').unwrap_or((words, "-"));
-    let (mac_key, words) = words.split_once(' ').unwrap_or((words, "-"));
+    let (cipher, words) = split_word(words);
+    let (mac, words) = split_word(words);
+    let (iv, words) = split_word(words);
+    let (enc, words) = split_word(words);
+    let (mac_key, words) = split_word(words);
     let iv = bytes_of(alloc, names, line, iv)?;
     let enc = bytes_of(alloc, names, line, enc)?;
     let mac_key = bytes_of(alloc, names, line, mac_key)?;
@@ -187,9 +212,6 @@ fn keys_with(
     }))
 }
 
-/// What is written before each packet.
-const BEFORE: &[u8] = b"before";
-
 /// `clear NUMBER SEED PAYLOAD PACKET` or `sealed CIPHER MAC IV ENC MACKEY NUMBER SEED PAYLOAD PACKET`: the
 /// packet of a payload has to be written as these bytes, behind what stood there.
 fn judge_written<S: Suite>(
@@ -222,13 +244,6 @@ fn judge_packet<S: Suite>(
     stands_behind(alloc, line, &wanted, &out)
 }
 
-/// The bytes have to stand behind what stood there before, and nothing else.
-fn stands_behind(alloc: Global, line: &Line<'_>, wanted: &[u8], out: &[u8]) -> Result<(), Stop> {
-    let (front, written) = out.split_at(BEFORE.len().min(out.len()));
-    same_bytes(alloc, line, "before what is written", BEFORE, front)?;
-    same_bytes(alloc, line, "written", wanted, written)
-}
-
 /// Writes the packet of `NUMBER SEED PAYLOAD`, and answers what stands behind them.
 fn put_packet<'a, S: Suite>(
     alloc: Global,
@@ -239,10 +254,10 @@ fn put_packet<'a, S: Suite>(
     words: &'a str,
     out: &mut Vec<u8>,
 ) -> Result<&'a str, Stop> {
-    let (number, words) = words.split_once(' ').unwrap_or((words, ""));
-    let (seed, words) = words.split_once(' ').unwrap_or((words, "-"));
-    let (payload, words) = words.split_once(' ').unwrap_or((words, "-"));
-    let number = number.parse::<u32>().unwrap_or(0);
+    let (number, words) = split_word(words);
+    let (seed, words) = split_word(words);
+    let (payload, words) = split_word(words);
+    let number = number_of(alloc, line, number)?;
     let seed = bytes_of(alloc, names, line, seed)?;
     let payload = bytes_of(alloc, names, line, payload)?;
     if payload.is_empty() || payload.len() > PAYLOAD_LIMIT || seed.len() > PAYLOAD_LIMIT {

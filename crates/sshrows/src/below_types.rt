@@ -2,10 +2,10 @@
 
 use crate::below_texts::{code_of_wire, put_names, text_with};
 use crate::names::Names;
-use crate::row::Line;
 use crate::stop::Stop;
 use crate::terms::bytes_of;
-use crate::texts::{same_bytes, same_text, wrong, yes_or_no};
+use crate::texts::{flag_of, number_of, same_bytes, same_text, wrong, yes_or_no};
+use crate::words::{Line, split_word};
 use sshwire::{
     BorrowedNameList, Mpint, NameList, Reader, VersionLine, WireFault, as_name, put_boolean,
     put_mpint, put_string, put_u32,
@@ -16,23 +16,27 @@ use std::alloc::Global;
 pub(crate) fn judge_reading(alloc: Global, bytes: &[u8], lines: &[Line<'_>]) -> Result<(), Stop> {
     let mut reader = Reader::new(bytes);
     for line in lines {
-        let before = reader.rest();
-        let found = text_of_call(alloc, &mut reader, line)?;
-        same_text(alloc, line, "read", line.text, &found)?;
-        if found.as_bytes().starts_with(b"refused") {
-            same_bytes(alloc, line, "rest", before, reader.rest())?;
-        }
+        judge_call(alloc, &mut reader, line)?;
+    }
+    Ok(())
+}
+
+/// Judges one call; one that is refused has to leave the reader as it was.
+fn judge_call(alloc: Global, reader: &mut Reader<'_>, line: &Line<'_>) -> Result<(), Stop> {
+    let before = reader.rest();
+    let found = text_of_call(alloc, reader, line)?;
+    same_text(alloc, line, "read", line.text, &found)?;
+    if line.text.starts_with("refused") {
+        same_bytes(alloc, line, "rest", before, reader.rest())?;
     }
     Ok(())
 }
 
 /// Makes the call of the line, `CALL VALUE` or `refused CODE CALL`, and tells what came of it.
 fn text_of_call(alloc: Global, reader: &mut Reader<'_>, line: &Line<'_>) -> Result<String, Stop> {
-    let (first, rest) = line.text.split_once(' ').unwrap_or((line.text, ""));
-    let call = match rest.split_once(' ') {
-        Some((_, call)) if first == "refused" => call,
-        _ => first,
-    };
+    let (first, rest) = line.head();
+    let (_, behind) = split_word(rest);
+    let call = if first == "refused" { behind } else { first };
     match call {
         "boolean" => {
             let found = reader.boolean();
@@ -124,10 +128,10 @@ pub(crate) fn judge_putting(alloc: Global, names: &Names, lines: &[Line<'_>]) ->
 
 /// Puts one value, or judges what was put.
 fn put(alloc: Global, names: &Names, line: &Line<'_>, out: &mut Vec<u8>) -> Result<(), Stop> {
-    let (call, rest) = line.text.split_once(' ').unwrap_or((line.text, ""));
+    let (call, rest) = line.head();
     match call {
-        "boolean" => Ok(put_boolean(out, rest == "yes")?),
-        "u32" => Ok(put_u32(out, rest.parse::<u32>().unwrap_or(0))?),
+        "boolean" => Ok(put_boolean(out, flag_of(alloc, line, rest)?)?),
+        "u32" => Ok(put_u32(out, number_of(alloc, line, rest)?)?),
         _ => {
             let bytes = bytes_of(alloc, names, line, rest)?;
             put_bytes(alloc, line, call, &bytes, out)
@@ -172,13 +176,18 @@ fn put_list(alloc: Global, line: &Line<'_>, body: &[u8], out: &mut Vec<u8>) -> R
 /// Judges bytes by themselves, a line each: `KIND ANSWER TERMS`.
 pub(crate) fn judge_parsing(alloc: Global, names: &Names, lines: &[Line<'_>]) -> Result<(), Stop> {
     for line in lines {
-        let (kind, rest) = line.text.split_once(' ').unwrap_or((line.text, ""));
-        let (wanted, terms) = rest.split_once(' ').unwrap_or((rest, "-"));
-        let bytes = bytes_of(alloc, names, line, terms)?;
-        let found = parsed(alloc, line, kind, &bytes)?;
-        same_text(alloc, line, "parsed", wanted, found)?;
+        judge_parsed(alloc, names, line)?;
     }
     Ok(())
+}
+
+/// Judges bytes by themselves.
+fn judge_parsed(alloc: Global, names: &Names, line: &Line<'_>) -> Result<(), Stop> {
+    let (kind, rest) = line.head();
+    let (wanted, terms) = split_word(rest);
+    let bytes = bytes_of(alloc, names, line, terms)?;
+    let found = parsed(alloc, line, kind, &bytes)?;
+    same_text(alloc, line, "parsed", wanted, found)
 }
 
 /// `yes` where the bytes are of this kind, else `no` or the code of the refusal.

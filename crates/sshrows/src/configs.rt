@@ -1,16 +1,15 @@
 //! Rows of configs whose parts are made one by one.
 
 use crate::acts::Generous;
-use crate::endpoints::{Subject, talk};
+use crate::endpoints::{client_of, talk};
 use crate::names::Names;
 use crate::parts::{client_by, server_by};
-use crate::row::Line;
 use crate::stop::Stop;
 use crate::terms::bytes_of;
-use crate::texts::{same_bytes, same_text, shows, wrong};
-use sshcore::{ClientConfig, ConfigFault, Endpoint, ServerConfig};
+use crate::texts::{nothing_behind, same_bytes, same_text, shows, wrong};
+use crate::words::{Line, split_word};
+use sshcore::{ClientConfig, ClientParts, ConfigFault, ServerConfig, ServerParts};
 use sshmsg::{KexInit, Message, write};
-use sshsuites::LabSuite;
 use std::alloc::Global;
 
 /// Judges a config of a client or a server: lines that change its parts, and behind them what comes of it.
@@ -28,31 +27,77 @@ pub(crate) fn judge_config(
     let Some((line, rest)) = judged.split_first() else {
         return wrong(alloc, row, "row", "what comes of the config", "none");
     };
+    if line.text != "generous" {
+        nothing_behind(alloc, rest)?;
+    }
     match role {
         "client" => {
             let parts = client_by(alloc, names, parts)?;
-            match ClientConfig::new(alloc, Box::into_inner(parts)) {
-                Ok(config) => accepted_client(alloc, names, line, &config, rest, piece_len),
-                Err(fault) => refused(alloc, line, &fault),
-            }
+            judge_client(alloc, names, line, parts, rest, piece_len)
         }
         "server" => {
             let parts = server_by(alloc, names, parts)?;
-            match ServerConfig::new(alloc, Box::into_inner(parts)) {
-                Ok(config) => accepted_server(alloc, names, line, &config),
-                Err(fault) => refused(alloc, line, &fault),
-            }
+            judge_server(alloc, names, line, parts)
         }
         _ => same_text(alloc, row, "act", "client or server", role),
     }
 }
 
+/// Judges what comes of a client's parts.
+fn judge_client(
+    alloc: Global,
+    names: &Names,
+    line: &Line<'_>,
+    parts: Box<ClientParts>,
+    lines: &[Line<'_>],
+    piece_len: usize,
+) -> Result<(), Stop> {
+    match client_config_of(alloc, parts)? {
+        Ok(config) => accepted_client(alloc, names, line, &config, lines, piece_len),
+        Err(fault) => refused(alloc, line, &fault),
+    }
+}
+
+/// Judges what comes of a server's parts.
+fn judge_server(
+    alloc: Global,
+    names: &Names,
+    line: &Line<'_>,
+    parts: Box<ServerParts>,
+) -> Result<(), Stop> {
+    match server_config_of(alloc, parts)? {
+        Ok(config) => accepted_server(alloc, names, line, &config),
+        Err(fault) => refused(alloc, line, &fault),
+    }
+}
+
+/// The config of these parts, or why they are refused.
+fn client_config_of(
+    alloc: Global,
+    parts: Box<ClientParts>,
+) -> Result<Result<Box<ClientConfig>, ConfigFault>, Stop> {
+    match ClientConfig::new(alloc, Box::into_inner(parts)) {
+        Ok(config) => Ok(Ok(Box::new(alloc, config)?)),
+        Err(ConfigFault::Memory) => Err(Stop::Memory),
+        Err(fault) => Ok(Err(fault)),
+    }
+}
+
+/// The same of a server's.
+fn server_config_of(
+    alloc: Global,
+    parts: Box<ServerParts>,
+) -> Result<Result<Box<ServerConfig>, ConfigFault>, Stop> {
+    match ServerConfig::new(alloc, Box::into_inner(parts)) {
+        Ok(config) => Ok(Ok(Box::new(alloc, config)?)),
+        Err(ConfigFault::Memory) => Err(Stop::Memory),
+        Err(fault) => Ok(Err(fault)),
+    }
+}
+
 /// Whether the line says what comes of a config.
 fn is_verdict(text: &str) -> bool {
-    let word = match text.split_once(' ') {
-        Some((word, _)) => word,
-        None => text,
-    };
+    let (word, _) = split_word(text);
     matches!(
         word,
         "refused" | "attempts" | "offered" | "kexinit" | "generous"
@@ -61,9 +106,6 @@ fn is_verdict(text: &str) -> bool {
 
 /// A config was refused, which has to be what the line says.
 fn refused(alloc: Global, line: &Line<'_>, fault: &ConfigFault) -> Result<(), Stop> {
-    if matches!(fault, ConfigFault::Memory) {
-        return Err(Stop::Memory);
-    }
     match line.text.strip_prefix("refused ") {
         Some(wanted) => shows(alloc, line, "config", wanted, fault),
         None => shows(alloc, line, "config", "accepted", fault),
@@ -79,23 +121,18 @@ fn accepted_client(
     lines: &[Line<'_>],
     piece_len: usize,
 ) -> Result<(), Stop> {
-    let (word, rest) = line.text.split_once(' ').unwrap_or((line.text, ""));
+    let (word, rest) = line.head();
     match word {
         "attempts" => {
             shows(alloc, line, "attempts", rest, &config.attempts())?;
             shows(alloc, line, "plan", rest, &config.parts().plan.len())
         }
-        "kexinit" => judge_kexinit(alloc, names, line, rest, config.kexinit()?),
+        "kexinit" => {
+            let found = payload_of(alloc, config.kexinit()?)?;
+            judge_kexinit(alloc, names, line, rest, &found)
+        }
         "generous" => {
-            let mut out = Vec::new(alloc);
-            let endpoint = Endpoint::client(alloc, config, &LabSuite, &Generous, &mut out)?;
-            let endpoint = Box::new(alloc, endpoint)?;
-            let subject = Subject {
-                endpoint,
-                out,
-                piece_len,
-                judged: false,
-            };
+            let subject = client_of(alloc, config, &Generous, piece_len)?;
             talk(alloc, names, line, subject, lines)
         }
         _ => wrong(alloc, line, "config", rest, "accepted"),
@@ -109,27 +146,41 @@ fn accepted_server(
     line: &Line<'_>,
     config: &ServerConfig,
 ) -> Result<(), Stop> {
-    let (word, rest) = line.text.split_once(' ').unwrap_or((line.text, ""));
+    let (word, rest) = line.head();
     match word {
         "offered" => shows(alloc, line, "offered", rest, &config.parts().services.len()),
-        "kexinit" => judge_kexinit(alloc, names, line, rest, config.kexinit()?),
+        "kexinit" => {
+            let found = payload_of(alloc, config.kexinit()?)?;
+            judge_kexinit(alloc, names, line, rest, &found)
+        }
         _ => wrong(alloc, line, "config", line.text, "accepted"),
     }
 }
 
-/// The payload of a config's KEXINIT has to be these bytes.
+/// The payload of a config's KEXINIT.
+fn payload_of(alloc: Global, kexinit: KexInit<'_>) -> Result<Vec<u8>, Stop> {
+    let message = Message::KexInit(Box::new(alloc, kexinit)?);
+    let mut payload = Vec::new(alloc);
+    put_message(&message, &mut payload)?;
+    Ok(payload)
+}
+
+/// Appends the message's payload, if it fits.
+fn put_message(message: &Message<'_>, out: &mut Vec<u8>) -> Result<(), Stop> {
+    if message.fits() {
+        write(message, out)?;
+    }
+    Ok(())
+}
+
+/// The payload has to be these bytes.
 fn judge_kexinit(
     alloc: Global,
     names: &Names,
     line: &Line<'_>,
     terms: &str,
-    kexinit: KexInit<'_>,
+    found: &[u8],
 ) -> Result<(), Stop> {
-    let message = Message::KexInit(Box::new(alloc, kexinit)?);
     let wanted = bytes_of(alloc, names, line, terms)?;
-    let mut found = Vec::new(alloc);
-    if message.fits() {
-        write(&message, &mut found)?;
-    }
-    same_bytes(alloc, line, "kexinit", &wanted, &found)
+    same_bytes(alloc, line, "kexinit", &wanted, found)
 }

@@ -2,45 +2,116 @@
 
 use crate::handed::judge_session;
 use crate::names::Names;
-use crate::row::Line;
 use crate::stop::Stop;
-use crate::terms::bytes_of;
-use crate::texts::{same_bytes, same_text, shows, text_of_agreed, text_of_end, wrong};
-use sshcore::{Decisions, Endpoint};
+use crate::terms::{bytes_of, count_of};
+use crate::texts::{same_agreed, same_bytes, same_count, same_end, shows, wrong};
+use crate::words::{Line, split_word};
+use sshcore::{ClientConfig, Decisions, Endpoint, ServerConfig, Session};
 use sshsuites::LabSuite;
 use std::alloc::Global;
 
 /// An endpoint that is judged.
 #[derive(Drop)]
 pub(crate) struct Subject<'a, D: Decisions> {
-    pub(crate) endpoint: Box<Endpoint<'a, LabSuite, D>>,
+    endpoint: Endpoint<'a, LabSuite, D>,
     /// What it has said since that was last judged.
-    pub(crate) out: Vec<u8>,
+    out: Vec<u8>,
     /// How many bytes it is given at once, at most.
-    pub(crate) piece_len: usize,
+    piece_len: usize,
     /// Whether its end was judged since it was last given something.
-    pub(crate) judged: bool,
+    judged: bool,
 }
 
-/// Judges an endpoint by lines.
+/// A client of this config, over the lab suite.
+pub(crate) fn client_of<'a, D: Decisions>(
+    alloc: Global,
+    config: &'a ClientConfig,
+    decisions: &'a D,
+    piece_len: usize,
+) -> Result<Box<Subject<'a, D>>, Stop> {
+    let mut out = Vec::new(alloc);
+    let endpoint = Endpoint::client(alloc, config, &LabSuite, decisions, &mut out)?;
+    subject_of(alloc, endpoint, out, piece_len)
+}
+
+/// A server of this config, over the lab suite.
+pub(crate) fn server_of<'a, D: Decisions>(
+    alloc: Global,
+    config: &'a ServerConfig,
+    decisions: &'a D,
+    piece_len: usize,
+) -> Result<Box<Subject<'a, D>>, Stop> {
+    let mut out = Vec::new(alloc);
+    let endpoint = Endpoint::server(alloc, config, &LabSuite, decisions, &mut out)?;
+    subject_of(alloc, endpoint, out, piece_len)
+}
+
+/// The endpoint and what it said at its making.
+fn subject_of<D: Decisions>(
+    alloc: Global,
+    endpoint: Endpoint<'_, LabSuite, D>,
+    out: Vec<u8>,
+    piece_len: usize,
+) -> Result<Box<Subject<'_, D>>, Stop> {
+    Ok(Box::new(
+        alloc,
+        Subject {
+            endpoint,
+            out,
+            piece_len,
+            judged: false,
+        },
+    )?)
+}
+
+/// Judges an endpoint by lines, and what it hands over by those from the first of a session on.
 pub(crate) fn talk<D: Decisions>(
     alloc: Global,
     names: &Names,
     row: &Line<'_>,
-    talk: Subject<'_, D>,
+    subject: Box<Subject<'_, D>>,
     lines: &[Line<'_>],
 ) -> Result<(), Stop> {
-    let mut talk = talk;
+    let mut subject = subject;
+    let place = place_of_session(lines);
+    let steps = lines.get(..place).unwrap_or(lines);
+    let handed = lines.get(place..).unwrap_or(&[]);
+    talk_on(alloc, names, row, &mut subject, steps)?;
+    if handed.is_empty() {
+        return Ok(());
+    }
+    let session = session_of(subject);
+    judge_session(alloc, &session, handed)
+}
+
+/// The place of the first line of a session; that behind all lines where there is none.
+fn place_of_session(lines: &[Line<'_>]) -> usize {
     for (place, line) in lines.iter().enumerate() {
         if line.text.starts_with("session ") {
-            finish(alloc, row, &talk)?;
-            let Subject { endpoint, .. } = talk;
-            let lines = lines.get(place..).unwrap_or(&[]);
-            return judge_session(alloc, Box::into_inner(endpoint).into_session(), lines);
+            return place;
         }
-        step(alloc, names, line, &mut talk)?;
     }
-    finish(alloc, row, &talk)
+    lines.len()
+}
+
+/// What the endpoint hands over.
+fn session_of<D: Decisions>(subject: Box<Subject<'_, D>>) -> Option<Session> {
+    let Subject { endpoint, .. } = Box::into_inner(subject);
+    endpoint.into_session()
+}
+
+/// Judges an endpoint by lines, all that it said, and its end.
+fn talk_on<D: Decisions>(
+    alloc: Global,
+    names: &Names,
+    row: &Line<'_>,
+    subject: &mut Subject<'_, D>,
+    lines: &[Line<'_>],
+) -> Result<(), Stop> {
+    for line in lines {
+        step(alloc, names, line, subject)?;
+    }
+    finish(alloc, row, subject)
 }
 
 /// All that was said has to be judged, and the end.
@@ -60,28 +131,20 @@ fn step<D: Decisions>(
     line: &Line<'_>,
     talk: &mut Subject<'_, D>,
 ) -> Result<(), Stop> {
-    let (word, rest) = line.text.split_once(' ').unwrap_or((line.text, ""));
+    let (word, rest) = line.head();
     match word {
         "feed" => {
             let piece = bytes_of(alloc, names, line, rest)?;
             feed(alloc, line, talk, &piece, piece.len())
         }
         "part" => {
-            let (count, terms) = rest.split_once(' ').unwrap_or((rest, "-"));
+            let (count, terms) = split_word(rest);
             let piece = bytes_of(alloc, names, line, terms)?;
-            feed(
-                alloc,
-                line,
-                talk,
-                &piece,
-                count.parse::<usize>().unwrap_or(usize::MAX),
-            )
+            feed(alloc, line, talk, &piece, count_of(count))
         }
         "says" => {
             let wanted = bytes_of(alloc, names, line, rest)?;
-            same_bytes(alloc, line, "said", &wanted, &talk.out)?;
-            talk.out.clear();
-            Ok(())
+            hears(alloc, line, talk, &wanted)
         }
         "cut" => {
             talk.judged = false;
@@ -90,6 +153,18 @@ fn step<D: Decisions>(
         }
         _ => look(alloc, line, talk, word, rest),
     }
+}
+
+/// These bytes have to be what was said since that was last judged.
+fn hears<D: Decisions>(
+    alloc: Global,
+    line: &Line<'_>,
+    talk: &mut Subject<'_, D>,
+    wanted: &[u8],
+) -> Result<(), Stop> {
+    same_bytes(alloc, line, "said", wanted, &talk.out)?;
+    talk.out.clear();
+    Ok(())
 }
 
 /// Judges how the endpoint stands.
@@ -103,14 +178,10 @@ fn look<D: Decisions>(
     match word {
         "end" => {
             talk.judged = true;
-            let found = text_of_end(alloc, talk.endpoint.end())?;
-            same_text(alloc, line, "end", rest, &found)
+            same_end(alloc, line, "end", rest, talk.endpoint.end())
         }
         "held" => shows(alloc, line, "held", rest, &talk.endpoint.buffered()),
-        "agreed" => {
-            let found = text_of_agreed(alloc, talk.endpoint.end())?;
-            same_text(alloc, line, "agreed", rest, &found)
-        }
+        "agreed" => same_agreed(alloc, line, rest, talk.endpoint.end()),
         _ => wrong(alloc, line, "line", "a word of an endpoint", word),
     }
 }
@@ -125,11 +196,7 @@ fn feed<D: Decisions>(
 ) -> Result<(), Stop> {
     talk.judged = false;
     let found = used_of(talk, piece)?;
-    if found == wanted {
-        return Ok(());
-    }
-    let wanted = format!(in alloc; "{wanted}")?;
-    shows(alloc, line, "used", &wanted, &found)
+    same_count(alloc, line, "used", wanted, found)
 }
 
 /// Gives the endpoint the bytes in pieces, up to one that it doesn't use whole, and answers how many it used.

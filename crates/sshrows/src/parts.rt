@@ -1,10 +1,10 @@
 //! Parts of configs, by lines whose terms say what no line of a scenario can.
 
 use crate::names::Names;
-use crate::row::Line;
 use crate::stop::Stop;
 use crate::terms::bytes_of;
 use crate::texts::wrong;
+use crate::words::{Line, split_word};
 use sshcore::{Attempt, ClientParts, Credential, HostKey, ServerParts, SideParts};
 use sshsuites::{lab_client_parts, lab_server_parts};
 use std::alloc::Global;
@@ -16,10 +16,21 @@ pub(crate) fn client_by(
     lines: &[Line<'_>],
 ) -> Result<Box<ClientParts>, Stop> {
     let mut parts = Box::new(alloc, lab_client_parts(alloc)?)?;
-    for line in lines {
-        set_client(alloc, names, line, &mut parts)?;
-    }
+    set_client_by(alloc, names, lines, &mut parts)?;
     Ok(parts)
+}
+
+/// Changes a client's parts by lines.
+fn set_client_by(
+    alloc: Global,
+    names: &Names,
+    lines: &[Line<'_>],
+    parts: &mut ClientParts,
+) -> Result<(), Stop> {
+    for line in lines {
+        set_client(alloc, names, line, parts)?;
+    }
+    Ok(())
 }
 
 /// The parts of the lab's server, changed by lines.
@@ -29,10 +40,21 @@ pub(crate) fn server_by(
     lines: &[Line<'_>],
 ) -> Result<Box<ServerParts>, Stop> {
     let mut parts = Box::new(alloc, lab_server_parts(alloc)?)?;
-    for line in lines {
-        set_server(alloc, names, line, &mut parts)?;
-    }
+    set_server_by(alloc, names, lines, &mut parts)?;
     Ok(parts)
+}
+
+/// Changes a server's parts by lines.
+fn set_server_by(
+    alloc: Global,
+    names: &Names,
+    lines: &[Line<'_>],
+    parts: &mut ServerParts,
+) -> Result<(), Stop> {
+    for line in lines {
+        set_server(alloc, names, line, parts)?;
+    }
+    Ok(())
 }
 
 /// Changes a part of a client.
@@ -42,13 +64,18 @@ fn set_client(
     line: &Line<'_>,
     parts: &mut ClientParts,
 ) -> Result<(), Stop> {
-    let (word, rest) = line.text.split_once(' ').unwrap_or((line.text, ""));
+    let (word, rest) = line.head();
     match word {
-        "hostkeys" => parts.server_host_key_algorithms = list_of(alloc, names, line, rest)?,
-        "try" => parts.plan.push(attempt_of(alloc, names, line, rest)?)?,
-        _ => set_side(alloc, names, line, &mut parts.side)?,
+        "hostkeys" => set_list(
+            alloc,
+            names,
+            line,
+            &mut parts.server_host_key_algorithms,
+            rest,
+        ),
+        "try" => add_attempt(alloc, names, line, &mut parts.plan, rest),
+        _ => set_side(alloc, names, line, &mut parts.side),
     }
-    Ok(())
 }
 
 /// Changes a part of a server.
@@ -58,14 +85,13 @@ fn set_server(
     line: &Line<'_>,
     parts: &mut ServerParts,
 ) -> Result<(), Stop> {
-    let (word, rest) = line.text.split_once(' ').unwrap_or((line.text, ""));
+    let (word, rest) = line.head();
     match word {
-        "hostkeys" => parts.host_keys = host_keys_of(alloc, names, line, rest)?,
-        "services" => parts.services = list_of(alloc, names, line, rest)?,
-        "methods" => parts.methods = list_of(alloc, names, line, rest)?,
-        _ => set_side(alloc, names, line, &mut parts.side)?,
+        "hostkeys" => set_host_keys(alloc, names, line, &mut parts.host_keys, rest),
+        "services" => set_list(alloc, names, line, &mut parts.services, rest),
+        "methods" => set_list(alloc, names, line, &mut parts.methods, rest),
+        _ => set_side(alloc, names, line, &mut parts.side),
     }
-    Ok(())
 }
 
 /// Changes a part that both sides have.
@@ -75,32 +101,33 @@ fn set_side(
     line: &Line<'_>,
     side: &mut SideParts,
 ) -> Result<(), Stop> {
-    let (word, rest) = line.text.split_once(' ').unwrap_or((line.text, ""));
+    let (word, rest) = line.head();
     match word {
-        "version" => side.softwareversion = text_of(alloc, names, line, rest)?,
-        "comments" => side.comments = Some(text_of(alloc, names, line, rest)?),
-        _ => set_list(line, word, list_of(alloc, names, line, rest)?, alloc, side)?,
+        "version" => {
+            side.softwareversion = text_of(alloc, names, line, rest)?;
+            Ok(())
+        }
+        "comments" => {
+            side.comments = Some(text_of(alloc, names, line, rest)?);
+            Ok(())
+        }
+        _ => match list_in(side, word) {
+            Some(list) => set_list(alloc, names, line, list, rest),
+            None => wrong(alloc, line, "line", "a part of a config", word),
+        },
     }
-    Ok(())
 }
 
-/// Changes a list that both sides have.
-fn set_list(
-    line: &Line<'_>,
-    word: &str,
-    list: Vec<String>,
-    alloc: Global,
-    side: &mut SideParts,
-) -> Result<(), Stop> {
+/// A list that both sides have.
+fn list_in<'a>(side: &'a mut SideParts, word: &str) -> Option<&'a mut Vec<String>> {
     match word {
-        "kex" => side.kex_algorithms = list,
-        "cipher_cs" => side.encryption_client_to_server = list,
-        "cipher_sc" => side.encryption_server_to_client = list,
-        "mac_cs" => side.mac_client_to_server = list,
-        "mac_sc" => side.mac_server_to_client = list,
-        _ => return wrong(alloc, line, "line", "a part of a config", word),
+        "kex" => Some(&mut side.kex_algorithms),
+        "cipher_cs" => Some(&mut side.encryption_client_to_server),
+        "cipher_sc" => Some(&mut side.encryption_server_to_client),
+        "mac_cs" => Some(&mut side.mac_client_to_server),
+        "mac_sc" => Some(&mut side.mac_server_to_client),
+        _ => None,
     }
-    Ok(())
 }
 
 /// The text whose bytes the terms spell.
@@ -112,52 +139,74 @@ fn text_of(alloc: Global, names: &Names, line: &Line<'_>, terms: &str) -> Result
     }
 }
 
-/// A list whose names the terms spell, one each; nothing spells the empty one.
-fn list_of(
+/// Makes it the list whose names the terms spell, one each; nothing spells the empty one.
+fn set_list(
     alloc: Global,
     names: &Names,
     line: &Line<'_>,
+    list: &mut Vec<String>,
     terms: &str,
-) -> Result<Vec<String>, Stop> {
-    let mut list = Vec::new(alloc);
+) -> Result<(), Stop> {
+    list.clear();
     if terms.is_empty() {
-        return Ok(list);
+        return Ok(());
     }
     for term in terms.split(' ') {
         list.push(text_of(alloc, names, line, term)?)?;
     }
-    Ok(list)
+    Ok(())
 }
 
-/// Host keys of these algorithms, each with the private key 00.
-fn host_keys_of(
+/// Makes them host keys of the algorithms that the terms spell, each with the private key 00.
+fn set_host_keys(
     alloc: Global,
     names: &Names,
     line: &Line<'_>,
+    keys: &mut Vec<HostKey>,
     terms: &str,
-) -> Result<Vec<HostKey>, Stop> {
-    let mut keys = Vec::new(alloc);
-    for algorithm in list_of(alloc, names, line, terms)? {
-        let private_key = Vec::from_slice(alloc, &[0x00])?;
-        keys.push(HostKey {
-            algorithm,
-            private_key,
-        })?;
+) -> Result<(), Stop> {
+    keys.clear();
+    if terms.is_empty() {
+        return Ok(());
     }
-    Ok(keys)
+    for term in terms.split(' ') {
+        keys.push(host_key_of(alloc, names, line, term)?)?;
+    }
+    Ok(())
+}
+
+/// A host key of this algorithm.
+fn host_key_of(alloc: Global, names: &Names, line: &Line<'_>, term: &str) -> Result<HostKey, Stop> {
+    let algorithm = text_of(alloc, names, line, term)?;
+    let private_key = Vec::from_slice(alloc, &[0x00])?;
+    Ok(HostKey {
+        algorithm,
+        private_key,
+    })
+}
+
+/// Adds an attempt to the plan.
+fn add_attempt(
+    alloc: Global,
+    names: &Names,
+    line: &Line<'_>,
+    plan: &mut Vec<Attempt>,
+    terms: &str,
+) -> Result<(), Stop> {
+    plan.push(attempt_of(alloc, names, line, terms)?)?;
+    Ok(())
 }
 
 /// `USER SERVICE none` or `USER SERVICE publickey ALGORITHM KEY`, each a term.
 fn attempt_of(alloc: Global, names: &Names, line: &Line<'_>, terms: &str) -> Result<Attempt, Stop> {
-    let (user, rest) = terms.split_once(' ').unwrap_or((terms, ""));
-    let (service, rest) = rest.split_once(' ').unwrap_or((rest, ""));
-    let credential = credential_of(alloc, names, line, rest)?;
+    let (user, rest) = split_word(terms);
+    let (service, rest) = split_word(rest);
     let user = text_of(alloc, names, line, user)?;
     let service = text_of(alloc, names, line, service)?;
     Ok(Attempt {
         user,
         service,
-        credential,
+        credential: credential_of(alloc, names, line, rest)?,
     })
 }
 
@@ -168,16 +217,15 @@ fn credential_of(
     line: &Line<'_>,
     terms: &str,
 ) -> Result<Credential, Stop> {
-    let (method, rest) = terms.split_once(' ').unwrap_or((terms, ""));
-    let (algorithm, key) = rest.split_once(' ').unwrap_or((rest, "-"));
+    let (method, rest) = split_word(terms);
+    let (algorithm, key) = split_word(rest);
     match method {
         "none" => Ok(Credential::None),
         "publickey" => {
             let algorithm = text_of(alloc, names, line, algorithm)?;
-            let private_key = bytes_of(alloc, names, line, key)?;
             Ok(Credential::PublicKey {
                 algorithm,
-                private_key,
+                private_key: bytes_of(alloc, names, line, key)?,
             })
         }
         _ => wrong(alloc, line, "line", "none or publickey", method),

@@ -1,8 +1,8 @@
 //! Rows of worlds and of predictions.
 
-use crate::row::Line;
 use crate::stop::Stop;
-use crate::texts::{same_text, shows, text_of_agreed, text_of_end, wrong, yes_or_no};
+use crate::texts::{number_of, same_agreed, same_end, same_text, shows, wrong, yes_or_no};
+use crate::words::{Line, split_word};
 use sshcore::End;
 use sshlab::Scenario;
 use sshsuites::{LabDecisions, LabSuite};
@@ -18,13 +18,18 @@ pub(crate) fn judge_world(
     scenario: &Scenario,
     lines: &[Line<'_>],
 ) -> Result<(), Stop> {
-    let (client, server) = (&scenario.client, &scenario.server);
-    let world = World::new(alloc, client, server, &LabSuite, &scenario.decisions)?;
-    let mut world = Box::new(alloc, world)?;
+    let mut world = world_of(alloc, scenario)?;
     for line in lines {
         step(alloc, line, &mut world)?;
     }
     Ok(())
+}
+
+/// The world of the scenario.
+fn world_of(alloc: Global, scenario: &Scenario) -> Result<Box<LabWorld<'_>>, Stop> {
+    let (client, server) = (&scenario.client, &scenario.server);
+    let world = World::new(alloc, client, server, &LabSuite, &scenario.decisions)?;
+    Ok(Box::new(alloc, world)?)
 }
 
 /// Judges what is predicted by lines.
@@ -33,21 +38,26 @@ pub(crate) fn judge_prediction(
     scenario: &Scenario,
     lines: &[Line<'_>],
 ) -> Result<(), Stop> {
-    let (client, server) = scenario.predict(alloc)?;
+    let ends = scenario.predict(alloc)?;
+    judge_all_ends(alloc, lines, (&ends.0, &ends.1))
+}
+
+/// Judges how both sides stand by lines.
+fn judge_all_ends(alloc: Global, lines: &[Line<'_>], ends: (&End, &End)) -> Result<(), Stop> {
     for line in lines {
-        judge_ends(alloc, line, (&client, &server))?;
+        judge_ends(alloc, line, ends)?;
     }
     Ok(())
 }
 
 /// Does or judges one line.
 fn step(alloc: Global, line: &Line<'_>, world: &mut LabWorld<'_>) -> Result<(), Stop> {
-    let (word, rest) = line.text.split_once(' ').unwrap_or((line.text, ""));
+    let (word, rest) = line.head();
     match word {
         "move" => deliver(alloc, line, world, rest),
-        "run" => run(alloc, world, rest),
-        "rounds" => Ok(world.settle(rest.parse::<u32>().unwrap_or(0))?),
-        "turns" => alternate(world, rest.parse::<u32>().unwrap_or(0)),
+        "run" => run(alloc, line, world, rest),
+        "rounds" => Ok(world.settle(number_of(alloc, line, rest)?)?),
+        "turns" => alternate(world, number_of(alloc, line, rest)?),
         "complete" => same_text(alloc, line, "complete", rest, yes_or_no(world.complete())),
         _ => judge_ends(alloc, line, world.ends()),
     }
@@ -60,32 +70,43 @@ fn deliver(
     world: &mut LabWorld<'_>,
     rest: &str,
 ) -> Result<(), Stop> {
-    let (side, rest) = rest.split_once(' ').unwrap_or((rest, ""));
-    let (count, wanted) = rest.split_once(' ').unwrap_or((rest, ""));
-    let to = if side == "client" {
-        Side::Client
-    } else {
-        Side::Server
+    let (side, rest) = split_word(rest);
+    let (count, wanted) = split_word(rest);
+    let to = match side {
+        "client" => Side::Client,
+        "server" => Side::Server,
+        _ => return wrong(alloc, line, "side", "client or server", side),
     };
-    let moved = world.deliver(to, count.parse::<u32>().unwrap_or(0))?;
+    let moved = world.deliver(to, number_of(alloc, line, count)?)?;
     shows(alloc, line, "moved", wanted, &moved)
 }
 
 /// `SIDE COUNT SIDE COUNT ..`: a schedule, done by one call.
-fn run(alloc: Global, world: &mut LabWorld<'_>, words: &str) -> Result<(), Stop> {
+fn run(alloc: Global, line: &Line<'_>, world: &mut LabWorld<'_>, words: &str) -> Result<(), Stop> {
     let mut schedule = Vec::new(alloc);
+    put_schedule(alloc, line, words, &mut schedule)?;
+    world.run(&schedule)?;
+    Ok(())
+}
+
+/// Appends the deliveries that the words are.
+fn put_schedule(
+    alloc: Global,
+    line: &Line<'_>,
+    words: &str,
+    schedule: &mut Vec<Delivery>,
+) -> Result<(), Stop> {
     let mut to = Side::Client;
     for word in words.split(' ') {
         match word {
             "client" => to = Side::Client,
             "server" => to = Side::Server,
             _ => {
-                let count = word.parse::<u32>().unwrap_or(0);
+                let count = number_of(alloc, line, word)?;
                 schedule.push(Delivery { to, count })?;
             }
         }
     }
-    world.run(&schedule)?;
     Ok(())
 }
 
@@ -100,29 +121,26 @@ fn alternate(world: &mut LabWorld<'_>, times: u32) -> Result<(), Stop> {
 
 /// `client END`, `server END`, `agreed client ..` or `agreed server ..`.
 fn judge_ends(alloc: Global, line: &Line<'_>, ends: (&End, &End)) -> Result<(), Stop> {
-    let (word, rest) = line.text.split_once(' ').unwrap_or((line.text, ""));
-    let (side, wanted) = rest.split_once(' ').unwrap_or((rest, ""));
-    match (word, side) {
-        ("client", _) => same_text(alloc, line, "client", rest, &text_of_end(alloc, ends.0)?),
-        ("server", _) => same_text(alloc, line, "server", rest, &text_of_end(alloc, ends.1)?),
-        ("agreed", "client") => {
-            same_text(
-                alloc,
-                line,
-                "agreed",
-                wanted,
-                &text_of_agreed(alloc, ends.0)?,
-            )
-        }
-        ("agreed", "server") => {
-            same_text(
-                alloc,
-                line,
-                "agreed",
-                wanted,
-                &text_of_agreed(alloc, ends.1)?,
-            )
-        }
+    let (word, rest) = line.head();
+    match word {
+        "client" => same_end(alloc, line, "client", rest, ends.0),
+        "server" => same_end(alloc, line, "server", rest, ends.1),
+        "agreed" => judge_agreed(alloc, line, ends, rest),
         _ => wrong(alloc, line, "line", "a word of a world", word),
+    }
+}
+
+/// What a side has agreed.
+fn judge_agreed(
+    alloc: Global,
+    line: &Line<'_>,
+    ends: (&End, &End),
+    rest: &str,
+) -> Result<(), Stop> {
+    let (side, wanted) = split_word(rest);
+    match side {
+        "client" => same_agreed(alloc, line, wanted, ends.0),
+        "server" => same_agreed(alloc, line, wanted, ends.1),
+        _ => wrong(alloc, line, "side", "client or server", side),
     }
 }

@@ -1,11 +1,9 @@
-//! Examples of `sshlab greet` on `tool`, words that are refused, and reads and writes that fail.
+//! Writes of `tool` that fail at some byte, and words that can't be had as text.
 
 ghost use Rattle.std.specs.Prelude.{◌≡◌, false};
 
-use crate::compare::{same, same_count};
-use crate::streams::Breaking;
-use sshlab::{Broken, Sink, Source, StreamSource, refuse_words, tool};
-use sshtests_helpers::bytes::prefix_of;
+use crate::compare::{prefix_of, same, same_count};
+use sshlab::{Broken, Sink, StreamSource, refuse_words, tool};
 use std::alloc::{AllocError, Global};
 use std::io;
 use std::process::Abort;
@@ -84,7 +82,7 @@ pub(crate) fn words_of(alloc: Global, text: &str) -> Result<Vec<String>, AllocEr
 }
 
 /// What `tool` answers to the words, with this text to read.
-fn status_at(
+fn status_of(
     alloc: Global,
     words: &[String],
     text: &[u8],
@@ -96,237 +94,6 @@ fn status_at(
 {
     let mut input = StreamSource::new(text);
     tool(alloc, words, &mut input, output, faults)
-}
-
-/// What `tool` answers to the words, with nothing to read.
-fn status_of(
-    alloc: Global,
-    words: &[String],
-    output: &mut LimitedSink,
-    faults: &mut LimitedSink,
-) -> u8
-    requires output { output.old.failed ≡ false }
-    requires faults { faults.old.failed ≡ false }
-{
-    status_at(alloc, words, b"", output, faults)
-}
-
-/// What is written to the output and to the faults, and the status.
-#[derive(Clone, Copy)]
-pub(crate) struct Said<'a> {
-    pub(crate) output: &'a str,
-    pub(crate) faults: &'a str,
-    pub(crate) status: usize,
-}
-
-/// The words have to be answered so, with nothing to read and where there is ample room.
-fn say(rt: &impl Abort, alloc: Global, words: &[String], wanted: Said<'_>) {
-    say_at(rt, alloc, words, b"", wanted);
-}
-
-/// The words have to be answered so, with this text to read and where there is ample room.
-pub(crate) fn say_at(
-    rt: &impl Abort,
-    alloc: Global,
-    words: &[String],
-    text: &[u8],
-    wanted: Said<'_>,
-) {
-    let mut output = LimitedSink::ample(alloc);
-    let mut faults = LimitedSink::ample(alloc);
-    let status = status_at(alloc, words, text, &mut output, &mut faults);
-    same(rt, &faults.bytes, wanted.faults.as_bytes());
-    same(rt, &output.bytes, wanted.output.as_bytes());
-    same_count(rt, usize::from(status), wanted.status);
-}
-
-/// The words have to be answered with this output and status, and no fault to be told.
-fn greets_with(
-    rt: &impl Abort,
-    alloc: Global,
-    words: &str,
-    output: &str,
-    status: usize,
-) -> Result<(), Fail> {
-    let wanted = Said {
-        output,
-        faults: "",
-        status,
-    };
-    say(rt, alloc, &words_of(alloc, words)?, wanted);
-    Ok(())
-}
-
-#[test]
-fn greets(rt: HostRuntime) -> Result<(), Fail> {
-    let alloc = rt.alloc();
-    for (words, output, status) in [
-        (
-            "greet|alpha|beta|s5,c99,s99",
-            "client got SSH-2.0-beta\nserver got SSH-2.0-alpha\ncomplete yes\n",
-            0,
-        ),
-        (
-            "greet|alpha|beta|s5",
-            "client waiting 0\nserver waiting 5\ncomplete no\n",
-            1,
-        ),
-        (
-            "greet|a|b|c11",
-            "client got SSH-2.0-b\nserver waiting 0\ncomplete no\n",
-            1,
-        ),
-        (
-            "greet|a|b|c10,s4294967295",
-            "client waiting 10\nserver got SSH-2.0-a\ncomplete no\n",
-            1,
-        ),
-        (
-            "greet|a|b|c0,s007,c11,s4",
-            "client got SSH-2.0-b\nserver got SSH-2.0-a\ncomplete yes\n",
-            0,
-        ),
-        (
-            "greet|a|b|c4294967295,c4294967295,s0000000011",
-            "client got SSH-2.0-b\nserver got SSH-2.0-a\ncomplete yes\n",
-            0,
-        ),
-    ] {
-        greets_with(&rt, alloc, words, output, status)?;
-    }
-    Ok(())
-}
-
-/// Words that are refused, and what is told of them.
-const REFUSED: &[(&str, &str)] = &[
-    ("greet|alpha|be-ta|s5", "bad version\n"),
-    ("greet|a|b-c|x", "bad version\n"),
-    ("greet||b|s5", "bad version\n"),
-    ("greet|a b|b|s5", "bad version\n"),
-    ("greet|a||s5", "bad version\n"),
-    ("greet|a|b c|s5", "bad version\n"),
-    ("greet| a|b|s5", "bad version\n"),
-    ("greet|a|b |s5", "bad version\n"),
-    ("greet|a|b|S5", "bad schedule\n"),
-    ("greet|a|b|s5, c9", "bad schedule\n"),
-    ("greet|a|b|s4294967296", "bad schedule\n"),
-    ("greet|a|b|s00000000001", "bad schedule\n"),
-    ("greet|a|b|", "bad schedule\n"),
-    ("greet|a|b|s5,", "bad schedule\n"),
-    ("greet|a|b|s5,,c1", "bad schedule\n"),
-    ("greet|a|b|s", "bad schedule\n"),
-    ("greet|a|b|s+5", "bad schedule\n"),
-    ("greet|a|b|x5", "bad schedule\n"),
-    ("", "bad words\n"),
-    ("help", "bad words\n"),
-    ("--help", "bad words\n"),
-    ("--version", "bad words\n"),
-    ("--", "bad words\n"),
-    ("-", "bad words\n"),
-    ("greet", "bad words\n"),
-    ("greet|help", "bad words\n"),
-    ("greet|--help", "bad words\n"),
-    ("greet|help|a|b", "bad schedule\n"),
-    ("greet|a|b", "bad words\n"),
-    ("greet|a|b|s5|s5", "bad words\n"),
-    ("greet|--|a|b|s5", "bad words\n"),
-    ("greet|-a|b-c|x", "bad words\n"),
-    ("greet|a|b|s5|--session", "bad words\n"),
-    ("--session|greet|a|b|s5", "bad words\n"),
-    ("run|a", "bad words\n"),
-    ("run|help", "bad words\n"),
-    ("run|--help", "bad words\n"),
-    ("run|-", "bad words\n"),
-    ("run|predict", "bad words\n"),
-    ("run|--session|--session", "bad words\n"),
-    ("--session|run", "bad words\n"),
-    ("predict|--session|--session", "bad words\n"),
-    ("predict|a", "bad words\n"),
-    ("predict|help", "bad words\n"),
-    ("predict|--help", "bad words\n"),
-    ("predict|-", "bad words\n"),
-    ("--session|predict", "bad words\n"),
-    ("greet|predict", "bad words\n"),
-    ("show|--session", "bad words\n"),
-    ("--session|show", "bad words\n"),
-    ("show|a", "bad words\n"),
-    ("show|help", "bad words\n"),
-    ("show|--help", "bad words\n"),
-    ("show|check", "bad words\n"),
-    ("check|--session", "bad words\n"),
-    ("check|-", "bad words\n"),
-    ("Check", "bad words\n"),
-];
-
-/// The words have to be refused with this fault, and nothing to be printed.
-fn is_refused(rt: &impl Abort, alloc: Global, words: &str, faults: &str) -> Result<(), Fail> {
-    let wanted = Said {
-        output: "",
-        faults,
-        status: 2,
-    };
-    say(rt, alloc, &words_of(alloc, words)?, wanted);
-    Ok(())
-}
-
-#[test]
-fn refuses_words(rt: HostRuntime) -> Result<(), Fail> {
-    let alloc = rt.alloc();
-    for (words, faults) in REFUSED {
-        is_refused(&rt, alloc, words, faults)?;
-    }
-    Ok(())
-}
-
-/// The words have to be refused with this fault before anything is read.
-fn is_refused_unread(rt: &impl Abort, alloc: Global, words: &str, told: &str) -> Result<(), Fail> {
-    let words = words_of(alloc, words)?;
-    let mut input = StreamSource::new(Breaking { calls: 0 });
-    let mut output = LimitedSink::ample(alloc);
-    let mut faults = LimitedSink::ample(alloc);
-    let status = tool(alloc, &words, &mut input, &mut output, &mut faults);
-    assert!(rt; !input.failed());
-    same_count(rt, usize::from(status), 2);
-    same(rt, &output.bytes, b"");
-    same(rt, &faults.bytes, told.as_bytes());
-    Ok(())
-}
-
-#[test]
-fn judges_words_before_it_reads(rt: HostRuntime) -> Result<(), Fail> {
-    let alloc = rt.alloc();
-    for (words, faults) in REFUSED {
-        is_refused_unread(&rt, alloc, words, faults)?;
-    }
-    Ok(())
-}
-
-#[test]
-fn reads_nothing_for_a_greeting(rt: HostRuntime) -> Result<(), Fail> {
-    let alloc = rt.alloc();
-    let words = words_of(alloc, "greet|a|b|c11")?;
-    let mut input = StreamSource::new(Breaking { calls: 0 });
-    let mut output = LimitedSink::ample(alloc);
-    let mut faults = LimitedSink::ample(alloc);
-    let status = tool(alloc, &words, &mut input, &mut output, &mut faults);
-    assert!(rt; !input.failed());
-    same_count(&rt, usize::from(status), 1);
-    same(
-        &rt,
-        &output.bytes,
-        b"client got SSH-2.0-b\nserver waiting 0\ncomplete no\n",
-    );
-    Ok(())
-}
-
-#[test]
-fn refuses_no_words(rt: HostRuntime) {
-    let wanted = Said {
-        output: "",
-        faults: "bad words\n",
-        status: 2,
-    };
-    say(&rt, rt.alloc(), &[], wanted);
 }
 
 /// What keeps the words from being text has to be told so.
@@ -405,7 +172,7 @@ fn breaks_at(
     let words = words_of(alloc, words)?;
     let mut output = LimitedSink::of(alloc, room, 7, full);
     let mut faults = LimitedSink::ample(alloc);
-    let status = status_at(alloc, &words, text.as_bytes(), &mut output, &mut faults);
+    let status = status_of(alloc, &words, text.as_bytes(), &mut output, &mut faults);
     same_count(rt, usize::from(status), 4);
     same(rt, &output.bytes, prefix_of(wanted.as_bytes(), room));
     same(rt, &faults.bytes, b"write failed\n");
@@ -419,7 +186,7 @@ fn is_whole(rt: &impl Abort, alloc: Global, printed: &Printed) -> Result<(), Fai
     let words = words_of(alloc, words)?;
     let mut output = LimitedSink::of(alloc, wanted.len(), 1, WhenFull::Fails);
     let mut faults = LimitedSink::ample(alloc);
-    let status = status_at(alloc, &words, text.as_bytes(), &mut output, &mut faults);
+    let status = status_of(alloc, &words, text.as_bytes(), &mut output, &mut faults);
     same_count(rt, usize::from(status), *done);
     same(rt, &output.bytes, wanted.as_bytes());
     Ok(())
@@ -443,34 +210,6 @@ fn tells_a_failed_write(rt: HostRuntime) -> Result<(), Fail> {
     Ok(())
 }
 
-/// A read that fails behind so many bytes has to be told, and nothing to be printed.
-fn tells_a_failed_read_behind(
-    rt: &impl Abort,
-    alloc: Global,
-    words: &str,
-    count: u8,
-) -> Result<(), Fail> {
-    let words = words_of(alloc, words)?;
-    let mut input = StreamSource::new(Breaking { calls: count });
-    let mut output = LimitedSink::ample(alloc);
-    let mut faults = LimitedSink::ample(alloc);
-    let status = tool(alloc, &words, &mut input, &mut output, &mut faults);
-    same_count(rt, usize::from(status), 4);
-    same(rt, &output.bytes, b"");
-    same(rt, &faults.bytes, b"read failed\n");
-    Ok(())
-}
-
-#[test]
-fn tells_a_failed_read(rt: HostRuntime) -> Result<(), Fail> {
-    let alloc = rt.alloc();
-    for words in ["run", "run|--session", "predict", "show", "check"] {
-        tells_a_failed_read_behind(&rt, alloc, words, 0)?;
-        tells_a_failed_read_behind(&rt, alloc, words, 3)?;
-    }
-    Ok(())
-}
-
 /// The words have to bring this status where the output is full and the faults take three bytes.
 fn keeps(
     rt: &impl Abort,
@@ -482,7 +221,7 @@ fn keeps(
     let words = words_of(alloc, words)?;
     let mut output = LimitedSink::of(alloc, 0, 1, full);
     let mut faults = LimitedSink::of(alloc, 3, 2, full);
-    let status = status_of(alloc, &words, &mut output, &mut faults);
+    let status = status_of(alloc, &words, b"", &mut output, &mut faults);
     same_count(rt, usize::from(status), wanted);
     same_count(rt, faults.bytes.len(), 3);
     Ok(())
@@ -496,24 +235,4 @@ fn keeps_the_status_where_no_fault_can_be_told(rt: HostRuntime) -> Result<(), Fa
     keeps(&rt, alloc, "greet|a|b|s5", WhenFull::Fails, 4)?;
     keeps(&rt, alloc, "greet|a|b|s5", WhenFull::TakesNone, 4)?;
     keeps(&rt, alloc, "run", WhenFull::Fails, 4)
-}
-
-/// A softwareversion of so many `x` has to bring this status.
-fn is_judged(rt: &impl Abort, alloc: Global, len: usize, wanted: usize) -> Result<(), Fail> {
-    let mut client = String::new(alloc);
-    for _ in 0..len {
-        client.push('x')?;
-    }
-    let words = words_of(alloc, &format!(in alloc; "greet|{client}|b|s255,c11")?)?;
-    let mut output = LimitedSink::ample(alloc);
-    let mut faults = LimitedSink::ample(alloc);
-    let status = status_of(alloc, &words, &mut output, &mut faults);
-    same_count(rt, usize::from(status), wanted);
-    Ok(())
-}
-
-#[test]
-fn takes_softwareversions_up_to_245_bytes(rt: HostRuntime) -> Result<(), Fail> {
-    is_judged(&rt, rt.alloc(), 245, 0)?;
-    is_judged(&rt, rt.alloc(), 246, 2)
 }

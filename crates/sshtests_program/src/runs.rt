@@ -1,212 +1,63 @@
-//! What the deliveries and rounds of a scenario bring, by `tool`, and how much of the input is read.
+//! How much of the input `tool` reads, by sources that fail behind it, and what deliveries cost.
 
-use crate::compare::same_count;
-use crate::program::Said;
-use crate::recordings::{READ_FAILED, TextSource, answers};
-use crate::scenarios::{
-    AGREED, AGREED_WITH_SESSION, DISTRUSTED, LET_IN, LET_IN_WITH_SESSION, NO_KEX, NO_SERVICE,
-    SECOND_LET_IN, TRIED_OUT, Told, UNTRIED, is_answered, is_run, text_of,
-};
+ghost use Rattle.std.specs.Prelude.{◌≡◌, false};
+
+use crate::compare::{same, same_count};
+use crate::program::{LimitedSink, WhenFull, words_of};
+use crate::recordings::TextSource;
+use sshlab::tool;
 use std::alloc::Global;
 use std::process::Abort;
 use std::test::Fail;
 use std::time::{CpuClock, Duration};
 
-/// Both sides wait for more.
-const OPEN: Told = ("client open\nserver open\n", "");
+/// What is written to the output and to the faults, and the status.
+#[derive(Clone, Copy)]
+struct Said<'a> {
+    output: &'a str,
+    faults: &'a str,
+    status: usize,
+}
 
-/// The server has let `al` in, and the client hasn't heard of it.
-const HALF_IN: &str = "client open\nserver authenticated al ssh-connection\n";
+/// What is told where a read failed.
+const READ_FAILED: Said<'static> = Said {
+    output: "",
+    faults: "read failed\n",
+    status: 4,
+};
 
-/// A scenario, how both sides stand when its steps were done, and whether nothing waits then.
-type Run = (&'static str, Told, bool);
+/// The words have to be answered so from this source, with so much room for the output.
+fn answers(
+    rt: &impl Abort,
+    alloc: Global,
+    words: &str,
+    source: &mut TextSource<'_>,
+    room: usize,
+    wanted: Said<'_>,
+) -> Result<(), Fail>
+    requires { source.old.failed ≡ false }
+{
+    let words = words_of(alloc, words)?;
+    let mut output = LimitedSink::of(alloc, room, 7, WhenFull::Fails);
+    let mut faults = LimitedSink::ample(alloc);
+    let status = tool(alloc, &words, source, &mut output, &mut faults);
+    same(rt, &faults.bytes, wanted.faults.as_bytes());
+    same(rt, &output.bytes, wanted.output.as_bytes());
+    same_count(rt, usize::from(status), wanted.status);
+    Ok(())
+}
 
-/// Scenarios with the steps that they need, or fewer.
-const RUNS: &[Run] = &[
-    ("", OPEN, false),
-    ("settle 0", OPEN, false),
-    ("settle 3", ("client failed F14\nserver open\n", ""), false),
-    ("settle 4", UNTRIED, true),
-    ("settle 5", UNTRIED, true),
-    (
-        "client try al ssh-connection none\nserver tries 1\nsettle 6",
-        TRIED_OUT,
-        true,
-    ),
-    (
-        "client try al ssh-connection none\nclient try bo odd password 00\nallow bo password 00\nsettle 7",
-        NO_SERVICE,
-        true,
-    ),
-    (
-        "client try al ssh-connection none\nclient try bo ssh-connection password 00\nallow bo password 00\nsettle 7",
-        SECOND_LET_IN,
-        true,
-    ),
-    (
-        "client kex a\nserver kex b\ndeliver server 135",
-        ("client open\nserver failed F8 kex\n", ""),
-        false,
-    ),
-    ("client kex a\nserver kex b\nsettle 1", NO_KEX, true),
-    ("client kex a\nserver kex b\nsettle 5", NO_KEX, true),
-    ("distrust h\nsettle 5", DISTRUSTED, true),
-];
+/// A text, and another one so many times behind it.
+fn text_of(alloc: Global, before: &str, repeated: &str, count: usize) -> Result<Vec<u8>, Fail> {
+    let mut text = Vec::from_slice(alloc, before.as_bytes())?;
+    for _ in 0..count {
+        text.extend_from_slice(repeated.as_bytes())?;
+    }
+    Ok(text)
+}
 
 /// The lines by which `al` is let in.
 const AL: &str = "client try al ssh-connection none\nallow al none\n";
-
-/// A word behind the command, steps where `al` is let in, how both sides stand then, and whether nothing
-/// waits.
-type Course = (&'static str, &'static str, Told, bool);
-
-/// Steps in the session of `al`.
-const COURSES: &[Course] = &[
-    ("", "settle 3", OPEN, false),
-    ("|--session", "settle 3", OPEN, false),
-    ("", "settle 3\ndeliver client 4294967295", OPEN, false),
-    ("", "settle 3\ndeliver server 79", OPEN, false),
-    ("", "deliver server 80\nsettle 3", OPEN, false),
-    ("", "settle 3\ndeliver server 80", (HALF_IN, AGREED), false),
-    (
-        "|--session",
-        "settle 3\ndeliver server 80",
-        (HALF_IN, AGREED_WITH_SESSION),
-        false,
-    ),
-    (
-        "",
-        "settle 3\ndeliver server 79\ndeliver server 1\ndeliver client 47",
-        (HALF_IN, AGREED),
-        false,
-    ),
-    (
-        "",
-        "settle 3\ndeliver server 80\ndeliver client 48",
-        LET_IN,
-        true,
-    ),
-    ("", "settle 3\ndeliver server 80\nsettle 1", LET_IN, true),
-    ("", "settle 3\nsettle 1", LET_IN, true),
-    ("", "settle 4", LET_IN, true),
-    ("", "settle 6", LET_IN, true),
-    ("|--session", "settle 6", LET_IN_WITH_SESSION, true),
-    (
-        "",
-        "settle 4\ndeliver client 1\ndeliver server 1\nsettle 1000",
-        LET_IN,
-        true,
-    ),
-    (
-        "",
-        "settle 6\nclient guess yes\nclient kex a,b\nserver kex b,a",
-        LET_IN,
-        true,
-    ),
-    // A banner without bytes is sent all the same: 56 bytes before the last 48.
-    (
-        "",
-        "settle 2\ndeliver server 80\ndeliver client 64\ndeliver server 80\ndeliver client 47",
-        (HALF_IN, AGREED),
-        false,
-    ),
-    (
-        "",
-        "settle 2\ndeliver server 80\ndeliver client 64\ndeliver server 80\ndeliver client 48",
-        LET_IN,
-        true,
-    ),
-    (
-        "",
-        "server banner -\nsettle 2\ndeliver server 80\ndeliver client 64\ndeliver server 80\ndeliver client 103",
-        (HALF_IN, AGREED),
-        false,
-    ),
-    (
-        "",
-        "server banner -\nsettle 2\ndeliver server 80\ndeliver client 64\ndeliver server 80\ndeliver client 104",
-        LET_IN,
-        true,
-    ),
-];
-
-/// Deliveries, so many times, where `al` is let in; how both sides stand then, and whether nothing waits.
-type Repeated = (&'static str, usize, Told, bool);
-
-/// Byte by byte, in one piece each way, crossed, and crossed in odd pieces.
-const REPEATED: &[Repeated] = &[
-    ("deliver server 1\ndeliver client 1\n", 734, LET_IN, true),
-    ("deliver client 1\ndeliver server 1\n", 734, LET_IN, true),
-    (
-        "deliver server 4294967295\ndeliver client 4294967295\n",
-        3,
-        OPEN,
-        false,
-    ),
-    (
-        "deliver server 4294967295\ndeliver client 4294967295\n",
-        4,
-        LET_IN,
-        true,
-    ),
-    (
-        "deliver client 4294967295\ndeliver server 4294967295\n",
-        3,
-        (HALF_IN, AGREED),
-        false,
-    ),
-    (
-        "deliver client 4294967295\ndeliver server 4294967295\n",
-        4,
-        LET_IN,
-        true,
-    ),
-    ("deliver client 7\ndeliver server 11\n", 200, LET_IN, true),
-    ("settle 1\n", 4, LET_IN, true),
-];
-
-#[test]
-fn runs_scenarios(rt: HostRuntime) -> Result<(), Fail> {
-    let alloc = rt.alloc();
-    for (text, told, complete) in RUNS {
-        is_run(&rt, alloc, "", text.as_bytes(), *told, *complete)?;
-    }
-    Ok(())
-}
-
-#[test]
-fn does_steps_in_order(rt: HostRuntime) -> Result<(), Fail> {
-    let alloc = rt.alloc();
-    for (option, steps, told, complete) in COURSES {
-        let text = format!(in alloc; "{AL}{steps}")?;
-        is_run(&rt, alloc, option, text.as_bytes(), *told, *complete)?;
-    }
-    Ok(())
-}
-
-#[test]
-fn ends_the_same_by_any_pieces(rt: HostRuntime) -> Result<(), Fail> {
-    let alloc = rt.alloc();
-    for (deliveries, count, told, complete) in REPEATED {
-        let text = text_of(alloc, AL, deliveries, *count, "")?;
-        is_run(&rt, alloc, "", &text, *told, *complete)?;
-    }
-    Ok(())
-}
-
-#[test]
-fn runs_scenarios_of_up_to_1048576_bytes(rt: HostRuntime) -> Result<(), Fail> {
-    let alloc = rt.alloc();
-    let text = text_of(alloc, "", "\n", 1_048_576, "")?;
-    is_run(&rt, alloc, "", &text, OPEN, false)?;
-    let text = text_of(alloc, "", "\n", 1_048_577, "")?;
-    let refused = Said {
-        output: "",
-        faults: "input too long\n",
-        status: 2,
-    };
-    is_answered(&rt, alloc, "run", &text, refused)
-}
 
 /// How much processor time it takes to run a scenario that lets `al` in.
 fn time_of(rt: &(impl Abort + CpuClock), alloc: Global, text: &[u8]) -> Result<Duration, Fail> {
@@ -216,7 +67,13 @@ fn time_of(rt: &(impl Abort + CpuClock), alloc: Global, text: &[u8]) -> Result<D
         faults: "",
         status: 0,
     };
-    is_answered(rt, alloc, "run", text, wanted)?;
+    let mut source = TextSource {
+        rest: text,
+        step: usize::MAX,
+        fails: false,
+        failed: false,
+    };
+    answers(rt, alloc, "run", &mut source, usize::MAX, wanted)?;
     Ok(rt.thread_cpu_time()?.saturating_sub(start))
 }
 
@@ -227,8 +84,8 @@ const ROUNDS: u32 = 10;
 fn ten_times_the_deliveries_cost_at_most_twelve_times(rt: HostRuntime) -> Result<(), Fail> {
     let alloc = rt.alloc();
     let deliveries = "deliver server 2\ndeliver client 2\n";
-    let few = text_of(alloc, AL, deliveries, 500, "")?;
-    let many = text_of(alloc, AL, deliveries, 5000, "")?;
+    let few = text_of(alloc, AL, deliveries, 500)?;
+    let many = text_of(alloc, AL, deliveries, 5000)?;
     let mut of_few = Duration::MAX;
     let mut of_many = Duration::MAX;
     for _ in 0..ROUNDS {
@@ -294,14 +151,14 @@ fn all_leave(
 #[test]
 fn reads_nothing_behind_the_first_byte_too_many(rt: HostRuntime) -> Result<(), Fail> {
     let alloc = rt.alloc();
-    let text = text_of(alloc, "x", "\n", 1_048_676, "")?;
+    let text = text_of(alloc, "x", "\n", 1_048_676)?;
     all_leave(&rt, alloc, &text, TOO_LONG, 100)
 }
 
 #[test]
 fn tells_a_failed_read_behind_1048576_bytes(rt: HostRuntime) -> Result<(), Fail> {
     let alloc = rt.alloc();
-    let text = text_of(alloc, "x", "\n", 1_048_575, "")?;
+    let text = text_of(alloc, "x", "\n", 1_048_575)?;
     all_leave(&rt, alloc, &text, READ_FAILED, 0)
 }
 
@@ -310,57 +167,4 @@ fn tells_a_failed_read_and_no_bad_line_before_it(rt: HostRuntime) -> Result<(), 
     let alloc = rt.alloc();
     all_leave(&rt, alloc, b"x\n", READ_FAILED, 0)?;
     all_leave(&rt, alloc, b"\n\nx\n\n", READ_FAILED, 0)
-}
-
-/// Words and a bad text, and what is told of it where the output couldn't be written either.
-const BEFORE_WRITING: &[(&str, &str, &str)] = &[
-    ("run", "x", "scenario line 1\n"),
-    ("run", "client kex -", "client config C1\n"),
-    ("predict", "\nx", "scenario line 2\n"),
-    ("predict", "server tries 0", "server config C9\n"),
-    ("show", "x", "recording line 1\n"),
-    ("check", "c 00\nx", "recording line 2\n"),
-];
-
-/// The text has to be told its fault where nothing can be written.
-fn is_judged_unwritten(
-    rt: &impl Abort,
-    alloc: Global,
-    words: &str,
-    text: &str,
-    faults: &str,
-) -> Result<(), Fail> {
-    let mut source = TextSource {
-        rest: text.as_bytes(),
-        step: 1,
-        fails: false,
-        failed: false,
-    };
-    let wanted = Said {
-        output: "",
-        faults,
-        status: 2,
-    };
-    answers(rt, alloc, words, &mut source, 0, wanted)
-}
-
-#[test]
-fn judges_input_before_it_writes(rt: HostRuntime) -> Result<(), Fail> {
-    let alloc = rt.alloc();
-    for (words, text, faults) in BEFORE_WRITING {
-        is_judged_unwritten(&rt, alloc, words, text, faults)?;
-    }
-    Ok(())
-}
-
-#[test]
-fn counts_lines_to_the_end_of_the_longest_text(rt: HostRuntime) -> Result<(), Fail> {
-    let alloc = rt.alloc();
-    let text = text_of(alloc, "", "\n", 1_048_575, "x")?;
-    let refused = Said {
-        output: "",
-        faults: "scenario line 1048576\n",
-        status: 2,
-    };
-    is_answered(&rt, alloc, "predict", &text, refused)
 }
