@@ -71,6 +71,9 @@ WRITTEN = [
     (b"\x34", told(52)),
     (b"\x35" + string("") + string(""), told(53, "-", "-")),
     (b"\x35" + string("hello\r\n") + string("en"), told(53, digits("hello\r\n"), "656e")),
+    (b"\x3c" + string("h") + string(b"\xaa"), told(60, "68", "aa")),
+    (b"\x3c" + string("") + string(""), told(60, "-", "-")),
+    (b"\x3c" + string(b"\xff,") + string("h"), told(60, "ff2c", "68")),
 ]
 MPINTS = [
     (b"\x1e" + string(b""), told(30, "mpint", "-")),
@@ -90,7 +93,7 @@ OPEN = [
     (request_of("u", "s", "", b""), told(50, "75", "73", "other", "-", "-")),
     (request_of("u", "s", "nonE", b"\x00"), told(50, "75", "73", "other", digits("nonE"), "00")),
 ]
-KNOWN = {1, 2, 3, 4, 5, 6, 7, 20, 21, 30, 31, 50, 51, 52, 53}
+KNOWN = {1, 2, 3, 4, 5, 6, 7, 20, 21, 30, 31, 50, 51, 52, 53, 60}
 
 
 def taken(file, name, form, payload, text, written=None, cuts=True):
@@ -201,7 +204,8 @@ def longest(file):
              ("mpint", "key", head("publickey", b"\x01", s("h")), True, s("z")),
              ("mpint", "signature", head("publickey", b"\x01", s("h"), s("k")), True, b""),
              ("mpint", "fields of another method", head("hostbased"), False, b""), ("mpint", "another method", b"\x32" + s("u") + s("s"), True, b"x"),
-             ("mpint", "BANNER, text", b"\x35", True, s("en")), ("mpint", "BANNER, language", b"\x35" + s("x"), True, b"")]
+             ("mpint", "BANNER, text", b"\x35", True, s("en")), ("mpint", "BANNER, language", b"\x35" + s("x"), True, b""),
+             ("mpint", "PK_OK, algorithm", b"\x3c", True, s("k")), ("mpint", "PK_OK, key", b"\x3c" + s("h"), True, b"")]
     for form, kind in (("mpint", "KEXDH_REPLY"), ("octets", "KEX_ECDH_REPLY")):
         cases += [(form, kind + ", host key", b"\x1f", True, s(b"\x01") + s("s")), (form, kind + ", share", b"\x1f" + s("k"), True, s("s")),
                   (form, kind + ", signature", b"\x1f" + s("k") + s(b"\x01"), True, b"")]
