@@ -75,6 +75,7 @@ fn text_of_authentication(alloc: Global, message: &Message<'_>) -> Result<String
         } => text_of_failure(alloc, methods, *partial_success),
         Message::UserauthSuccess => text_with(alloc, "52", &[]),
         Message::UserauthBanner { text, language } => text_with(alloc, "53", &[text, language]),
+        Message::UserauthPkOk { algorithm, key } => text_with(alloc, "60", &[algorithm, key]),
         _ => text_with(alloc, "a message without a text", &[]),
     }
 }

@@ -90,6 +90,7 @@ fn set_server(
         "hostkeys" => set_host_keys(alloc, names, line, &mut parts.host_keys, rest),
         "services" => set_list(alloc, names, line, &mut parts.services, rest),
         "methods" => set_list(alloc, names, line, &mut parts.methods, rest),
+        "required" => set_list(alloc, names, line, &mut parts.required, rest),
         _ => set_side(alloc, names, line, &mut parts.side),
     }
 }
@@ -197,7 +198,7 @@ fn add_attempt(
     Ok(())
 }
 
-/// `USER SERVICE none` or `USER SERVICE publickey ALGORITHM KEY`, each a term.
+/// `USER SERVICE none`, or `USER SERVICE publickey ALGORITHM KEY` and the same with `query`, each a term.
 fn attempt_of(alloc: Global, names: &Names, line: &Line<'_>, terms: &str) -> Result<Attempt, Stop> {
     let (user, rest) = split_word(terms);
     let (service, rest) = split_word(rest);
@@ -210,7 +211,7 @@ fn attempt_of(alloc: Global, names: &Names, line: &Line<'_>, terms: &str) -> Res
     })
 }
 
-/// `none` or `publickey ALGORITHM KEY`.
+/// `none`, `publickey ALGORITHM KEY` or `query ALGORITHM KEY`.
 fn credential_of(
     alloc: Global,
     names: &Names,
@@ -221,13 +222,14 @@ fn credential_of(
     let (algorithm, key) = split_word(rest);
     match method {
         "none" => Ok(Credential::None),
-        "publickey" => {
+        "publickey" | "query" => {
             let algorithm = text_of(alloc, names, line, algorithm)?;
             Ok(Credential::PublicKey {
                 algorithm,
                 private_key: bytes_of(alloc, names, line, key)?,
+                ask: method == "query",
             })
         }
-        _ => wrong(alloc, line, "line", "none or publickey", method),
+        _ => wrong(alloc, line, "line", "none, publickey or query", method),
     }
 }
