@@ -34,9 +34,10 @@ use sshpacket::{BLOB_LIMIT, Suite};
 use sshwire::{Memory, as_name};
 
 impl State<'_> {
-    /// A server hears a request: it fails as `Service` where it doesn't have the service; a good request
-    /// authenticates the user; any other is answered by FAILURE, or at the last try fails as
-    /// `TooManyTries` (RFC 4252 sections 5 and 5.1).
+    /// A server hears a request: it fails as `Service` where it doesn't have the service; a query asks
+    /// whether a key would do; a good request by which all required methods are reached authenticates the
+    /// user; any other is answered by FAILURE, which tells partial success where it is good, or at the last
+    /// try fails as `TooManyTries` (RFC 4252 sections 5, 5.1 and 7).
     pub(crate) fn hear_request<S: Suite, D: Decisions>(
         &mut self,
         config: &Config<'_>,
