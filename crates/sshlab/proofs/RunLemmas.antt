@@ -1,12 +1,13 @@
 -- A world of a scenario, whose ends understand each other.
 
-use Rattle.std.proofs.Common.{◌≡◌, ◌≢◌, ◌↔◌, ◌+◌, ℕ, List, Result, Ok, Err, length, sym}
+use Rattle.std.proofs.Common.{◌≡◌, ◌≢◌, ◌↔◌, ◌+◌, ℕ, List, Result, Ok, Err, sym}
 use Rattle.std.specs.Result.{IfOk}
 use Rattle.sshpacket.specs.Suite.{Meaning}
 use Rattle.sshcore.specs.declared.end.Fault.TheVariants as fault
 use Rattle.sshcore.specs.ConfigData.{ClientData, ServerData}
 use Rattle.sshcore.specs.Ending.{Ending, Failed, Open}
 use Rattle.sshcore.specs.Party.{Policy}
+use Rattle.sshworld.specs.Offered.{most_requests}
 use Rattle.sshworld.specs.Conversed.{IsNew}
 use Rattle.sshworld.specs.CourseHeard.{IsCourseHeard}
 use Rattle.sshworld.specs.Headline.{Headline}
@@ -46,8 +47,8 @@ module _ {S D : Type 0} (m : Meaning) (policy : D → Policy) (client : ClientDa
   headline_of = rw (sym of_client, sym of_server, sym of_rules) (λ u had keeps. keeps u had)
 
   pub settled_of : (steps read : List Step) (new : WorldData S D) → read ≡ steps → AreUnderstood m (policy rules) client server → HadMemory w
-      → (AreUnderstoodIn (λ suite. m) policy w → HadMemory w → EndsSettling (length w.client_config.plan + 4) read → Complete new)
-      → EndsSettling (length client.plan + 4) steps → Complete new
+      → (AreUnderstoodIn (λ suite. m) policy w → HadMemory w → EndsSettling (most_requests w.client_config.plan + 4) read → Complete new)
+      → EndsSettling (most_requests client.plan + 4) steps → Complete new
   settled_of steps read new same = rw (sym of_client, sym of_server, sym of_rules, sym same) (λ u had settled. settled u had)
 
 -- an answer that tells whether a world is whole by its status

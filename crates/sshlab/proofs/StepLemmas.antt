@@ -6,6 +6,7 @@ use Rattle.std.proofs.lemmas.List.{length-append, take_more}
 use Rattle.sshpacket.specs.Suite.{Meaning}
 use Rattle.sshcore.specs.ConfigData.{ClientData}
 use Rattle.sshcore.specs.Party.{Policy}
+use Rattle.sshworld.specs.Offered.{most_requests}
 use Rattle.sshworld.specs.declared.side.Delivery.{Delivery}
 use Rattle.sshworld.specs.Conversed.{EachReplies}
 use Rattle.sshworld.specs.Deliveries.{Delivered}
@@ -67,12 +68,12 @@ module _ {S D : Type 0} (meaning : S → Meaning) (policy : D → Policy) where
 
   -- one step more, and it may settle all
   pub settled_more : (steps : List Step) (i : ℕ) (default : Step) (old mid new : WorldData S D) → i < length steps → IsSameSetup old mid → (HadMemory old → HadMemory mid)
-      → (AreUnderstoodIn meaning policy mid → HadMemory mid → SettlesFor (length mid.client_config.plan + 4) (get_or steps i default) → Complete new)
-      → AreUnderstoodIn meaning policy old → HadMemory old → EndsSettling (length old.client_config.plan + 4) (take (i + 1) steps) → Complete new
+      → (AreUnderstoodIn meaning policy mid → HadMemory mid → SettlesFor (most_requests mid.client_config.plan + 4) (get_or steps i default) → Complete new)
+      → AreUnderstoodIn meaning policy old → HadMemory old → EndsSettling (most_requests old.client_config.plan + 4) (take (i + 1) steps) → Complete new
   settled_more steps i default old mid new lt same still settled u had ends =
-      let few : SettlesFor (length old.client_config.plan + 4) (get_or steps i default) = settles_at steps i default _ lt ends in
+      let few : SettlesFor (most_requests old.client_config.plan + 4) (get_or steps i default) = settles_at steps i default _ lt ends in
       settled (understood_on old mid same u) (still had)
-      (subst (λ (config : ClientData). SettlesFor (length config.plan + 4) (get_or steps i default)) (sym same.same_client_config) few)
+      (subst (λ (config : ClientData). SettlesFor (most_requests config.plan + 4) (get_or steps i default)) (sym same.same_client_config) few)
 
 -- what changes no config, suite or decisions twice, changes none
 module _ {S D : Type 0} where

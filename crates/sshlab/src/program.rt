@@ -3,6 +3,7 @@
 ghost use Rattle.std.specs.Prelude.{◌≡◌, ◌≢◌, ◌≤◌, ◌↔◌, ◌+◌, ◌||◌, ℕ, Err, IfErr, IfOk, OnErr, OnOk, false, length, string_bytes, take, true};
 ghost use Rattle.std.specs.Io.KnownBytes.{Appends, Keeps};
 ghost use Rattle.std.specs.IoError.{error_kind};
+ghost use Rattle.sshworld.specs.Offered.{most_requests};
 ghost use Rattle.sshworld.specs.Worlds.{Complete, WorldData};
 ghost use Rattle.sshsuites.specs.Lab.{lab};
 ghost use Rattle.sshsuites.specs.LabRules.{LabRules, lab_policy};
@@ -262,7 +263,7 @@ fn steps_told(alloc: Global, scenario: &Scenario, session: bool) -> Result<Answe
         × StepsLeadTo (λ suite. lab) lab_policy scenario.now.client scenario.now.server scenario.now.decisions scenario.now.steps.items w
         × ((answer.status ≡ 0) ↔ Complete w)) }
     // So it is where the last step settles all.
-    ensures settled { IfOk result (λ answer. EndsSettling (length scenario.now.client.plan + 4) scenario.now.steps.items → answer.status ≡ 0) }
+    ensures settled { IfOk result (λ answer. EndsSettling (most_requests scenario.now.client.plan + 4) scenario.now.steps.items → answer.status ≡ 0) }
     ensures fault { IfErr result IsNoToolFault }
 {
     match scenario.run(alloc) {

@@ -1,6 +1,7 @@
 //! What is done in the world of a scenario.
 
-ghost use Rattle.std.specs.Prelude.{◌≡◌, ◌+◌, IfOk, OnErr, OnOk, length};
+ghost use Rattle.std.specs.Prelude.{◌≡◌, ◌+◌, IfOk, OnErr, OnOk};
+ghost use Rattle.sshworld.specs.Offered.{most_requests};
 ghost use Rattle.sshworld.specs.Conversed.{EachReplies};
 ghost use Rattle.sshworld.specs.CourseHeard.{IsCourseHeard};
 ghost use Rattle.sshworld.specs.Headline.{Headline};
@@ -40,8 +41,8 @@ impl Scenario {
         ensures predicted { IfOk result (λ w. Complete w
             → (w.client.end ≡ (outcome lab (lab_policy self.now.decisions) self.now.client self.now.server).client)
             × (w.server.end ≡ (outcome lab (lab_policy self.now.decisions) self.now.client self.now.server).server)) }
-        // So it is where the last step is so many rounds, four more than the client's plan has attempts, or more.
-        ensures settled { IfOk result (λ w. EndsSettling (length self.now.client.plan + 4) self.now.steps.items → Complete w) }
+        // So it is where the last step is so many rounds, four more than the client's plan has requests at the most, or more.
+        ensures settled { IfOk result (λ w. EndsSettling (most_requests self.now.client.plan + 4) self.now.steps.items → Complete w) }
     {
         follows_law();
         self.client.parts();
@@ -71,7 +72,7 @@ fn do_steps<S: Suite, D: Decisions>(
     ensures course { OnOk result (KeepsCourse S.meaning D.policy world.old → KeepsCourse S.meaning D.policy world.new) }
     ensures headline { OnOk result (KeepsHeadline S.meaning D.policy world.old → KeepsHeadline S.meaning D.policy world.new) }
     ensures settled { OnOk result (AreUnderstoodIn S.meaning D.policy world.old → HadMemory world.old
-        → EndsSettling (length world.old.client_config.plan + 4) steps.now → Complete world.new) }
+        → EndsSettling (most_requests world.old.client_config.plan + 4) steps.now → Complete world.new) }
 {
     for step in steps {
         do_step(world, *step)?;
@@ -87,7 +88,7 @@ fn do_step<S: Suite, D: Decisions>(world: &mut World<'_, S, D>, step: Step) -> R
     ensures course { KeepsCourse S.meaning D.policy world.new }
     ensures headline { KeepsHeadline S.meaning D.policy world.new }
     ensures settled { OnOk result (AreUnderstoodIn S.meaning D.policy world.old → HadMemory world.old
-        → SettlesFor (length world.old.client_config.plan + 4) step → Complete world.new) }
+        → SettlesFor (most_requests world.old.client_config.plan + 4) step → Complete world.new) }
 {
     match step {
         Step::Deliver(delivery) => {

@@ -14,8 +14,7 @@ use Rattle.sshcore.specs.ConfigView.{attempt_of, client_data}
 use Rattle.sshcore.specs.Party.{Policy}
 use Rattle.sshcore.specs.Plan.{proving_name}
 use Rattle.sshworld.specs.Offered.{is_made, offered_behind, requests_for}
-use Rattle.sshworld.specs.JudgedView.{IsSoFar}
-use Rattle.sshworld.specs.VerdictLaw.{ends_among, first_end}
+use Rattle.sshworld.specs.JudgedView.{IsSoFar, ends_among, first_end}
 use Rattle.sshworld.specs.Verdicts.{How, Verdict, ends_by, verdict, verdict_behind, verdict_here}
 use Rattle.sshworld.specs.declared.progress.Progress.{Progress}
 

@@ -1,6 +1,6 @@
 -- How the requests of a plan end, and what is kept of them, without where the attempts lie in memory.
 
-use Rattle.std.specs.Prelude.{◌≡◌, Bool, List, ◌++◌, length, Option, None, Some, if◌then◌else◌}
+use Rattle.std.specs.Prelude.{◌≡◌, Bool, List, [], ◌∷◌, ◌++◌, length, Option, None, Some, if◌then◌else◌}
 use Rattle.sshpacket.specs.Suite.{Meaning}
 use Rattle.sshcore.specs.ConfigData.{Attempt, ServerData}
 use Rattle.sshcore.specs.ConfigView.{attempt_of}
@@ -18,6 +18,17 @@ how_of judged.Unknown = Unknown
 how_of (judged.Success attempt) = Success (behind_query (attempt_of attempt.now))
 how_of judged.Limit = Limit
 how_of judged.Exhausted = Exhausted
+
+-- the first of two ends, if it is one
+abbrev pub first_end : Option How → Option How → Option How
+first_end (Some how) later = Some how
+first_end None later = later
+
+module _ {R : Type 0} where
+  -- How these requests, which come behind those made, end those before them, if one does: the first one that does.
+  abbrev pub ends_among : (List R → R → Option How) → List R → List R → Option How
+  ends_among ends made [] = None
+  ends_among ends made (request ∷ later) = first_end (ends made request) (ends_among ends (made ++ request ∷ []) later)
 
 -- the methods that are reached
 abbrev pub reached_of : Progress → Reached

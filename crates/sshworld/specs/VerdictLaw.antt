@@ -30,17 +30,6 @@ module _ {R : Type 0} (ends : List R → R → Option How) where
     AtOne : EndsAt requests v → IsVerdict requests v
     AtNone : EndsWithout requests v → IsVerdict requests v
 
--- the first of two ends, if it is one
-abbrev pub first_end : Option How → Option How → Option How
-first_end (Some how) later = Some how
-first_end None later = later
-
-module _ {R : Type 0} where
-  -- How these requests, which come behind those made, end those before them, if one does: the first one that does.
-  abbrev pub ends_among : (List R → R → Option How) → List R → List R → Option How
-  ends_among ends made [] = None
-  ends_among ends made (request ∷ later) = first_end (ends made request) (ends_among ends (made ++ request ∷ []) later)
-
 -- How many of the requests that are offered are made: no more than are offered; if none, then none is offered, and the client has
 -- no more to offer; and all, if it has no more to offer in the end.
 pub record IsCounted (offered : ℕ) (v : Verdict) : Type 0 where

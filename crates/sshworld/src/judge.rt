@@ -8,10 +8,9 @@ ghost use Rattle.sshcore.specs.declared.config_parts.TheConstants.{PLAN_LIMIT};
 ghost use Rattle.sshcore.specs.ConfigData as config_data;
 ghost use Rattle.sshcore.specs.ConfigRules.{IsAttempt};
 ghost use Rattle.sshcore.specs.ConfigView.{attempt_of, proving_of};
-ghost use Rattle.sshworld.specs.JudgedView.{IsBehind, IsSoFar, how_of};
+ghost use Rattle.sshworld.specs.JudgedView.{IsBehind, IsSoFar, ends_among, how_of};
 ghost use Rattle.sshworld.specs.Judging.{is_proved, is_usable, proved_by};
 ghost use Rattle.sshworld.specs.Offered.{requests_for};
-ghost use Rattle.sshworld.specs.VerdictLaw.{ends_among};
 ghost use Rattle.sshworld.specs.Verdicts.{ends_by, verdict};
 
 use crate::progress::Progress;
