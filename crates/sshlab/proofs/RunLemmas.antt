@@ -39,7 +39,7 @@ both_predicted ends client server complete h c =
 module _ {S D : Type 0} (m : Meaning) (policy : D → Policy) (client : ClientData) (server : ServerData) (rules : D) (w : WorldData S D)
     (of_client : w.client_config ≡ client) (of_server : w.server_config ≡ server) (of_rules : w.decisions ≡ rules) where
   pub course_of : AreUnderstood m (policy rules) client server → HadMemory w → KeepsCourse (λ suite. m) policy w
-      → IsCourseHeard m (policy rules) client server (wording_of m client server) w.client w.server
+      → IsCourseHeard m (policy rules) client server (wording_of m (policy rules) client server) w.client w.server
   course_of = rw (sym of_client, sym of_server, sym of_rules) (λ u had keeps. keeps u had)
 
   pub headline_of : AreUnderstood m (policy rules) client server → HadMemory w → KeepsHeadline (λ suite. m) policy w

@@ -35,7 +35,7 @@ impl Scenario {
         // The ends of a lab understand each other, and neither wanted memory: so both sides are in the course of their configs, and
         // each that has ended has the end that is predicted.
         ensures course { IfOk result (λ w. IsCourseHeard lab (lab_policy self.now.decisions) self.now.client self.now.server
-            (wording_of lab self.now.client self.now.server) w.client w.server) }
+            (wording_of lab (lab_policy self.now.decisions) self.now.client self.now.server) w.client w.server) }
         ensures headline { IfOk result (λ w. Headline (outcome lab (lab_policy self.now.decisions) self.now.client self.now.server) w.client.end w.server.end (Complete w)) }
         // Where nothing waits for either side, both ends are those that are predicted.
         ensures predicted { IfOk result (λ w. Complete w
