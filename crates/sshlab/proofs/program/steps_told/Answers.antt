@@ -1,4 +1,5 @@
-use Rattle.std.proofs.Common.{◌+◌, length}
+use Rattle.std.proofs.Common.{◌+◌}
+use Rattle.sshworld.specs.Offered.{most_requests}
 use Rattle.sshworld.specs.Worlds.{Complete}
 use Rattle.sshsuites.specs.Lab.{lab}
 use Rattle.sshsuites.specs.LabRules.{lab_policy}
@@ -17,5 +18,5 @@ pub returns-in-Ok-clause-settled : goal.returns-in-Ok-clause-settled
 returns-in-Ok-clause-settled c =
     let scenario = c.args.scenario.now in
     done_by (λ answer. answer.status) (λ w. Complete w) c.in-Ok.world
-    (EndsSettling (length scenario.client.plan + 4) scenario.steps.items)
+    (EndsSettling (most_requests scenario.client.plan + 4) scenario.steps.items)
     c.world_told.result c.in-Ok.ensures.settled c.world_told.ensures.complete

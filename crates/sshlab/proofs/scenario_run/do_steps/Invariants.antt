@@ -1,4 +1,5 @@
-use Rattle.std.proofs.Common.{◌+◌, length, take}
+use Rattle.std.proofs.Common.{◌+◌, take}
+use Rattle.sshworld.specs.Offered.{most_requests}
 use Rattle.sshworld.specs.Conversed.{EachReplies}
 use Rattle.sshworld.specs.WorldCourse.{AreUnderstoodIn, KeepsCourse, KeepsHeadline}
 use Rattle.sshworld.specs.Worlds.{Complete, HadMemory, IsSameSetup}
@@ -15,5 +16,5 @@ invariant-loop-step g l = record {
   course : KeepsCourse g.S.Suite.meaning g.D.Decisions.policy l.fn.world → KeepsCourse g.S.Suite.meaning g.D.Decisions.policy l.world;
   headline : KeepsHeadline g.S.Suite.meaning g.D.Decisions.policy l.fn.world → KeepsHeadline g.S.Suite.meaning g.D.Decisions.policy l.world;
   settled : AreUnderstoodIn g.S.Suite.meaning g.D.Decisions.policy l.fn.world → HadMemory l.fn.world
-      → EndsSettling (length l.fn.world.client_config.plan + 4) (take l.step-index l.steps) → Complete l.world;
+      → EndsSettling (most_requests l.fn.world.client_config.plan + 4) (take l.step-index l.steps) → Complete l.world;
 }
