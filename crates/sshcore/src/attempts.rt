@@ -53,7 +53,13 @@ impl State<'_> {
         match self.left.first() {
             None => self.fail(config, suite, Fault::NoMoreMethods, said),
             Some(attempt) => {
-                let request = next_payload(self.alloc, suite, &self.session, self.confirmed, attempt)?;
+                let request = next_payload(
+                    self.alloc,
+                    suite,
+                    &self.session,
+                    self.confirmed,
+                    attempt,
+                )?;
                 self.say(config, suite, &request, said)
             }
         }

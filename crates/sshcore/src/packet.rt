@@ -272,14 +272,7 @@ fn kind(payload: &[u8]) -> u8
 /// The line of the phase table that decides on a packet with this number, in the order of the table.
 /// `guess` says that the packet of a wrong guess is due, `waits` that a query waits for its answer.
 #[tactic(auto, unfolding(crate::specs::Table::line_by))]
-fn line_of(
-    role: Role,
-    phase: Phase,
-    strict: bool,
-    guess: bool,
-    waits: bool,
-    number: u8,
-) -> Line
+fn line_of(role: Role, phase: Phase, strict: bool, guess: bool, waits: bool, number: u8) -> Line
     ensures { result ≡ line_by role phase strict guess waits number }
 {
     let ruled = is_ruled(phase, strict);

@@ -67,7 +67,9 @@ impl State<'_> {
             return self.fail(config, suite, Fault::Service, said);
         };
         if let Method::PublicKeyQuery { algorithm, key } = method {
-            return self.hear_query(config, suite, decisions, user, service, algorithm, key, said);
+            return self.hear_query(
+                config, suite, decisions, user, service, algorithm, key, said,
+            );
         }
         if self.is_good(config, suite, decisions, user, service, method)? {
             return self.hear_good(config, suite, user, service, method, said);

@@ -94,7 +94,7 @@ module _ (m : Meaning) (d : Policy) (s : ServerData) (required : AllByRecursion 
     ends : ends_by m d s made r ≡ (if done then Some (Success r) else if new.requests == s.tries then Some Limit else None)
     ends =
         ap (λ (b : Bool). if not b then Some Unknown else if is_let_in m d s made r then Some (Success r) else if length made + 1 == s.tries then Some Limit else None)
-            (ap (λ (a : Attempt). is_in s.services a.service) same ∙ has)
+        (ap (λ (a : Attempt). is_in s.services a.service) same ∙ has)
         ∙ (ap (λ (b : Bool). if b then Some (Success r) else if length made + 1 == s.tries then Some Limit else None) let_in
         ∙ ap (λ (n : ℕ). if done then Some (Success r) else if n == s.tries then Some Limit else None) (sym number_is))
 

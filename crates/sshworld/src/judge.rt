@@ -80,14 +80,21 @@ fn judge_attempt<'a, S: Suite, D: Decisions>(
     ensures ends { IfOk result (λ judged. (made : List config_data.Attempt)
         → IsSoFar (S.meaning suite.now) (D.policy decisions.now) server.now made progress.old
         → option_map how_of judged ≡ ends_among (ends_by (S.meaning suite.now) (D.policy decisions.now) server.now) made
-            (requests_for (S.meaning suite.now) (D.policy decisions.now) server.now made (attempt_of attempt.now))) }
+        (requests_for (S.meaning suite.now) (D.policy decisions.now) server.now made (attempt_of attempt.now))) }
     ensures behind { IfOk result (λ judged. (made : List config_data.Attempt)
         → IsSoFar (S.meaning suite.now) (D.policy decisions.now) server.now made progress.old
         → IsBehind (S.meaning suite.now) (D.policy decisions.now) server.now made
-            (requests_for (S.meaning suite.now) (D.policy decisions.now) server.now made (attempt_of attempt.now)) judged progress.new) }
+        (requests_for (S.meaning suite.now) (D.policy decisions.now) server.now made (attempt_of attempt.now)) judged progress.new) }
     ensures few { progress.new.requests ≤ progress.old.requests + 2 }
 {
-    let proved = is_proved(alloc, server, suite, decisions, progress.requests + 1, attempt)?;
+    let proved = is_proved(
+        alloc,
+        server,
+        suite,
+        decisions,
+        progress.requests + 1,
+        attempt,
+    )?;
     if !attempt.credential.asks() {
         return Ok(progress.judge_request(server, attempt, proved));
     }
@@ -95,7 +102,14 @@ fn judge_attempt<'a, S: Suite, D: Decisions>(
     if judged.is_some() || !proved {
         return Ok(judged);
     }
-    let proved = is_proved(alloc, server, suite, decisions, progress.requests + 1, attempt)?;
+    let proved = is_proved(
+        alloc,
+        server,
+        suite,
+        decisions,
+        progress.requests + 1,
+        attempt,
+    )?;
     Ok(progress.judge_request(server, attempt, proved))
 }
 

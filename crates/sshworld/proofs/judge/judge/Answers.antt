@@ -40,7 +40,7 @@ returns-in-Some g c =
       | then-progress-eq0-via-else-progress-eq0+then-lists w ↦ inr (ap (is_in s.methods) (sym w.method.ensures) ∙ (sym w.lists.ensures ∙ w.if-lists.true))
     ] in
     left_ended m d s whole c.loop-attempt.progress x plan l is (how_of c.in-Some.judged)
-        (sym (ap (option_map how_of) c.in-Some.is) ∙ c.in_ok-judged.ensures.ends l.made l.so_far)
+    (sym (ap (option_map how_of) c.in-Some.is) ∙ c.in_ok-judged.ensures.ends l.made l.so_far)
 
 pub loop-attempt-preserved : goal.loop-attempt-preserved
 loop-attempt-preserved g c =
@@ -70,9 +70,9 @@ loop-attempt-preserved g c =
                 (w.in_ok-judged.ensures.behind l.made l.so_far w.in_default.is));
           }
       | else-progress-eq0+else-lists w ↦ record {
-          count = omega (arith, ap (λ (p : Progress). p.requests) w.progress-is, c.loop-attempt.invariant.count);
-          accepted = accepted.1;
-          left = subst (λ (p : Progress). Left m d s whole p plan) (sym w.progress-is)
-              (left_skipped m d s whole c.loop-attempt.progress x plan l w.if-progress-eq0.false (ap (is_in s.methods) (sym w.method.ensures) ∙ (sym w.lists.ensures ∙ w.if-lists.false)));
-        }
+        count = omega (arith, ap (λ (p : Progress). p.requests) w.progress-is, c.loop-attempt.invariant.count);
+        accepted = accepted.1;
+        left = subst (λ (p : Progress). Left m d s whole p plan) (sym w.progress-is)
+            (left_skipped m d s whole c.loop-attempt.progress x plan l w.if-progress-eq0.false (ap (is_in s.methods) (sym w.method.ensures) ∙ (sym w.lists.ensures ∙ w.if-lists.false)));
+      }
     ]

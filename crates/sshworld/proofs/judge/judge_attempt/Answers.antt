@@ -24,5 +24,5 @@ returns-clause-behind g c = λ made so_far none.
     let first : IsSoFar m d s (made ++ x ∷ []) c.judge_request-judged.new.self =
     c.judge_request-judged.ensures.behind m d made x so_far refl (good_query m d s made x asks_is) no_end in
     behind_two m d s made x c.judge_request-2.new.self confirmed
-        (c.judge_request-2.ensures.behind m d (made ++ x ∷ []) (behind_query x) first (twice_itself x)
-        (good_itself m d s made x c.judge_request-judged.new.self.requests c.in_ok-proved-2.proved first.counted c.in_ok-proved-2.ensures) none)
+    (c.judge_request-2.ensures.behind m d (made ++ x ∷ []) (behind_query x) first (twice_itself x)
+    (good_itself m d s made x c.judge_request-judged.new.self.requests c.in_ok-proved-2.proved first.counted c.in_ok-proved-2.ensures) none)

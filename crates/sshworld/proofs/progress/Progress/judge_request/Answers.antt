@@ -13,7 +13,7 @@ pub returns-then-is_complete-clause-ends : goal.returns-then-is_complete-clause-
 returns-then-is_complete-clause-ends c = λ m d made r so_far same is.
     let has : is_in c.args.server.now.services (attempt_of c.args.attempt.now).service ≡ true = search rules in
     at_success m d c.args.server.now (c.parts.ensures.accepted.keeps fault.Name).3 c.args.self.now c.count.new.self (attempt_of c.args.attempt.now) c.args.good c.count.ensures.counted c.count.ensures.reached made r so_far same is
-        has c.if-good.true (sym c.is_complete.ensures ∙ c.if-is_complete.true)
+    has c.if-good.true (sym c.is_complete.ensures ∙ c.if-is_complete.true)
 
 pub returns-then-self-parts-clause-ends : goal.returns-then-self-parts-clause-ends
 returns-then-self-parts-clause-ends c = λ m d made r so_far same is.
@@ -24,7 +24,7 @@ returns-then-self-parts-clause-ends c = λ m d made r so_far same is.
       | else-good-via-else-good w ↦ not_good c.args.good complete w.if-good.false
     ] in
     at_limit m d c.args.server.now (c.parts.ensures.accepted.keeps fault.Name).3 c.args.self.now c.count.new.self (attempt_of c.args.attempt.now) c.args.good c.count.ensures.counted c.count.ensures.reached made r so_far same is
-        has c.parts-2.result.now.tries (ap (λ (s : ServerData). s.tries) c.parts-2.ensures.same) more c.if-self-parts.true
+    has c.parts-2.result.now.tries (ap (λ (s : ServerData). s.tries) c.parts-2.ensures.same) more c.if-self-parts.true
 
 pub returns-clause-ends : goal.returns-clause-ends
 returns-clause-ends c = λ m d made r so_far same is.
@@ -35,7 +35,7 @@ returns-clause-ends c = λ m d made r so_far same is.
       | else-good-via-else-good w ↦ not_good c.args.good complete w.if-good.false
     ] in
     at_none m d c.args.server.now (c.parts.ensures.accepted.keeps fault.Name).3 c.args.self.now c.count.new.self (attempt_of c.args.attempt.now) c.args.good c.count.ensures.counted c.count.ensures.reached made r so_far same is
-        has c.parts-2.result.now.tries (ap (λ (s : ServerData). s.tries) c.parts-2.ensures.same) more c.if-self-parts.false
+    has c.parts-2.result.now.tries (ap (λ (s : ServerData). s.tries) c.parts-2.ensures.same) more c.if-self-parts.false
 
 pub returns-clause-behind : goal.returns-clause-behind
 returns-clause-behind c = λ m d made r so_far same is none.
