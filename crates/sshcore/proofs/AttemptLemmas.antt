@@ -12,11 +12,11 @@ use Rattle.sshpacket.specs.Suite.{Meaning}
 use Rattle.sshcore.specs.declared.config_parts.Attempt as attempt_parts
 use Rattle.sshcore.specs.declared.end.Fault.TheVariants as fault
 use Rattle.sshmsg.specs.declared.numbers.TheConstants.{SSH_MSG_USERAUTH_PK_OK}
-use Rattle.sshcore.specs.Attempts.{attempt_reply, confirmed_by, is_asked, request_of, success_by}
+use Rattle.sshcore.specs.Attempts.{confirmed_by, is_asked, request_of, success_by}
 use Rattle.sshcore.specs.ConfigData.{Attempt, ByKey, ByNothing, ByPassword, Proving}
 use Rattle.sshcore.specs.ConfigRules.{IsAttempt}
 use Rattle.sshcore.specs.ConfigView.{attempt_of, proving_of}
-use Rattle.sshcore.specs.Ending.{Reply, fails, goes}
+use Rattle.sshcore.specs.Ending.{fails, goes}
 use Rattle.sshcore.specs.Kept.{left_of}
 use Rattle.sshcore.specs.Known.{Known}
 use Rattle.sshcore.specs.Plan.{behind_query, first_made, next_behind, next_listed, proving_name, unasked}

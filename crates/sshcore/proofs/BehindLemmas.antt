@@ -1,6 +1,6 @@
 -- What is known behind a payload, by its number.
 
-use Rattle.std.proofs.Common.{◌≡◌, ◌≢◌, ℕ, ◌==◌, false, List, [], ◌∷◌, Ok, refl}
+use Rattle.std.proofs.Common.{◌≡◌, ◌≢◌, ℕ, ◌==◌, false, List, Ok, refl}
 use Rattle.std.proofs.lemmas.Bool.{ne_eqb}
 use Rattle.sshwire.specs.declared.share_form.ShareForm.TheVariants.{Mpint}
 use Rattle.sshmsg.specs.Content.{Method, UserauthRequest}

@@ -14,7 +14,6 @@ use Rattle.sshmsg.specs.Written.{written_message}
 use Rattle.sshneg.specs.declared.choice.NoCommon.{NoCommon}
 use Rattle.sshneg.specs.declared.role.Role.{Role}
 use Rattle.sshneg.specs.declared.role.Role.TheVariants.{Client, Server}
-use Rattle.sshneg.specs.ChoiceReadings.{is_in}
 use Rattle.sshneg.specs.Fields.{Algorithms}
 use Rattle.sshneg.specs.Strictness.{is_right_guess}
 use Rattle.sshpacket.specs.Stream.{Units}
@@ -29,7 +28,7 @@ use Rattle.sshcore.specs.Attempts.{attempt_reply, confirmed_by, is_asked, reques
 use Rattle.sshcore.specs.Before.{expects_guess, kept, offered, stood, strict_at, strict_towards}
 use Rattle.sshcore.specs.ConfigData.{Attempt}
 use Rattle.sshcore.specs.Counting.{number_in, switched_out}
-use Rattle.sshcore.specs.Ending.{AgreedData, Authenticated, Reply, disconnect_by, fails, goes, reason_of}
+use Rattle.sshcore.specs.Ending.{Reply, disconnect_by, fails, goes, reason_of}
 use Rattle.sshcore.specs.Exchange.{choice_with, own_kexinit}
 use Rattle.sshcore.specs.History.{IsReady}
 use Rattle.sshcore.specs.Known.{Known, known_at, waits_at}

@@ -1,4 +1,4 @@
-use Rattle.std.proofs.Common.{◌≡◌, true, false, sym, ap}
+use Rattle.std.proofs.Common.{◌≡◌, false, sym, ap}
 use Rattle.std.proofs.lemmas.Result.{on_ok_weaker}
 use Rattle.sshcore.specs.ConfigParty.{party_of}
 use Rattle.sshcore.specs.Kept.{Kept, kept_of}

@@ -1,13 +1,13 @@
-use Rattle.std.proofs.Common.{◌≡◌, ℕ, List, false, rules, true, sym, ap, ◌∙◌}
+use Rattle.std.proofs.Common.{◌≡◌, false, rules, true, sym, ap, ◌∙◌}
 use Rattle.std.proofs.lemmas.Result.{on_ok_weaker}
-use Rattle.sshmsg.specs.Content.{PublicKeyQuery, UserauthFailure}
+use Rattle.sshmsg.specs.Content.{UserauthFailure}
 use Rattle.sshmsg.specs.View.{method_of}
 use Rattle.sshcore.specs.Authenticating.{counted_request, one_request}
 use Rattle.sshcore.specs.ConfigParty.{party_of}
 use Rattle.sshcore.specs.Kept.{Kept, kept_of}
 use Rattle.sshcore.specs.Known.{Known}
 use Rattle.sshcore.specs.Reached.{Tried}
-use Rattle.sshcore.specs.Requests.{is_good, more_reply, tried_reply}
+use Rattle.sshcore.specs.Requests.{is_good, more_reply}
 use Rattle.sshcore.proofs.GivesLemmas.{gives_by, gives_from}
 use Rattle.sshcore.proofs.RequestLemmas.{had, no_query, other_tried, query_tried, reply_elsewhere, reply_other, reply_query, tried_method, with_end}
 use Rattle.sshcore.proofs.state.State.hear_request.Goals as goal

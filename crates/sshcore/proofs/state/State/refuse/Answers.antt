@@ -1,4 +1,4 @@
-use Rattle.std.proofs.Common.{◌≤◌, [], ◌∷◌, List, ℕ, arith, length, refl, ap, false, string_bytes, ◌∙◌}
+use Rattle.std.proofs.Common.{◌≤◌, [], ◌∷◌, List, ℕ, arith, length, refl, ap, string_bytes, ◌∙◌}
 use Rattle.sshmsg.specs.Content.{UserauthFailure}
 use Rattle.sshmsg.specs.Written.{written_message}
 use Rattle.sshcore.specs.ConfigParty.{party_of}
