@@ -1,6 +1,6 @@
 -- What the lines read so far say of a recording.
 
-use Rattle.std.proofs.Common.{◌≡◌, ℕ, ◌+◌, ◌<◌, List, [], ◌∷◌, ◌++◌, length, take, drop, drop-cons, get_or, map, suc, sym, ap, ◌∙◌, arith, Bor, Bool, true, false}
+use Rattle.std.proofs.Common.{◌≡◌, ℕ, ◌+◌, ◌<◌, List, ◌∷◌, ◌++◌, length, take, drop, drop-cons, get_or, suc, sym, ap, ◌∙◌, arith, true, false}
 use Rattle.std.proofs.lemmas.List.{take-append-drop}
 use Rattle.std.specs.List.{list_all}
 use Rattle.sshlab.specs.Recordings.{IsFirstBadLine, is_recorded}

@@ -1,6 +1,6 @@
 -- Why a text is refused.
 
-use Rattle.std.proofs.Common.{◌≡◌, ℕ, List, subst, sym}
+use Rattle.std.proofs.Common.{◌≡◌, ℕ, List, subst}
 use Rattle.sshcore.specs.declared.config_fault.ConfigFault.{ConfigFault}
 use Rattle.sshcore.specs.ConfigData.{ClientData, ServerData}
 use Rattle.sshcore.specs.ConfigRules.{ClientRule, IsLeastBroken, ServerRule}

@@ -1,15 +1,14 @@
 -- What is said by the fields of a line, as the code sees them: lent.
 
-use Rattle.std.proofs.Common.{◌≡◌, ℕ, zero, suc, List, [], ◌∷◌, length, drop, map, refl, sym, ap}
-use Rattle.std.specs.Prelude.{◌==◌, ◌&&◌, Bool, true, false, if◌then◌else◌, Option, None, Some, codes, nat_le, option_map, slice_index_or}
+use Rattle.std.proofs.Common.{◌≡◌, ℕ, zero, suc, List, [], ◌∷◌, length, drop, refl}
+use Rattle.std.specs.Prelude.{◌==◌, ◌&&◌, Bool, true, false, if◌then◌else◌, None, Some, codes, nat_le, option_map, slice_index_or}
 use Rattle.std.specs.Borrow.{Bor}
 use Rattle.std.specs.Str.{bytes_eq}
 use Rattle.std.proofs.lemmas.List.{drop-map, length-map}
-use Rattle.sshcore.specs.ConfigData.{ByKey, ByNothing, ByPassword, Proving}
-use Rattle.sshlab.specs.declared.scenario_line.Step.{Step}
+use Rattle.sshcore.specs.ConfigData.{ByKey, ByNothing, ByPassword}
 use Rattle.sshlab.specs.ScenarioFields.{bytes_of, number_of, side_of}
 use Rattle.sshlab.specs.ScenarioView.{texts}
-use Rattle.sshlab.specs.Scenarios.{Allows, Denies, Distrusts, Does, Holds, Notes, Saying, Tries, attempting, client_value, delivery, field, proving, rounds, said_by, said_of_client, said_of_server, server_value, step}
+use Rattle.sshlab.specs.Scenarios.{Allows, Denies, Distrusts, Does, Holds, Notes, Tries, attempting, client_value, delivery, field, proving, rounds, said_by, said_of_client, said_of_server, server_value, step}
 
 abbrev pub Lent : Type 0
 Lent = List (Bor (List ℕ))

@@ -8,7 +8,6 @@ use Rattle.sshlab.specs.declared.scenario.ScenarioFault.{ScenarioFault}
 use Rattle.sshlab.specs.declared.scenario.ScenarioFault.TheVariants as fault
 use Rattle.sshlab.specs.ScenarioParts.{client_of_lines, server_of_lines}
 use Rattle.sshlab.specs.ScenarioText.{CanBeRead, IsFirstBad, said}
-use Rattle.sshlab.specs.TextLines.{lines}
 
 -- all lines can be read, and the client's parts break the rule of this number and none of a lesser one
 pub record IsClientCause (ls : List (List ℕ)) (code : ConfigFault) : Type 0 where

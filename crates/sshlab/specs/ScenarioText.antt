@@ -1,6 +1,6 @@
 -- What the lines of a scenario's text say, and when they can be read.
 
-use Rattle.std.specs.Prelude.{◌≡◌, ◌≢◌, ◌-◌, ◌≤◌, ℕ, List, take, length, Option, None, IfSome}
+use Rattle.std.specs.Prelude.{◌≢◌, ◌-◌, ◌≤◌, ℕ, List, take, length, Option, None, IfSome}
 use Rattle.std.specs.List.{AllByRecursion, AllPairs, Contains, filter_map}
 use Rattle.std.specs.Option.{option_and_then, option_flatten}
 use Rattle.sshworld.specs.declared.side.Side.{Side}

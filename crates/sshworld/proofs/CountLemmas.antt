@@ -1,7 +1,6 @@
 -- How many requests are offered and made.
 
-use Rattle.std.proofs.Common.{◌≡◌, ◌∙◌, ℕ, suc, ◌+◌, ◌≤◌, ◌==◌, Bool, true, false, cond, not, List, [], ◌∷◌, ◌++◌, length, length-append, None, Some, refl, sym, ap, arith, inl, inr, if◌then◌else◌}
-use Rattle.std.proofs.lemmas.Bool.{cases_Bool}
+use Rattle.std.proofs.Common.{◌≡◌, ◌∙◌, ℕ, suc, ◌+◌, ◌≤◌, ◌==◌, Bool, true, false, cond, not, List, [], ◌∷◌, ◌++◌, length, length-append, None, Some, refl, sym, ap, arith, if◌then◌else◌}
 use Rattle.std.specs.List.{AllByRecursion}
 use Rattle.std.specs.Prelude.{◌&&◌}
 use Rattle.sshneg.specs.ChoiceReadings.{is_in}
@@ -10,7 +9,7 @@ use Rattle.sshcore.specs.ConfigData.{Attempt, ClientData, ServerData}
 use Rattle.sshcore.specs.Party.{Policy}
 use Rattle.sshcore.specs.Plan.{asks, behind_query}
 use Rattle.sshworld.specs.Judging.{is_proved}
-use Rattle.sshworld.specs.Offered.{is_confirmed, is_made, most_requests, offered, offered_behind, requests_for}
+use Rattle.sshworld.specs.Offered.{is_made, most_requests, offered, offered_behind, requests_for}
 use Rattle.sshworld.specs.VerdictLaw.{AtNone, AtOne, IsCounted, IsVerdict}
 use Rattle.sshworld.specs.Verdicts.{Exhausted, Limit, Success, Unknown, Verdict, ends_by, is_let_in, verdict, verdict_behind}
 use Rattle.sshworld.proofs.VerdictLemmas.{is_verdict}

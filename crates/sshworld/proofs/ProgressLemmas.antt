@@ -1,6 +1,6 @@
 -- What is kept of the requests judged so far is what they came to.
 
-use Rattle.std.proofs.Common.{◌≡◌, ◌∙◌, ℕ, ◌+◌, ◌==◌, ◌&&◌, Bool, true, false, not, if◌then◌else◌, List, [], ◌∷◌, ◌++◌, length, length-append, append_assoc, subst, Option, None, Some, refl, sym, ap, arith}
+use Rattle.std.proofs.Common.{◌≡◌, ◌∙◌, ℕ, ◌+◌, ◌==◌, ◌&&◌, Bool, true, false, not, if◌then◌else◌, List, [], ◌∷◌, ◌++◌, length, length-append, append_assoc, subst, None, Some, refl, sym, ap}
 use Rattle.std.specs.List.{AllByRecursion}
 use Rattle.std.proofs.lemmas.Bool.{and_parts, eq-eqb, ne_eqb}
 use Rattle.sshneg.specs.ChoiceReadings.{is_in}
@@ -10,13 +10,13 @@ use Rattle.sshcore.specs.ConfigData.{Attempt, ByKey, ByNothing, ByPassword, Prov
 use Rattle.sshcore.specs.ConfigRules.{IsListed}
 use Rattle.sshcore.specs.Party.{Policy}
 use Rattle.sshcore.specs.Plan.{asks, behind_query, proving_name, unasked}
-use Rattle.sshcore.specs.Reached.{Reached, Tried, are_reached, is_complete, nothing_reached, reached_after, reached_behind}
+use Rattle.sshcore.specs.Reached.{Tried, are_reached, is_complete, nothing_reached, reached_after, reached_behind}
 use Rattle.sshcore.proofs.PlanLemmas.{reached_push}
 use Rattle.sshcore.proofs.ReachedLemmas.{complete_is}
 use Rattle.sshworld.specs.JudgedView.{IsSoFar, reached_of, tried_as}
 use Rattle.sshworld.specs.Judging.{is_good, is_proved, is_usable, proved_by}
 use Rattle.sshworld.specs.Offered.{is_confirmed, requests_for}
-use Rattle.sshworld.specs.Verdicts.{How, Limit, Success, Unknown, ends_by, is_let_in, tried_by, tried_of}
+use Rattle.sshworld.specs.Verdicts.{Limit, Success, Unknown, ends_by, is_let_in, tried_by, tried_of}
 use Rattle.sshworld.specs.declared.progress.Progress.{Progress}
 
 -- the attempt itself is by the method of its query

@@ -9,10 +9,9 @@ use Rattle.sshcore.specs.ConfigData.{Attempt, ByKey, ByNothing, ByPassword, Clie
 use Rattle.sshcore.specs.Party.{KeyProof, NoProof, PasswordProof, Policy, ProofData}
 use Rattle.sshworld.specs.Course.{Requests, client_part, server_part}
 use Rattle.sshworld.specs.Guesses.{NoGuess}
-use Rattle.sshworld.specs.Offered.{offered}
 use Rattle.sshworld.specs.Outcome.{BothEnds}
-use Rattle.sshworld.specs.Rounds.{UnitsHeard, after_rounds, all_heard}
-use Rattle.sshworld.specs.Verdicts.{Exhausted, How, Limit, Success, Verdict, verdict}
+use Rattle.sshworld.specs.Rounds.{after_rounds, all_heard}
+use Rattle.sshworld.specs.Verdicts.{Exhausted, Limit, Success, verdict}
 use Rattle.sshworld.specs.Wording.{Wording}
 use Rattle.sshworld.specs.Wordings.{answer_to}
 

@@ -1,6 +1,6 @@
-use Rattle.std.proofs.Common.{◌≡◌, ◌∙◌, ap}
+use Rattle.std.proofs.Common.{◌∙◌, ap}
 use Rattle.std.proofs.lemmas.Result.{err_from_is_err_and}
-use Rattle.sshlab.specs.ScenarioDrafts.{Drafted, drafted}
+use Rattle.sshlab.specs.ScenarioDrafts.{Drafted}
 use Rattle.sshlab.specs.ScenarioParts.{some_or}
 use Rattle.sshlab.specs.ScenarioText.{said}
 use Rattle.sshlab.specs.TextLines.{lines}

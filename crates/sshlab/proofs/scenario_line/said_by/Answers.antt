@@ -1,5 +1,5 @@
 use Rattle.std.proofs.Common.{◌≡◌, ◌∙◌, ap, rules}
-use Rattle.std.specs.Prelude.{None, option_map}
+use Rattle.std.specs.Prelude.{option_map}
 use Rattle.sshlab.specs.Scenarios.{Does, said_by, step}
 use Rattle.sshlab.specs.ScenarioView.{texts}
 use Rattle.sshlab.proofs.ScenarioWordLemmas.{said_seen}

@@ -1,6 +1,6 @@
-use Rattle.std.proofs.Common.{◌≡◌, ◌∙◌, true, false, ap, sym, rules}
+use Rattle.std.proofs.Common.{◌≡◌, ◌∙◌, false, ap, sym, rules}
 use Rattle.std.specs.Prelude.{None, Some, option_map}
-use Rattle.sshlab.specs.Scenarios.{is_text, said_in_fields, says_nothing}
+use Rattle.sshlab.specs.Scenarios.{is_text, said_in_fields}
 use Rattle.sshlab.proofs.ScenarioTextLemmas.{line_bad, line_says, line_silent, line_utf8}
 use Rattle.sshlab.proofs.scenario_line.statement_of.Goals as goal
 

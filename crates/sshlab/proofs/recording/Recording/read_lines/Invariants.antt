@@ -1,4 +1,4 @@
-use Rattle.std.proofs.Common.{◌≡◌, ◌++◌, ◌+◌, ◌<◌, true, map, length}
+use Rattle.std.proofs.Common.{◌≡◌, ◌++◌, true, map, length}
 use Rattle.std.specs.List.{list_all, flat_map}
 use Rattle.sshworld.specs.declared.side.Side.TheVariants.{Client, Server}
 use Rattle.sshlab.specs.Recordings.{is_recorded, sent}

@@ -1,6 +1,5 @@
 use Rattle.std.proofs.Common.{◌≡◌, ◌∙◌, ap, sym}
 use Rattle.std.specs.Prelude.{Option, None, Some, option_map}
-use Rattle.sshlab.specs.ScenarioSettings.{setting_in}
 use Rattle.sshlab.specs.Scenarios.{statement}
 use Rattle.sshlab.specs.ScenarioView.{saying_of}
 use Rattle.sshlab.proofs.ScenarioSettingLemmas.{other_follows, setting_follows, silent_follows}
