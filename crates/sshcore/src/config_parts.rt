@@ -44,7 +44,8 @@ pub enum Credential {
         algorithm: String,
         /// The private key as the suite has it, at most 8192 bytes.
         private_key: Vec<u8>,
-        /// Whether the server is asked first if the key would do.
+        /// Whether a query comes first: the client then signs by this key only where the server answers
+        /// that it would do (RFC 4252 section 7).
         ask: bool,
     },
 }
@@ -149,7 +150,9 @@ pub struct ServerParts {
     pub services: Vec<String>,
     /// The methods that a FAILURE lists, each `password` or `publickey`; there may be none.
     pub methods: Vec<String>,
-    /// The methods that a user has to prove all, each one of `methods`; there may be none.
+    /// The methods that all have to succeed before a user is let in, each one of `methods` and none
+    /// twice; there may be none (RFC 4252 section 5.1). They have to succeed in an unbroken run of requests
+    /// for one user and one service (profile).
     pub required: Vec<String>,
     /// The number of the request at which a failure ends the session, 1 to 20.
     pub tries: u32,

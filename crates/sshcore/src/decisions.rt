@@ -4,7 +4,7 @@ ghost use Rattle.std.specs.Prelude.{◌≡◌};
 ghost use Rattle.sshcore.specs.Party.{Policy};
 ghost use Rattle.sshcore.specs.PartyView.{proof_of};
 
-/// What a request proves of its user (RFC 4252).
+/// What a request proves of its user (RFC 4252), or the key that a query asks about.
 ///
 /// It has no `Debug`: passwords are never printed.
 #[derive(Clone, Copy)]
@@ -13,7 +13,9 @@ pub enum Proof<'a> {
     None,
     /// That the user's side knows a password, any bytes (RFC 4252 section 8).
     Password(&'a [u8]),
-    /// That the user's side has a private key: the signature was verified (RFC 4252 section 7).
+    /// A key (RFC 4252 section 7). Of a request that is signed: the user's side has its private key, and
+    /// the signature was verified. Of a query: whether this key would do is asked, nothing was signed, and
+    /// a yes lets nobody in.
     Key {
         /// The name of the key's algorithm.
         algorithm: &'a str,
@@ -31,7 +33,9 @@ pub trait Decisions {
     fn host_key(&self, algorithm: &str, blob: &[u8]) -> bool
         ensures { result ≡ (policy self.now).host_key algorithm.now blob.now };
 
-    /// Whether a request lets the user in, of requests counted from 1 (RFC 4252 section 5).
+    /// Whether a request is good by what it proves, of requests counted from 1 (RFC 4252 section 5); of a
+    /// query whether its key would do (section 7). A yes to a request lets the user in, unless methods
+    /// are required that aren't reached yet (section 5.1).
     fn user(&self, request_number: u32, user: &str, service: &str, proof: &Proof<'_>) -> bool
         ensures { result ≡ (policy self.now).user request_number user.now service.now (proof_of proof.now) };
 }

@@ -22,13 +22,13 @@ use std::alloc::Global;
 /// How the requests of a plan end.
 #[derive(Clone, Copy)]
 pub(crate) enum Judged<'a> {
-    /// One is for a service that the server doesn't have.
+    /// A request is for a service that the server doesn't have.
     Unknown,
-    /// One of this attempt lets the user in.
+    /// A request of this attempt lets the user in.
     Success(&'a Attempt),
-    /// One is the last that the server grants.
+    /// A request is the last that the server grants, and doesn't let the user in.
     Limit,
-    /// None is left.
+    /// No request is left.
     Exhausted,
 }
 
