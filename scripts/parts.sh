@@ -34,31 +34,51 @@ with_clock() {
   done
 }
 
-# Runs a command whose last line is 'N passed, M failed', shows what it prints, and adds its counts. One that
-# ends without that line, or with a bad status and nothing failed, counts as one failed.
+# Runs a command whose last line is 'N passed, M failed', shows what it prints, and adds its counts.
 part() {
-  local status=0 counts='^([0-9]+) passed, ([0-9]+) failed$' last begun=$SECONDS before
-  look_at_processors
-  before=$worked
-  echo "== $*"
+  local begun=$SECONDS status=0
+  begin_part "$*"
   { "$@" || echo "$?" >"$log.status"; } | tee "$log" | with_clock
   if [ -e "$log.status" ]; then
     status=$(cat "$log.status")
     rm "$log.status"
   fi
+  end_part "$*" "$begun" "$status"
+}
+
+# Waits for such a command, which was started beside other parts, with what it prints in a file: its name, its
+# process and that file.
+part_beside() {
+  local begun=$SECONDS status=0
+  begin_part "$1, begun beside the part before"
+  tail -n +1 -f --pid="$2" "$3" | tee "$log" | with_clock
+  wait "$2" || status=$?
+  end_part "$1" "$begun" "$status"
+}
+
+begin_part() {
+  look_at_processors
+  before=$worked
+  echo "== $1"
+}
+
+# Adds the counts of a part: one that ended without its last line, or with a bad status and nothing failed, counts as
+# one failed.
+end_part() {
+  local counts='^([0-9]+) passed, ([0-9]+) failed$' last
   last=$(tail -n 1 "$log")
   if [[ $last =~ $counts ]]; then
     passed=$((passed + BASH_REMATCH[1]))
     failed=$((failed + BASH_REMATCH[2]))
-    [ "$status" -eq 0 ] || [ "${BASH_REMATCH[2]}" -ne 0 ] || failed=$((failed + 1))
+    [ "$3" -eq 0 ] || [ "${BASH_REMATCH[2]}" -ne 0 ] || failed=$((failed + 1))
   else
-    last="ended with status $status and without its counts"
-    echo "check: $* $last"
+    last="ended with status $3 and without its counts"
+    echo "check: $1 $last"
     failed=$((failed + 1))
   fi
   look_at_processors
-  table+=("$(line_of "$*" $((SECONDS - begun)) $((worked - before)) "$last")")
-  echo "== $* took $(clock $((SECONDS - begun)))"
+  table+=("$(line_of "$1" $((SECONDS - $2)) $((worked - before)) "$last")")
+  echo "== $1 took $(clock $((SECONDS - $2)))"
 }
 
 # A line of the table: a part, its time by the wall and of processors, in minutes and seconds, and its counts.

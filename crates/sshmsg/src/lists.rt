@@ -12,7 +12,7 @@ ghost use Rattle.sshmsg.specs.View.{Answers, Goes, LendsPairs, Passes, WantsMemo
 use crate::fault::MsgFault;
 use crate::message::{Extension, KexInit, Message};
 use crate::numbers::{SSH_MSG_EXT_INFO, SSH_MSG_KEXINIT, SSH_MSG_USERAUTH_FAILURE};
-use sshwire::{BorrowedNameList, Memory, Reader, WireFault};
+use sshwire::{BorrowedNameList, Memory, NameList, Reader, WireFault};
 use std::alloc::Global;
 
 /// What a KEXINIT says, all of it lent.
@@ -95,20 +95,74 @@ fn own_kexinit<'a>(alloc: Global, lent: &LentKexInit<'a>) -> Result<Box<KexInit<
 fn own_lists<'a>(alloc: Global, lent: &LentKexInit<'a>) -> Result<KexInit<'a>, Memory>
     ensures { IfOk result (λ k. offer_of k ≡ lent_offer lent.now) }
 {
+    let (kex_algorithms, server_host_key_algorithms) = own_two(
+        alloc,
+        &lent.kex_algorithms,
+        &lent.server_host_key_algorithms,
+    )?;
+    let (encryption, mac) = own_four(
+        alloc,
+        &lent.encryption_client_to_server,
+        &lent.encryption_server_to_client,
+        &lent.mac_client_to_server,
+        &lent.mac_server_to_client,
+    )?;
+    let (compression, languages) = own_four(
+        alloc,
+        &lent.compression_client_to_server,
+        &lent.compression_server_to_client,
+        &lent.languages_client_to_server,
+        &lent.languages_server_to_client,
+    )?;
     Ok(KexInit {
         cookie: lent.cookie,
-        kex_algorithms: lent.kex_algorithms.to_owned(alloc)?,
-        server_host_key_algorithms: lent.server_host_key_algorithms.to_owned(alloc)?,
-        encryption_client_to_server: lent.encryption_client_to_server.to_owned(alloc)?,
-        encryption_server_to_client: lent.encryption_server_to_client.to_owned(alloc)?,
-        mac_client_to_server: lent.mac_client_to_server.to_owned(alloc)?,
-        mac_server_to_client: lent.mac_server_to_client.to_owned(alloc)?,
-        compression_client_to_server: lent.compression_client_to_server.to_owned(alloc)?,
-        compression_server_to_client: lent.compression_server_to_client.to_owned(alloc)?,
-        languages_client_to_server: lent.languages_client_to_server.to_owned(alloc)?,
-        languages_server_to_client: lent.languages_server_to_client.to_owned(alloc)?,
+        kex_algorithms,
+        server_host_key_algorithms,
+        encryption_client_to_server: encryption.0,
+        encryption_server_to_client: encryption.1,
+        mac_client_to_server: mac.0,
+        mac_server_to_client: mac.1,
+        compression_client_to_server: compression.0,
+        compression_server_to_client: compression.1,
+        languages_client_to_server: languages.0,
+        languages_server_to_client: languages.1,
         first_kex_packet_follows: lent.first_kex_packet_follows,
     })
+}
+
+/// Two lists of their own.
+type Two = (NameList, NameList);
+
+/// Four lists of their own, in pairs.
+fn own_four(
+    alloc: Global,
+    first: &BorrowedNameList<'_>,
+    second: &BorrowedNameList<'_>,
+    third: &BorrowedNameList<'_>,
+    fourth: &BorrowedNameList<'_>,
+) -> Result<(Two, Two), Memory>
+    ensures first { IfOk result (λ four. four.0.0 ≡ first.now) }
+    ensures second { IfOk result (λ four. four.0.1 ≡ second.now) }
+    ensures third { IfOk result (λ four. four.1.0 ≡ third.now) }
+    ensures fourth { IfOk result (λ four. four.1.1 ≡ fourth.now) }
+{
+    let one = own_two(alloc, first, second)?;
+    let other = own_two(alloc, third, fourth)?;
+    Ok((one, other))
+}
+
+/// Two lists of their own.
+fn own_two(
+    alloc: Global,
+    first: &BorrowedNameList<'_>,
+    second: &BorrowedNameList<'_>,
+) -> Result<Two, Memory>
+    ensures first { IfOk result (λ two. two.0 ≡ first.now) }
+    ensures second { IfOk result (λ two. two.1 ≡ second.now) }
+{
+    let first = first.to_owned(alloc)?;
+    let second = second.to_owned(alloc)?;
+    Ok((first, second))
 }
 
 /// The 16 bytes of the cookie.
