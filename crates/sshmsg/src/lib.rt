@@ -10,6 +10,7 @@ mod debug;
 mod fault;
 mod fits;
 mod law;
+mod limits_laws;
 mod lists;
 mod message;
 mod numbers;
@@ -18,6 +19,7 @@ mod writing;
 
 pub use fault::MsgFault;
 pub use law::{lengths_law, messages_law, numbers_law, refusals_law, spelled_law, written_law};
+pub use limits_laws::limits_law;
 pub use message::{Extension, KexInit, Message, Method, OtherMethod};
 pub use numbers::{
     SSH_DISCONNECT_HOST_KEY_NOT_VERIFIABLE, SSH_DISCONNECT_KEY_EXCHANGE_FAILED,

@@ -7,6 +7,7 @@
 mod fault;
 mod keys;
 mod limits;
+mod limits_laws;
 mod packet_laws;
 mod padding;
 mod protection;
@@ -20,6 +21,7 @@ pub use keys::{KeyParts, Keys};
 pub use limits::{
     BLOB_LIMIT, BLOCK_LIMIT, DIGEST_LIMIT, KEY_LIMIT, PACKET_LIMIT, SHARE_LIMIT, TAG_LIMIT,
 };
+pub use limits_laws::limits_law;
 pub use packet_laws::{packet_law, shares_law, writing_law};
 pub use padding::{padding_len, padding_len_uncounted};
 pub use protection::leading_uint32;
