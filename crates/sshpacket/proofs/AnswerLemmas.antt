@@ -7,9 +7,10 @@ use Rattle.sshpacket.specs.declared.fault.PacketFault.{PacketFault}
 use Rattle.sshpacket.specs.declared.fault.PacketFault.TheVariants.{Empty, Length, Mac, Memory, Padding}
 use Rattle.sshpacket.specs.declared.reader.PacketStep.{PacketStep}
 use Rattle.sshpacket.specs.declared.reader.PacketStep.TheVariants.{More, Payload}
+use Rattle.sshpacket.specs.declared.room.TheConstants.{ROOM_KEPT}
 use Rattle.sshpacket.specs.Parse.{Parse, OfPacket, refused, unfinished, whole}
 use Rattle.sshpacket.specs.declared.reader.PacketReader.{PacketReader}
-use Rattle.sshpacket.specs.ReaderState.{HoldsNothingBehind, IsPayload, IsStep, ReaderLeaves, ReaderWaits, Uses, last_used, state, OnlyPacketAnswer, ParseAnswer, PacketAnswer, ReaderState, ahead, protection_at}
+use Rattle.sshpacket.specs.ReaderState.{HoldsNothingBehind, IsPayload, IsStep, KeepsLittle, ReaderLeaves, ReaderWaits, Uses, last_used, spare_room, state, OnlyPacketAnswer, ParseAnswer, PacketAnswer, ReaderState, ahead, protection_at}
 use Rattle.sshpacket.specs.Suite.{Meaning}
 use Rattle.sshpacket.specs.ProtectedPacket.{IsProtectedPacket, PacketMeans}
 
@@ -114,3 +115,8 @@ module _ (m : Meaning) (s : ReaderState) (piece : List ℕ) where
 pub step_holds : (step : PacketStep) (new : ReaderState) → new.held ≡ [] → HoldsNothingBehind (Ok step) new
 step_holds More new none = tt
 step_holds (Payload lent seq taken) new none = none
+
+-- a payload is behind a step that is one
+pub step_keeps : (payload : List ℕ) (seq used : ℕ) (step : PacketStep) (new : PacketReader) → IsStep payload seq used step → spare_room new ≤ ROOM_KEPT → KeepsLittle (Ok step) new
+step_keeps payload seq used More new is little = absurd is
+step_keeps payload seq used (Payload lent number taken) new is little = little

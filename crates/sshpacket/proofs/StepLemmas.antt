@@ -155,7 +155,7 @@ reads_on w held piece mid new used (Ok (filled.Part target)) result fills opens 
 reads_on w held piece mid new used (Ok filled.Whole) (Ok (gathered.Part target)) fills opens grows is = absurd opens
 reads_on w held piece mid new used (Ok filled.Whole) (Ok (gathered.Whole opened)) fills opens grows is =
     let size : length mid ≡ length held + used = omega arith in
-    (opens.0, (fills ∙ opens.1) ∙ ap (λ (n : ℕ). Parse.whole (take opened.payload_len (drop 5 opened.packet)) n) size)
+    (opens.0, (fills ∙ opens.1) ∙ ap (λ (n : ℕ). Parse.whole (take opened.payload_len (drop 5 opened.packet.items)) n) size)
 reads_on w held piece mid new used (Ok filled.Whole) (Err e) fills opens grows is =
     let size : length mid ≡ length held + used = omega arith in
     λ other. (fills ∙ opens other) ∙ ap (λ (n : ℕ). refused (OfPacket e) n) size

@@ -7,6 +7,7 @@ use Rattle.sshpacket.specs.declared.fault.PacketFault.TheVariants.{Memory}
 use Rattle.sshpacket.specs.declared.reader.PacketReader.{PacketReader}
 use Rattle.sshpacket.specs.declared.reader.PacketStep.{PacketStep}
 use Rattle.sshpacket.specs.declared.reader.PacketStep.TheVariants.{More, Payload}
+use Rattle.sshpacket.specs.declared.room.TheConstants.{ROOM_KEPT}
 use Rattle.sshpacket.specs.Parse.{Parse, OfPacket, Protection, parse_packet, refused, unfinished, protection, whole}
 use Rattle.sshpacket.specs.KeyData.{KeyData}
 use Rattle.sshpacket.specs.ReaderSteps.{needed}
@@ -26,6 +27,14 @@ state r = record { keys = r.keys; seq = r.seq; held = r.unfinished.items; fault 
 -- how many bytes of the piece the last call used
 unfoldable pub last_used : PacketReader → ℕ
 last_used r = r.taken
+
+-- how many bytes of a packet that was read it keeps
+unfoldable pub kept : PacketReader → ℕ
+kept r = length r.packet.items
+
+-- for how many bytes more it has room
+unfoldable pub spare_room : PacketReader → ℕ
+spare_room r = r.unfinished.spare
 
 -- how many bytes the packet at hand must have before more of it is judged, as the reader knows
 unfoldable pub wanted : PacketReader → ℕ
@@ -96,6 +105,12 @@ abbrev pub HoldsNothingBehind : Result PacketStep PacketFault → ReaderState �
 HoldsNothingBehind (Ok (Payload payload seq used)) new = new.held ≡ []
 HoldsNothingBehind _ new = Unit {0}
 
+-- behind a payload and a refusal little room is kept; without a payload nothing of a packet that was read
+abbrev pub KeepsLittle : Result PacketStep PacketFault → PacketReader → Type 0
+KeepsLittle (Ok More) new = kept new ≡ 0
+KeepsLittle (Ok (Payload payload seq used)) new = spare_room new ≤ ROOM_KEPT
+KeepsLittle (Err f) new = (kept new ≡ 0) × (spare_room new ≤ ROOM_KEPT)
+
 -- the same of the step below `next`, which answers the length of the payload in the packet
 abbrev pub Advances : Meaning → ReaderState → List ℕ → Result (Option ℕ) PacketFault → PacketReader → Type 0
 Advances m old piece (Err f) new =
@@ -105,4 +120,4 @@ Advances m old piece (Ok None) new =
     (state new ≡ record old { held = old.held ++ piece }) × (last_used new ≡ length piece) × (ahead m old piece ≡ unfinished) × ReaderWaits m new
 Advances m old piece (Ok (Some payload_len)) new =
     (state new ≡ record old { held = []; seq = (old.seq + 1) % 2 ^ 32 })
-    × (ahead m old piece ≡ whole (take payload_len (drop 5 new.packet)) (length old.held + last_used new)) × ReaderWaits m new
+    × (ahead m old piece ≡ whole (take payload_len (drop 5 new.packet.items)) (length old.held + last_used new)) × ReaderWaits m new

@@ -1,6 +1,7 @@
 -- What the steps of the packet reader do, each on plain bytes.
 
 use Rattle.std.specs.Prelude.{◌≡◌, ◌≢◌, ℕ, ◌+◌, ◌<◌, ◌≤◌, nat_lt, if◌then◌else◌, true, List, [], ◌++◌, length, take, drop, None, Some, Result, Ok, Err}
+use Rattle.bytes.specs.Filled as buffer
 use Rattle.sshpacket.specs.declared.fault.PacketFault.{PacketFault}
 use Rattle.sshpacket.specs.declared.fault.PacketFault.TheVariants as fault
 use Rattle.sshpacket.specs.declared.protection.Opened.{Opened}
@@ -10,6 +11,7 @@ use Rattle.sshpacket.specs.declared.reader.Gathered.{Gathered}
 use Rattle.sshpacket.specs.declared.reader.Gathered.TheVariants as gathered
 use Rattle.sshpacket.specs.Parse.{OfPacket, Protection, parse_packet, is_length, refused, total, unfinished, unsealed, whole}
 use Rattle.sshpacket.specs.declared.limits.TheConstants.{PACKET_LIMIT}
+use Rattle.sshpacket.specs.declared.room.TheConstants.{ROOM_KEPT}
 
 -- the length of the packet by its first four bytes
 pub record Counts (w : Protection) (first : List ℕ) (len : ℕ) : Type 0 where
@@ -17,14 +19,14 @@ pub record Counts (w : Protection) (first : List ℕ) (len : ℕ) : Type 0 where
   pub len_is : len ≡ 4 + w.head first + w.tag
 
 -- the packet was unsealed, or has a wrong tag
-abbrev pub Unseals : Protection → List ℕ → Result (List ℕ) PacketFault → Type 0
-Unseals w sealed (Ok clear) = w.unseal sealed ≡ Some clear
+abbrev pub Unseals : Protection → List ℕ → Result buffer.Filled PacketFault → Type 0
+Unseals w sealed (Ok clear) = w.unseal sealed ≡ Some clear.items
 Unseals w sealed (Err f) = f ≢ fault.Memory → (f ≡ fault.Mac) × (w.unseal sealed ≡ None)
 
 -- a packet of which all is there was opened
 abbrev pub Opens : Protection → List ℕ → Result Opened PacketFault → Type 0
 Opens w sealed (Err f) = f ≢ fault.Memory → unsealed (w.unseal sealed) (length sealed) ≡ refused (OfPacket f) (length sealed)
-Opens w sealed (Ok opened) = unsealed (w.unseal sealed) (length sealed) ≡ whole (take opened.payload_len (drop 5 opened.packet)) (length sealed)
+Opens w sealed (Ok opened) = unsealed (w.unseal sealed) (length sealed) ≡ whole (take opened.payload_len (drop 5 opened.packet.items)) (length sealed)
 
 -- as many bytes of the piece as there are were appended, up to so many in all
 pub record Fills (target : ℕ) (piece held new : List ℕ) (used : ℕ) : Type 0 where
@@ -74,9 +76,14 @@ ReadsOn w held piece new used (Err f) = f ≢ fault.Memory → parse_packet w (h
 ReadsOn w held piece new used (Ok (gathered.Part target)) =
     (new ≡ held ++ piece) × (used ≡ length piece) × (parse_packet w (held ++ piece) ≡ unfinished) × (target ≡ needed w new)
 ReadsOn w held piece new used (Ok (gathered.Whole opened)) =
-    (new ≡ []) × (parse_packet w (held ++ piece) ≡ whole (take opened.payload_len (drop 5 opened.packet)) (length held + used))
+    (new ≡ []) × (parse_packet w (held ++ piece) ≡ whole (take opened.payload_len (drop 5 opened.packet.items)) (length held + used))
 
 -- there is room up to the target; behind a whole packet nothing is held, and some bytes were used
 abbrev pub GatheredRoom : List ℕ → ℕ → Gathered → Type 0
 GatheredRoom new used (gathered.Part target) = (length new < target) × (4 ≤ target) × (target ≤ PACKET_LIMIT)
 GatheredRoom new used (gathered.Whole opened) = (new ≡ []) × (0 < used)
+
+-- behind a whole packet little room is kept
+abbrev pub KeepsRoom : ℕ → Gathered → Type 0
+KeepsRoom spare (gathered.Part target) = Unit {0}
+KeepsRoom spare (gathered.Whole opened) = spare ≤ ROOM_KEPT

@@ -12,6 +12,7 @@ mod packet_laws;
 mod padding;
 mod protection;
 mod reader;
+mod room;
 mod stream_laws;
 mod suite;
 mod write;

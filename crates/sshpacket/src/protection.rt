@@ -1,7 +1,8 @@
 //! How one packet is judged.
 
 ghost use Rattle.sshpacket.specs.declared.limits.TheConstants.{PACKET_LIMIT};
-ghost use Rattle.std.specs.Prelude.{◌≡◌, ◌≢◌, ◌+◌, ◌<◌, ◌≤◌, ◌^◌, ℕ, IfErr, IfOk, IfSome, None, Some, drop, false, length, take, true};
+ghost use Rattle.sshpacket.specs.declared.room.TheConstants.{ROOM_KEPT};
+ghost use Rattle.std.specs.Prelude.{◌≡◌, ◌≢◌, ◌+◌, ◌<◌, ◌≤◌, ◌^◌, ℕ, Err, IfErr, IfOk, IfSome, IsOk, None, Ok, Some, [], drop, false, length, take, true};
 ghost use Rattle.sshpacket.specs.Parse.{OfPacket, is_length, opened, refused, protection, whole};
 ghost use Rattle.sshpacket.specs.Packet.{number};
 
@@ -9,10 +10,12 @@ use crate::fault::PacketFault;
 use crate::keys::Keys;
 use crate::limits::PACKET_LIMIT;
 use crate::padding::counted;
+use crate::room::give_up;
 use crate::suite::Suite;
-use bytes::Bytes;
-use sshwire::Reader;
+use bytes::BytesMut;
+use sshwire::{Memory, Reader};
 use std::alloc::Global;
+use std::mem;
 
 /// How the packet at hand is protected (RFC 4253 section 6): in clear, or sealed by a suite with these
 /// keys and the packet's number.
@@ -27,10 +30,10 @@ pub(crate) struct Protection<'a, S: Suite> {
 #[derive(Drop)]
 pub(crate) struct Opened {
     /// The packet in clear.
-    pub(crate) packet: Bytes,
+    pub(crate) packet: BytesMut,
     /// How many bytes of payload stand in it, behind the first five.
     pub(crate) payload_len: usize,
-    ghost within: { payload_len + 5 ≤ length packet },
+    ghost within: { payload_len + 5 ≤ length packet.items },
 }
 
 impl<'a, S: Suite> Protection<'a, S> {
@@ -54,13 +57,15 @@ impl<'a, S: Suite> Protection<'a, S> {
         }
     }
 
-    /// Opens the packet, of which all is there: its tag is judged first, then the padding, then that
-    /// the payload isn't empty.
-    pub(crate) fn open(&self, alloc: Global, sealed: Bytes) -> Result<Opened, PacketFault>
-        requires { length sealed < 2 ^ 32 }
-        ensures { Opens (protection (S.meaning self.now.suite.now) self.now.keys.now self.now.seq) sealed result }
+    /// Opens the packet, of which all is there, and which is held no longer then: its tag is judged
+    /// first, then the padding, then that the payload isn't empty.
+    pub(crate) fn open(&self, alloc: Global, held: &mut BytesMut) -> Result<Opened, PacketFault>
+        requires { length held.old.items < 2 ^ 32 }
+        ensures opens { Opens (protection (S.meaning self.now.suite.now) self.now.keys.now self.now.seq) held.old.items result }
+        ensures items { held.new.items ≡ [] }
+        ensures room { held.new.spare ≤ ROOM_KEPT }
     {
-        let packet = self.unseal(alloc, sealed)?;
+        let packet = self.unseal(alloc, held)?;
         let payload_len = payload_len(packet.as_slice())?;
         Ok(Opened {
             packet,
@@ -68,22 +73,33 @@ impl<'a, S: Suite> Protection<'a, S> {
         })
     }
 
-    /// The packet in clear. One that was sent in clear isn't copied.
-    fn unseal(&self, alloc: Global, sealed: Bytes) -> Result<Bytes, PacketFault>
-        requires { length sealed < 2 ^ 32 }
-        ensures { Unseals (protection (S.meaning self.now.suite.now) self.now.keys.now self.now.seq) sealed result }
+    /// The packet in clear, which is held no longer then. One that was sent in clear isn't copied.
+    fn unseal(&self, alloc: Global, held: &mut BytesMut) -> Result<BytesMut, PacketFault>
+        requires { length held.old.items < 2 ^ 32 }
+        ensures unseals { Unseals (protection (S.meaning self.now.suite.now) self.now.keys.now self.now.seq) held.old.items result }
+        ensures items { held.new.items ≡ [] }
+        ensures room { held.new.spare ≤ ROOM_KEPT }
     {
         let Some(keys) = self.keys else {
-            return Ok(sealed);
+            return Ok(mem::replace(held, BytesMut::new(alloc)));
         };
-        match self.suite.unseal(alloc, keys, self.seq, sealed.as_slice()) {
-            Ok(Some(clear)) => match Bytes::from_vec(clear) {
-                Ok(clear) => Ok(clear),
-                Err(_) => Err(PacketFault::Memory),
-            },
-            Ok(None) => Err(PacketFault::Mac),
-            Err(_) => Err(PacketFault::Memory),
-        }
+        let answer = self.suite.unseal(alloc, keys, self.seq, held.as_slice());
+        give_up(alloc, held);
+        judged(answer)
+    }
+}
+
+/// What the suite's answer says of the packet. It is given no allocator: behind the answer nothing asks
+/// for memory, so none is wanting then.
+fn judged(answer: Result<Option<Vec<u8>>, Memory>) -> Result<BytesMut, PacketFault>
+    ensures clear { IfOk answer (λ unsealed. IfSome unsealed (λ clear. IsOk result × IfOk result (λ packet. packet.items ≡ clear.items))) }
+    ensures mac { answer ≡ Ok None → result ≡ Err PacketFault.Mac }
+    ensures memory { IfErr answer (λ _. result ≡ Err PacketFault.Memory) }
+{
+    match answer {
+        Ok(Some(clear)) => Ok(BytesMut::from_vec(clear)),
+        Ok(None) => Err(PacketFault::Mac),
+        Err(Memory) => Err(PacketFault::Memory),
     }
 }
 

@@ -1,18 +1,20 @@
 //! Reads packets off a stream, however it is cut.
 
 ghost use Rattle.sshpacket.specs.declared.limits.TheConstants.{PACKET_LIMIT};
-ghost use Rattle.std.specs.Prelude.{◌≡◌, ◌≢◌, ◌+◌, ◌++◌, ◌<◌, ◌≤◌, ◌^◌, ℕ, IfErr, IfOk, IfSome, None, OnErr, Some, drop, length, take};
+ghost use Rattle.sshpacket.specs.declared.room.TheConstants.{ROOM_KEPT};
+ghost use Rattle.std.specs.Prelude.{◌≡◌, ◌≢◌, ◌+◌, ◌++◌, ◌<◌, ◌≤◌, ◌^◌, ℕ, Err, IfErr, IfOk, IfSome, None, Ok, OnErr, Some, drop, length, take};
 ghost use Rattle.std.specs.Option.{ForSome};
 ghost use Rattle.sshwire.specs.Types.{IsBytes};
 ghost use Rattle.sshpacket.specs.Parse.{Parse, parse_packet, unfinished, protection};
 ghost use Rattle.sshpacket.specs.ProtectedPacket.{IsFaithful, PacketMeans};
-ghost use Rattle.sshpacket.specs.ReaderSteps.{FillsBody, FillsPacket, Fills, FilledSome, HasRoom, OpensFilled, GatheredRoom, ReadsOn, needed};
+ghost use Rattle.sshpacket.specs.ReaderSteps.{FillsBody, FillsPacket, Fills, FilledSome, HasRoom, KeepsRoom, OpensFilled, GatheredRoom, ReadsOn, needed};
 
 use crate::fault::PacketFault;
 use crate::keys::Keys;
 use crate::protection::{Opened, Protection};
+use crate::room::{give_up, make_room};
 use crate::suite::Suite;
-use bytes::{Bytes, BytesMut};
+use bytes::BytesMut;
 use sshwire::Memory;
 use std::alloc::Global;
 
@@ -44,7 +46,7 @@ pub struct PacketReader {
     /// How many bytes it must have before more of it is judged.
     target: usize,
     /// The packet that was read last, in clear.
-    packet: Bytes,
+    packet: BytesMut,
     keys: Option<Keys>,
     /// The number of the next packet.
     seq: u32,
@@ -53,7 +55,7 @@ pub struct PacketReader {
     ghost room: { length unfinished.items < target },
     ghost header: { 4 ≤ target },
     ghost bound: { target ≤ PACKET_LIMIT },
-    ghost none_held: { ForSome fault (λ _. length unfinished.items ≡ 0) },
+    ghost none_held: { ForSome fault (λ _. (length unfinished.items ≡ 0) × (unfinished.spare ≤ ROOM_KEPT)) },
 }
 
 impl PacketReader {
@@ -62,7 +64,7 @@ impl PacketReader {
     ghost use Rattle.std.specs.Io.BufRead.{Rests};
     ghost use Rattle.sshpacket.specs.KeyData.{KeyData};
     ghost use Rattle.sshpacket.specs.Suite.{Meaning};
-    ghost use Rattle.sshpacket.specs.ReaderState.{Advances, HoldsNothingBehind, IsStep, OnlyPacketAnswer, ParseAnswer, PacketAnswer, ReaderLeaves, ReaderState, ReaderWaits, Uses, ahead, last_used, state};
+    ghost use Rattle.sshpacket.specs.ReaderState.{Advances, HoldsNothingBehind, IsStep, KeepsLittle, OnlyPacketAnswer, ParseAnswer, PacketAnswer, ReaderLeaves, ReaderState, ReaderWaits, Uses, ahead, kept, last_used, spare_room, state};
     ghost use Rattle.sshpacket.specs.contracts.reader.PacketReader.{the_row};
 
     /// A reader at the beginning of the stream: no keys, number 0, nothing held. It takes no memory.
@@ -95,7 +97,7 @@ impl PacketReader {
             alloc,
             unfinished: BytesMut::new(alloc),
             target: 4,
-            packet: Bytes::new(),
+            packet: BytesMut::new(alloc),
             keys,
             seq,
             fault: None,
@@ -122,12 +124,15 @@ impl PacketReader {
         // The same as a function of what the reader holds, and what stands at the front by the standard.
         ensures answers { ReaderWaits (S.meaning suite.now) self.old → ParseAnswer (S.meaning suite.now) (state self.old) piece.now result }
         ensures means { PacketMeans (protection (S.meaning suite.now) (state self.old).keys (state self.old).seq) ((state self.old).held ++ piece.now) (ahead (S.meaning suite.now) (state self.old) piece.now) }
-        // How the reader is left; in every state nothing is held behind a payload.
+        // How the reader is left. In every state nothing is held behind a payload, a refusal is kept with the
+        // keys and the number, and what was read is given up, large room too.
         ensures* after { sem 𝓛 (Rests the_row self.entry (λ new.
             (ReaderWaits (S.meaning suite.now) self.old → ReaderLeaves (S.meaning suite.now) (state self.old) piece.now result new)
             × IfSome (state self.old).fault (λ f. (state new ≡ state self.old) × (last_used new ≡ 0))
             × (last_used new ≤ length piece.now)
-            × HoldsNothingBehind result (state new))) }
+            × HoldsNothingBehind result (state new)
+            × IfErr result (λ f. state new ≡ record (state self.old) { held = []; fault = Some f })
+            × KeepsLittle result new)) }
     {
         front_means(
             suite,
@@ -145,16 +150,19 @@ impl PacketReader {
     }
 
     /// Reads on, and answers the length of the payload of a packet that was read.
-    #[tactic(auto, unfolding(crate::specs::ReaderState::state, crate::specs::ReaderState::last_used, crate::specs::ReaderState::wanted))]
+    #[tactic(auto, unfolding(crate::specs::ReaderState::state, crate::specs::ReaderState::last_used, crate::specs::ReaderState::wanted, crate::specs::ReaderState::kept, crate::specs::ReaderState::spare_room))]
     fn advance<S: Suite>(&mut self, suite: &S, piece: &[u8]) -> Result<Option<usize>, PacketFault>
         ensures advances { ReaderWaits (S.meaning suite.now) self.old → Advances (S.meaning suite.now) (state self.old) piece.now result self.new }
         ensures taken { last_used self.new ≤ length piece.now }
-        ensures some { IfOk result (λ len. IfSome len (λ _. (0 < last_used self.new) × ((state self.new).held ≡ []))) }
-        ensures room { IfOk result (λ len. IfSome len (λ n. n + 5 ≤ length self.new.packet)) }
+        ensures some { IfOk result (λ len. IfSome len (λ _. (0 < last_used self.new) × ((state self.new).held ≡ []) × (spare_room self.new ≤ ROOM_KEPT))) }
+        ensures room { IfOk result (λ len. IfSome len (λ n. n + 5 ≤ length self.new.packet.items)) }
         ensures again { IfSome (state self.old).fault (λ f. (result ≡ Err f) × (state self.new ≡ state self.old) × (last_used self.new ≡ 0)) }
+        // In every state: without a packet none is kept, and a refusal is kept with the keys and the number.
+        ensures given_up { result ≡ Ok None → kept self.new ≡ 0 }
+        ensures kept { IfErr result (λ f. (state self.new ≡ record (state self.old) { held = []; fault = Some f }) × (kept self.new ≡ 0) × (spare_room self.new ≤ ROOM_KEPT)) }
     {
         // The packet that was read last is given up.
-        self.packet = Bytes::new();
+        self.packet = BytesMut::new(self.alloc);
         self.taken = 0;
         if let Some(fault) = self.fault {
             return Err(fault);
@@ -178,7 +186,7 @@ impl PacketReader {
                 Ok(Some(opened.payload_len))
             }
             Err(fault) => {
-                self.unfinished.clear();
+                give_up(self.alloc, &mut self.unfinished);
                 self.target = 4;
                 self.fault = Some(fault);
                 Err(fault)
@@ -188,8 +196,8 @@ impl PacketReader {
 
     /// The packet that was read last.
     fn step(&self, payload_len: usize, seq: u32) -> PacketStep<'_>
-        requires { payload_len + 5 ≤ length self.now.packet }
-        ensures { IsStep (take payload_len (drop 5 self.now.packet)) seq self.now.taken result }
+        requires { payload_len + 5 ≤ length self.now.packet.items }
+        ensures { IsStep (take payload_len (drop 5 self.now.packet.items)) seq self.now.taken result }
     {
         PacketStep::Payload {
             payload: &self.packet.as_slice()[5..5 + payload_len],
@@ -291,6 +299,7 @@ fn read_on<S: Suite>(
         parse_packet w held.old.items ≡ unfinished → target ≡ needed w held.old.items → ReadsOn w held.old.items piece.now held.new.items result.0 result.1 }
     ensures taken { result.0 ≤ length piece.now }
     ensures room { IfOk result.1 (λ read. GatheredRoom held.new.items result.0 read) }
+    ensures spare { IfOk result.1 (λ read. KeepsRoom held.new.spare read) }
 {
     let before = held.len();
     let filled = fill_packet(guard, held, target, piece);
@@ -353,15 +362,18 @@ fn fill_body(held: &mut BytesMut, len: usize, piece: &[u8]) -> Result<Filled, Pa
     Ok(Filled::Whole)
 }
 
-/// Appends as many bytes of the piece as are missing to so many.
+/// Appends as many bytes of the piece as are missing to so many. Room for all that is missing is asked
+/// for at once.
 fn fill(held: &mut BytesMut, target: usize, piece: &[u8]) -> Result<usize, Memory>
     requires room { length held.old.items ≤ target }
+    requires bound { target ≤ PACKET_LIMIT }
     ensures ok { IfOk result (λ used. Fills target piece.now held.old.items held.new.items used) }
     ensures err { OnErr result (held.new.items ≡ held.old.items) }
 {
     let missing = target - held.len();
+    make_room(held, missing)?;
     let used = missing.min(piece.len());
-    held.extend_from_slice(&piece[..used])?;
+    held.extend_reserved(&piece[..used]);
     Ok(used)
 }
 
@@ -390,18 +402,14 @@ fn open_filled<S: Suite>(
 ) -> Result<Gathered, PacketFault>
     requires { IfOk filled (λ filled. HasRoom (length held.old.items) filled) }
     ensures opens { OpensFilled (protection (S.meaning guard.now.suite.now) guard.now.keys.now guard.now.seq) held.old.items held.new.items filled result }
+    ensures spare { IfOk result (λ read. KeepsRoom held.new.spare read) }
 {
     match filled {
         Err(fault) => Err(fault),
         Ok(Filled::Part { target }) => Ok(Gathered::Part { target }),
-        Ok(Filled::Whole) => {
-            let Ok(sealed) = held.freeze_to(held.len()) else {
-                return Err(PacketFault::Memory);
-            };
-            match guard.open(alloc, sealed) {
-                Ok(opened) => Ok(Gathered::Whole(opened)),
-                Err(fault) => Err(fault),
-            }
-        }
+        Ok(Filled::Whole) => match guard.open(alloc, held) {
+            Ok(opened) => Ok(Gathered::Whole(opened)),
+            Err(fault) => Err(fault),
+        },
     }
 }

@@ -1,7 +1,7 @@
 use Rattle.std.proofs.Common.{rules, refl, Err, Ok, None, Some, drop, take}
 use Rattle.sshpacket.specs.declared.reader.PacketStep.TheVariants.{More}
 use Rattle.sshpacket.specs.ReaderState.{Advances, ParseAnswer, ReaderWaits, last_used, state, wanted}
-use Rattle.sshpacket.proofs.AnswerLemmas.{only_of, step_answer, step_holds, step_leaves, step_uses, tells_of}
+use Rattle.sshpacket.proofs.AnswerLemmas.{only_of, step_answer, step_holds, step_keeps, step_leaves, step_uses, tells_of}
 use Rattle.sshpacket.proofs.reader.PacketReader.next.Goals as goal
 
 pub returns-in-Err : goal.returns-in-Err
@@ -12,7 +12,7 @@ returns-in-Err g c =
     let piece = c.args.piece.now in
     let answer : ReaderWaits m c.args.self.now → ParseAnswer m s piece (Err c.in-Err.fault)
     = λ waits other. (last_used c.advance.new.self, c.advance.ensures.taken, (c.in-Err.ensures.advances (record { no_fault = waits.no_fault; unfinished_is = waits.unfinished_is; knows = waits.knows })).1 other) in (
-      (refl, λ _. tt, ((λ waits. let a = c.in-Err.ensures.advances (record { no_fault = waits.no_fault; unfinished_is = waits.unfinished_is; knows = waits.knows }) in (a.0, c.advance.ensures.taken, a.1)), search rules, c.advance.ensures.taken, tt)),
+      (refl, λ _. tt, ((λ waits. let a = c.in-Err.ensures.advances (record { no_fault = waits.no_fault; unfinished_is = waits.unfinished_is; knows = waits.knows }) in (a.0, c.advance.ensures.taken, a.1)), search rules, c.advance.ensures.taken, tt, c.in-Err.ensures.kept.0, (c.in-Err.ensures.kept.1, c.in-Err.ensures.kept.2))),
       record {
         tells = λ waits. tells_of m s piece (Err c.in-Err.fault) (search rules) (answer waits);
         only = λ waits. only_of m s piece (Err c.in-Err.fault) (rw c.as_slice.ensures at c.front_means.ensures.only) (answer waits);
@@ -33,7 +33,7 @@ returns-in-Ok-None g c =
     let told : ReaderWaits m c.args.self.now → Advances m s piece (Ok None) c.advance.new.self
     = λ waits. rw c.in-Ok-None.field-0-is at (c.in-Ok-None.ensures.advances (record { no_fault = waits.no_fault; unfinished_is = waits.unfinished_is; knows = waits.knows })) in
     let answer : ReaderWaits m c.args.self.now → ParseAnswer m s piece (Ok More) = λ waits. (told waits).2 in (
-      (refl, λ _. tt, ((λ waits. let a = told waits in (a.0, a.1, a.3)), search rules, c.advance.ensures.taken, tt)),
+      (refl, λ _. tt, ((λ waits. let a = told waits in (a.0, a.1, a.3)), search rules, c.advance.ensures.taken, tt, tt, search rules)),
       record {
         tells = λ waits. tells_of m s piece (Ok More) (search rules) (answer waits);
         only = λ waits. only_of m s piece (Ok More) (rw c.as_slice.ensures at c.front_means.ensures.only) (answer waits);
@@ -52,7 +52,7 @@ returns-in-Ok-Some g c =
     let s = state c.args.self.now in
     let piece = c.args.piece.now in
     let new = c.advance.new.self in
-    let payload = take c.in-Ok-Some.payload_len (drop 5 new.packet) in
+    let payload = take c.in-Ok-Some.payload_len (drop 5 new.packet.items) in
     let used = rw (c.in-Ok-Some.field-0-is) at c.in-Ok-Some.ensures.some in
     let told : ReaderWaits m c.args.self.now → Advances m s piece (Ok (Some c.in-Ok-Some.payload_len)) new
     = λ waits. rw c.in-Ok-Some.field-0-is at (c.in-Ok-Some.ensures.advances (record { no_fault = waits.no_fault; unfinished_is = waits.unfinished_is; knows = waits.knows })) in
@@ -66,6 +66,8 @@ returns-in-Ok-Some g c =
           search rules,
           c.advance.ensures.taken,
           step_holds c.step.result (state new) used.1,
+          tt,
+          step_keeps payload _ _ c.step.result new c.step.ensures used.2,
         ),
       ),
       record {
