@@ -10,7 +10,7 @@ use Rattle.sshwire.specs.declared.share_form.ShareForm.{ShareForm}
 use Rattle.sshwire.specs.declared.share_form.ShareForm.TheVariants.{Hybrid, Mpint, OctetString}
 use Rattle.sshpacket.specs.KeyData.{KeyData}
 use Rattle.sshpacket.specs.Packet.{IsPacket, number}
-use Rattle.sshpacket.specs.declared.limits.TheConstants.{BLOB_LIMIT, BLOCK_LIMIT, DIGEST_LIMIT, KEY_LIMIT, SHARE_LIMIT, TAG_LIMIT}
+use Rattle.sshpacket.specs.declared.limits.TheConstants.{BLOB_LIMIT, BLOCK_LIMIT, DIGEST_LIMIT, KEY_LIMIT, SHARE_LIMIT, SIGNATURE_LIMIT, TAG_LIMIT}
 
 -- the server's answer to a client's share: its own share, and the shared number
 pub record ResponseData : Type 0 where
@@ -116,7 +116,7 @@ pub record IsLawful (m : Meaning) : Type 0 where
   pub digest_high : (kex input : List ℕ) → length (m.digest kex input) ≤ DIGEST_LIMIT
   pub digest_even : (kex input other : List ℕ) → length (m.digest kex input) ≡ length (m.digest kex other)
   pub blob_high : (alg secret : List ℕ) → IsName alg → length (m.blob alg secret) ≤ BLOB_LIMIT
-  pub sign_high : (alg secret input : List ℕ) → IsName alg → length (m.sign alg secret input) ≤ SHARE_LIMIT
+  pub sign_high : (alg secret input : List ℕ) → IsName alg → length (m.sign alg secret input) ≤ SIGNATURE_LIMIT
   -- what is sent is bytes
   pub seal_bytes : (keys : KeyData) (seq : ℕ) (clear : List ℕ) → IsBytes clear → IsBytes (m.seal keys seq clear)
   pub padding_bytes : (seed : List ℕ) (seq len : ℕ) → IsBytes (m.padding seed seq len)

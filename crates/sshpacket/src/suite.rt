@@ -204,7 +204,7 @@ pub trait Suite {
         requires secret { length secret.now < 2 ^ 32 }
         ensures { IfOk result (λ v. v.items ≡ (meaning self.now).blob alg.now secret.now) };
 
-    /// A signature of the input, at most `SHARE_LIMIT` bytes.
+    /// A signature of the input, at most `SIGNATURE_LIMIT` bytes with its wrapping (RFC 4253 section 6.6).
     fn sign(&self, alloc: Global, alg: &str, secret: &[u8], input: &[u8]) -> Result<Vec<u8>, Memory>
         requires alg { IsName alg.now }
         requires secret { length secret.now < 2 ^ 32 }
