@@ -6,18 +6,22 @@ use Rattle.std.proofs.lemmas.Bool.{cases_Bool, true≢false}
 use Rattle.std.proofs.lemmas.Nat.{mod_below}
 use Rattle.sshmsg.specs.Numbers.{kind}
 use Rattle.sshneg.specs.declared.role.Role.{Role}
+use Rattle.sshneg.specs.declared.role.Role.TheVariants.{Client, Server}
+use Rattle.sshneg.specs.Derivations.{ExchangeData}
+use Rattle.sshneg.specs.ExchangeEnd.{source_by}
+use Rattle.sshneg.specs.Fields.{Algorithms}
 use Rattle.sshneg.specs.Markers.{other}
 use Rattle.sshpacket.specs.KeyData.{KeyData}
 use Rattle.sshpacket.specs.Parse.{Refusal, parse_packet, protection, whole}
 use Rattle.sshpacket.specs.Places.{EachPlace, IsPrefix, after_first, stands}
 use Rattle.sshpacket.specs.Stream.{Heard, HeardAll, Linked, Spelled, Units}
-use Rattle.sshpacket.specs.Suite.{IsLawful, Meaning}
+use Rattle.sshpacket.specs.Suite.{HasLengths, IsLawful, KeysFit, Meaning}
 use Rattle.sshpacket.proofs.Places.{each-prefix, each-push, each-weaker, prefix-through, stands-prefix}
 use Rattle.sshcore.specs.Before.{kept, offered, since, stood, strict_at}
 use Rattle.sshcore.specs.Counting.{is_newkeys, number_by, number_in, number_out, switched_out}
 use Rattle.sshcore.specs.Directions.{keys_in, keys_out, others_of, parsers, payloads_in, spelled_by, spells, version_in}
 use Rattle.sshcore.specs.Ending.{Ending}
-use Rattle.sshcore.specs.Exchange.{keys_at}
+use Rattle.sshcore.specs.Exchange.{algorithms_at, exchange_at, keys_at, keys_by}
 use Rattle.sshcore.specs.History.{AllFit, FitsPacket, History, IsReady}
 use Rattle.sshcore.specs.Party.{Party, Policy}
 use Rattle.sshcore.proofs.StreamLemmas.{keys_stay, strict_stays}
@@ -68,13 +72,18 @@ pub record SameWay (m : Meaning) (role peer : Role) (own their : Party) (heard b
   pub strict : strict_at role own before ≡ strict_at peer their (payloads_in heard)
 
 module _ (laws : Laws) (m : Meaning) (lawful : IsLawful m) where
+  -- the keys of an exchange are as long as the suite asks for
+  keys_fit : (a : Algorithms) (x : ExchangeData) (sender : Role) → HasLengths m (keys_by m a x sender)
+  keys_fit a x Client = laws.lengths m lawful (source_by m a.kex x) Client a.encryption_client_to_server a.mac_client_to_server
+  keys_fit a x Server = laws.lengths m lawful (source_by m a.kex x) Server a.encryption_server_to_client a.mac_server_to_client
+
   -- what is written in one way is read in it, with the same keys and, where there are keys, the same number
-  reads_as : (k l q : Option KeyData) (i j : ℕ) (seed p more : List ℕ) → k ≡ q → l ≡ q → ((keys : KeyData) → q ≡ Some keys → i ≡ j) → j < 2 ^ 32 → FitsPacket p
+  reads_as : (k l q : Option KeyData) (i j : ℕ) (seed p more : List ℕ) → KeysFit m q → k ≡ q → l ≡ q → ((keys : KeyData) → q ≡ Some keys → i ≡ j) → j < 2 ^ 32 → FitsPacket p
       → parse_packet (protection m k i) (spelled_by m l seed j p ++ more) ≡ whole p (length (spelled_by m l seed j p))
-  reads_as k l None i j seed p more ek el same low fits = rw (ek, el) (laws.clear m lawful seed j p more fits.some fits.short)
-  reads_as k l (Some keys) i j seed p more ek el same low fits =
+  reads_as k l None i j seed p more fit ek el same low fits = rw (ek, el) (laws.clear m lawful seed j p more fits.some fits.short)
+  reads_as k l (Some keys) i j seed p more fit ek el same low fits =
       let e : i ≡ j = same keys refl in
-      rw (ek, el, e) (laws.sealed m lawful keys seed j p more low fits.bytes fits.some fits.short)
+      rw (ek, el, e) (laws.sealed m lawful keys fit seed j p more low fits.bytes fits.some fits.short)
 
   module _ (role peer : Role) (own their : Party) (heard : Units) where
     pub numbers_same : (before : Units) → EachPlace (SameSwitch role own) [] before → switched_out before ≡ true → SameWay m role peer own their heard before
@@ -97,12 +106,13 @@ module _ (laws : Laws) (m : Meaning) (lawful : IsLawful m) where
           let way = agree on in
           reads_as (keys_in m role own their.version before) (keys_out m peer their heard before) (Some (keys_at m peer their (version_in heard) (payloads_in heard) peer))
           (number_in role own before) (number_out (strict_at peer their (payloads_in heard)) before) their.seed p more
+          (keys_fit (algorithms_at m peer their (payloads_in heard)) (exchange_at m peer their (version_in heard) (payloads_in heard)) peer)
           (ap (λ (b : Bool). cond b (Some (keys_at m role own their.version before (other role))) None) (switch_same role own before same ∙ on) ∙ ap (λ (k : KeyData). Some k) way.keys)
           (ap (λ (b : Bool). cond b (Some (keys_at m peer their (version_in heard) (payloads_in heard) peer)) None) on)
           (λ keys e. numbers_same before same on way) (low_out before) fits
       | inr off ↦
           reads_as (keys_in m role own their.version before) (keys_out m peer their heard before) None
-          (number_in role own before) (number_out (strict_at peer their (payloads_in heard)) before) their.seed p more
+          (number_in role own before) (number_out (strict_at peer their (payloads_in heard)) before) their.seed p more tt
           (ap (λ (b : Bool). cond b (Some (keys_at m role own their.version before (other role))) None) (switch_same role own before same ∙ off))
           (ap (λ (b : Bool). cond b (Some (keys_at m peer their (version_in heard) (payloads_in heard) peer)) None) off)
           (λ keys e. absurd cc) (low_out before) fits

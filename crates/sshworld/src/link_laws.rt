@@ -18,6 +18,7 @@ pub(crate) fn below_law()
     sshpacket::writing_law();
     sshpacket::parser_law();
     sshpacket::stream_law();
+    sshneg::derivation_law();
     sshcore::history_law();
 }
 
