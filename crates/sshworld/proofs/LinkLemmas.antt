@@ -6,22 +6,18 @@ use Rattle.std.proofs.lemmas.Bool.{cases_Bool, true≢false}
 use Rattle.std.proofs.lemmas.Nat.{mod_below}
 use Rattle.sshmsg.specs.Numbers.{kind}
 use Rattle.sshneg.specs.declared.role.Role.{Role}
-use Rattle.sshneg.specs.declared.role.Role.TheVariants.{Client, Server}
-use Rattle.sshneg.specs.Derivations.{ExchangeData}
-use Rattle.sshneg.specs.ExchangeEnd.{source_by}
-use Rattle.sshneg.specs.Fields.{Algorithms}
 use Rattle.sshneg.specs.Markers.{other}
 use Rattle.sshpacket.specs.KeyData.{KeyData}
 use Rattle.sshpacket.specs.Parse.{Refusal, parse_packet, protection, whole}
 use Rattle.sshpacket.specs.Places.{EachPlace, IsPrefix, after_first, stands}
 use Rattle.sshpacket.specs.Stream.{Heard, HeardAll, Linked, Spelled, Units}
-use Rattle.sshpacket.specs.Suite.{HasLengths, IsLawful, KeysFit, Meaning}
+use Rattle.sshpacket.specs.Suite.{IsLawful, KeysFit, Meaning}
 use Rattle.sshpacket.proofs.Places.{each-prefix, each-push, each-weaker, prefix-through, stands-prefix}
 use Rattle.sshcore.specs.Before.{kept, offered, since, stood, strict_at}
 use Rattle.sshcore.specs.Counting.{is_newkeys, number_by, number_in, number_out, switched_out}
 use Rattle.sshcore.specs.Directions.{keys_in, keys_out, others_of, parsers, payloads_in, spelled_by, spells, version_in}
 use Rattle.sshcore.specs.Ending.{Ending}
-use Rattle.sshcore.specs.Exchange.{algorithms_at, exchange_at, keys_at, keys_by}
+use Rattle.sshcore.specs.Exchange.{keys_at}
 use Rattle.sshcore.specs.History.{AllFit, FitsPacket, History, IsReady}
 use Rattle.sshcore.specs.Party.{Party, Policy}
 use Rattle.sshcore.proofs.StreamLemmas.{keys_stay, strict_stays}
@@ -72,11 +68,6 @@ pub record SameWay (m : Meaning) (role peer : Role) (own their : Party) (heard b
   pub strict : strict_at role own before ≡ strict_at peer their (payloads_in heard)
 
 module _ (laws : Laws) (m : Meaning) (lawful : IsLawful m) where
-  -- the keys of an exchange are as long as the suite asks for
-  keys_fit : (a : Algorithms) (x : ExchangeData) (sender : Role) → HasLengths m (keys_by m a x sender)
-  keys_fit a x Client = laws.lengths m lawful (source_by m a.kex x) Client a.encryption_client_to_server a.mac_client_to_server
-  keys_fit a x Server = laws.lengths m lawful (source_by m a.kex x) Server a.encryption_server_to_client a.mac_server_to_client
-
   -- what is written in one way is read in it, with the same keys and, where there are keys, the same number
   reads_as : (k l q : Option KeyData) (i j : ℕ) (seed p more : List ℕ) → KeysFit m q → k ≡ q → l ≡ q → ((keys : KeyData) → q ≡ Some keys → i ≡ j) → j < 2 ^ 32 → FitsPacket p
       → parse_packet (protection m k i) (spelled_by m l seed j p ++ more) ≡ whole p (length (spelled_by m l seed j p))
@@ -106,7 +97,7 @@ module _ (laws : Laws) (m : Meaning) (lawful : IsLawful m) where
           let way = agree on in
           reads_as (keys_in m role own their.version before) (keys_out m peer their heard before) (Some (keys_at m peer their (version_in heard) (payloads_in heard) peer))
           (number_in role own before) (number_out (strict_at peer their (payloads_in heard)) before) their.seed p more
-          (keys_fit (algorithms_at m peer their (payloads_in heard)) (exchange_at m peer their (version_in heard) (payloads_in heard)) peer)
+          (laws.fit m lawful peer their (version_in heard) (payloads_in heard) peer)
           (ap (λ (b : Bool). cond b (Some (keys_at m role own their.version before (other role))) None) (switch_same role own before same ∙ on) ∙ ap (λ (k : KeyData). Some k) way.keys)
           (ap (λ (b : Bool). cond b (Some (keys_at m peer their (version_in heard) (payloads_in heard) peer)) None) on)
           (λ keys e. numbers_same before same on way) (low_out before) fits

@@ -5,7 +5,6 @@ use Rattle.sshwire.specs.declared.limits.TheConstants.{PAYLOAD_LIMIT}
 use Rattle.sshwire.specs.Lines.{Preamble}
 use Rattle.sshwire.specs.Types.{IsBytes}
 use Rattle.sshneg.specs.declared.role.Role.{Role}
-use Rattle.sshneg.specs.Derivations.{KeySource, derived}
 use Rattle.sshpacket.specs.KeyData.{KeyData}
 use Rattle.sshpacket.specs.Parse.{Refusal, parse_packet, protection, whole}
 use Rattle.sshpacket.specs.Places.{EachPlace}
@@ -14,6 +13,7 @@ use Rattle.sshpacket.specs.Stream.{Heard, HeardAll, IsIncremental, Linked, Parse
 use Rattle.sshpacket.specs.Suite.{HasLengths, IsLawful, Meaning}
 use Rattle.sshpacket.specs.Written.{written_clear, written_sealed}
 use Rattle.sshcore.specs.Directions.{parsers}
+use Rattle.sshcore.specs.Exchange.{keys_at}
 use Rattle.sshcore.specs.Party.{Party}
 
 -- the laws of the crates below that the link rests on
@@ -23,7 +23,7 @@ pub record Laws : Type 0 where
   pub sealed : (m : Meaning) → IsLawful m → (keys : KeyData) → HasLengths m keys → (seed : List ℕ) (seq : ℕ) (payload rest : List ℕ) → seq < 2 ^ 32 → IsBytes payload
       → 0 < length payload → length payload ≤ PAYLOAD_LIMIT
       → parse_packet (protection m (Some keys) seq) (written_sealed m keys seed seq payload ++ rest) ≡ whole payload (length (written_sealed m keys seed seq payload))
-  pub lengths : (m : Meaning) → IsLawful m → (x : KeySource) (sender : Role) (cipher mac : List ℕ) → HasLengths m (derived m x sender cipher mac)
+  pub fit : (m : Meaning) → IsLawful m → (role : Role) (party : Party) (version : List ℕ) (before : Units) (sender : Role) → HasLengths m (keys_at m role party version before sender)
   pub preamble : (k : ℕ) (text bytes more : List ℕ) → Preamble k text bytes → preamble_parser k (bytes ++ more) ≡ whole text (length bytes)
   pub parsers : (m : Meaning) (role : Role) (party : Party) (units : Units) → IsIncremental (parsers m role party units)
   pub link : (parsers : Units → Parser) (spells : Units → List ℕ → List ℕ) → ((us : Units) → IsIncremental (parsers us))

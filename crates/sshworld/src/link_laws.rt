@@ -18,8 +18,8 @@ pub(crate) fn below_law()
     sshpacket::writing_law();
     sshpacket::parser_law();
     sshpacket::stream_law();
-    sshneg::derivation_law();
     sshcore::history_law();
+    sshcore::keys_law();
 }
 
 /// The law of hearing: of two accepted configs whose ends understand each other, each hears all that
