@@ -19,6 +19,7 @@ pub mod KnownLemmas
 pub mod CountingLemmas
 pub mod StandingLemmas
 pub mod StreamLemmas
+pub mod KeyLengths
 pub mod KeyedLemmas
 pub mod HistoryLemmas
 pub mod OneHistory

@@ -93,7 +93,7 @@ init_octets law form share fits =
     omega arith
 
 module _ (law : LengthLaw) (form : ShareForm) (host_key share signature : List ℕ) (fits : FitsShare form share)
-    (key : length host_key ≤ 8192) (signed : length signature ≤ 4096) where
+    (key : length host_key ≤ 8192) (signed : length signature ≤ 8192) where
   pub reply_number : length (written_message (content.KexdhReply host_key share signature)) ≤ 32768
   reply_number =
       let long : length (written_message (content.KexdhReply host_key share signature)) ≡ length host_key + length share + length signature + 13

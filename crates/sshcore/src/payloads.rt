@@ -6,7 +6,7 @@ ghost use Rattle.sshwire.specs.Types.{IsName};
 ghost use Rattle.sshmsg.specs.Content as content;
 ghost use Rattle.sshmsg.specs.View.{content_of};
 ghost use Rattle.sshmsg.specs.Written.{written_message};
-ghost use Rattle.sshpacket.specs.declared.limits.TheConstants.{BLOB_LIMIT, SHARE_LIMIT};
+ghost use Rattle.sshpacket.specs.declared.limits.TheConstants.{BLOB_LIMIT, SIGNATURE_LIMIT};
 ghost use Rattle.sshpacket.specs.Suite.{FitsShare};
 ghost use Rattle.sshcore.specs.ConfigParty.{party_of};
 ghost use Rattle.sshcore.specs.Exchange.{own_kexinit};
@@ -90,7 +90,7 @@ pub(crate) fn reply_payload(
 ) -> Result<Vec<u8>, Memory>
     requires share { FitsShare form share.now }
     requires host_key { length host_key.now ≤ BLOB_LIMIT }
-    requires signature { length signature.now ≤ SHARE_LIMIT }
+    requires signature { length signature.now ≤ SIGNATURE_LIMIT }
     ensures { IfOk result (λ made. IsMade (written_message (reply_in form host_key.now share.now signature.now)) made.items) }
 {
     sshwire::types_law();

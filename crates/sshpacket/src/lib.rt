@@ -20,7 +20,8 @@ mod write;
 pub use fault::PacketFault;
 pub use keys::{KeyParts, Keys};
 pub use limits::{
-    BLOB_LIMIT, BLOCK_LIMIT, DIGEST_LIMIT, KEY_LIMIT, PACKET_LIMIT, SHARE_LIMIT, TAG_LIMIT,
+    BLOB_LIMIT, BLOCK_LIMIT, DIGEST_LIMIT, KEY_LIMIT, PACKET_LIMIT, SHARE_LIMIT, SIGNATURE_LIMIT,
+    TAG_LIMIT,
 };
 pub use limits_laws::limits_law;
 pub use packet_laws::{packet_law, shares_law, writing_law};

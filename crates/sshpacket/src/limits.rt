@@ -21,5 +21,9 @@ pub const DIGEST_LIMIT: usize = 64;
 /// The most bytes of a public key that a suite answers (profile).
 pub const BLOB_LIMIT: usize = 8192;
 
-/// The most bytes of a share, of a shared number and of a signature that a suite answers (profile).
+/// The most bytes of a share and of a shared number that a suite answers (profile).
 pub const SHARE_LIMIT: usize = 4096;
+
+/// The most bytes of a signature that a suite answers (profile), the name of its algorithm and both
+/// lengths included, as RFC 4253 section 6.6 wraps it: ML-DSA-87 has 4627 without them.
+pub const SIGNATURE_LIMIT: usize = 8192;

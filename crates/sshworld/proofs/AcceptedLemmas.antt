@@ -81,7 +81,7 @@ init_well Mpint e share = number e share
 init_well OctetString e share = omega (arith, share.short)
 init_well Hybrid e share = omega (arith, share.short)
 
-reply_well : (f : ShareForm) (k e sign : List ℕ) → IsShare (has_number_shares f) e → length k ≤ 8192 → length sign ≤ 4096 → IsWellFormed (reply_in f k e sign)
+reply_well : (f : ShareForm) (k e sign : List ℕ) → IsShare (has_number_shares f) e → length k ≤ 8192 → length sign ≤ 8192 → IsWellFormed (reply_in f k e sign)
 reply_well Mpint k e sign share blob signed = (omega (arith, blob), number e share, omega (arith, signed))
 reply_well OctetString k e sign share blob signed = (omega (arith, blob), omega (arith, share.short), omega (arith, signed))
 reply_well Hybrid k e sign share blob signed = (omega (arith, blob), omega (arith, share.short), omega (arith, signed))
