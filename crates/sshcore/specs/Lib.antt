@@ -10,6 +10,7 @@ pub mod Tries
 pub mod Known
 pub mod Table
 pub mod Ending
+pub mod Printed
 pub mod Attempts
 pub mod Requests
 pub mod Work

@@ -1,5 +1,8 @@
 //! How an endpoint ends.
 
+ghost use Rattle.std.specs.Prelude.{Some};
+ghost use Rattle.sshcore.specs.Printed.{fault_text};
+
 use sshneg::NoCommon;
 use std::error::Error;
 use std::fmt;
@@ -42,6 +45,8 @@ pub enum Fault {
 }
 
 impl fmt::Display for Fault {
+    ghost output = { λ fault. Some (fault_text fault) };
+
     fn fmt<W: fmt::Write>(&self, f: &mut fmt::Formatter<W>) -> fmt::Result {
         match self {
             Fault::Version => f.write_str("F1"),

@@ -7,4 +7,5 @@ pub mod ExchangeView
 pub mod Fields
 pub mod Growing
 pub mod Markers
+pub mod Printed
 pub mod Strictness

@@ -7,6 +7,7 @@ ghost use Rattle.sshmsg.specs.View.{offer_of};
 ghost use Rattle.sshneg.specs.declared.choice.NoCommon.TheVariants as field;
 ghost use Rattle.sshneg.specs.Choice.{ChoiceAnswer, serves};
 ghost use Rattle.sshneg.specs.Markers.{is_marker};
+ghost use Rattle.sshneg.specs.Printed.{field_text};
 ghost use Rattle.sshneg.specs.ChoiceReadings.{answer, answered, choice_of_directions, first_common, host_key_choice, is_in, kex_choice, position_in, positioned};
 
 use crate::guess::{first_method, same_name};
@@ -63,18 +64,26 @@ pub struct Chosen {
 }
 
 impl fmt::Display for NoCommon {
+    ghost output = { λ no_common. Some (field_text no_common) };
+
     fn fmt<W: fmt::Write>(&self, f: &mut fmt::Formatter<W>) -> fmt::Result {
-        let text = match self {
-            NoCommon::Kex => "kex",
-            NoCommon::HostKey => "hostkey",
-            NoCommon::EncryptionClientToServer => "cipher_cs",
-            NoCommon::EncryptionServerToClient => "cipher_sc",
-            NoCommon::MacClientToServer => "mac_cs",
-            NoCommon::MacServerToClient => "mac_sc",
-            NoCommon::CompressionClientToServer => "compression_cs",
-            NoCommon::CompressionServerToClient => "compression_sc",
-        };
-        f.write_str(text)
+        f.write_str(field_text(*self))
+    }
+}
+
+/// The field's name in the program's format.
+fn field_text(field: NoCommon) -> &'static str
+    ensures { result.now ≡ field_text field }
+{
+    match field {
+        NoCommon::Kex => "kex",
+        NoCommon::HostKey => "hostkey",
+        NoCommon::EncryptionClientToServer => "cipher_cs",
+        NoCommon::EncryptionServerToClient => "cipher_sc",
+        NoCommon::MacClientToServer => "mac_cs",
+        NoCommon::MacServerToClient => "mac_sc",
+        NoCommon::CompressionClientToServer => "compression_cs",
+        NoCommon::CompressionServerToClient => "compression_sc",
     }
 }
 
