@@ -32,6 +32,14 @@ too_long xs i len is over =
     let whole : PAYLOAD_LIMIT < length (written_message (ExtInfo (pairs_of xs))) = omega arith in
     lt-leb len PAYLOAD_LIMIT over ∙ sym (lt-leb (length (written_message (ExtInfo (pairs_of xs)))) PAYLOAD_LIMIT whole)
 
+-- and the whole isn't within the limit then
+pub not_within : (xs : List Extension) (i len : ℕ) → len ≡ 5 + length (pairs_written (pairs_of (take i xs))) → PAYLOAD_LIMIT < len
+    → length (written_message (ExtInfo (pairs_of xs))) ≤ PAYLOAD_LIMIT → len ≡ length (written_message (ExtInfo (pairs_of xs)))
+unfolding written_message
+not_within xs i len is over low =
+    let within : length (pairs_written (pairs_of (take i xs))) ≤ length (pairs_written (pairs_of xs)) = front_within xs i in
+    absurd (omega arith)
+
 -- one more pair
 pub length_more : (xs : List Extension) (i len : ℕ) (x : Extension) → i < length xs → x ≡ get_or xs i x
     → len ≡ 5 + length (pairs_written (pairs_of (take i xs)))

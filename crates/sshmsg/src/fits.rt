@@ -19,9 +19,10 @@ impl<'a> Message<'a> {
         self.len() <= PAYLOAD_LIMIT as u128
     }
 
-    /// How much room to ask for before the message is written.
+    /// How much room to ask for before the message is written: that of its payload.
     pub(crate) fn room(&self) -> usize
         requires { length (written_message (content_of self.now)) ≤ PAYLOAD_LIMIT }
+        ensures { result ≡ length (written_message (content_of self.now)) }
     {
         self.len() as usize
     }
@@ -29,7 +30,8 @@ impl<'a> Message<'a> {
     /// The length of the payload, or some length above the limit where its own is.
     #[tactic(auto, unfolding(crate::specs::Written::written_message))]
     fn len(&self) -> u128
-        ensures { nat_le result PAYLOAD_LIMIT ≡ nat_le (length (written_message (content_of self.now))) PAYLOAD_LIMIT }
+        ensures limit { nat_le result PAYLOAD_LIMIT ≡ nat_le (length (written_message (content_of self.now))) PAYLOAD_LIMIT }
+        ensures exact { length (written_message (content_of self.now)) ≤ PAYLOAD_LIMIT → result ≡ length (written_message (content_of self.now)) }
     {
         match self {
             Message::Disconnect {
@@ -117,9 +119,10 @@ fn method_len(method: &Method<'_>) -> u128
 }
 
 /// The length of an EXT_INFO, or some length above the limit where its own is.
-#[tactic(auto, using(crate::proofs::LengthLemmas::too_long, crate::proofs::LengthLemmas::length_more, crate::proofs::LengthLemmas::length_all))]
+#[tactic(auto, using(crate::proofs::LengthLemmas::too_long, crate::proofs::LengthLemmas::not_within, crate::proofs::LengthLemmas::length_more, crate::proofs::LengthLemmas::length_all))]
 fn ext_info_len(extensions: &[Extension<'_>]) -> u128
-    ensures { nat_le result PAYLOAD_LIMIT ≡ nat_le (length (written_message (content.ExtInfo (pairs_of extensions.now)))) PAYLOAD_LIMIT }
+    ensures limit { nat_le result PAYLOAD_LIMIT ≡ nat_le (length (written_message (content.ExtInfo (pairs_of extensions.now)))) PAYLOAD_LIMIT }
+    ensures exact { length (written_message (content.ExtInfo (pairs_of extensions.now))) ≤ PAYLOAD_LIMIT → result ≡ length (written_message (content.ExtInfo (pairs_of extensions.now))) }
 {
     let mut len = 5;
     for extension in extensions {

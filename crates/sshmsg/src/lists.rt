@@ -2,7 +2,7 @@
 //!
 //! Each is judged to its end before memory is asked for: want of memory is told of a message alone.
 
-ghost use Rattle.std.specs.Prelude.{◌≡◌, IfErr, IfOk, []};
+ghost use Rattle.std.specs.Prelude.{◌≡◌, IfErr, IfOk, [], vec_capacity};
 ghost use Rattle.sshwire.specs.TypeReadings.{Gives};
 ghost use Rattle.sshmsg.specs.Content as content;
 ghost use Rattle.sshmsg.specs.Form.{Reserved, bytes_at, field_at, form_at};
@@ -239,6 +239,7 @@ fn own_extensions<'a>(
 /// No pairs, with room for so many.
 fn with_room<'a>(alloc: Global, count: u32) -> Result<Vec<Extension<'a>>, WireFault>
     ensures empty { IfOk result (λ xs. xs.items ≡ []) }
+    ensures asked { IfOk result (λ xs. vec_capacity xs ≡ count) }
     ensures memory { IfErr result (λ e. e ≡ WireFault.Memory) }
 {
     match Vec::with_capacity(alloc, count as usize) {
