@@ -28,6 +28,7 @@ pub use packet_laws::{packet_law, shares_law, writing_law};
 pub use padding::{padding_len, padding_len_uncounted};
 pub use protection::leading_uint32;
 pub use reader::{PacketReader, PacketStep};
+pub use room::ROOM_KEPT;
 pub use sshwire::ShareForm;
 pub use stream_laws::{hearing_law, joined_law, parser_law, places_law, stream_law};
 pub use suite::{AgreeingSuite, Capability, KeyLens, Need, Response, Suite};

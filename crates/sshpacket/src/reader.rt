@@ -38,7 +38,8 @@ pub enum PacketStep<'a> {
 /// Reads packets off the stream of one direction (RFC 4253 section 6), in any pieces.
 ///
 /// In clear until keys are set. It holds the bytes of the one unfinished packet and nothing older: the
-/// bytes of a packet that was read are given up at the next call.
+/// bytes of a packet that was read are given up at the next call. Room is asked for by the packet's
+/// length; behind a packet and a fault room for at most `ROOM_KEPT` bytes more is kept.
 #[derive(Drop)]
 pub struct PacketReader {
     alloc: Global,
@@ -127,8 +128,8 @@ impl PacketReader {
         // The same as a function of what the reader holds, and what stands at the front by the standard.
         ensures answers { ReaderWaits (S.meaning suite.now) self.old → ParseAnswer (S.meaning suite.now) (state self.old) piece.now result }
         ensures means { KeysFit (S.meaning suite.now) (state self.old).keys → PacketMeans (protection (S.meaning suite.now) (state self.old).keys (state self.old).seq) ((state self.old).held ++ piece.now) (ahead (S.meaning suite.now) (state self.old) piece.now) }
-        // How the reader is left. In every state nothing is held behind a payload, a refusal is kept with the
-        // keys and the number, and what was read is given up, large room too.
+        // How the reader is left. In every state: nothing is held behind a payload; a refusal is kept, with
+        // the keys and the number; what was read is given up where no other packet comes, and large room.
         ensures* after { sem 𝓛 (Rests the_row self.entry (λ new.
             (ReaderWaits (S.meaning suite.now) self.old → ReaderLeaves (S.meaning suite.now) (state self.old) piece.now result new)
             × IfSome (state self.old).fault (λ f. (state new ≡ state self.old) × (last_used new ≡ 0))

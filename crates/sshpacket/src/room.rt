@@ -8,8 +8,8 @@ use bytes::BytesMut;
 use sshwire::Memory;
 use std::alloc::Global;
 
-/// The most bytes of room that a reader keeps for the packets to come.
-pub(crate) const ROOM_KEPT: usize = 1024;
+/// The most bytes of room that a reader keeps for the packets to come (profile).
+pub const ROOM_KEPT: usize = 1024;
 
 /// Makes room for so many bytes more. A reader asks for no other room: with what it holds at most that
 /// of one packet.

@@ -96,7 +96,7 @@ fn clear_packet<S: Suite>(
 {
     let len = least_padding_len(counts, block, payload.len());
     let padding = suite.padding(alloc, seed, seq, len)?;
-    let mut clear = Vec::new(alloc);
+    let mut clear = Vec::with_capacity(alloc, 5 + payload.len() + padding.len())?;
     put_packet(&mut clear, payload, &padding)?;
     Ok(clear)
 }
