@@ -133,7 +133,7 @@ def requests_by_hand(file):
     for size in (31, 33, 8192, 8193, SEALED - len(by_signed_key(h, "h", BLOB, b""))):
         signature = (signed(h, "h") + bytes(size))[:size]
         s.row("a signature of %d bytes" % size, [], [(by_signed_key(h, "h", BLOB, signature), [FAILURE]), (by_none(), [SUCCESS])], LET_IN, generous=True)
-    for size in (64, 65, SEALED - len(request("al", "ssh-connection", ""))):
+    for size in (64, 65, 1000):
         s.row("a method of %d bytes" % size, [], [(request("al", "ssh-connection", letters(size)), [FAILURE]), (by_none(), [SUCCESS])], LET_IN,
               generous=True)
     s.row("the fields of an unknown method", [], [(request("al", "ssh-connection", "m", bytes(SEALED - len(request("al", "ssh-connection", "m")))),
@@ -165,16 +165,14 @@ def answers_by_hand(file):
     for text in (name + "m,password", "password," + name + "m"):
         c.row("a name of 65 bytes in a list, " + text[:4], plan, by_none(), [(lists(text), [disconnect(2)])], "failed F5 51")
     asks = "client try al ssh-connection query h 00"
-    for message in (pk_ok("h", b"\x55" * 8192), pk_ok("h", b"\x55" * 8193), pk_ok(name), pk_ok(name + "m"),
-                    pk_ok("h", b"\x55" * (SEALED - len(pk_ok("h", b""))))):
+    for message in (pk_ok("h", b"\x55" * 8192), pk_ok("h", b"\x55" * 8193), pk_ok(name), pk_ok(name + "m")):
         c.row("PK_OK of %d bytes" % len(message), asks, by_query(), [(message, [disconnect(2)])], "failed F6 60")
     told = b"\x01" + u32(11) + string(b"\xff" * 1024) + string(b"\xff" * 64)
     c.row("a DISCONNECT that tells much", AL, by_none(), [(told, [])], "closed 11")
     for number, payload in ((2, b"\x02" + string(bytes(SEALED - 5))), (4, b"\x04\x01" + string(bytes(1025)) + string(bytes(65))),
                             (7, b"\x07" + u32(130) + (string("x" * 65) + string(bytes(100))) * 130)):
         c.row("%d of %d bytes" % (number, len(payload)), AL, by_none(), [(payload, []), (SUCCESS, [])], LET_IN)
-    for number in (40, 79):
-        c.row("%d of %d bytes" % (number, SEALED), AL, by_none(), [(bytes([number]) * SEALED, [unimplemented(c.t.s.seq)]), (SUCCESS, [])], LET_IN)
+    c.row("40 of %d bytes" % SEALED, AL, by_none(), [(b"\x28" * SEALED, [unimplemented(c.t.s.seq)]), (SUCCESS, [])], LET_IN)
 
 
 def services(file):
@@ -182,7 +180,7 @@ def services(file):
     t = Talk()
     server = ["begin server", feed(t.c_first, t.c_init, t.c_newkeys), says(t.s_first, t.s_reply, t.s_newkeys)]
     client = ["begin client", feed(t.s_first, t.s_reply, t.s_newkeys), says(t.c_first, t.c_init, t.c_newkeys, t.c_service), asked("host_key")]
-    for size in (11, 13, 64, 65, SEALED - 5):
+    for size in (11, 13, 64, 65, 1000):
         name = ("ssh-userauth" + letters(size))[:size]
         file.row("SERVICE_REQUEST of %d bytes" % size, server, feed(packet(service(5, name), 0, SEED[CLIENT], t.cs)),
                  says(packet(disconnect(7), 0, SEED[SERVER], t.sc)), "end failed F12")
@@ -239,7 +237,7 @@ def let_in(file, name, role, theirs):
 def squeezed(data):
     """Terms for the bytes; what is repeated more than 500 times stands there once."""
     for size in (1, 2):
-        for unit in (b"\x00", b"\x55") if size == 1 else (b",n",):
+        for unit in (b"\x00", b"\x55", b"\xa5") if size == 1 else (b",n",):
             at = data.find(unit * 500)
             if at >= 0:
                 n = 500
