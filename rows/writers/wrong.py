@@ -1,5 +1,6 @@
 """Rows with one wrong expectation each, which a judge has to refuse: what they differ in from a right row is told by their names."""
 from lab import *
+from requests import half
 
 
 def rows(file):
@@ -18,8 +19,20 @@ def rows(file):
     file.row("a config with 20 tries is refused", "server tries 20", "refused server config C9")
     file.row("a client without attempts is let in", "predict", "client authenticated al ssh-connection")
     file.row("a world stands still", "world", "rounds 9", "client open", "server open")
+    questions(file, t)
     below(file, t)
     unjudged(file, t)
+
+
+def questions(file, t):
+    """What decisions are asked: too few questions, too many, others, or none that is judged."""
+    client = ["begin client", feed(t.s_first, t.s_reply), says(t.c_first, t.c_init, t.c_newkeys, t.c_service)]
+    server = ["begin server", feed(t.c_first, t.c_init, t.c_newkeys, t.c_service, half(t.c).say(by_none())),
+              says(t.s_first, t.s_reply, t.s_newkeys, t.s_accept, half(t.s).say(failure()))]
+    for side, lines, wrong in ((CLIENT, client, ("nothing", "1", "host_key host_key")), (SERVER, server, ("nothing", "2", "host_key", "1 1"))):
+        file.row("a %s's question isn't judged" % side, lines, "end open")
+        for what in wrong:
+            file.row("a %s is said to be asked %s" % (side, what), lines, "asked " + what, "end open")
 
 
 def below(file, t):

@@ -78,8 +78,8 @@ impl State<'_> {
         self.refuse_more(config, suite, false, said)
     }
 
-    /// A server hears a query whether a key would do, for a service that it has: it is answered by PK_OK or
-    /// FAILURE, or at the last try fails as `TooManyTries` (RFC 4252 section 7).
+    /// A server hears a query whether a key would do, for a service that it has: at the last try it fails as
+    /// `TooManyTries`, and nothing is asked; else it is answered by PK_OK or FAILURE (RFC 4252 section 7).
     fn hear_query<S: Suite, D: Decisions>(
         &mut self,
         config: &Config<'_>,
@@ -102,10 +102,13 @@ impl State<'_> {
         }) }
         ensures kept { OnOk result (ending self.new.end ≢ Failed fault.Memory) }
     {
+        if config.tries() <= self.request {
+            return self.fail(config, suite, Fault::TooManyTries, said);
+        }
         self.forget_others(user, service);
         match self.would_do(config, decisions, user, service, algorithm, key) {
-            None => self.refuse_more(config, suite, false, said),
-            Some(name) => self.confirm_more(config, suite, name, key, said),
+            None => self.refuse(config, suite, false, said),
+            Some(name) => self.confirm(config, suite, name, key, said),
         }
     }
 
@@ -240,33 +243,6 @@ impl State<'_> {
             return self.fail(config, suite, Fault::TooManyTries, said);
         }
         self.refuse(config, suite, partial, said)
-    }
-
-    /// Answers a query by PK_OK, or fails as `TooManyTries` at the last request that is granted.
-    fn confirm_more<S: Suite>(
-        &mut self,
-        config: &Config<'_>,
-        suite: &S,
-        algorithm: &str,
-        key: &[u8],
-        said: &mut Vec<u8>,
-    ) -> Result<(), Memory>
-        requires open { ending self.old.end ≡ Open }
-        requires algorithm { length algorithm.now ≤ NAME_LIMIT }
-        requires key { length key.now ≤ BLOB_LIMIT }
-        ensures gives { OnOk result ((strict : Bool) (next : KeyData)
-            → Gives (S.meaning suite.now) (party_of config.now).seed strict next (kept_of self.old) (kept_of self.new) said.old.items said.new.items
-            (more_reply (party_of config.now) (kept_of self.old).known (content.UserauthPkOk algorithm.now key.now))) }
-        ensures stays { OnOk result (IsOngoing (kept_of self.new).end → kept_of self.new ≡ record (kept_of self.old) {
-          known = one_request (kept_of self.old).known;
-          sending = (kept_of self.new).sending;
-        }) }
-        ensures kept { OnOk result (ending self.new.end ≢ Failed fault.Memory) }
-    {
-        if config.tries() <= self.request {
-            return self.fail(config, suite, Fault::TooManyTries, said);
-        }
-        self.confirm(config, suite, algorithm, key, said)
     }
 
     /// Whether a request is good: it proves something, and the decision on that is yes. The decision is

@@ -1,5 +1,6 @@
 //! The acts of rows.
 
+use crate::asked::{Asking, Questions};
 use crate::configs::judge_config;
 use crate::endpoints::{client_of, server_of, talk};
 use crate::names::Names;
@@ -110,13 +111,18 @@ fn begin<D: Decisions>(
     piece_len: usize,
 ) -> Result<(), Stop> {
     let (_, role) = line.head();
+    let questions = &Questions::new(alloc);
+    let asking = &Asking {
+        decisions,
+        questions,
+    };
     match role {
         "client" => {
-            let subject = client_of(alloc, &scenario.client, decisions, piece_len)?;
+            let subject = client_of(alloc, &scenario.client, asking, questions, piece_len)?;
             talk(alloc, names, line, subject, lines)
         }
         "server" => {
-            let subject = server_of(alloc, &scenario.server, decisions, piece_len)?;
+            let subject = server_of(alloc, &scenario.server, asking, questions, piece_len)?;
             talk(alloc, names, line, subject, lines)
         }
         _ => same_text(alloc, line, "act", "client or server", role),

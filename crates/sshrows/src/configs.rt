@@ -1,6 +1,7 @@
 //! Rows of configs whose parts are made one by one.
 
 use crate::acts::Generous;
+use crate::asked::{Asking, Questions};
 use crate::endpoints::{client_of, talk};
 use crate::names::Names;
 use crate::parts::{client_by, server_by};
@@ -132,7 +133,12 @@ fn accepted_client(
             judge_kexinit(alloc, names, line, rest, &found)
         }
         "generous" => {
-            let subject = client_of(alloc, config, &Generous, piece_len)?;
+            let questions = &Questions::new(alloc);
+            let asking = &Asking {
+                decisions: &Generous,
+                questions,
+            };
+            let subject = client_of(alloc, config, asking, questions, piece_len)?;
             talk(alloc, names, line, subject, lines)
         }
         _ => wrong(alloc, line, "config", rest, "accepted"),

@@ -1,5 +1,6 @@
 //! Rows of one endpoint.
 
+use crate::asked::Questions;
 use crate::handed::judge_session;
 use crate::names::Names;
 use crate::stop::Stop;
@@ -14,6 +15,8 @@ use std::alloc::Global;
 #[derive(Drop)]
 pub(crate) struct Subject<'a, D: Decisions> {
     endpoint: Endpoint<'a, LabSuite, D>,
+    /// What its decisions were asked since that was last judged.
+    questions: &'a Questions,
     /// What it has said since that was last judged.
     out: Vec<u8>,
     /// How many bytes it is given at once, at most.
@@ -27,11 +30,12 @@ pub(crate) fn client_of<'a, D: Decisions>(
     alloc: Global,
     config: &'a ClientConfig,
     decisions: &'a D,
+    questions: &'a Questions,
     piece_len: usize,
 ) -> Result<Box<Subject<'a, D>>, Stop> {
     let mut out = Vec::new(alloc);
     let endpoint = Endpoint::client(alloc, config, &LabSuite, decisions, &mut out)?;
-    subject_of(alloc, endpoint, out, piece_len)
+    subject_of(alloc, endpoint, questions, out, piece_len)
 }
 
 /// A server of this config, over the lab suite.
@@ -39,24 +43,27 @@ pub(crate) fn server_of<'a, D: Decisions>(
     alloc: Global,
     config: &'a ServerConfig,
     decisions: &'a D,
+    questions: &'a Questions,
     piece_len: usize,
 ) -> Result<Box<Subject<'a, D>>, Stop> {
     let mut out = Vec::new(alloc);
     let endpoint = Endpoint::server(alloc, config, &LabSuite, decisions, &mut out)?;
-    subject_of(alloc, endpoint, out, piece_len)
+    subject_of(alloc, endpoint, questions, out, piece_len)
 }
 
 /// The endpoint and what it said at its making.
-fn subject_of<D: Decisions>(
+fn subject_of<'a, D: Decisions>(
     alloc: Global,
-    endpoint: Endpoint<'_, LabSuite, D>,
+    endpoint: Endpoint<'a, LabSuite, D>,
+    questions: &'a Questions,
     out: Vec<u8>,
     piece_len: usize,
-) -> Result<Box<Subject<'_, D>>, Stop> {
+) -> Result<Box<Subject<'a, D>>, Stop> {
     Ok(Box::new(
         alloc,
         Subject {
             endpoint,
+            questions,
             out,
             piece_len,
             judged: false,
@@ -100,7 +107,7 @@ fn session_of<D: Decisions>(subject: Box<Subject<'_, D>>) -> Option<Session> {
     endpoint.into_session()
 }
 
-/// Judges an endpoint by lines, all that it said, and its end.
+/// Judges an endpoint by lines, all that it said and asked, and its end.
 fn talk_on<D: Decisions>(
     alloc: Global,
     names: &Names,
@@ -114,9 +121,10 @@ fn talk_on<D: Decisions>(
     finish(alloc, row, subject)
 }
 
-/// All that was said has to be judged, and the end.
+/// All that was said and asked has to be judged, and the end.
 fn finish<D: Decisions>(alloc: Global, row: &Line<'_>, talk: &Subject<'_, D>) -> Result<(), Stop> {
     same_bytes(alloc, row, "said and not judged", &[], &talk.out)?;
+    talk.questions.same(row, "asked and not judged", "nothing")?;
     if talk.judged {
         Ok(())
     } else {
@@ -182,6 +190,7 @@ fn look<D: Decisions>(
         }
         "held" => shows(alloc, line, "held", rest, &talk.endpoint.buffered()),
         "agreed" => same_agreed(alloc, line, rest, talk.endpoint.end()),
+        "asked" => talk.questions.same(line, "asked", rest),
         _ => wrong(alloc, line, "line", "a word of an endpoint", word),
     }
 }

@@ -1,0 +1,81 @@
+//! What decisions are asked.
+
+use crate::stop::Stop;
+use crate::texts::{put_word, same_text};
+use crate::words::Line;
+use sshcore::{Decisions, Proof};
+use std::alloc::{AllocError, Global};
+use std::cell::RefCell;
+
+/// The questions since they were judged last, in their order.
+#[derive(Drop)]
+pub(crate) struct Questions {
+    /// A blank and a word for each: `host_key`, or the number of a request.
+    text: RefCell<String>,
+    alloc: Global,
+}
+
+impl Questions {
+    /// None yet.
+    pub(crate) fn new(alloc: Global) -> Questions {
+        Questions {
+            text: RefCell::new(String::new(alloc)),
+            alloc,
+        }
+    }
+
+    /// Keeps a question. One for which memory is wanting is left out, so its row fails.
+    fn keep(&self, word: &str) {
+        if let Ok(mut text) = self.text.try_borrow_mut() {
+            let _ = put_word(&mut text, word);
+        }
+    }
+
+    /// Keeps a question on the request with this number.
+    fn keep_number(&self, request_number: u32) -> Result<(), AllocError> {
+        let word = format!(in self.alloc; "{request_number}")?;
+        self.keep(&word);
+        Ok(())
+    }
+
+    /// All that were kept; none is kept behind it.
+    fn taken(&self) -> String {
+        match self.text.try_replace(String::new(self.alloc)) {
+            Ok(text) => text,
+            Err(_) => String::new(self.alloc),
+        }
+    }
+
+    /// These have to be the questions since the last call: their words with blanks between, or `nothing`.
+    pub(crate) fn same(
+        &self,
+        line: &Line<'_>,
+        what: &'static str,
+        wanted: &str,
+    ) -> Result<(), Stop> {
+        let text = self.taken();
+        let found = text.strip_prefix(' ').unwrap_or("nothing");
+        same_text(self.alloc, line, what, wanted, found)
+    }
+}
+
+/// Decisions whose questions are kept.
+#[derive(Drop)]
+pub(crate) struct Asking<'a, D: Decisions> {
+    pub(crate) decisions: &'a D,
+    pub(crate) questions: &'a Questions,
+}
+
+impl<D: Decisions> Decisions for Asking<'_, D> {
+    ghost policy = { λ asking. D.policy asking.decisions.now };
+
+    fn host_key(&self, algorithm: &str, blob: &[u8]) -> bool {
+        self.questions.keep("host_key");
+        self.decisions.host_key(algorithm, blob)
+    }
+
+    fn user(&self, request_number: u32, user: &str, service: &str, proof: &Proof<'_>) -> bool {
+        let _ = self.questions.keep_number(request_number);
+        self.decisions.user(request_number, user, service, proof)
+    }
+}
