@@ -64,7 +64,7 @@ fn authenticate(
     }
     match client.into_session() {
         Some(session) => Ok((session, behind)),
-        None => bail!("not authenticated"), // `client.end()` tells why: F1 to F16, or closed
+        None => bail!("not authenticated"), // `client.end()` told why: F1 to F16, or closed
     }
 }
 
