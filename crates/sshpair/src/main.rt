@@ -1,18 +1,22 @@
 //! The program `sshpair`: a client and a server carry each other's bytes over two vectors until the user is
-//! authenticated, and then send one message each way by what they hand over.
+//! authenticated. The server's first message stands right behind SUCCESS, in one piece with it; then a message goes
+//! each way, by what both sides hand over.
 #![tactic(auto)]
 
 ghost use Rattle.std.specs.Prelude.{◌<◌, ◌≤◌, length};
 
 use anyhow::bail;
-use sshcore::{Attempt, ClientConfig, Credential, Direction, Endpoint, ServerConfig, Session};
+use sshcore::{Attempt, ClientConfig, Credential, Direction, End, Endpoint, ServerConfig, Session};
 use sshpacket::{PacketReader, PacketStep, write_sealed};
 use sshsuites::{LabDecisions, LabSuite, lab_client_parts, lab_server_parts};
 use std::alloc::Global;
 use std::io::Write;
 
-/// How often each side is given what the other has said.
+/// How often each side is given what the other has said, at the most.
 const ROUNDS: u32 = 4;
+
+/// What the server says first behind SUCCESS.
+const GREETING: &[u8] = b"hello, client";
 
 /// What padding is made of, for as long as the program runs.
 const SEED: &[u8] = b"another seed";
@@ -20,25 +24,19 @@ const SEED: &[u8] = b"another seed";
 /// An endpoint of the lab.
 type LabEndpoint<'a> = Endpoint<'a, LabSuite, LabDecisions>;
 
+/// What both sides go on with.
+#[derive(Drop)]
+struct Pair {
+    client: Session,
+    server: Session,
+    /// What came to the client behind SUCCESS.
+    behind: Vec<u8>,
+}
+
 fn main(rt: HostRuntime) -> anyhow::Result<()> {
-    let alloc = rt.alloc();
-    let theirs = server_config(alloc)?;
-    let (client, server) = connect(alloc, &theirs)?;
-    tell(&rt, &client, &server)?;
-    carry(
-        &rt,
-        "server",
-        b"hello, server",
-        &client.outgoing,
-        server.incoming,
-    )?;
-    carry(
-        &rt,
-        "client",
-        b"hello, client",
-        &server.outgoing,
-        client.incoming,
-    )
+    let pair = connect(&rt)?;
+    tell(&rt, &pair.client, &pair.server)?;
+    go_on(&rt, pair)
 }
 
 /// The client's config: the lab's, with one attempt, by `al`, who needs no proof.
@@ -73,68 +71,96 @@ fn decisions(alloc: Global) -> anyhow::Result<LabDecisions> {
     Ok(decisions)
 }
 
-/// What both sides hand over once the user is authenticated.
-fn connect(alloc: Global, theirs: &ServerConfig) -> anyhow::Result<(Session, Session)> {
+/// What both sides go on with once the user is authenticated.
+fn connect(rt: &HostRuntime) -> anyhow::Result<Pair> {
+    let alloc = rt.alloc();
     let ours = client_config(alloc)?;
+    let theirs = server_config(alloc)?;
     let decisions = decisions(alloc)?;
-    authenticate(alloc, &ours, theirs, &decisions)
+    authenticate(rt, &ours, &theirs, &decisions)
 }
 
 /// The same with these configs.
 fn authenticate(
-    alloc: Global,
+    rt: &HostRuntime,
     ours: &ClientConfig,
     theirs: &ServerConfig,
     decisions: &LabDecisions,
-) -> anyhow::Result<(Session, Session)> {
+) -> anyhow::Result<Pair> {
+    let alloc = rt.alloc();
     let mut to_server = Vec::new(alloc);
     let mut client = Endpoint::client(alloc, ours, &LabSuite, decisions, &mut to_server)?;
-    let server = serve(alloc, theirs, decisions, &mut client, &mut to_server)?;
+    let (server, mut behind) = serve(rt, theirs, decisions, &mut client, &mut to_server)?;
+    hear(alloc, &mut client, &mut behind, &mut to_server)?;
     match client.into_session() {
-        Some(client) => Ok((client, server)),
+        Some(client) => Ok(Pair {
+            client,
+            server,
+            behind,
+        }),
         None => bail!("not authenticated"),
     }
 }
 
-/// What a server hands over that was made for this client.
+/// What a server hands over that was made for this client, and what it says to it last: its SUCCESS, with
+/// its first message right behind that.
 fn serve(
-    alloc: Global,
+    rt: &HostRuntime,
     config: &ServerConfig,
     decisions: &LabDecisions,
     client: &mut LabEndpoint<'_>,
     to_server: &mut Vec<u8>,
-) -> anyhow::Result<Session> {
+) -> anyhow::Result<(Session, Vec<u8>)> {
+    let alloc = rt.alloc();
     let mut to_client = Vec::new(alloc);
     let mut server = Endpoint::server(alloc, config, &LabSuite, decisions, &mut to_client)?;
-    talk(client, &mut server, to_server, &mut to_client)?;
+    talk(alloc, client, &mut server, to_server, &mut to_client)?;
     match server.into_session() {
-        Some(session) => Ok(session),
+        Some(session) => greet(alloc, session, to_client),
         None => bail!("not authenticated"),
     }
 }
 
-/// Gives each side what the other has said, in turns.
+/// A server's session, and what it says last, once its first message stands behind that.
+fn greet(
+    alloc: Global,
+    session: Session,
+    to_client: Vec<u8>,
+) -> anyhow::Result<(Session, Vec<u8>)> {
+    let (mut session, mut to_client) = (session, to_client);
+    seal(alloc, GREETING, &mut session.outgoing, &mut to_client)?;
+    Ok((session, to_client))
+}
+
+/// Gives each side what the other has said, in turns, up to the server's end.
 fn talk(
+    alloc: Global,
     client: &mut LabEndpoint<'_>,
     server: &mut LabEndpoint<'_>,
     to_server: &mut Vec<u8>,
     to_client: &mut Vec<u8>,
 ) -> anyhow::Result<()> {
     for _ in 0..ROUNDS {
-        hear(server, to_server, to_client)?;
-        hear(client, to_client, to_server)?;
+        hear(alloc, server, to_server, to_client)?;
+        if !matches!(server.end(), End::Open) {
+            break;
+        }
+        hear(alloc, client, to_client, to_server)?;
     }
     Ok(())
 }
 
-/// Gives a side what waits for it.
+/// Gives a side what waits for it, in one piece. What it doesn't use waits on: it stands behind the packet
+/// that ended the side, and is for the session.
 fn hear(
+    alloc: Global,
     side: &mut LabEndpoint<'_>,
     waiting: &mut Vec<u8>,
     out: &mut Vec<u8>,
 ) -> anyhow::Result<()> {
-    side.feed(waiting, out)?;
-    waiting.clear();
+    let used = side.feed(waiting, out)?;
+    let left = Vec::from_slice(alloc, &waiting[used..])?;
+    *waiting = left;
     Ok(())
 }
 
@@ -149,41 +175,77 @@ fn tell(rt: &HostRuntime, client: &Session, server: &Session) -> anyhow::Result<
     Ok(())
 }
 
-/// Seals a message on the one side's way out, and says what the other reads on its way in.
+/// Says what the client reads behind SUCCESS, and then carries a message each way.
+fn go_on(rt: &HostRuntime, pair: Pair) -> anyhow::Result<()> {
+    let (client, server) = (pair.client, pair.server);
+    let (mut to_server, mut to_client) = (client.outgoing, server.outgoing);
+    let mut at_server = reader_of(rt.alloc(), server.incoming);
+    let mut at_client = reader_of(rt.alloc(), client.incoming);
+    open(rt, "client", &pair.behind, &mut at_client)?;
+    carry(
+        rt,
+        "server",
+        b"hello, server",
+        &mut to_server,
+        &mut at_server,
+    )?;
+    carry(rt, "client", b"hello again", &mut to_client, &mut at_client)
+}
+
+/// Reads what comes in this direction.
+fn reader_of(alloc: Global, incoming: Direction) -> PacketReader {
+    PacketReader::with_keys(alloc, incoming.keys, incoming.sequence_number)
+}
+
+/// Seals a message by what one side goes on with, and says what the other reads.
 fn carry(
     rt: &HostRuntime,
     reader: &str,
     message: &[u8],
-    outgoing: &Direction,
-    incoming: Direction,
+    outgoing: &mut Direction,
+    incoming: &mut PacketReader,
 ) -> anyhow::Result<()>
     requires some { 0 < length message.now }
     requires short { length message.now ≤ 32768 }
 {
-    let packet = seal(rt.alloc(), message, outgoing)?;
-    print!(rt; "{reader} read ")?;
-    open(rt, &packet, incoming)?;
-    println!(rt)?;
-    Ok(())
+    let mut packet = Vec::new(rt.alloc());
+    seal(rt.alloc(), message, outgoing, &mut packet)?;
+    open(rt, reader, &packet, incoming)
 }
 
-/// The packet of a message.
-fn seal(alloc: Global, message: &[u8], outgoing: &Direction) -> anyhow::Result<Vec<u8>>
+/// Appends the packet of a message; the next one has the next number.
+fn seal(
+    alloc: Global,
+    message: &[u8],
+    outgoing: &mut Direction,
+    out: &mut Vec<u8>,
+) -> anyhow::Result<()>
     requires some { 0 < length message.now }
     requires short { length message.now ≤ 32768 }
 {
-    let (keys, number) = (&outgoing.keys, outgoing.sequence_number);
-    let mut packet = Vec::new(alloc);
-    write_sealed(alloc, &LabSuite, keys, number, message, SEED, &mut packet)?;
-    Ok(packet)
+    let number = outgoing.sequence_number;
+    write_sealed(alloc, &LabSuite, &outgoing.keys, number, message, SEED, out)?;
+    outgoing.sequence_number = number.wrapping_add(1);
+    Ok(())
 }
 
-/// Prints the message of a packet.
-fn open(rt: &HostRuntime, packet: &[u8], incoming: Direction) -> anyhow::Result<()> {
-    let (keys, number) = (incoming.keys, incoming.sequence_number);
-    let mut reader = PacketReader::with_keys(rt.alloc(), keys, number);
-    match reader.next(&LabSuite, packet)? {
-        PacketStep::Payload { payload, .. } => Ok(rt.stdout().write_all(payload)?),
+/// Says what a side reads in a piece that is one packet.
+fn open(
+    rt: &HostRuntime,
+    reader: &str,
+    piece: &[u8],
+    incoming: &mut PacketReader,
+) -> anyhow::Result<()> {
+    match incoming.next(&LabSuite, piece)? {
+        PacketStep::Payload { payload, .. } => show(rt, reader, payload),
         PacketStep::More => bail!("not whole"),
     }
+}
+
+/// Says what a side read.
+fn show(rt: &HostRuntime, reader: &str, payload: &[u8]) -> anyhow::Result<()> {
+    print!(rt; "{reader} read ")?;
+    rt.stdout().write_all(payload)?;
+    println!(rt)?;
+    Ok(())
 }
