@@ -119,7 +119,7 @@ fn method_len(method: &Method<'_>) -> u128
 }
 
 /// The length of an EXT_INFO, or some length above the limit where its own is.
-#[tactic(auto, using(crate::proofs::LengthLemmas::too_long, crate::proofs::LengthLemmas::not_within, crate::proofs::LengthLemmas::length_more, crate::proofs::LengthLemmas::length_all))]
+#[tactic(auto, using(crate::proofs::LengthLemmas::too_long, crate::proofs::LengthLemmas::length_more, crate::proofs::LengthLemmas::length_all))]
 fn ext_info_len(extensions: &[Extension<'_>]) -> u128
     ensures limit { nat_le result PAYLOAD_LIMIT ≡ nat_le (length (written_message (content.ExtInfo (pairs_of extensions.now)))) PAYLOAD_LIMIT }
     ensures exact { length (written_message (content.ExtInfo (pairs_of extensions.now))) ≤ PAYLOAD_LIMIT → result ≡ length (written_message (content.ExtInfo (pairs_of extensions.now))) }
