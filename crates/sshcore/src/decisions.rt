@@ -17,25 +17,33 @@ pub enum Proof<'a> {
     /// the signature was verified. Of a query: whether this key would do is asked, nothing was signed, and
     /// a yes lets nobody in.
     Key {
-        /// The name of the key's algorithm.
+        /// The name of the key's algorithm, as the request has it. An endpoint compares it with nothing. That
+        /// it fits the names inside the key and the signature is for the suite's `verify` to see; of a query,
+        /// of which nothing is verified, nobody has seen it. So decide by the whole blob.
         algorithm: &'a str,
-        /// The public key.
+        /// The public key, as the request has it.
         blob: &'a [u8],
     },
 }
 
-/// The decisions of whoever runs an endpoint. Each answer depends on its arguments alone.
+/// The decisions of whoever runs an endpoint. Each answer is a function of its arguments alone.
+///
+/// So what reads a clock, keeps a count of its own, or looks into a directory that changes while a session lasts is no
+/// lawful `Decisions`. Who has one takes the answers once, before the endpoint is made, and hands in a value
+/// that holds them; the next connection may get another.
 pub trait Decisions {
     ghost policy: { Self → Policy };
 
     /// Whether the public key of this algorithm is trusted as the server's host key (RFC 4253 section
-    /// 8).
+    /// 8). The algorithm is the one that was chosen; its name isn't compared with the one inside the blob,
+    /// and the server's signature is verified afterwards.
     fn host_key(&self, algorithm: &str, blob: &[u8]) -> bool
         ensures { result ≡ (policy self.now).host_key algorithm.now blob.now };
 
     /// Whether a request is good by what it proves, of requests counted from 1 (RFC 4252 section 5); of a
     /// query whether its key would do (section 7). A yes to a request lets the user in, unless methods
-    /// are required that aren't reached yet (section 5.1).
+    /// are required that aren't reached yet (section 5.1). It is asked of the method `none` too, whatever
+    /// methods the server lists: say no to `Proof::None` where nobody comes in without a proof.
     fn user(&self, request_number: u32, user: &str, service: &str, proof: &Proof<'_>) -> bool
         ensures { result ≡ (policy self.now).user request_number user.now service.now (proof_of proof.now) };
 }

@@ -131,6 +131,12 @@ impl<'a, S: Suite, D: Decisions> Endpoint<'a, S, D> {
     /// Answers how many bytes were used: all of them, unless the endpoint ends inside the piece; then
     /// those up to the place of the refusal, or to the end of the packet that ended it.
     ///
+    /// Keep what it didn't use. Behind the packet that authenticated the user those are the first bytes of
+    /// what follows, for the reader that goes on with the session, and a peer may send them in one piece
+    /// with that packet: a server its first messages behind SUCCESS, as OpenSSH's does; a client messages of
+    /// the service, and further requests, behind the one that succeeded (RFC 4252 section 5.1 has such
+    /// requests ignored, by whoever goes on).
+    ///
     /// An endpoint that has ended uses and appends nothing. Answers `Memory` where a growth was refused:
     /// the endpoint has then failed, and `out` has its old bytes followed by whole packets.
     pub fn feed(&mut self, piece: &[u8], out: &mut Vec<u8>) -> Result<usize, Memory>

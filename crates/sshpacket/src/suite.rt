@@ -82,12 +82,32 @@ pub struct Response {
 /// - A MAC is chosen and named also for a cipher with a tag of its own, and is then ignored by the
 ///   suite.
 ///
-/// Of what is deployed, these fit: chacha20-poly1305@openssh.com; AES-GCM where numbers begin at 0
-/// with the keys, as under strict key exchange, since its counter is then the number;
-/// curve25519-sha256, the curves of RFC 5656, the groups of RFC 8268, mlkem768x25519-sha256 and
-/// sntrup761x25519-sha512; ssh-ed25519, rsa-sha2-256 and ECDSA. These don't, since sealing depends on
-/// the packets before: aes-ctr and every -cbc. So the MACs -etm fit, but no cipher that is deployed
-/// beside them does. Group exchange (RFC 4419) has other messages.
+/// What a suite shall refuse, which no law can ask of it:
+///
+/// - In `shared` and `respond`: a share of another length than the method's, one of small order, of which
+///   everyone knows what comes of it (RFC 7748 section 6.1, RFC 8731 section 3), a point that isn't on its
+///   curve (RFC 5656 section 4), and a number that isn't from 1 to p - 1 (RFC 4253 section 8). They answer
+///   none, and the endpoint fails as F9.
+/// - In `verify`: a blob of another algorithm's key, a signature whose inner name is another one, bytes
+///   behind the last field of either, and every signature of an algorithm that it doesn't know. A blob of
+///   rsa-sha2-256 is named ssh-rsa, its signature rsa-sha2-256 (RFC 8332 section 3). Nothing else compares
+///   these names: an endpoint hands on the name that was chosen, or that stands in a request, and blobs and
+///   signatures as they came.
+/// - In `unseal`: a wrong tag, before anything is looked at that was deciphered, and in a time that doesn't
+///   tell where the tags differ.
+///
+/// What is deployed, and whether it fits:
+///
+/// | Algorithms | Fit |
+/// |---|---|
+/// | chacha20-poly1305@openssh.com | yes |
+/// | aes128-gcm@openssh.com, aes256-gcm@openssh.com | only where both sides are strict: a packet's nonce tells how many came before it under the same keys, and its number tells that only where numbers begin anew with the keys. A config is willing to be strict, and can't ask it of the peer |
+/// | aes128-ctr and each other -ctr, each -cbc | no: what is sealed depends on the packets before |
+/// | hmac-sha2-256, hmac-sha2-256-etm@openssh.com, umac-64@openssh.com and their like | as MACs they do; no cipher that is deployed beside them does |
+/// | curve25519-sha256, curve448-sha512 (RFC 8731), ecdh-sha2-nistp256 and its like (RFC 5656), diffie-hellman-group14-sha256 and its like (RFC 8268), mlkem768x25519-sha256, sntrup761x25519-sha512 | yes |
+/// | group exchange (RFC 4419), RSA key exchange (RFC 4432), GSS-API (RFC 4462) | no: they have other messages |
+/// | ssh-ed25519, ssh-ed448, ecdsa-sha2-nistp256 and its like, rsa-sha2-256, rsa-sha2-512 | yes |
+/// | keys on a token (sk-ssh-ed25519@openssh.com) | `verify` does; `sign` doesn't, since each signature has a counter in it |
 pub trait Suite {
     ghost meaning: { Self → Meaning };
 

@@ -27,6 +27,10 @@ use std::alloc::Global;
 /// How a client and a server of these configs end, the client's end first: without a message, where
 /// both use this suite and these decisions, and all that either sends reaches the other.
 ///
+/// Its premise is that the two understand each other (`AreUnderstood`): both come to one shared number,
+/// and the keys sign. It isn't looked at here: where it doesn't hold, two endpoints may end otherwise. So
+/// they may where either is in want of memory, or its input ends before.
+///
 /// The algorithms are chosen (RFC 4253 section 7.1). The client decides on the server's host key, which
 /// is its first one with the chosen algorithm (RFC 4253 section 8). Then the server judges the requests
 /// of the client's plan, one after another (RFC 4252 section 5). Where one succeeds, both have agreed on
