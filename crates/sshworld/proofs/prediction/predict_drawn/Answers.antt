@@ -5,7 +5,7 @@ use Rattle.sshcore.proofs.AgreeLemmas.{answered, named}
 use Rattle.sshworld.specs.AlgorithmsView.{algorithms_named}
 use Rattle.sshworld.specs.Outcome.{BothEnds}
 use Rattle.sshworld.proofs.OutcomeLemmas.{both_ok, outcome_by}
-use Rattle.sshworld.proofs.prediction.predict.Goals as goal
+use Rattle.sshworld.proofs.prediction.predict_drawn.Goals as goal
 
 pub returns-in-Err : goal.returns-in-Err
 returns-in-Err g c =
