@@ -64,38 +64,36 @@ fn lab(alloc: Global) -> Result<Lab, Fail> {
     })
 }
 
-/// Draws of which each byte is this one.
-fn draws_of(byte: u8) -> Draws {
+/// Draws of these bytes alone: of the cookie, and of both secrets.
+fn draws_of(cookie: u8, secret: u8) -> Draws {
     Draws {
-        cookie: [byte; 16],
-        exchange_random: [byte; 32],
-        padding_seed: [byte; 32],
+        cookie: [cookie; 16],
+        exchange_random: [secret; 32],
+        padding_seed: [secret; 32],
     }
 }
 
-/// A client with draws of this byte.
+/// A client with these draws.
 fn client_of<'a>(
     alloc: Global,
     lab: &'a Lab,
-    byte: u8,
+    draws: Draws,
     out: &mut Vec<u8>,
 ) -> Result<Box<LabEndpoint<'a>>, Fail> {
     let (config, decisions) = (&lab.client, &lab.decisions);
-    let endpoint =
-        Endpoint::client_with(alloc, config, draws_of(byte), &LabSuite, decisions, out)?;
+    let endpoint = Endpoint::client_with(alloc, config, draws, &LabSuite, decisions, out)?;
     Ok(Box::new(alloc, endpoint)?)
 }
 
-/// A server with draws of this byte.
+/// A server with these draws.
 fn server_of<'a>(
     alloc: Global,
     lab: &'a Lab,
-    byte: u8,
+    draws: Draws,
     out: &mut Vec<u8>,
 ) -> Result<Box<LabEndpoint<'a>>, Fail> {
     let (config, decisions) = (&lab.server, &lab.decisions);
-    let endpoint =
-        Endpoint::server_with(alloc, config, draws_of(byte), &LabSuite, decisions, out)?;
+    let endpoint = Endpoint::server_with(alloc, config, draws, &LabSuite, decisions, out)?;
     Ok(Box::new(alloc, endpoint)?)
 }
 
@@ -119,12 +117,12 @@ fn hear(
     Ok(())
 }
 
-/// Records a connection of a client with draws of the byte 1 and a server with draws of the byte 2.
+/// Records a connection of a client whose draws have the byte 1 and a server whose draws have the byte 2.
 fn record(alloc: Global, lab: &Lab) -> Result<Recording, Fail> {
     let mut to_server = Vec::new(alloc);
     let mut to_client = Vec::new(alloc);
-    let mut client = client_of(alloc, lab, 1, &mut to_server)?;
-    let mut server = server_of(alloc, lab, 2, &mut to_client)?;
+    let mut client = client_of(alloc, lab, draws_of(1, 1), &mut to_server)?;
+    let mut server = server_of(alloc, lab, draws_of(2, 2), &mut to_client)?;
     let mut recording = Recording {
         client: Vec::new(alloc),
         server: Vec::new(alloc),
@@ -171,16 +169,28 @@ fn replay(
     })
 }
 
-/// How a server with draws of this byte ends that is given what a client said to another.
-fn to_server(alloc: Global, lab: &Lab, byte: u8, recorded: &[u8]) -> Result<Replayed, Fail> {
+/// How a server with these draws ends that is given what a client said to another.
+fn to_server(
+    alloc: Global,
+    lab: &Lab,
+    draws: Draws,
+    recorded: &Recording,
+) -> Result<Replayed, Fail> {
     let mut out = Vec::new(alloc);
-    replay(alloc, server_of(alloc, lab, byte, &mut out)?, recorded)
+    let server = server_of(alloc, lab, draws, &mut out)?;
+    replay(alloc, server, &recorded.client)
 }
 
-/// How a client with draws of this byte ends that is given what a server said to another.
-fn to_client(alloc: Global, lab: &Lab, byte: u8, recorded: &[u8]) -> Result<Replayed, Fail> {
+/// How a client with these draws ends that is given what a server said to another.
+fn to_client(
+    alloc: Global,
+    lab: &Lab,
+    draws: Draws,
+    recorded: &Recording,
+) -> Result<Replayed, Fail> {
     let mut out = Vec::new(alloc);
-    replay(alloc, client_of(alloc, lab, byte, &mut out)?, recorded)
+    let client = client_of(alloc, lab, draws, &mut out)?;
+    replay(alloc, client, &recorded.server)
 }
 
 #[test]
@@ -188,8 +198,10 @@ fn refuses_a_recorded_client_by_fresh_draws(rt: HostRuntime) -> Result<(), Fail>
     let alloc = rt.alloc();
     let lab = lab(alloc)?;
     let recorded = record(alloc, &lab)?;
-    assert!(rt; to_server(alloc, &lab, 2, &recorded.client)? == Replayed::Authenticated);
-    assert!(rt; to_server(alloc, &lab, 3, &recorded.client)? == Replayed::BadKeys);
+    assert!(rt; to_server(alloc, &lab, draws_of(2, 2), &recorded)? == Replayed::Authenticated);
+    // The cookie alone is enough.
+    assert!(rt; to_server(alloc, &lab, draws_of(3, 2), &recorded)? == Replayed::BadKeys);
+    assert!(rt; to_server(alloc, &lab, draws_of(3, 3), &recorded)? == Replayed::BadKeys);
     Ok(())
 }
 
@@ -198,7 +210,8 @@ fn refuses_a_recorded_server_by_fresh_draws(rt: HostRuntime) -> Result<(), Fail>
     let alloc = rt.alloc();
     let lab = lab(alloc)?;
     let recorded = record(alloc, &lab)?;
-    assert!(rt; to_client(alloc, &lab, 1, &recorded.server)? == Replayed::Authenticated);
-    assert!(rt; to_client(alloc, &lab, 3, &recorded.server)? == Replayed::BadSignature);
+    assert!(rt; to_client(alloc, &lab, draws_of(1, 1), &recorded)? == Replayed::Authenticated);
+    assert!(rt; to_client(alloc, &lab, draws_of(3, 1), &recorded)? == Replayed::BadSignature);
+    assert!(rt; to_client(alloc, &lab, draws_of(3, 3), &recorded)? == Replayed::BadSignature);
     Ok(())
 }
