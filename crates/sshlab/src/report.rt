@@ -52,10 +52,7 @@ impl fmt::Display for EndText<'_> {
     }
 }
 
-fn write_complete<W: fmt::Write>(
-    f: &mut fmt::Formatter<W>,
-    complete: Option<bool>,
-) -> fmt::Result
+fn write_complete<W: fmt::Write>(f: &mut fmt::Formatter<W>, complete: Option<bool>) -> fmt::Result
     ensures { WritesOnOk W.write_str_gives f.old result (complete_text complete) f.new }
 {
     match complete {
