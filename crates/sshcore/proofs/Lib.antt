@@ -33,6 +33,7 @@ pub mod ConfigJudged
 pub mod ConfigLeast
 pub mod ConfigAccepted
 pub mod ConfigOffers
+pub mod RedrawnLemmas
 pub mod RequestLemmas
 pub mod MoveLemmas
 pub mod FeedLemmas

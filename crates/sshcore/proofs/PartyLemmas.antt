@@ -24,19 +24,6 @@ use Rattle.sshcore.specs.Exchange.{secret_of}
 use Rattle.sshcore.specs.Party.{client_party, server_party}
 use Rattle.sshcore.specs.Work.{name_or}
 
--- the lengths of the random bytes
-pub client_random : (client : ClientData) → IsClient client → length (client_party client).random ≡ 32
-client_random client is = (is.keeps fault.Random).random
-
-pub client_seed : (client : ClientData) → IsClient client → length (client_party client).seed ≡ 32
-client_seed client is = (is.keeps fault.Random).seed
-
-pub server_random : (server : ServerData) → IsServer server → length (server_party server).random ≡ 32
-server_random server is = (is.keeps fault.Random).random
-
-pub server_seed : (server : ServerData) → IsServer server → length (server_party server).seed ≡ 32
-server_seed server is = (is.keeps fault.Random).seed
-
 -- CR LF ends the text of a version line
 line_short : (text : List ℕ) → IsVersionText text → length (version_line text) ≤ 255
 line_short text is =

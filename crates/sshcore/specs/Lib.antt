@@ -25,6 +25,7 @@ pub mod ConfigView
 pub mod ConfigRules
 pub mod AttemptProps
 pub mod ConfigTests
+pub mod Redrawn
 pub mod ConfigParty
 pub mod Chosen
 pub mod ChosenView

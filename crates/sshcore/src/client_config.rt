@@ -10,13 +10,15 @@ ghost use Rattle.sshcore.specs.declared.config_fault.ConfigFault.TheVariants as 
 ghost use Rattle.sshcore.specs.ConfigData.{client_offer, version_of};
 ghost use Rattle.sshcore.specs.ConfigRules.{ClientRule, IsClient, IsLeastBroken};
 ghost use Rattle.sshcore.specs.ConfigView.{client_data};
+ghost use Rattle.sshcore.specs.Redrawn.{draws_of, redrawn_client};
 
 use crate::config_fault::ConfigFault;
 use crate::config_judge::client_refusal;
 use crate::config_kexinit::{kexinit_of, list_of};
-use crate::config_laws::config_law;
+use crate::config_laws::{config_law, draws_law};
 use crate::config_parts::ClientParts;
 use crate::config_version::{side_law, version_line};
+use crate::draws::{Draws, cookie_of, draws_of};
 use sshmsg::KexInit;
 use sshneg::Role;
 use sshwire::{Memory, VersionLine};
@@ -87,6 +89,15 @@ impl ClientConfig {
         self.parts.plan.len()
     }
 
+    /// The draws that stand in the parts, with which [`Endpoint::client`](crate::Endpoint::client) is made.
+    /// They serve one connection. Takes no memory.
+    pub fn draws(&self) -> Draws
+        ensures own { result ≡ draws_of self.now.side }
+        ensures same { redrawn_client result self.now ≡ self.now }
+    {
+        draws_of(&self.parts.side)
+    }
+
     /// The KEXINIT that an endpoint of this config sends (RFC 4253 section 7.1): the lists as they are,
     /// behind the methods the own marker where the side is willing to be strict, no compression and no
     /// languages. It fits a payload. Answers `Memory` for want of memory.
@@ -96,11 +107,33 @@ impl ClientConfig {
         ensures fits { length (written_message (content.KexInit (client_offer self.now))) ≤ PAYLOAD_LIMIT }
     {
         config_law();
+        self.kexinit_by(cookie_of(&self.parts.side.cookie))
+    }
+
+    /// The KEXINIT that an endpoint of this config with these draws sends: it has their cookie, and the rest
+    /// is that of [`ClientConfig::kexinit`]. It fits a payload. Answers `Memory` for want of memory.
+    pub fn kexinit_with<'b>(&'b self, draws: &'b Draws) -> Result<KexInit<'b>, Memory>
+        ensures offer { IfOk result (λ kexinit. offer_of kexinit ≡ client_offer (redrawn_client draws.now self.now)) }
+        ensures formed { IsOffer (client_offer (redrawn_client draws.now self.now)) }
+        ensures fits { length (written_message (content.KexInit (client_offer (redrawn_client draws.now self.now)))) ≤ PAYLOAD_LIMIT }
+    {
+        config_law();
+        draws_law(draws);
+        self.kexinit_by(&draws.cookie)
+    }
+
+    /// The KEXINIT of this config with this cookie.
+    fn kexinit_by<'b>(&'b self, cookie: &'b [u8; 16]) -> Result<KexInit<'b>, Memory>
+        ensures offer { IfOk result (λ kexinit. offer_of kexinit ≡ record (client_offer self.now) { cookie = cookie.now }) }
+        ensures accepted { IsClient self.now }
+    {
+        config_law();
         let host_keys = list_of(self.alloc, &self.parts.server_host_key_algorithms)?;
         kexinit_of(
             self.alloc,
             Role::Client,
             &self.parts.side,
+            cookie,
             host_keys,
             self.parts.guess,
         )

@@ -19,16 +19,17 @@ ghost use Rattle.sshneg.specs.Markers.{methods};
 
 use crate::client_config::ClientConfig;
 use crate::config_parts::{Attempt, HostKey, SideParts};
+use crate::draws::Draws;
 use crate::server_config::ServerConfig;
 use sshmsg::KexInit;
 use sshneg::Role;
 use sshwire::{Memory, VersionLine};
 
-/// The config of an endpoint, which tells its role.
-#[derive(Clone, Copy)]
+/// The config of an endpoint, which tells its role, and the draws of its connection.
+#[derive(Drop)]
 pub(crate) enum Config<'a> {
-    Client(&'a ClientConfig),
-    Server(&'a ServerConfig),
+    Client(&'a ClientConfig, Draws),
+    Server(&'a ServerConfig, Draws),
 }
 
 impl<'a> Config<'a> {
@@ -36,27 +37,50 @@ impl<'a> Config<'a> {
         ensures { result ≡ role_of self.now }
     {
         match self {
-            Config::Client(_) => Role::Client,
-            Config::Server(_) => Role::Server,
+            Config::Client(..) => Role::Client,
+            Config::Server(..) => Role::Server,
         }
     }
 
-    /// What both roles have.
+    /// What both roles have, besides draws.
     pub(crate) fn side(&self) -> &'a SideParts
         ensures strict { result.now.strict ≡ (party_of self.now).strict }
-        ensures random { result.now.exchange_random.items ≡ (party_of self.now).random }
-        ensures random_length { length (party_of self.now).random ≡ 32 }
-        ensures seed { result.now.padding_seed.items ≡ (party_of self.now).seed }
-        ensures seed_length { length (party_of self.now).seed ≡ 32 }
         // The methods are some names, and they are those of the KEXINIT, whose marker is no method.
         ensures methods { map string_bytes result.now.kex_algorithms.items ≡ methods (party_of self.now).offer.kex_algorithms }
         ensures some { 0 < length result.now.kex_algorithms.items }
         ensures names { AreNames (map string_bytes result.now.kex_algorithms.items) }
     {
         match self {
-            Config::Client(client) => &client.parts().side,
-            Config::Server(server) => &server.parts().side,
+            Config::Client(client, _) => &client.parts().side,
+            Config::Server(server, _) => &server.parts().side,
         }
+    }
+
+    /// What this connection has drawn.
+    fn draws(&self) -> &Draws
+        ensures random { result.now.exchange_random ≡ (party_of self.now).random }
+        ensures seed { result.now.padding_seed ≡ (party_of self.now).seed }
+    {
+        match self {
+            Config::Client(_, draws) => draws,
+            Config::Server(_, draws) => draws,
+        }
+    }
+
+    /// The secret of which the suite makes this side's share.
+    pub(crate) fn exchange_random(&self) -> &[u8]
+        ensures random { result.now ≡ (party_of self.now).random }
+        ensures random_length { length (party_of self.now).random ≡ 32 }
+    {
+        &self.draws().exchange_random
+    }
+
+    /// The secret of which the suite makes padding.
+    pub(crate) fn padding_seed(&self) -> &[u8]
+        ensures seed { result.now ≡ (party_of self.now).seed }
+        ensures seed_length { length (party_of self.now).seed ≡ 32 }
+    {
+        &self.draws().padding_seed
     }
 
     /// The version line that is sent.
@@ -65,19 +89,19 @@ impl<'a> Config<'a> {
         ensures short { length (version_line (party_of self.now).version) ≤ LINE_LIMIT }
     {
         match self {
-            Config::Client(client) => client.version(),
-            Config::Server(server) => server.version(),
+            Config::Client(client, _) => client.version(),
+            Config::Server(server, _) => server.version(),
         }
     }
 
     /// The KEXINIT that is sent.
-    pub(crate) fn kexinit(&self) -> Result<KexInit<'a>, Memory>
+    pub(crate) fn kexinit(&self) -> Result<KexInit<'_>, Memory>
         ensures offer { IfOk result (λ kexinit. offer_of kexinit ≡ (party_of self.now).offer) }
         ensures fits { length (written_message (content.KexInit (party_of self.now).offer)) ≤ PAYLOAD_LIMIT }
     {
         match self {
-            Config::Client(client) => client.kexinit(),
-            Config::Server(server) => server.kexinit(),
+            Config::Client(client, draws) => client.kexinit_with(draws),
+            Config::Server(server, draws) => server.kexinit_with(draws),
         }
     }
 
@@ -86,8 +110,8 @@ impl<'a> Config<'a> {
         ensures { result ≡ (party_of self.now).offer.first_kex_packet_follows }
     {
         match self {
-            Config::Client(client) => client.parts().guess,
-            Config::Server(_) => false,
+            Config::Client(client, _) => client.parts().guess,
+            Config::Server(..) => false,
         }
     }
 
@@ -104,8 +128,8 @@ impl<'a> Config<'a> {
         ensures { map (λ line. line.items) result.now ≡ (party_of self.now).notices }
     {
         match self {
-            Config::Client(_) => &[],
-            Config::Server(server) => &server.parts().notice_lines,
+            Config::Client(..) => &[],
+            Config::Server(server, _) => &server.parts().notice_lines,
         }
     }
 
@@ -115,8 +139,8 @@ impl<'a> Config<'a> {
         ensures short { length result.now ≤ PRIVATE_KEY_LIMIT }
     {
         match self {
-            Config::Client(_) => &[],
-            Config::Server(server) => secret_in(&server.parts().host_keys, algorithm),
+            Config::Client(..) => &[],
+            Config::Server(server, _) => secret_in(&server.parts().host_keys, algorithm),
         }
     }
 
@@ -126,8 +150,8 @@ impl<'a> Config<'a> {
         ensures accepted { AllByRecursion IsAttempt (map attempt_of result.now) }
     {
         match self {
-            Config::Client(client) => &client.parts().plan,
-            Config::Server(_) => &[],
+            Config::Client(client, _) => &client.parts().plan,
+            Config::Server(..) => &[],
         }
     }
 
@@ -137,8 +161,8 @@ impl<'a> Config<'a> {
         ensures short { IfSome result (λ service. length service.now ≤ NAME_LIMIT) }
     {
         match self {
-            Config::Client(_) => None,
-            Config::Server(server) => name_in(&server.parts().services, name),
+            Config::Client(..) => None,
+            Config::Server(server, _) => name_in(&server.parts().services, name),
         }
     }
 
@@ -147,8 +171,8 @@ impl<'a> Config<'a> {
         ensures { result ≡ is_in (party_of self.now).methods method.now }
     {
         match self {
-            Config::Client(_) => false,
-            Config::Server(server) => name_in(&server.parts().methods, method.as_bytes()).is_some(),
+            Config::Client(..) => false,
+            Config::Server(server, _) => name_in(&server.parts().methods, method.as_bytes()).is_some(),
         }
     }
 
@@ -159,8 +183,8 @@ impl<'a> Config<'a> {
         ensures short { length (names_body (party_of self.now).methods) ≤ LIST_LIMIT }
     {
         match self {
-            Config::Client(_) => &[],
-            Config::Server(server) => &server.parts().methods,
+            Config::Client(..) => &[],
+            Config::Server(server, _) => &server.parts().methods,
         }
     }
 
@@ -169,8 +193,8 @@ impl<'a> Config<'a> {
         ensures { map string_bytes result.now ≡ (party_of self.now).required }
     {
         match self {
-            Config::Client(_) => &[],
-            Config::Server(server) => &server.parts().required,
+            Config::Client(..) => &[],
+            Config::Server(server, _) => &server.parts().required,
         }
     }
 
@@ -180,8 +204,8 @@ impl<'a> Config<'a> {
         ensures bound { result ≤ TRIES_LIMIT }
     {
         match self {
-            Config::Client(_) => 0,
-            Config::Server(server) => server.parts().tries,
+            Config::Client(..) => 0,
+            Config::Server(server, _) => server.parts().tries,
         }
     }
 
@@ -191,8 +215,8 @@ impl<'a> Config<'a> {
         ensures short { IfSome result (λ text. length text.now ≤ BANNER_LIMIT) }
     {
         match self {
-            Config::Client(_) => None,
-            Config::Server(server) => server.parts().banner.as_deref(),
+            Config::Client(..) => None,
+            Config::Server(server, _) => server.parts().banner.as_deref(),
         }
     }
 }

@@ -30,19 +30,19 @@ struct Alike {
     languages_server_to_client: NameList,
 }
 
-/// The KEXINIT of a side of this role with these host key algorithms, which announces a guess or not.
-/// Answers `Memory` for want of memory, as each function below.
+/// The KEXINIT of a side of this role with this cookie and these host key algorithms, which announces a
+/// guess or not. Answers `Memory` for want of memory, as each function below.
 pub(crate) fn kexinit_of<'a>(
     alloc: Global,
     role: Role,
-    side: &'a SideParts,
+    side: &SideParts,
+    cookie: &'a [u8; 16],
     host_keys: NameList,
     guess: bool,
 ) -> Result<KexInit<'a>, Memory>
     requires { FitsKexInit (side_data side.now) }
-    ensures { IfOk result (λ k. offer_of k ≡ side_offer role (side_data side.now) host_keys guess) }
+    ensures { IfOk result (λ k. offer_of k ≡ record (side_offer role (side_data side.now) host_keys guess) { cookie = cookie.now }) }
 {
-    let cookie = cookie_of(&side.cookie);
     let kex_algorithms = kex_list(alloc, role, side)?;
     let directions = directions_of(alloc, side)?;
     let alike = lists_alike(alloc)?;
@@ -60,14 +60,6 @@ pub(crate) fn kexinit_of<'a>(
         languages_server_to_client: alike.languages_server_to_client,
         first_kex_packet_follows: guess,
     })
-}
-
-/// The 16 bytes of a cookie.
-fn cookie_of(cookie: &[u8]) -> &[u8; 16]
-    requires { length cookie.now ≡ 16 }
-    ensures { result.now ≡ cookie.now }
-{
-    cookie.as_array::<16>().unwrap()
 }
 
 /// The kex list with the marker, where the side is willing to be strict.

@@ -117,11 +117,13 @@ pub struct SideParts {
     /// Whether the side is willing to be strict (OpenSSH PROTOCOL section 1.10): its marker then stands
     /// last in the kex list that it sends.
     pub strict: bool,
-    /// The cookie of the KEXINIT: 16 random bytes.
+    /// The cookie of the KEXINIT: 16 random bytes. This and the next two are the parts' own draws, which
+    /// serve one connection: with a second one from the same draws the bytes that a client said in the
+    /// first are good again. [`Draws`](crate::Draws) gives each connection its own.
     pub cookie: Vec<u8>,
-    /// The secret of which the suite makes this side's share: 32 random bytes.
+    /// The secret of which the suite makes this side's share: 32 random bytes, for one connection.
     pub exchange_random: Vec<u8>,
-    /// The secret of which the suite makes padding: 32 random bytes.
+    /// The secret of which the suite makes padding: 32 random bytes, for one connection.
     pub padding_seed: Vec<u8>,
 }
 

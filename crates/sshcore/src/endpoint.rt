@@ -11,11 +11,13 @@ ghost use Rattle.sshcore.specs.ConfigParty.{party_of, role_of};
 ghost use Rattle.sshcore.specs.Endpoints.{After, Breaks, Cuts, Fed, HasUnfinished, Made, buffered_of, ending_of, turns_of};
 ghost use Rattle.sshcore.specs.Inputs.{CanRead, Steps, turns_left};
 ghost use Rattle.sshcore.specs.Kept.{kept_of};
+ghost use Rattle.sshcore.specs.Redrawn.{redrawn_client, redrawn_server};
 ghost use Rattle.sshcore.specs.Sessions.{IsSession};
 
 use crate::client_config::ClientConfig;
 use crate::config::Config;
 use crate::decisions::Decisions;
+use crate::draws::Draws;
 use crate::end::{End, Fault};
 use crate::greeting::say_lines;
 use crate::input::Input;
@@ -69,6 +71,9 @@ impl<'a, S: Suite, D: Decisions> Endpoint<'a, S, D> {
     /// A client that has heard nothing yet. Its version line, its KEXINIT and, where its config
     /// announces a guess, its share are appended to `out` (RFC 4253 sections 4.2, 7.1 and 7). Answers
     /// `Memory` where a growth was refused; `out` is then unchanged.
+    ///
+    /// Its draws are the config's own, so one config serves one connection this way: a second one would
+    /// say the same cookie and share again. [`Endpoint::client_with`] takes fresh draws.
     pub fn client(
         alloc: Global,
         config: &'a ClientConfig,
@@ -79,12 +84,33 @@ impl<'a, S: Suite, D: Decisions> Endpoint<'a, S, D> {
         ensures made { IfOk result (λ e. Made S.meaning D.policy Client (client_party config.now) suite.now decisions.now e out.old.items out.new.items) }
         ensures memory { OnErr result (out.new.items ≡ out.old.items) }
     {
-        Endpoint::begin(alloc, Config::Client(config), suite, decisions, out)
+        Endpoint::client_with(alloc, config, config.draws(), suite, decisions, out)
+    }
+
+    /// The same with these draws: its KEXINIT has their cookie, its share is made of their exchange random,
+    /// and its padding of their seed; all else is the config's. So one config serves any number of
+    /// connections, each with fresh random draws.
+    pub fn client_with(
+        alloc: Global,
+        config: &'a ClientConfig,
+        draws: Draws,
+        suite: &'a S,
+        decisions: &'a D,
+        out: &mut Vec<u8>,
+    ) -> Result<Endpoint<'a, S, D>, Memory>
+        ensures made { IfOk result (λ e. Made S.meaning D.policy Client (client_party (redrawn_client draws config.now)) suite.now decisions.now e out.old.items out.new.items) }
+        ensures memory { OnErr result (out.new.items ≡ out.old.items) }
+    {
+        Endpoint::begin(alloc, Config::Client(config, draws), suite, decisions, out)
     }
 
     /// A server that has heard nothing yet. Its notice lines, its version line and its KEXINIT are
     /// appended to `out` (RFC 4253 sections 4.2 and 7.1). Answers `Memory` where a growth was refused;
     /// `out` is then unchanged.
+    ///
+    /// Its draws are the config's own, so one config serves one connection this way. To a second server of
+    /// the same draws the bytes of a client that were recorded at the first are good again, and it ends
+    /// authenticated without that client. [`Endpoint::server_with`] takes fresh draws.
     pub fn server(
         alloc: Global,
         config: &'a ServerConfig,
@@ -95,7 +121,25 @@ impl<'a, S: Suite, D: Decisions> Endpoint<'a, S, D> {
         ensures made { IfOk result (λ e. Made S.meaning D.policy Server (server_party config.now) suite.now decisions.now e out.old.items out.new.items) }
         ensures memory { OnErr result (out.new.items ≡ out.old.items) }
     {
-        Endpoint::begin(alloc, Config::Server(config), suite, decisions, out)
+        Endpoint::server_with(alloc, config, config.draws(), suite, decisions, out)
+    }
+
+    /// The same with these draws: its KEXINIT has their cookie, its share is made of their exchange random,
+    /// and its padding of their seed; all else is the config's. So one config serves any number of
+    /// connections, each with fresh random draws: what a client once said is then good in none but the
+    /// connection that it was said in, since the session identifier depends on the cookie.
+    pub fn server_with(
+        alloc: Global,
+        config: &'a ServerConfig,
+        draws: Draws,
+        suite: &'a S,
+        decisions: &'a D,
+        out: &mut Vec<u8>,
+    ) -> Result<Endpoint<'a, S, D>, Memory>
+        ensures made { IfOk result (λ e. Made S.meaning D.policy Server (server_party (redrawn_server draws config.now)) suite.now decisions.now e out.old.items out.new.items) }
+        ensures memory { OnErr result (out.new.items ≡ out.old.items) }
+    {
+        Endpoint::begin(alloc, Config::Server(config, draws), suite, decisions, out)
     }
 
     /// An endpoint that has heard nothing yet.
@@ -119,10 +163,10 @@ impl<'a, S: Suite, D: Decisions> Endpoint<'a, S, D> {
         state.say_making(&config, suite, &mut said)?;
         out.extend_from_slice(&said)?;
         Ok(Endpoint {
+            input: Input::new(alloc, config.role()),
             config,
             suite,
             decisions,
-            input: Input::new(alloc, config.role()),
             state,
         })
     }

@@ -111,7 +111,7 @@ impl State<'_> {
             ≡ (S.meaning suite.now).respond (kept_of self.now).known.algorithms.kex (party_of config.now).random share.now) }
     {
         let algorithms = self.algorithms.as_ref().unwrap();
-        let random = &config.side().exchange_random;
+        let random = config.exchange_random();
         suite.respond(self.alloc, algorithms.kex(), random, share)
     }
 
@@ -193,7 +193,7 @@ impl State<'_> {
         if !decisions.host_key(algorithms.host_key(), reply.host_key) {
             return self.fail(config, suite, Fault::HostKey, said);
         }
-        let random = &config.side().exchange_random;
+        let random = config.exchange_random();
         match suite.shared(self.alloc, algorithms.kex(), random, reply.share)? {
             None => self.fail(config, suite, Fault::Exchange, said),
             Some(shared) => self.judge_reply(config, suite, reply, &shared, said),
@@ -247,7 +247,7 @@ impl State<'_> {
         ensures short { IfOk result (λ hash. length hash.items ≤ DIGEST_LIMIT) }
     {
         let algorithms = self.algorithms.as_ref().unwrap();
-        let random = &config.side().exchange_random;
+        let random = config.exchange_random();
         let own = suite.public(self.alloc, algorithms.kex(), random)?;
         let shares = Shares {
             host_key: reply.host_key,
@@ -375,7 +375,7 @@ fn answer_law<S: Suite>(config: &Config<'_>, suite: &S)
     ensures shared { (kex share : List ℕ) (r : ResponseData) → (S.meaning suite.now).respond kex (party_of config.now).random share ≡ Some r
         → length r.shared ≤ SHARE_LIMIT }
 {
-    config.side();
+    config.exchange_random();
 }
 
 /// What this side has and what its peer has, the client's first.
@@ -384,8 +384,8 @@ fn in_order<'a>(config: &Config<'_>, own: &'a [u8], peer: &'a [u8]) -> (&'a [u8]
     ensures server { result.1.now ≡ server_of (role_of config.now) own.now peer.now }
 {
     match config {
-        Config::Client(_) => (own, peer),
-        Config::Server(_) => (peer, own),
+        Config::Client(..) => (own, peer),
+        Config::Server(..) => (peer, own),
     }
 }
 

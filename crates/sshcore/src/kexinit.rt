@@ -144,8 +144,8 @@ fn opens(config: &Config<'_>, right: bool) -> bool
     ensures server { role_of config.now ≡ Server → result ≡ false }
 {
     match config {
-        Config::Client(_) => !(config.guesses() && right),
-        Config::Server(_) => false,
+        Config::Client(..) => !(config.guesses() && right),
+        Config::Server(..) => false,
     }
 }
 

@@ -14,6 +14,7 @@ mod config_laws;
 mod config_parts;
 mod config_version;
 mod decisions;
+mod draws;
 mod end;
 mod endpoint;
 mod endpoint_laws;
@@ -34,13 +35,14 @@ mod table;
 
 pub use client_config::ClientConfig;
 pub use config_fault::ConfigFault;
-pub use config_laws::config_law;
+pub use config_laws::{config_law, draws_law};
 pub use config_parts::{
     Attempt, BANNER_LIMIT, ClientParts, Credential, HostKey, LIST_LIMIT, NOTICE_LIMIT,
     NOTICE_LINE_LIMIT, PASSWORD_LIMIT, PLAN_LIMIT, PRIVATE_KEY_LIMIT, ServerParts, SideParts,
     TRIES_LIMIT, USER_LIMIT,
 };
 pub use decisions::{Decisions, Proof};
+pub use draws::Draws;
 pub use end::{Agreed, End, Fault};
 pub use endpoint::Endpoint;
 pub use endpoint_laws::endpoint_law;

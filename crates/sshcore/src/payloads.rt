@@ -53,7 +53,7 @@ pub(crate) fn init_payload<S: Suite>(
     requires { IsName kex.now }
     ensures { IfOk result (λ made. IsMade (init_for (S.meaning suite.now) (party_of config.now) kex.now) made.items) }
 {
-    let share = suite.public(alloc, kex, &config.side().exchange_random)?;
+    let share = suite.public(alloc, kex, config.exchange_random())?;
     share_payload(alloc, suite.share_form(kex), &share)
 }
 

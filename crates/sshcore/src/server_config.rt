@@ -10,13 +10,15 @@ ghost use Rattle.sshcore.specs.declared.config_fault.ConfigFault.TheVariants as 
 ghost use Rattle.sshcore.specs.ConfigData.{server_offer, version_of};
 ghost use Rattle.sshcore.specs.ConfigRules.{ServerRule, IsServer, IsLeastBroken};
 ghost use Rattle.sshcore.specs.ConfigView.{server_data};
+ghost use Rattle.sshcore.specs.Redrawn.{draws_of, redrawn_server};
 
 use crate::config_fault::ConfigFault;
 use crate::config_judge::server_refusal;
 use crate::config_kexinit::{kexinit_of, list_of_host_keys};
-use crate::config_laws::config_law;
+use crate::config_laws::{config_law, draws_law};
 use crate::config_parts::ServerParts;
 use crate::config_version::{side_law, version_line};
+use crate::draws::{Draws, cookie_of, draws_of};
 use sshmsg::KexInit;
 use sshneg::Role;
 use sshwire::{Memory, VersionLine};
@@ -79,6 +81,15 @@ impl ServerConfig {
         &self.parts
     }
 
+    /// The draws that stand in the parts, with which [`Endpoint::server`](crate::Endpoint::server) is made.
+    /// They serve one connection. Takes no memory.
+    pub fn draws(&self) -> Draws
+        ensures own { result ≡ draws_of self.now.side }
+        ensures same { redrawn_server result self.now ≡ self.now }
+    {
+        draws_of(&self.parts.side)
+    }
+
     /// The KEXINIT that an endpoint of this config sends (RFC 4253 section 7.1): the lists as they are,
     /// behind the methods the own marker where the side is willing to be strict, no compression and no
     /// languages, and no guess. It fits a payload. Answers `Memory` for want of memory.
@@ -88,8 +99,36 @@ impl ServerConfig {
         ensures fits { length (written_message (content.KexInit (server_offer self.now))) ≤ PAYLOAD_LIMIT }
     {
         config_law();
+        self.kexinit_by(cookie_of(&self.parts.side.cookie))
+    }
+
+    /// The KEXINIT that an endpoint of this config with these draws sends: it has their cookie, and the rest
+    /// is that of [`ServerConfig::kexinit`]. It fits a payload. Answers `Memory` for want of memory.
+    pub fn kexinit_with<'b>(&'b self, draws: &'b Draws) -> Result<KexInit<'b>, Memory>
+        ensures offer { IfOk result (λ kexinit. offer_of kexinit ≡ server_offer (redrawn_server draws.now self.now)) }
+        ensures formed { IsOffer (server_offer (redrawn_server draws.now self.now)) }
+        ensures fits { length (written_message (content.KexInit (server_offer (redrawn_server draws.now self.now)))) ≤ PAYLOAD_LIMIT }
+    {
+        config_law();
+        draws_law(draws);
+        self.kexinit_by(&draws.cookie)
+    }
+
+    /// The KEXINIT of this config with this cookie.
+    fn kexinit_by<'b>(&'b self, cookie: &'b [u8; 16]) -> Result<KexInit<'b>, Memory>
+        ensures offer { IfOk result (λ kexinit. offer_of kexinit ≡ record (server_offer self.now) { cookie = cookie.now }) }
+        ensures accepted { IsServer self.now }
+    {
+        config_law();
         let host_keys = list_of_host_keys(self.alloc, &self.parts.host_keys)?;
-        kexinit_of(self.alloc, Role::Server, &self.parts.side, host_keys, false)
+        kexinit_of(
+            self.alloc,
+            Role::Server,
+            &self.parts.side,
+            cookie,
+            host_keys,
+            false,
+        )
     }
 
     /// The version line that an endpoint of this config sends. Takes no memory.

@@ -149,7 +149,7 @@ impl<'a> State<'a> {
             ++ spelled_by (S.meaning suite.now) (kept_of self.old).sending.keys (party_of config.now).seed (kept_of self.old).sending.number payload.now) }
         ensures counts { OnOk result (kept_of self.new ≡ record (kept_of self.old) { sending = with_packet (kept_of self.old).sending }) }
     {
-        let seed = &config.side().padding_seed;
+        let seed = config.padding_seed();
         match &self.keys_out {
             None => write_clear(self.alloc, suite, self.number_out, payload, seed, said)?,
             Some(keys) => {

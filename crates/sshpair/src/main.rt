@@ -1,15 +1,19 @@
 //! The program `sshpair`: a client and a server carry each other's bytes over two vectors until the user is
-//! authenticated, and then send one message each way by what they hand over.
+//! authenticated, and then send one message each way by what they hand over. Each draws fresh bytes for
+//! its connection from the system's random source.
 #![tactic(auto)]
 
 ghost use Rattle.std.specs.Prelude.{◌<◌, ◌≤◌, length};
 
 use anyhow::bail;
-use sshcore::{Attempt, ClientConfig, Credential, Direction, Endpoint, ServerConfig, Session};
+use sshcore::{
+    Attempt, ClientConfig, Credential, Direction, Draws, Endpoint, ServerConfig, Session,
+};
 use sshpacket::{PacketReader, PacketStep, write_sealed};
 use sshsuites::{LabDecisions, LabSuite, lab_client_parts, lab_server_parts};
 use std::alloc::Global;
 use std::io::Write;
+use std::random::RandomSource;
 
 /// How often each side is given what the other has said.
 const ROUNDS: u32 = 4;
@@ -23,7 +27,7 @@ type LabEndpoint<'a> = Endpoint<'a, LabSuite, LabDecisions>;
 fn main(rt: HostRuntime) -> anyhow::Result<()> {
     let alloc = rt.alloc();
     let theirs = server_config(alloc)?;
-    let (client, server) = connect(alloc, &theirs)?;
+    let (client, server) = connect(&rt, &theirs)?;
     tell(&rt, &client, &server)?;
     carry(
         &rt,
@@ -73,23 +77,40 @@ fn decisions(alloc: Global) -> anyhow::Result<LabDecisions> {
     Ok(decisions)
 }
 
+/// Fresh draws for one connection, from the system's random source.
+fn draw(rt: &HostRuntime) -> anyhow::Result<Draws> {
+    let mut cookie = [0; 16];
+    let (mut exchange_random, mut padding_seed) = ([0; 32], [0; 32]);
+    rt.fill_bytes(&mut cookie)?;
+    rt.fill_bytes(&mut exchange_random)?;
+    rt.fill_bytes(&mut padding_seed)?;
+    Ok(Draws {
+        cookie,
+        exchange_random,
+        padding_seed,
+    })
+}
+
 /// What both sides hand over once the user is authenticated.
-fn connect(alloc: Global, theirs: &ServerConfig) -> anyhow::Result<(Session, Session)> {
-    let ours = client_config(alloc)?;
-    let decisions = decisions(alloc)?;
-    authenticate(alloc, &ours, theirs, &decisions)
+fn connect(rt: &HostRuntime, theirs: &ServerConfig) -> anyhow::Result<(Session, Session)> {
+    let ours = client_config(rt.alloc())?;
+    let decisions = decisions(rt.alloc())?;
+    authenticate(rt, &ours, theirs, &decisions)
 }
 
 /// The same with these configs.
 fn authenticate(
-    alloc: Global,
+    rt: &HostRuntime,
     ours: &ClientConfig,
     theirs: &ServerConfig,
     decisions: &LabDecisions,
 ) -> anyhow::Result<(Session, Session)> {
+    let alloc = rt.alloc();
     let mut to_server = Vec::new(alloc);
-    let mut client = Endpoint::client(alloc, ours, &LabSuite, decisions, &mut to_server)?;
-    let server = serve(alloc, theirs, decisions, &mut client, &mut to_server)?;
+    let draws = draw(rt)?;
+    let mut client =
+        Endpoint::client_with(alloc, ours, draws, &LabSuite, decisions, &mut to_server)?;
+    let server = serve(rt, theirs, decisions, &mut client, &mut to_server)?;
     match client.into_session() {
         Some(client) => Ok((client, server)),
         None => bail!("not authenticated"),
@@ -98,14 +119,17 @@ fn authenticate(
 
 /// What a server hands over that was made for this client.
 fn serve(
-    alloc: Global,
+    rt: &HostRuntime,
     config: &ServerConfig,
     decisions: &LabDecisions,
     client: &mut LabEndpoint<'_>,
     to_server: &mut Vec<u8>,
 ) -> anyhow::Result<Session> {
+    let alloc = rt.alloc();
     let mut to_client = Vec::new(alloc);
-    let mut server = Endpoint::server(alloc, config, &LabSuite, decisions, &mut to_client)?;
+    let draws = draw(rt)?;
+    let mut server =
+        Endpoint::server_with(alloc, config, draws, &LabSuite, decisions, &mut to_client)?;
     talk(client, &mut server, to_server, &mut to_client)?;
     match server.into_session() {
         Some(session) => Ok(session),

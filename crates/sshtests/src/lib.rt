@@ -20,4 +20,6 @@ mod packets;
 #[cfg(test)]
 mod padding;
 #[cfg(test)]
+mod replays;
+#[cfg(test)]
 mod version_lines;

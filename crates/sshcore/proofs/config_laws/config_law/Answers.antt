@@ -1,4 +1,5 @@
 use Rattle.sshcore.proofs.ConfigOffers.{client_few, client_fits, client_formed, client_unmarked, server_few, server_fits, server_formed, server_unmarked}
+use Rattle.sshcore.proofs.RedrawnLemmas.{client_redrawn, server_redrawn}
 use Rattle.sshcore.proofs.config_laws.config_law.Goals as goal
 
 pub returns-clause-client_offer : goal.returns-clause-client_offer
@@ -24,3 +25,9 @@ returns-clause-client_few c = client_few c.names_law.ensures.body
 
 pub returns-clause-server_few : goal.returns-clause-server_few
 returns-clause-server_few c = server_few c.names_law.ensures.body
+
+pub returns-clause-client_redrawn : goal.returns-clause-client_redrawn
+returns-clause-client_redrawn c = client_redrawn
+
+pub returns-clause-server_redrawn : goal.returns-clause-server_redrawn
+returns-clause-server_redrawn c = server_redrawn

@@ -1,17 +1,5 @@
-use Rattle.sshcore.proofs.PartyLemmas.{client_parts_methods, client_parts_names, client_parts_some, client_random, client_seed, server_parts_methods, server_parts_names, server_parts_some, server_random, server_seed}
+use Rattle.sshcore.proofs.PartyLemmas.{client_parts_methods, client_parts_names, client_parts_some, server_parts_methods, server_parts_names, server_parts_some}
 use Rattle.sshcore.proofs.config.Config.side.Goals as goal
-
-pub returns-in-Client-clause-random_length : goal.returns-in-Client-clause-random_length
-returns-in-Client-clause-random_length c = rw c.in-Client.is (client_random c.in-Client.client.now c.parts.ensures.accepted)
-
-pub returns-in-Client-clause-seed_length : goal.returns-in-Client-clause-seed_length
-returns-in-Client-clause-seed_length c = rw c.in-Client.is (client_seed c.in-Client.client.now c.parts.ensures.accepted)
-
-pub returns-in-Server-clause-random_length : goal.returns-in-Server-clause-random_length
-returns-in-Server-clause-random_length c = rw c.in-Server.is (server_random c.in-Server.server.now c.parts-in-Server.ensures.accepted)
-
-pub returns-in-Server-clause-seed_length : goal.returns-in-Server-clause-seed_length
-returns-in-Server-clause-seed_length c = rw c.in-Server.is (server_seed c.in-Server.server.now c.parts-in-Server.ensures.accepted)
 
 pub returns-in-Client-clause-methods : goal.returns-in-Client-clause-methods
 returns-in-Client-clause-methods c = rw c.in-Client.is (client_parts_methods c.parts.result.now c.in-Client.client.now c.parts.ensures.same c.parts.ensures.accepted)

@@ -1,17 +1,8 @@
-use Rattle.std.proofs.Common.{◌≡◌, ◌≤◌, arith, length, map, rules}
-use Rattle.std.proofs.lemmas.List.{length-map}
-use Rattle.sshcore.specs.ConfigView.{host_key_of, server_data}
+use Rattle.sshcore.specs.ConfigView.{server_data}
 use Rattle.sshcore.proofs.server_config.ServerConfig.kexinit.Goals as goal
 
-pub list_of_host_keys-requires : goal.list_of_host_keys-requires
-list_of_host_keys-requires c =
-    let keys = c.self.inside.parts.host_keys.items in
-    let few : length (map host_key_of keys) ≤ 1001 = (c.config_law.ensures.server_few (server_data c.self.inside.parts) c.self.invariant.1).1 in
-    let same : length (map host_key_of keys) ≡ length keys = length-map keys host_key_of in
-    grind arith
-
-pub kexinit_of-requires : goal.kexinit_of-requires
-kexinit_of-requires c = (c.config_law.ensures.server_few (server_data c.self.inside.parts) c.self.invariant.1).0
+pub cookie_of-requires : goal.cookie_of-requires
+cookie_of-requires c = rw c.deref.ensures.value ((c.config_law.ensures.server_few (server_data c.self.inside.parts) c.self.invariant.1).0.cookie)
 
 pub returns-clause-formed : goal.returns-clause-formed
-returns-clause-formed c = c.config_law.ensures.server_offer c.args.self.now (search rules)
+returns-clause-formed c = c.config_law.ensures.server_offer c.args.self.now c.kexinit_by.ensures.accepted

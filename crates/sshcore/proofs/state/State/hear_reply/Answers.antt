@@ -26,11 +26,11 @@ judge_reply-requires-clause-shared g c =
     let random : List ℕ = (party_of c.args.config.now).random in
     let share : List ℕ = c.args.reply.now.share.now in
     let given : m.shared kex random share ≡ Some c.in-Some.shared.items =
-    made_some (λ v. v.items) (λ (k r : List ℕ). m.shared k r share) c.kex.result.now kex c.deref.result.now random c.in_ok-shared.field-0 c.in-Some.shared
-    c.kex.ensures.kex (c.deref.ensures.value ∙ c.side.ensures.random) c.in_ok-shared.ensures c.in-Some.is in
-    rw c.deref-in-Some.ensures.value
+    made_some (λ v. v.items) (λ (k r : List ℕ). m.shared k r share) c.kex.result.now kex c.exchange_random-random.result.now random c.in_ok-shared.field-0 c.in-Some.shared
+    c.kex.ensures.kex c.exchange_random-random.ensures.random c.in_ok-shared.ensures c.in-Some.is in
+    rw c.deref.ensures.value
     (shared_short (m.share_form kex) c.in-Some.shared.items
-    ((g.met.S.Suite.lawful c.args.suite.now).shared_fits kex random share c.in-Some.shared.items c.side.ensures.random_length given))
+    ((g.met.S.Suite.lawful c.args.suite.now).shared_fits kex random share c.in-Some.shared.items c.exchange_random-random.ensures.random_length given))
 
 pub returns-in-None-clause-hears : goal.returns-in-None-clause-hears
 returns-in-None-clause-hears g c =
@@ -45,8 +45,8 @@ returns-in-None-clause-hears g c =
     decided (λ (name : List ℕ). d.host_key name host_key) c.host_key.result.now old.known.algorithms.host_key c.host_key-2.result true
     (c.host_key.ensures.host_key ∙ ap (λ a. a.host_key) names) c.host_key-2.ensures c.if-not-host_key.false in
     let none : m.shared old.known.algorithms.kex random share ≡ None =
-    made_none (λ v. v.items) (λ (k r : List ℕ). m.shared k r share) c.kex.result.now old.known.algorithms.kex c.deref.result.now random c.in_ok-shared.field-0
-    (c.kex.ensures.kex ∙ ap (λ a. a.kex) names) (c.deref.ensures.value ∙ c.side.ensures.random) c.in_ok-shared.ensures c.in-None.is in
+    made_none (λ v. v.items) (λ (k r : List ℕ). m.shared k r share) c.kex.result.now old.known.algorithms.kex c.exchange_random-random.result.now random c.in_ok-shared.field-0
+    (c.kex.ensures.kex ∙ ap (λ a. a.kex) names) c.exchange_random-random.ensures.random c.in_ok-shared.ensures c.in-None.is in
     on_ok_weaker c.fail-in-None.result
     (λ gives message read told form. reply_fails m d (party_of c.args.config.now) old (kept_of c.fail-in-None.new.self) c.args.said.now.items c.fail-in-None.new.said.items
     message host_key share c.args.reply.now.signature.now read told on none gives)
@@ -65,10 +65,10 @@ returns-in-Some-clause-hears g c =
     decided (λ (name : List ℕ). d.host_key name host_key) c.host_key.result.now old.known.algorithms.host_key c.host_key-2.result true
     (c.host_key.ensures.host_key ∙ ap (λ a. a.host_key) names) c.host_key-2.ensures c.if-not-host_key.false in
     let given : m.shared old.known.algorithms.kex random share ≡ Some c.in-Some.shared.items =
-    made_some (λ v. v.items) (λ (k r : List ℕ). m.shared k r share) c.kex.result.now old.known.algorithms.kex c.deref.result.now random c.in_ok-shared.field-0
-    c.in-Some.shared (c.kex.ensures.kex ∙ ap (λ a. a.kex) names) (c.deref.ensures.value ∙ c.side.ensures.random) c.in_ok-shared.ensures c.in-Some.is in
+    made_some (λ v. v.items) (λ (k r : List ℕ). m.shared k r share) c.kex.result.now old.known.algorithms.kex c.exchange_random-random.result.now random c.in_ok-shared.field-0
+    c.in-Some.shared (c.kex.ensures.kex ∙ ap (λ a. a.kex) names) c.exchange_random-random.ensures.random c.in_ok-shared.ensures c.in-Some.is in
     on_ok_weaker c.judge_reply.result
     (λ judged message read told form. reply_judged m d (party_of c.args.config.now) old (kept_of c.judge_reply.new.self) c.args.said.now.items
-    c.judge_reply.new.said.items message host_key share c.args.reply.now.signature.now read told (role_of c.args.config.now) c.deref-in-Some.result.now
-    c.in-Some.shared.items c.requires.client c.deref-in-Some.ensures.value on given c.requires.open c.requires.at form judged)
+    c.judge_reply.new.said.items message host_key share c.args.reply.now.signature.now read told (role_of c.args.config.now) c.deref.result.now
+    c.in-Some.shared.items c.requires.client c.deref.ensures.value on given c.requires.open c.requires.at form judged)
     c.judge_reply.ensures.judges

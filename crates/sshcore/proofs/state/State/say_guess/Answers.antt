@@ -6,6 +6,7 @@ use Rattle.sshcore.specs.declared.config.Config.{Config}
 use Rattle.sshcore.specs.declared.config.Config.TheVariants as config
 use Rattle.sshcore.specs.ConfigParty.{party_of, role_of}
 use Rattle.sshcore.specs.Party.{Party, client_party}
+use Rattle.sshcore.specs.Redrawn.{redrawn_client}
 use Rattle.sshcore.specs.Work.{guess_of, guessed_method, init_for}
 use Rattle.sshcore.proofs.GivesLemmas.{gives_as, gives_nothing, gives_one, on_both, quiet_init}
 use Rattle.sshcore.proofs.state.State.say_guess.Goals as goal
@@ -17,9 +18,9 @@ unguessed m Client party e = ap (λ (b : Bool). cond b (init_for m party (guesse
 
 -- one is made, so by a client
 guessed : (m : Meaning) (c : Config) → true ≡ (party_of c).offer.first_kex_packet_follows → init_for m (party_of c) (guessed_method (party_of c)) ∷ [] ≡ guess_of m (role_of c) (party_of c)
-guessed m (config.Client client) e =
-    ap (λ (b : Bool). cond b (init_for m (client_party client.now) (guessed_method (client_party client.now)) ∷ []) []) e
-guessed m (config.Server server) e = absurd cc
+guessed m (config.Client client draws) e =
+    ap (λ (b : Bool). cond b (init_for m (client_party (redrawn_client draws client.now)) (guessed_method (client_party (redrawn_client draws client.now))) ∷ []) []) e
+guessed m (config.Server server draws) e = absurd cc
 
 pub returns-then-not-guesses-clause-gives : goal.returns-then-not-guesses-clause-gives
 returns-then-not-guesses-clause-gives g c = λ strict next.
