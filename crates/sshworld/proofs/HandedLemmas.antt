@@ -1,6 +1,6 @@
 -- What the two endpoints of a world hand over.
 
-use Rattle.std.proofs.Common.{◌≡◌, ◌≢◌, ◌⊎◌, inl, inr, ℕ, List, Option, None, Some, take, drop, refl, sym, ap, subst, ◌∙◌}
+use Rattle.std.proofs.Common.{◌≡◌, ◌≢◌, ◌⊎◌, inl, inr, ℕ, List, [], Option, None, Some, take, drop, refl, sym, ap, subst, ◌∙◌}
 use Rattle.std.proofs.lemmas.List.{take-append-drop}
 use Rattle.sshpacket.specs.Places.{IsPrefix}
 use Rattle.sshpacket.specs.Suite.{Meaning}
@@ -44,7 +44,7 @@ not_both x y r q first second off one other e f = by (is_authenticated x) (is_au
     by (inl a) (inr not) = none_some q other (second not) f
     by (inr not) b = none_some r one (first not) e
 
-module _ {S D : Type 0} (meaning : S → Meaning) (policy : D → Policy) (c : ClientData) (sc : ServerData) (suite : S) (decisions : D) (client server : Node S D)
+module _ {S D : Type 0} (meaning : S → Meaning) (policy : D → Policy) (c : ClientData) (s : ServerData) (suite : S) (decisions : D) (client server : Node S D)
     (stands : NodesStand meaning policy c s suite decisions client server) (a b : AgreedData) (is : ending_of client.endpoint ≡ Authenticated a) (other_is : ending_of server.endpoint ≡ Authenticated b) where
   pub client_after : After meaning policy client.endpoint (take client.used server.sent.items) client.sent.items
   client_after = stands.client_stands.after (had (ending_of client.endpoint) a is)

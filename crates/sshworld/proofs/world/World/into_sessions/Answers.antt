@@ -1,27 +1,42 @@
-use Rattle.std.proofs.Common.{rules, ◌≡◌, ◌≢◌, ◌↔◌, ◌+◌, ◌≤◌, IfOk, IsTrue, None, Ok, OnErr, OnOk, min, ℕ, ◌-◌, ◌*◌, ◌<◌, length, ◌/◌, ◌%◌, Bool, true, false, nat_eq, nat_lt, List, [], ◌∷◌, ◌++◌, slice_index_or, slice_set, bit_and, bit_or, Fits, w8, w32, w64, Bor, MutBor}
-use Rattle.sshcore.specs.ConfigRules.{IsClient, IsServer}
-use Rattle.sshcore.specs.Ending.{AgreedData, Authenticated, Open, ending}
-use Rattle.sshworld.specs.Conversed.{EachReplies, IsNew}
-use Rattle.sshworld.specs.Offered.{most_requests}
-use Rattle.sshworld.specs.Deliveries.{Delivered, DoneAll, Refused, RefusedAll, Round, RoundInto, Rounds, RoundsInto, Runs, RunsInto}
-use Rattle.sshworld.specs.Joined.{HandOver}
-use Rattle.sshworld.specs.WorldCourse.{AreUnderstoodIn, HearsAll, IsOnCourse, KeepsCourse, KeepsHeadline}
-use Rattle.sshworld.specs.WorldRounds.{HearsRound, HearsTurn, Settles}
-use Rattle.sshworld.specs.Worlds.{Complete, HadMemory, IsSameSetup, half_at, waiting_for}
+use Rattle.std.proofs.Common.{◌≡◌, Option, None, Some}
+use Rattle.sshcore.specs.declared.session.Session.{Session}
+use Rattle.sshcore.specs.Endpoints.{ending_of}
+use Rattle.sshworld.proofs.HandedLemmas.{client_after, handed, nodes_joined, not_both, server_after}
 use Rattle.sshworld.proofs.world.World.into_sessions.Goals as goal
 
--- src/world.rt:268:25
+none_some : (r : Option Session) (x : Session) → r ≡ None → r ≡ Some x → ⊥
+none_some r x none some = cc
+
 pub returns-in_err-of_client-clause-sessions : goal.returns-in_err-of_client-clause-sessions
-returns-in_err-of_client-clause-sessions g c = ?
+returns-in_err-of_client-clause-sessions g c =
+    let i = c.self.inside in
+    rw (← c.self.view_is) (λ a b is other_is.
+    let told = c.into_session.ensures.session _ _ (client_after g.S.Suite.meaning g.D.Decisions.policy i.client_config i.server_config i.suite.now i.decisions.now i.client i.server c.self.invariant.nodes a b is other_is) a is in
+    absurd (none_some c.into_session.result told.0 c.in_err-of_client.was told.1))
 
--- src/world.rt:269:25
 pub returns-in_err-of_server-clause-sessions : goal.returns-in_err-of_server-clause-sessions
-returns-in_err-of_server-clause-sessions g c = ?
+returns-in_err-of_server-clause-sessions g c =
+    let i = c.self.inside in
+    rw (← c.self.view_is) (λ a b is other_is.
+    let told = c.into_session-2.ensures.session _ _ (server_after g.S.Suite.meaning g.D.Decisions.policy i.client_config i.server_config i.suite.now i.decisions.now i.client i.server c.self.invariant.nodes a b is other_is) b other_is in
+    absurd (none_some c.into_session-2.result told.0 c.in_err-of_server.was told.1))
 
--- src/world.rt:260:5
 pub returns-clause-sessions : goal.returns-clause-sessions
-returns-clause-sessions g c = ?
+returns-clause-sessions g c =
+    let i = c.self.inside in
+    let m = g.S.Suite.meaning in
+    let d = g.D.Decisions.policy in
+    rw (← c.self.view_is) (λ a b is other_is.
+    handed m d i.client_config i.server_config i.suite.now i.decisions.now i.client i.server c.self.invariant.nodes a b is other_is
+    c.in_ok-of_client.of_client c.in_ok-of_server.of_server c.into_session.result c.into_session-2.result c.in_ok-of_client.was c.in_ok-of_server.was
+    (c.into_session.ensures.session _ _ (client_after m d i.client_config i.server_config i.suite.now i.decisions.now i.client i.server c.self.invariant.nodes a b is other_is) a is)
+    (c.into_session-2.ensures.session _ _ (server_after m d i.client_config i.server_config i.suite.now i.decisions.now i.client i.server c.self.invariant.nodes a b is other_is) b other_is)
+    (λ x y u sx sy. c.session_law.ensures.crosswise i.client_config i.server_config i.client.endpoint i.server.endpoint _ _ _ _
+    c.self.invariant.client_accepted c.self.invariant.server_accepted u
+    (nodes_joined m d i.client_config i.server_config i.suite.now i.decisions.now i.client i.server c.self.invariant.nodes a b is other_is) a b is other_is x y sx sy))
 
--- src/world.rt:260:5
 pub returns-clause-none : goal.returns-clause-none
-returns-clause-none g c = ?
+returns-clause-none g c =
+    let i = c.self.inside in
+    rw (← c.self.view_is) (λ off. absurd (not_both (ending_of i.client.endpoint) (ending_of i.server.endpoint) c.into_session.result c.into_session-2.result c.into_session.ensures.none c.into_session-2.ensures.none off
+    c.in_ok-of_client.of_client c.in_ok-of_server.of_server c.in_ok-of_client.was c.in_ok-of_server.was))
