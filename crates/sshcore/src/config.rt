@@ -172,7 +172,10 @@ impl<'a> Config<'a> {
     {
         match self {
             Config::Client(..) => false,
-            Config::Server(server, _) => name_in(&server.parts().methods, method.as_bytes()).is_some(),
+            Config::Server(server, _) => name_in(
+                &server.parts().methods,
+                method.as_bytes(),
+            ).is_some(),
         }
     }
 
