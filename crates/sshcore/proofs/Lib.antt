@@ -19,7 +19,6 @@ pub mod KnownLemmas
 pub mod CountingLemmas
 pub mod StandingLemmas
 pub mod StreamLemmas
-pub mod KeyLengths
 pub mod KeyedLemmas
 pub mod HistoryLemmas
 pub mod OneHistory

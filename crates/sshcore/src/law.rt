@@ -9,7 +9,7 @@ ghost use Rattle.sshmsg.specs.Numbers.{kind};
 ghost use Rattle.sshpacket.specs.Parse.{Refusal, refused, unfinished, whole};
 ghost use Rattle.sshpacket.specs.Places.{IsPrefix, flat_places};
 ghost use Rattle.sshpacket.specs.Stream.{IsIncremental, Said, Units};
-ghost use Rattle.sshpacket.specs.Suite.{HasLengths, IsLawful, KeysFit, Meaning};
+ghost use Rattle.sshpacket.specs.Suite.{Meaning};
 ghost use Rattle.sshneg.specs.declared.role.Role.{Role};
 ghost use Rattle.sshneg.specs.declared.role.Role.TheVariants.{Server};
 ghost use Rattle.sshneg.specs.ExchangeEnd.{offer_in};
@@ -19,7 +19,7 @@ ghost use Rattle.sshcore.specs.declared.table.Phase.TheVariants as phase;
 ghost use Rattle.sshcore.specs.Authenticated.{IsAuthenticated};
 ghost use Rattle.sshcore.specs.Before.{count_kept, kept, wrong_guess};
 ghost use Rattle.sshcore.specs.Counting.{number_in, number_out, switched_out};
-ghost use Rattle.sshcore.specs.Directions.{keys_in, keys_out, parsers, payloads_in, spells};
+ghost use Rattle.sshcore.specs.Directions.{parsers, payloads_in, spells};
 ghost use Rattle.sshcore.specs.Ending.{AgreedData, Authenticated, Ending, Failed, Open, disconnect};
 ghost use Rattle.sshcore.specs.Exchange.{keys_at, keys_by};
 ghost use Rattle.sshcore.specs.History.{AllFit, BrokenOff, History, IsOneHistory, IsReady};
@@ -146,18 +146,6 @@ pub fn saying_law()
         → (switched_out answers ≡ true → IsReady role party (payloads_in units))
         → Said (spells m role party units) s (party.version ∷ answers) → Said (spells m role party (units ++ more)) s (party.version ∷ answers) }
 {}
-
-/// The law of keys (RFC 4253 section 7.2): those of an exchange are as long as the suite asks for, so the
-/// laws of sealing hold of whatever keys an endpoint hears and says packets with, or hands over.
-pub fn keys_law()
-    ensures fit { (m : Meaning) → IsLawful m → (role : Role) (party : Party) (version : List ℕ) (before : Units) (sender : Role)
-        → HasLengths m (keys_at m role party version before sender) }
-    ensures incoming { (m : Meaning) → IsLawful m → (role : Role) (party : Party) (version : List ℕ) (before : Units)
-        → KeysFit m (keys_in m role party version before) }
-    ensures outgoing { (m : Meaning) → IsLawful m → (role : Role) (party : Party) (heard said : Units) → KeysFit m (keys_out m role party heard said) }
-{
-    sshneg::derivation_law();
-}
 
 /// The law of histories: what an endpoint has heard and said, before any byte and with each piece more;
 /// and that its input decides the bytes that it uses and all the rest, in whatever pieces it came.

@@ -47,9 +47,7 @@ pub use draws::Draws;
 pub use end::{Agreed, End, Fault};
 pub use endpoint::Endpoint;
 pub use endpoint_laws::endpoint_law;
-pub use law::{
-    authentication_law, history_law, keys_law, reached_law, saying_law, standing_law, strict_law,
-};
+pub use law::{authentication_law, history_law, reached_law, saying_law, standing_law, strict_law};
 pub use limits_laws::limits_law;
 pub use server_config::ServerConfig;
 pub use session::{Direction, Session};

@@ -1,12 +1,10 @@
 -- Keys grow hash by hash, and are as long as is asked for.
 
-use Rattle.std.proofs.Common.{◌≡◌, ℕ, zero, suc, ◌+◌, ◌<◌, ◌≤◌, ◌-◌, List, ◌∷◌, ◌++◌, length, min, take, refl, sym, ap, ◌∙◌, subst, arith}
+use Rattle.std.proofs.Common.{◌≡◌, ℕ, zero, suc, ◌+◌, ◌<◌, ◌≤◌, ◌-◌, List, ◌∷◌, ◌++◌, length, min, take, refl, sym, ap, ◌∙◌, arith}
 use Rattle.std.proofs.lemmas.List.{length-append, length-take-le, length-take, take-append-le}
-use Rattle.sshneg.specs.declared.role.Role.{Role}
-use Rattle.sshneg.specs.Derivations.{KeySource, derived, enc_letter, grown, hash_with, iv_letter, key, mac_letter}
+use Rattle.sshneg.specs.Derivations.{KeySource, grown, hash_with, key}
 use Rattle.sshneg.specs.Growing.{Grows}
-use Rattle.sshpacket.specs.KeyData.{KeyData}
-use Rattle.sshpacket.specs.Suite.{HasLengths, IsLawful, Meaning}
+use Rattle.sshpacket.specs.Suite.{IsLawful, Meaning}
 use Rattle.sshpacket.specs.declared.limits.TheConstants.{DIGEST_LIMIT}
 
 one_more : (m : Meaning) (x : KeySource) (first : List ℕ) (n : ℕ) → grown m x first (n + 1) ≡ grown m x first n ++ hash_with m x (grown m x first n)
@@ -58,17 +56,6 @@ pub key_length : (m : Meaning) → IsLawful m → (x : KeySource) (letter len : 
 unfolding key
 key_length m law x letter len =
     length-take-le len (grown m x (hash_with m x (letter ∷ x.session)) len) (grown_long m law x (hash_with m x (letter ∷ x.session)) len)
-
-pub has_lengths : (m : Meaning) → IsLawful m → (x : KeySource) (sender : Role) (cipher mac : List ℕ) → HasLengths m (derived m x sender cipher mac)
-unfolding derived
-has_lengths m law x sender cipher mac = record {
-  iv = key_length m law x (iv_letter sender) (m.key_lens cipher mac).iv;
-  enc = key_length m law x (enc_letter sender) (m.key_lens cipher mac).enc;
-  mac = key_length m law x (mac_letter sender) (m.key_lens cipher mac).mac;
-}
-
-pub lengths_of : (m : Meaning) → IsLawful m → (x : KeySource) (sender : Role) (cipher mac : List ℕ) (keys : KeyData) → keys ≡ derived m x sender cipher mac → HasLengths m keys
-lengths_of m law x sender cipher mac keys e = subst (λ (k : KeyData). HasLengths m k) (sym e) (has_lengths m law x sender cipher mac)
 
 -- as many hashes as one likes give the same key, once there are enough bytes
 more_hashes : (m : Meaning) (x : KeySource) (first : List ℕ) (len n k : ℕ) → len ≤ length (grown m x first n)

@@ -3,7 +3,6 @@
 ghost use Rattle.std.specs.Prelude.{◌≡◌, ◌+◌, ◌<◌, ◌≤◌, ◌-◌, ◌^◌, IfOk, length, take};
 ghost use Rattle.sshwire.specs.Types.{IsName};
 ghost use Rattle.sshpacket.specs.declared.limits.TheConstants.{DIGEST_LIMIT};
-ghost use Rattle.sshpacket.specs.Suite.{HasLengths};
 ghost use Rattle.sshneg.specs.Derivations.{derived, enc_letter, exchange_size, exchange_text, grown, hash_with, iv_letter, key, mac_letter, signed_text, source_size};
 ghost use Rattle.sshneg.specs.ExchangeView.{exchange_of, source_of};
 
@@ -113,9 +112,7 @@ pub fn keys_of<S: Suite>(
     requires cipher { IsName cipher.now }
     requires mac { IsName mac.now }
     requires short { source_size (source_of material.now) < 2 ^ 31 }
-    ensures exact { IfOk result (λ keys. keys ≡ derived (S.meaning suite.now) (source_of material.now) sender cipher.now mac.now) }
-    // They are as long as the suite asks for, so its laws of sealing hold of them.
-    ensures lengths { IfOk result (λ keys. HasLengths (S.meaning suite.now) keys) }
+    ensures { IfOk result (λ keys. keys ≡ derived (S.meaning suite.now) (source_of material.now) sender cipher.now mac.now) }
 {
     let lens = suite.key_lens(cipher, mac);
     let iv = key_of(alloc, suite, material, iv_letter(sender), lens.iv)?;

@@ -5,7 +5,7 @@ ghost use Rattle.std.specs.Prelude.{◌≡◌, ◌+◌, ◌≤◌, ◌∷◌, �
 ghost use Rattle.sshwire.specs.Types.{AreNames, IsName};
 ghost use Rattle.sshmsg.specs.Content.{KexInit, Offer};
 ghost use Rattle.sshmsg.specs.Written.{IsWellFormed, written_message};
-ghost use Rattle.sshpacket.specs.Suite.{Agrees, HasLengths, IsLawful, Meaning, ResponseData, Signs};
+ghost use Rattle.sshpacket.specs.Suite.{Agrees, IsLawful, Meaning, ResponseData, Signs};
 ghost use Rattle.sshneg.specs.declared.role.Role.TheVariants.{Client, Server};
 ghost use Rattle.sshneg.specs.declared.choice.Chosen.{Chosen};
 ghost use Rattle.sshneg.specs.declared.choice.NoCommon.{NoCommon};
@@ -93,7 +93,6 @@ pub fn derivation_law()
         → length (derived m x sender cipher mac).enc ≡ (m.key_lens cipher mac).enc }
     ensures mac { (m : Meaning) → IsLawful m → (x : KeySource) (sender : Role) (cipher mac : List ℕ)
         → length (derived m x sender cipher mac).mac_key ≡ (m.key_lens cipher mac).mac }
-    ensures lengths { (m : Meaning) → IsLawful m → (x : KeySource) (sender : Role) (cipher mac : List ℕ) → HasLengths m (derived m x sender cipher mac) }
     // As few hashes as reach the length give the key.
     ensures hashes { (m : Meaning) → IsLawful m → (x : KeySource) (letter len n : ℕ) → n ≤ len
         → len ≤ length (grown m x (hash_with m x (letter ∷ x.session)) n)

@@ -11,7 +11,7 @@ use Rattle.sshpacket.specs.declared.fault.PacketFault.TheVariants.{Empty, Length
 use Rattle.sshpacket.specs.Parse.{Parse, OfLine, OfPacket, Protection, parse_packet, is_length, opened, refused, total, unfinished, unsealed, protection, whole}
 use Rattle.sshpacket.specs.KeyData.{KeyData}
 use Rattle.sshpacket.specs.Packet.{IsPacket, number}
-use Rattle.sshpacket.specs.Suite.{IsLawful, Keeps, KeysFit, Meaning}
+use Rattle.sshpacket.specs.Suite.{IsLawful, Keeps, Meaning}
 use Rattle.sshpacket.specs.ProtectedPacket.{IsFaithful, IsProtectedPacket, IsWhole, PacketMeans, Refuses}
 use Rattle.sshpacket.proofs.ParseLemmas.{parse_bad, parse_full, parse_part, parse_short, length_from, length_never, length_not, length_of}
 use Rattle.sshpacket.proofs.Opening.{opened_empty, opened_packet, opened_padding, opened_whole, packet_length_is, packet_number, packet_of_parts, number_first}
@@ -176,10 +176,10 @@ keeps_clear bytes clear each size e =
       bytes_are = rw same at each;
     }
 
--- in clear and with keys as long as a suite asks for the length is kept
-pub faithful : (m : Meaning) → IsLawful m → (keys : Option KeyData) (seq : ℕ) → KeysFit m keys → seq < 2 ^ 32 → IsFaithful (protection m keys seq)
-faithful m law None seq fit h = record { keeps = keeps_clear }
-faithful m law (Some keys) seq fit h = record { keeps = λ bytes clear each size e. law.unsealed keys seq bytes clear fit h each size e }
+-- in clear and with a suite's keys the length is kept
+pub faithful : (m : Meaning) → IsLawful m → (keys : Option KeyData) (seq : ℕ) → seq < 2 ^ 32 → IsFaithful (protection m keys seq)
+faithful m law None seq h = record { keeps = keeps_clear }
+faithful m law (Some keys) seq h = record { keeps = λ bytes clear each size e. law.unsealed keys seq bytes clear h each size e }
 
 -- a clear packet is a unit in clear, and the other way round
 packet_size : IsReading Uint32Text uint32_at → (payload bytes : List ℕ) → IsPacket true 8 0 payload bytes → length bytes ≡ 4 + number (take 4 bytes) + 0

@@ -9,7 +9,7 @@ use Rattle.sshwire.specs.Types.{IsBytes, Uint32Text, uint32}
 use Rattle.sshpacket.specs.Parse.{parse_packet, protection, whole}
 use Rattle.sshpacket.specs.KeyData.{KeyData}
 use Rattle.sshpacket.specs.Packet.{IsLeastPadding, IsLength, IsPacket, counted, least_padding, length_field, number, packet, to_multiple, alignment, with_four}
-use Rattle.sshpacket.specs.Suite.{HasLengths, IsLawful, Meaning}
+use Rattle.sshpacket.specs.Suite.{IsLawful, Meaning}
 use Rattle.sshpacket.specs.Written.{IsWritten, written}
 use Rattle.sshpacket.proofs.LeastPadding.{least_is}
 use Rattle.sshpacket.proofs.Opening.{packet_length_is, packet_number, number_first}
@@ -113,18 +113,18 @@ clear_again r m seq payload clear rest k =
     parse_unit (protection m None seq) payload clear (clear ++ rest) (length clear) (omega arith) (omega arith)
     (ap (λ (xs : List ℕ). Some xs) (take_at clear rest (length clear) refl)) k (omega arith) (omega arith)
 
-pub sealed_again : IsReading Uint32Text uint32_at → (m : Meaning) → IsLawful m → (keys : KeyData) (seq : ℕ) (payload clear rest : List ℕ) → HasLengths m keys → seq < 2 ^ 32 → IsBytes clear
+pub sealed_again : IsReading Uint32Text uint32_at → (m : Meaning) → IsLawful m → (keys : KeyData) (seq : ℕ) (payload clear rest : List ℕ) → seq < 2 ^ 32 → IsBytes clear
     → IsPacket (m.counts_length keys.cipher keys.mac) (m.block keys.cipher) (m.tag_len keys.cipher keys.mac) payload clear
     → parse_packet (protection m (Some keys) seq) (m.seal keys seq clear ++ rest) ≡ whole payload (length (m.seal keys seq clear))
-sealed_again r m law keys seq payload clear rest fit low each k =
+sealed_again r m law keys seq payload clear rest low each k =
     let wide : 12 ≤ length clear = packet_long (m.counts_length keys.cipher keys.mac) (m.block keys.cipher) (m.tag_len keys.cipher keys.mac) payload clear k in
-    let size : length (m.seal keys seq clear) ≡ length clear + m.tag_len keys.cipher keys.mac = law.seal_length keys seq payload clear fit low (each, k) in
+    let size : length (m.seal keys seq clear) ≡ length clear + m.tag_len keys.cipher keys.mac = law.seal_length keys seq payload clear low (each, k) in
     let all : length (m.seal keys seq clear ++ rest) ≡ length (m.seal keys seq clear) + length rest = length-append (m.seal keys seq clear) rest in
     let counts : length clear ≡ 4 + number clear = packet_counts r (m.counts_length keys.cipher keys.mac) (m.block keys.cipher) (m.tag_len keys.cipher keys.mac) payload clear k in
     let first : take 4 (m.seal keys seq clear ++ rest) ≡ take 4 (m.seal keys seq clear) = first_same (m.seal keys seq clear) rest (omega arith) in
     let head : m.head keys seq (take 4 (m.seal keys seq clear ++ rest)) ≡ number clear
-    = ap (λ (xs : List ℕ). m.head keys seq xs) first ∙ law.head_of_seal keys seq payload clear fit low (each, k) in
+    = ap (λ (xs : List ℕ). m.head keys seq xs) first ∙ law.head_of_seal keys seq payload clear low (each, k) in
     parse_unit (protection m (Some keys) seq) payload clear (m.seal keys seq clear ++ rest) (length (m.seal keys seq clear)) (omega arith) (omega arith)
     (ap (λ (xs : List ℕ). m.unseal keys seq xs) (take_at (m.seal keys seq clear) rest (length (m.seal keys seq clear)) refl)
-    ∙ law.unseal_of_seal keys seq payload clear fit low (each, k))
+    ∙ law.unseal_of_seal keys seq payload clear low (each, k))
     k (omega arith) (omega arith)

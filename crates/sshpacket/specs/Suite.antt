@@ -1,6 +1,6 @@
 -- What a suite of algorithms answers, as functions on byte lists, and the laws that hold of them.
 
-use Rattle.std.specs.Prelude.{◌≡◌, ℕ, ◌+◌, ◌^◌, ◌<◌, ◌≤◌, ◌⊎◌, Bool, true, false, List, [], length, take, slice_index, Option, None, Some, option_map}
+use Rattle.std.specs.Prelude.{◌≡◌, ℕ, ◌+◌, ◌^◌, ◌<◌, ◌≤◌, ◌⊎◌, Bool, true, false, List, [], length, take, slice_index, Option, Some, option_map}
 use Rattle.sshwire.specs.Types.{IsBytes, IsName}
 use Rattle.sshpacket.specs.declared.suite.Capability.{Capability}
 use Rattle.sshpacket.specs.declared.suite.KeyLens.{KeyLens}
@@ -81,34 +81,22 @@ pub record Keeps (n : ℕ) (clear : List ℕ) : Type 0 where
   pub field_is : number clear ≡ n
   pub bytes_are : IsBytes clear
 
--- the initialisation vector and both keys are as long as the suite asks for, by the names of the cipher and the MAC (RFC 4253
--- section 7.2)
-pub record HasLengths (m : Meaning) (keys : KeyData) : Type 0 where
-  pub iv : length keys.iv ≡ (m.key_lens keys.cipher keys.mac).iv
-  pub enc : length keys.enc ≡ (m.key_lens keys.cipher keys.mac).enc
-  pub mac : length keys.mac_key ≡ (m.key_lens keys.cipher keys.mac).mac
-
--- the same where there may be no keys yet
-abbrev pub KeysFit : Meaning → Option KeyData → Type 0
-KeysFit m None = Unit {0}
-KeysFit m (Some keys) = HasLengths m keys
-
 -- the packet is one that is sealed with these keys
 abbrev pub IsSealable : Meaning → KeyData → List ℕ → List ℕ → Type 0
 IsSealable m keys payload clear = IsBytes clear × IsPacket (m.counts_length keys.cipher keys.mac) (m.block keys.cipher) (m.tag_len keys.cipher keys.mac) payload clear
 
 -- The laws of one end. Outside the conditions of a call its function may be chosen as one likes, so the laws ask for no names
--- where they don't need them. Of keys of other lengths than the suite asks for they say nothing.
+-- where they don't need them.
 pub record IsLawful (m : Meaning) : Type 0 where
   -- sealing adds the tag, keeps the length field readable from the first four bytes alone, and is undone by unsealing
-  pub seal_length : (keys : KeyData) (seq : ℕ) (payload clear : List ℕ) → HasLengths m keys → seq < 2 ^ 32 → IsSealable m keys payload clear
+  pub seal_length : (keys : KeyData) (seq : ℕ) (payload clear : List ℕ) → seq < 2 ^ 32 → IsSealable m keys payload clear
       → length (m.seal keys seq clear) ≡ length clear + m.tag_len keys.cipher keys.mac
-  pub head_of_seal : (keys : KeyData) (seq : ℕ) (payload clear : List ℕ) → HasLengths m keys → seq < 2 ^ 32 → IsSealable m keys payload clear
+  pub head_of_seal : (keys : KeyData) (seq : ℕ) (payload clear : List ℕ) → seq < 2 ^ 32 → IsSealable m keys payload clear
       → m.head keys seq (take 4 (m.seal keys seq clear)) ≡ number clear
-  pub unseal_of_seal : (keys : KeyData) (seq : ℕ) (payload clear : List ℕ) → HasLengths m keys → seq < 2 ^ 32 → IsSealable m keys payload clear
+  pub unseal_of_seal : (keys : KeyData) (seq : ℕ) (payload clear : List ℕ) → seq < 2 ^ 32 → IsSealable m keys payload clear
       → m.unseal keys seq (m.seal keys seq clear) ≡ Some clear
   -- what is unsealed has the length that was read before, whatever came in
-  pub unsealed : (keys : KeyData) (seq : ℕ) (sealed clear : List ℕ) → HasLengths m keys → seq < 2 ^ 32 → IsBytes sealed
+  pub unsealed : (keys : KeyData) (seq : ℕ) (sealed clear : List ℕ) → seq < 2 ^ 32 → IsBytes sealed
       → length sealed ≡ 4 + m.head keys seq (take 4 sealed) + m.tag_len keys.cipher keys.mac
       → m.unseal keys seq sealed ≡ Some clear → Keeps (m.head keys seq (take 4 sealed)) clear
   -- shares and shared numbers have the method's form
@@ -130,7 +118,7 @@ pub record IsLawful (m : Meaning) : Type 0 where
   pub blob_high : (alg secret : List ℕ) → IsName alg → length (m.blob alg secret) ≤ BLOB_LIMIT
   pub sign_high : (alg secret input : List ℕ) → IsName alg → length (m.sign alg secret input) ≤ SIGNATURE_LIMIT
   -- what is sent is bytes
-  pub seal_bytes : (keys : KeyData) (seq : ℕ) (clear : List ℕ) → HasLengths m keys → IsBytes clear → IsBytes (m.seal keys seq clear)
+  pub seal_bytes : (keys : KeyData) (seq : ℕ) (clear : List ℕ) → IsBytes clear → IsBytes (m.seal keys seq clear)
   pub padding_bytes : (seed : List ℕ) (seq len : ℕ) → IsBytes (m.padding seed seq len)
   pub share_bytes : (kex a : List ℕ) → IsBytes a → IsBytes (m.share kex a)
   pub shared_bytes : (kex a peer body : List ℕ) → IsBytes a → IsBytes peer → m.shared kex a peer ≡ Some body → IsBytes body

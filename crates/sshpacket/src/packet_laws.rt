@@ -8,7 +8,7 @@ ghost use Rattle.sshwire.specs.Types.{IsBytes};
 ghost use Rattle.sshpacket.specs.Parse.{Parse, Protection, parse_packet, protection, whole};
 ghost use Rattle.sshpacket.specs.KeyData.{KeyData};
 ghost use Rattle.sshpacket.specs.Packet.{IsPacket};
-ghost use Rattle.sshpacket.specs.Suite.{HasLengths, IsLawful, KeysFit, Meaning, ResponseData, has_number_shares, shares_number};
+ghost use Rattle.sshpacket.specs.Suite.{IsLawful, Meaning, ResponseData, has_number_shares, shares_number};
 ghost use Rattle.sshpacket.specs.Shares.{IsShare};
 ghost use Rattle.sshpacket.specs.ProtectedPacket.{IsFaithful, IsProtectedPacket, PacketMeans};
 ghost use Rattle.sshpacket.specs.Written.{IsWritten, written, written_clear, written_sealed};
@@ -16,8 +16,8 @@ ghost use Rattle.sshpacket.specs.Written.{IsWritten, written, written_clear, wri
 /// The law of packets (RFC 4253 section 6): what is read at the front of bytes is what stands there,
 /// and nothing else.
 pub fn packet_law()
-    // In clear, and with keys as long as a suite asks for, what is unsealed has the length that was read.
-    ensures faithful { (m : Meaning) → IsLawful m → (keys : Option KeyData) (seq : ℕ) → KeysFit m keys → seq < 2 ^ 32 → IsFaithful (protection m keys seq) }
+    // In clear and with the keys of any suite, what is unsealed has the length that was read.
+    ensures faithful { (m : Meaning) → IsLawful m → (keys : Option KeyData) (seq : ℕ) → seq < 2 ^ 32 → IsFaithful (protection m keys seq) }
     ensures found { (w : Protection) (bytes : List ℕ) → IsFaithful w → IsBytes bytes → PacketMeans w bytes (parse_packet w bytes) }
     ensures only { (w : Protection) (bytes : List ℕ) → IsFaithful w → IsBytes bytes → (answer : Parse) → PacketMeans w bytes answer → parse_packet w bytes ≡ answer }
     // In clear a protected packet is a packet.
@@ -29,7 +29,7 @@ pub fn packet_law()
 }
 
 /// The law of writing: a written packet is one, with the least padding, of bytes, and is read again
-/// as its payload, whatever follows; a sealed one with keys as long as the suite asks for.
+/// as its payload, whatever follows.
 pub fn writing_law()
     ensures written { (m : Meaning) → IsLawful m → (counts : Bool) (block tag : ℕ) (seed : List ℕ) (seq : ℕ) (payload : List ℕ) → block ≤ BLOCK_LIMIT → tag ≤ TAG_LIMIT
         → 0 < length payload → length payload ≤ PAYLOAD_LIMIT → IsWritten counts block tag payload (written m counts block seed seq payload) }
@@ -37,7 +37,7 @@ pub fn writing_law()
         → IsBytes (written m counts block seed seq payload) }
     ensures clear { (m : Meaning) → IsLawful m → (seed : List ℕ) (seq : ℕ) (payload rest : List ℕ) → 0 < length payload → length payload ≤ PAYLOAD_LIMIT
         → parse_packet (protection m None seq) (written_clear m seed seq payload ++ rest) ≡ whole payload (length (written_clear m seed seq payload)) }
-    ensures sealed { (m : Meaning) → IsLawful m → (keys : KeyData) → HasLengths m keys → (seed : List ℕ) (seq : ℕ) (payload rest : List ℕ) → seq < 2 ^ 32 → IsBytes payload
+    ensures sealed { (m : Meaning) → IsLawful m → (keys : KeyData) (seed : List ℕ) (seq : ℕ) (payload rest : List ℕ) → seq < 2 ^ 32 → IsBytes payload
         → 0 < length payload → length payload ≤ PAYLOAD_LIMIT
         → parse_packet (protection m (Some keys) seq) (written_sealed m keys seed seq payload ++ rest) ≡ whole payload (length (written_sealed m keys seed seq payload)) }
 {

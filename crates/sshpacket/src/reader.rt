@@ -6,7 +6,6 @@ ghost use Rattle.std.specs.Prelude.{◌≡◌, ◌≢◌, ◌+◌, ◌++◌, ◌
 ghost use Rattle.std.specs.Option.{ForSome};
 ghost use Rattle.sshwire.specs.Types.{IsBytes};
 ghost use Rattle.sshpacket.specs.Parse.{Parse, parse_packet, unfinished, protection};
-ghost use Rattle.sshpacket.specs.Suite.{KeysFit};
 ghost use Rattle.sshpacket.specs.ProtectedPacket.{IsFaithful, PacketMeans};
 ghost use Rattle.sshpacket.specs.ReaderSteps.{FillsBody, FillsPacket, Fills, FilledSome, HasRoom, KeepsRoom, OpensFilled, GatheredRoom, ReadsOn, needed};
 
@@ -114,20 +113,18 @@ impl PacketReader {
     /// refused. After a fault the same fault is answered for good and nothing is used.
     ///
     /// What is promised holds where the reader waits for this suite, as `new`, `with_keys`, `use_keys`
-    /// and every answer that is no fault leave it: a suite isn't changed in the middle of a packet. What
-    /// is said of packets holds with keys as long as the suite asks for, as `keys_of` of `sshneg` makes
-    /// them: of others a suite has no laws.
+    /// and every answer that is no fault leave it: a suite isn't changed in the middle of a packet.
     pub fn next<S: Suite>(&mut self, suite: &S, piece: &[u8]) -> Result<PacketStep<'_>, PacketFault>
         // A payload exactly where a packet of it stands at the front, a fault exactly where the packet
         // there is refused, want of memory apart.
-        ensures tells { KeysFit (S.meaning suite.now) (state self.old).keys → ReaderWaits (S.meaning suite.now) self.old → PacketAnswer (S.meaning suite.now) (state self.old) piece.now result }
-        ensures only { KeysFit (S.meaning suite.now) (state self.old).keys → ReaderWaits (S.meaning suite.now) self.old → OnlyPacketAnswer (S.meaning suite.now) (state self.old) piece.now result }
+        ensures tells { ReaderWaits (S.meaning suite.now) self.old → PacketAnswer (S.meaning suite.now) (state self.old) piece.now result }
+        ensures only { ReaderWaits (S.meaning suite.now) self.old → OnlyPacketAnswer (S.meaning suite.now) (state self.old) piece.now result }
         ensures again { IfSome (state self.old).fault (λ f. result ≡ Err f) }
         // In every state: a packet uses some bytes of the piece, and no more than it has.
         ensures uses { IfOk result (λ step. Uses (length piece.now) step) }
         // The same as a function of what the reader holds, and what stands at the front by the standard.
         ensures answers { ReaderWaits (S.meaning suite.now) self.old → ParseAnswer (S.meaning suite.now) (state self.old) piece.now result }
-        ensures means { KeysFit (S.meaning suite.now) (state self.old).keys → PacketMeans (protection (S.meaning suite.now) (state self.old).keys (state self.old).seq) ((state self.old).held ++ piece.now) (ahead (S.meaning suite.now) (state self.old) piece.now) }
+        ensures means { PacketMeans (protection (S.meaning suite.now) (state self.old).keys (state self.old).seq) ((state self.old).held ++ piece.now) (ahead (S.meaning suite.now) (state self.old) piece.now) }
         // How the reader is left. In every state: nothing is held behind a payload; a refusal is kept, with
         // the keys and the number; what was read is given up where no other packet comes, and large room.
         ensures* after { sem 𝓛 (Rests the_row self.entry (λ new.
@@ -269,10 +266,10 @@ impl PacketReader {
 
 /// What the front of the bytes reads as is what stands there, and nothing else does.
 fn front_means<S: Suite>(suite: &S, keys: &Option<Keys>, seq: u32, held: &[u8], piece: &[u8])
-    ensures faithful { KeysFit (S.meaning suite.now) keys.now → IsFaithful (protection (S.meaning suite.now) keys.now seq) }
+    ensures faithful { IsFaithful (protection (S.meaning suite.now) keys.now seq) }
     ensures bytes { IsBytes (held.now ++ piece.now) }
-    ensures means { KeysFit (S.meaning suite.now) keys.now → PacketMeans (protection (S.meaning suite.now) keys.now seq) (held.now ++ piece.now) (parse_packet (protection (S.meaning suite.now) keys.now seq) (held.now ++ piece.now)) }
-    ensures only { KeysFit (S.meaning suite.now) keys.now → (answer : Parse) → PacketMeans (protection (S.meaning suite.now) keys.now seq) (held.now ++ piece.now) answer
+    ensures means { PacketMeans (protection (S.meaning suite.now) keys.now seq) (held.now ++ piece.now) (parse_packet (protection (S.meaning suite.now) keys.now seq) (held.now ++ piece.now)) }
+    ensures only { (answer : Parse) → PacketMeans (protection (S.meaning suite.now) keys.now seq) (held.now ++ piece.now) answer
         → parse_packet (protection (S.meaning suite.now) keys.now seq) (held.now ++ piece.now) ≡ answer }
 {
     crate::packet_laws::packet_law();

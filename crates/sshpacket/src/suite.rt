@@ -53,12 +53,8 @@ pub struct Response {
 /// proved above is proved for every suite with the laws.
 ///
 /// - Every name has a behaviour: a call is made with any name of RFC 4251 section 6, also of an
-///   algorithm that the suite doesn't know. Outside the conditions of the calls the meaning may be
-///   anything that has the laws.
-/// - The laws of sealing are of keys that have the lengths that `key_lens` says (`HasLengths`), as
-///   `keys_of` of `sshneg` makes them. A call must answer with others too, since a reader is given its
-///   keys without a suite; there the meaning is what the call answers, which may be that nothing is
-///   sealed and nothing is unsealed.
+///   algorithm that the suite doesn't know, and with keys of any length, none included. Outside the
+///   conditions of the calls the meaning may be anything that has the laws.
 /// - Sealing adds the tag, leaves the length field readable from the first four bytes, and is undone
 ///   by unsealing with the same keys and number; else no packet that is sent could be read. What
 ///   unsealing gives has the length that was read from the first four bytes, whoever sent it: a
@@ -140,7 +136,7 @@ pub trait Suite {
         requires mac { IsName mac.now }
         ensures { result ≡ (meaning self.now).counts_length cipher.now mac.now };
 
-    /// The lengths of the keys. Keys that have them are those of which the laws of sealing speak.
+    /// The lengths of the keys.
     fn key_lens(&self, cipher: &str, mac: &str) -> KeyLens
         requires cipher { IsName cipher.now }
         requires mac { IsName mac.now }

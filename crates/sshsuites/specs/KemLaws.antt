@@ -177,10 +177,10 @@ bytes_by xs ys e h = rw e at h
 
 pub kem_lawful : IsLawful kem
 kem_lawful = record {
-  seal_length = λ keys seq payload clear fit h p. seal_length keys seq clear;
-  head_of_seal = λ keys seq payload clear fit h p. head_of_seal keys seq clear (number_of_packet _ _ _ payload clear p.1).1;
-  unseal_of_seal = λ keys seq payload clear fit h p. unseal_of_seal keys seq clear (number_of_packet _ _ _ payload clear p.1).1;
-  unsealed = λ keys seq sealed clear fit h bytes long e. unsealed keys seq sealed clear bytes long e;
+  seal_length = λ keys seq payload clear h p. seal_length keys seq clear;
+  head_of_seal = λ keys seq payload clear h p. head_of_seal keys seq clear (number_of_packet _ _ _ payload clear p.1).1;
+  unseal_of_seal = λ keys seq payload clear h p. unseal_of_seal keys seq clear (number_of_packet _ _ _ payload clear p.1).1;
+  unsealed = λ keys seq sealed clear h bytes long e. unsealed keys seq sealed clear bytes long e;
   share_fits = λ kex a h. omega arith;
   shared_fits = λ kex a peer body h e. rw (number_given a peer body e) at (number_short (xored (drop 1 peer) a) (kem_share a) peer);
   response_fits = λ kex a peer r h e. let parts = answer_given a peer r e in
@@ -197,7 +197,7 @@ kem_lawful = record {
   digest_even = lab_lawful.digest_even;
   blob_high = lab_lawful.blob_high;
   sign_high = lab_lawful.sign_high;
-  seal_bytes = λ keys seq clear fit. bytes_seal keys seq clear;
+  seal_bytes = bytes_seal;
   padding_bytes = lab_lawful.padding_bytes;
   share_bytes = λ kex a h. bytes_cons 2 a (omega arith) h;
   shared_bytes = λ kex a peer body h k e. rw (number_given a peer body e) at (bytes_number (xored (drop 1 peer) a) (kem_share a) peer);

@@ -230,10 +230,10 @@ block_high false = omega arith
 
 pub lab_lawful : IsLawful lab
 lab_lawful = record {
-  seal_length = λ keys seq payload clear fit h p. seal_length keys seq clear;
-  head_of_seal = λ keys seq payload clear fit h p. head_of_seal keys seq clear (number_of_packet _ _ _ payload clear p.1).1;
-  unseal_of_seal = λ keys seq payload clear fit h p. let n = number_of_packet _ _ _ payload clear p.1 in unseal_of_seal keys seq clear n.0 n.1;
-  unsealed = λ keys seq sealed clear fit h bytes long e. unsealed keys seq sealed clear bytes long e;
+  seal_length = λ keys seq payload clear h p. seal_length keys seq clear;
+  head_of_seal = λ keys seq payload clear h p. head_of_seal keys seq clear (number_of_packet _ _ _ payload clear p.1).1;
+  unseal_of_seal = λ keys seq payload clear h p. let n = number_of_packet _ _ _ payload clear p.1 in unseal_of_seal keys seq clear n.0 n.1;
+  unsealed = λ keys seq sealed clear h bytes long e. unsealed keys seq sealed clear bytes long e;
   share_fits = λ kex a h. one_positive a h;
   shared_fits = λ kex a peer body h e. shared_positive a peer body e;
   response_fits = λ kex a peer r h e. let parts = response_parts a peer (lab_shared a peer) r e in
@@ -250,7 +250,7 @@ lab_lawful = record {
   digest_even = λ kex input other. length-sha256 input ∙ sym (length-sha256 other);
   blob_high = λ alg secret name. let long = blob_length alg secret in let short : length alg ≤ NAME_LIMIT = name.short in omega (arith, long);
   sign_high = λ alg secret input name. omega (arith, length_signature (lab_blob alg secret) input);
-  seal_bytes = λ keys seq clear fit. bytes_seal keys seq clear;
+  seal_bytes = bytes_seal;
   padding_bytes = bytes_padding;
   share_bytes = λ kex a h. bytes_cons 1 a (omega arith) h;
   shared_bytes = λ kex a peer body h k e. shared_bytes a peer body h k e;

@@ -11,7 +11,7 @@ use Rattle.sshpacket.specs.KeyData.{KeyData}
 use Rattle.sshpacket.specs.Parse.{Refusal, parse_packet, protection, whole}
 use Rattle.sshpacket.specs.Places.{EachPlace, IsPrefix, after_first, stands}
 use Rattle.sshpacket.specs.Stream.{Heard, HeardAll, Linked, Spelled, Units}
-use Rattle.sshpacket.specs.Suite.{IsLawful, KeysFit, Meaning}
+use Rattle.sshpacket.specs.Suite.{IsLawful, Meaning}
 use Rattle.sshpacket.proofs.Places.{each-prefix, each-push, each-weaker, prefix-through, stands-prefix}
 use Rattle.sshcore.specs.Before.{kept, offered, since, stood, strict_at}
 use Rattle.sshcore.specs.Counting.{is_newkeys, number_by, number_in, number_out, switched_out}
@@ -69,12 +69,12 @@ pub record SameWay (m : Meaning) (role peer : Role) (own their : Party) (heard b
 
 module _ (laws : Laws) (m : Meaning) (lawful : IsLawful m) where
   -- what is written in one way is read in it, with the same keys and, where there are keys, the same number
-  reads_as : (k l q : Option KeyData) (i j : ℕ) (seed p more : List ℕ) → KeysFit m q → k ≡ q → l ≡ q → ((keys : KeyData) → q ≡ Some keys → i ≡ j) → j < 2 ^ 32 → FitsPacket p
+  reads_as : (k l q : Option KeyData) (i j : ℕ) (seed p more : List ℕ) → k ≡ q → l ≡ q → ((keys : KeyData) → q ≡ Some keys → i ≡ j) → j < 2 ^ 32 → FitsPacket p
       → parse_packet (protection m k i) (spelled_by m l seed j p ++ more) ≡ whole p (length (spelled_by m l seed j p))
-  reads_as k l None i j seed p more fit ek el same low fits = rw (ek, el) (laws.clear m lawful seed j p more fits.some fits.short)
-  reads_as k l (Some keys) i j seed p more fit ek el same low fits =
+  reads_as k l None i j seed p more ek el same low fits = rw (ek, el) (laws.clear m lawful seed j p more fits.some fits.short)
+  reads_as k l (Some keys) i j seed p more ek el same low fits =
       let e : i ≡ j = same keys refl in
-      rw (ek, el, e) (laws.sealed m lawful keys fit seed j p more low fits.bytes fits.some fits.short)
+      rw (ek, el, e) (laws.sealed m lawful keys seed j p more low fits.bytes fits.some fits.short)
 
   module _ (role peer : Role) (own their : Party) (heard : Units) where
     pub numbers_same : (before : Units) → EachPlace (SameSwitch role own) [] before → switched_out before ≡ true → SameWay m role peer own their heard before
@@ -97,13 +97,12 @@ module _ (laws : Laws) (m : Meaning) (lawful : IsLawful m) where
           let way = agree on in
           reads_as (keys_in m role own their.version before) (keys_out m peer their heard before) (Some (keys_at m peer their (version_in heard) (payloads_in heard) peer))
           (number_in role own before) (number_out (strict_at peer their (payloads_in heard)) before) their.seed p more
-          (laws.fit m lawful peer their (version_in heard) (payloads_in heard) peer)
           (ap (λ (b : Bool). cond b (Some (keys_at m role own their.version before (other role))) None) (switch_same role own before same ∙ on) ∙ ap (λ (k : KeyData). Some k) way.keys)
           (ap (λ (b : Bool). cond b (Some (keys_at m peer their (version_in heard) (payloads_in heard) peer)) None) on)
           (λ keys e. numbers_same before same on way) (low_out before) fits
       | inr off ↦
           reads_as (keys_in m role own their.version before) (keys_out m peer their heard before) None
-          (number_in role own before) (number_out (strict_at peer their (payloads_in heard)) before) their.seed p more tt
+          (number_in role own before) (number_out (strict_at peer their (payloads_in heard)) before) their.seed p more
           (ap (λ (b : Bool). cond b (Some (keys_at m role own their.version before (other role))) None) (switch_same role own before same ∙ off))
           (ap (λ (b : Bool). cond b (Some (keys_at m peer their (version_in heard) (payloads_in heard) peer)) None) off)
           (λ keys e. absurd cc) (low_out before) fits

@@ -10,20 +10,18 @@ use Rattle.sshpacket.specs.Parse.{Refusal, parse_packet, protection, whole}
 use Rattle.sshpacket.specs.Places.{EachPlace}
 use Rattle.sshpacket.specs.PreambleParser.{preamble_parser}
 use Rattle.sshpacket.specs.Stream.{Heard, HeardAll, IsIncremental, Linked, Parser, Said, Same, Spelled, Units}
-use Rattle.sshpacket.specs.Suite.{HasLengths, IsLawful, Meaning}
+use Rattle.sshpacket.specs.Suite.{IsLawful, Meaning}
 use Rattle.sshpacket.specs.Written.{written_clear, written_sealed}
 use Rattle.sshcore.specs.Directions.{parsers}
-use Rattle.sshcore.specs.Exchange.{keys_at}
 use Rattle.sshcore.specs.Party.{Party}
 
 -- the laws of the crates below that the link rests on
 pub record Laws : Type 0 where
   pub clear : (m : Meaning) → IsLawful m → (seed : List ℕ) (seq : ℕ) (payload rest : List ℕ) → 0 < length payload → length payload ≤ PAYLOAD_LIMIT
       → parse_packet (protection m None seq) (written_clear m seed seq payload ++ rest) ≡ whole payload (length (written_clear m seed seq payload))
-  pub sealed : (m : Meaning) → IsLawful m → (keys : KeyData) → HasLengths m keys → (seed : List ℕ) (seq : ℕ) (payload rest : List ℕ) → seq < 2 ^ 32 → IsBytes payload
+  pub sealed : (m : Meaning) → IsLawful m → (keys : KeyData) (seed : List ℕ) (seq : ℕ) (payload rest : List ℕ) → seq < 2 ^ 32 → IsBytes payload
       → 0 < length payload → length payload ≤ PAYLOAD_LIMIT
       → parse_packet (protection m (Some keys) seq) (written_sealed m keys seed seq payload ++ rest) ≡ whole payload (length (written_sealed m keys seed seq payload))
-  pub fit : (m : Meaning) → IsLawful m → (role : Role) (party : Party) (version : List ℕ) (before : Units) (sender : Role) → HasLengths m (keys_at m role party version before sender)
   pub preamble : (k : ℕ) (text bytes more : List ℕ) → Preamble k text bytes → preamble_parser k (bytes ++ more) ≡ whole text (length bytes)
   pub parsers : (m : Meaning) (role : Role) (party : Party) (units : Units) → IsIncremental (parsers m role party units)
   pub link : (parsers : Units → Parser) (spells : Units → List ℕ → List ℕ) → ((us : Units) → IsIncremental (parsers us))

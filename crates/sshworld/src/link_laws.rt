@@ -19,7 +19,6 @@ pub(crate) fn below_law()
     sshpacket::parser_law();
     sshpacket::stream_law();
     sshcore::history_law();
-    sshcore::keys_law();
 }
 
 /// The law of hearing: of two accepted configs whose ends understand each other, each hears all that

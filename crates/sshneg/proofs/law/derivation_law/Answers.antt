@@ -1,6 +1,6 @@
 use Rattle.sshneg.specs.Derivations.{derived, enc_letter, iv_letter, mac_letter}
 use Rattle.sshneg.proofs.EndLemmas.{one_end, one_source}
-use Rattle.sshneg.proofs.KeyLemmas.{has_lengths, key_by, key_length}
+use Rattle.sshneg.proofs.KeyLemmas.{key_by, key_length}
 use Rattle.sshneg.proofs.law.derivation_law.Goals as goal
 
 pub returns-clause-iv : goal.returns-clause-iv
@@ -14,9 +14,6 @@ returns-clause-enc c = λ m law x sender cipher mac. key_length m law x (enc_let
 pub returns-clause-mac : goal.returns-clause-mac
 unfolding derived
 returns-clause-mac c = λ m law x sender cipher mac. key_length m law x (mac_letter sender) (m.key_lens cipher mac).mac
-
-pub returns-clause-lengths : goal.returns-clause-lengths
-returns-clause-lengths c = has_lengths
 
 pub returns-clause-hashes : goal.returns-clause-hashes
 returns-clause-hashes c = key_by

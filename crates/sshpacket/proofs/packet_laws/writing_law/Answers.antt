@@ -18,8 +18,8 @@ returns-clause-clear c = λ m law seed seq payload rest some short.
     (written_is m law true 8 0 seed seq payload (lit≤ tt) (lit≤ tt) some short).spells
 
 pub returns-clause-sealed : goal.returns-clause-sealed
-returns-clause-sealed c = λ m law keys fit seed seq payload rest low each some short.
-    sealed_again c.types_law.ensures.uint32 m law keys seq payload (written m (m.counts_length keys.cipher keys.mac) (m.block keys.cipher) seed seq payload) rest fit low
+returns-clause-sealed c = λ m law keys seed seq payload rest low each some short.
+    sealed_again c.types_law.ensures.uint32 m law keys seq payload (written m (m.counts_length keys.cipher keys.mac) (m.block keys.cipher) seed seq payload) rest low
     (written_bytes (bytes c) m law (m.counts_length keys.cipher keys.mac) (m.block keys.cipher) seed seq payload (law.block_high keys.cipher) each)
     (written_is m law (m.counts_length keys.cipher keys.mac) (m.block keys.cipher) (m.tag_len keys.cipher keys.mac) seed seq payload (law.block_high keys.cipher)
     (law.tag_high keys.cipher keys.mac) some short).spells

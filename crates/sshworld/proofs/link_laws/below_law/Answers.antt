@@ -5,7 +5,6 @@ returns c = record {
   laws = record {
     clear = c.writing_law.ensures.clear;
     sealed = c.writing_law.ensures.sealed;
-    fit = c.keys_law.ensures.fit;
     preamble = c.parser_law.ensures.preamble;
     parsers = c.history_law.ensures.parsers;
     link = c.stream_law.ensures.link;

@@ -10,18 +10,16 @@ returns-in-Err g c =
     let m = g.S.Suite.meaning c.args.suite.now in
     let s = state c.args.self.now in
     let piece = c.args.piece.now in
-    let means = rw c.as_slice.ensures at c.front_means.ensures.means in
-    let one = rw c.as_slice.ensures at c.front_means.ensures.only in
     let answer : ReaderWaits m c.args.self.now → ParseAnswer m s piece (Err c.in-Err.fault)
     = λ waits other. (last_used c.advance.new.self, c.advance.ensures.taken, (c.in-Err.ensures.advances (record { no_fault = waits.no_fault; unfinished_is = waits.unfinished_is; knows = waits.knows })).1 other) in (
       (refl, λ _. tt, ((λ waits. let a = c.in-Err.ensures.advances (record { no_fault = waits.no_fault; unfinished_is = waits.unfinished_is; knows = waits.knows }) in (a.0, c.advance.ensures.taken, a.1)), search rules, c.advance.ensures.taken, tt, c.in-Err.ensures.kept.0, (c.in-Err.ensures.kept.1, c.in-Err.ensures.kept.2))),
       record {
-        tells = λ fit waits. tells_of m s piece (Err c.in-Err.fault) (means fit) (answer waits);
-        only = λ fit waits. only_of m s piece (Err c.in-Err.fault) (one fit) (answer waits);
+        tells = λ waits. tells_of m s piece (Err c.in-Err.fault) (search rules) (answer waits);
+        only = λ waits. only_of m s piece (Err c.in-Err.fault) (rw c.as_slice.ensures at c.front_means.ensures.only) (answer waits);
         again = search rules;
         uses = tt;
         answers = answer;
-        means = means;
+        means = search rules;
         after = tt;
       },
     )
@@ -32,19 +30,17 @@ returns-in-Ok-None g c =
     let m = g.S.Suite.meaning c.args.suite.now in
     let s = state c.args.self.now in
     let piece = c.args.piece.now in
-    let means = rw c.as_slice.ensures at c.front_means.ensures.means in
-    let one = rw c.as_slice.ensures at c.front_means.ensures.only in
     let told : ReaderWaits m c.args.self.now → Advances m s piece (Ok None) c.advance.new.self
     = λ waits. rw c.in-Ok-None.field-0-is at (c.in-Ok-None.ensures.advances (record { no_fault = waits.no_fault; unfinished_is = waits.unfinished_is; knows = waits.knows })) in
     let answer : ReaderWaits m c.args.self.now → ParseAnswer m s piece (Ok More) = λ waits. (told waits).2 in (
       (refl, λ _. tt, ((λ waits. let a = told waits in (a.0, a.1, a.3)), search rules, c.advance.ensures.taken, tt, tt, search rules)),
       record {
-        tells = λ fit waits. tells_of m s piece (Ok More) (means fit) (answer waits);
-        only = λ fit waits. only_of m s piece (Ok More) (one fit) (answer waits);
+        tells = λ waits. tells_of m s piece (Ok More) (search rules) (answer waits);
+        only = λ waits. only_of m s piece (Ok More) (rw c.as_slice.ensures at c.front_means.ensures.only) (answer waits);
         again = search rules;
         uses = tt;
         answers = answer;
-        means = means;
+        means = search rules;
         after = tt;
       },
     )
@@ -55,8 +51,6 @@ returns-in-Ok-Some g c =
     let m = g.S.Suite.meaning c.args.suite.now in
     let s = state c.args.self.now in
     let piece = c.args.piece.now in
-    let means = rw c.as_slice.ensures at c.front_means.ensures.means in
-    let one = rw c.as_slice.ensures at c.front_means.ensures.only in
     let new = c.advance.new.self in
     let payload = take c.in-Ok-Some.payload_len (drop 5 new.packet.items) in
     let used = rw (c.in-Ok-Some.field-0-is) at c.in-Ok-Some.ensures.some in
@@ -77,12 +71,12 @@ returns-in-Ok-Some g c =
         ),
       ),
       record {
-        tells = λ fit waits. tells_of m s piece (Ok c.step.result) (means fit) (answer waits);
-        only = λ fit waits. only_of m s piece (Ok c.step.result) (one fit) (answer waits);
+        tells = λ waits. tells_of m s piece (Ok c.step.result) (search rules) (answer waits);
+        only = λ waits. only_of m s piece (Ok c.step.result) (rw c.as_slice.ensures at c.front_means.ensures.only) (answer waits);
         again = search rules;
         uses = step_uses m s piece payload new.taken c.step.result c.step.ensures used.0 c.advance.ensures.taken;
         answers = answer;
-        means = means;
+        means = search rules;
         after = tt;
       },
     )
