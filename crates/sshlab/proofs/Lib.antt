@@ -13,4 +13,3 @@ pub mod ScenarioTextLemmas
 pub mod ScenarioReadLemmas
 pub mod ScenarioSettingLemmas
 pub mod ScenarioCauseLemmas
-pub mod ToldLemmas

@@ -7,7 +7,6 @@ pub mod TextLines
 pub mod Scenarios
 pub mod ScenarioView
 pub mod Steps
-pub mod Reports
 pub mod Recordings
 pub mod Engines
 pub mod ScenarioSettings
@@ -15,4 +14,3 @@ pub mod ScenarioParts
 pub mod ScenarioText
 pub mod ScenarioDrafts
 pub mod ScenarioFaults
-pub mod Told
