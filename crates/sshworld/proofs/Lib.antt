@@ -3,7 +3,6 @@ pub mod JudgeLemmas
 pub mod ProgressLemmas
 pub mod SessionLemmas
 pub mod OutcomeLemmas
-pub mod DrawnLemmas
 pub mod RoundLemmas
 pub mod CourseLemmas
 pub mod FitLemmas
@@ -21,7 +20,6 @@ pub mod InCourseLemmas
 pub mod StandsLemmas
 pub mod DeliveryLemmas
 pub mod HalfLemmas
-pub mod HandedLemmas
 pub mod CourseHeardLemmas
 pub mod MessageLemmas
 pub mod JudgedLemmas

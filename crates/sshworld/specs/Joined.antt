@@ -1,12 +1,12 @@
 -- Two endpoints that are joined, and what they hand over to each other.
 
-use Rattle.std.specs.Prelude.{◌≡◌, ℕ, List, Option, None, Some}
+use Rattle.std.specs.Prelude.{◌≡◌, ℕ, List}
 use Rattle.sshneg.specs.declared.role.Role.TheVariants as role
 use Rattle.sshpacket.specs.Places.{IsPrefix}
 use Rattle.sshpacket.specs.Suite.{Meaning}
 use Rattle.sshcore.specs.declared.session.Session.{Session}
 use Rattle.sshcore.specs.ConfigData.{ClientData, ServerData}
-use Rattle.sshcore.specs.Ending.{AgreedData, agreed_of}
+use Rattle.sshcore.specs.Ending.{agreed_of}
 use Rattle.sshcore.specs.EndpointData.{EndpointData}
 use Rattle.sshcore.specs.Endpoints.{After}
 use Rattle.sshcore.specs.Party.{Policy, client_party, server_party}
@@ -32,15 +32,3 @@ pub record AreCrosswise (one other : Session) : Type 0 where
   pub same_agreed : agreed_of one.agreed ≡ agreed_of other.agreed
   pub there : one.outgoing ≡ other.incoming
   pub back : other.outgoing ≡ one.incoming
-
--- The sessions of a client and a server that ended authenticated: each has what its side agreed on; and where the two understood
--- each other, they match crosswise.
-pub record HaveSessions (understood : Type 0) (client_config : ClientData) (server_config : ServerData) (a b : AgreedData) (client server : Session) : Type 0 where
-  pub client_agreed : agreed_of client.agreed ≡ a
-  pub server_agreed : agreed_of server.agreed ≡ b
-  pub crosswise : understood → AreCrosswise client server
-
--- both are handed over, the client's first
-abbrev pub HandOver : Type 0 → ClientData → ServerData → AgreedData → AgreedData → Option (Session × Session) → Type 0
-HandOver understood client_config server_config a b None = ⊥
-HandOver understood client_config server_config a b (Some two) = HaveSessions understood client_config server_config a b two.0 two.1

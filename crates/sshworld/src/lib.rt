@@ -3,7 +3,6 @@
 
 mod algorithms;
 mod course_laws;
-mod drawn;
 mod following;
 mod headline_laws;
 mod judge;
@@ -21,7 +20,7 @@ pub use course_laws::course_law;
 pub use following::{follows_law, keeps_law};
 pub use headline_laws::headline_law;
 pub use law::verdict_law;
-pub use prediction::{predict, predict_with};
+pub use prediction::predict;
 pub use session_laws::session_law;
 pub use side::{Delivery, Side};
 pub use world::World;

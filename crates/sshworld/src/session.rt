@@ -19,8 +19,7 @@ ghost use Rattle.sshworld.specs.AlgorithmsView.{algorithms_named};
 ghost use Rattle.sshworld.specs.SharesView.{AreBetween, AreShort, exchange_given};
 
 use crate::algorithms::AlgorithmNames;
-use crate::drawn::{DrawnClient, DrawnServer};
-use sshcore::SideParts;
+use sshcore::{ClientConfig, ServerConfig, SideParts};
 use sshmsg::{KexInit, Message, write};
 use sshneg::{Exchange, exchange_input};
 use sshpacket::{Response, Suite};
@@ -48,8 +47,8 @@ pub(crate) struct SharesGiven<'a> {
 /// exchange hash (RFC 4253 section 7.2). Answers `Memory` for want of memory, as each function below.
 pub(crate) fn session<S: Suite>(
     alloc: Global,
-    client: &DrawnClient<'_>,
-    server: &DrawnServer<'_>,
+    client: &ClientConfig,
+    server: &ServerConfig,
     suite: &S,
     names: &AlgorithmNames<'_>,
     host_key: &[u8],
@@ -66,8 +65,8 @@ pub(crate) fn session<S: Suite>(
 /// The shares of both sides and the shared number, beside the host key.
 fn shares_between<'a, S: Suite>(
     alloc: Global,
-    client: &DrawnClient<'_>,
-    server: &DrawnServer<'_>,
+    client: &ClientConfig,
+    server: &ServerConfig,
     suite: &S,
     names: &AlgorithmNames<'_>,
     host_key: &'a [u8],
@@ -89,7 +88,7 @@ fn shares_between<'a, S: Suite>(
 /// The client's share, of its random bytes.
 fn share_of<S: Suite>(
     alloc: Global,
-    client: &DrawnClient<'_>,
+    client: &ClientConfig,
     suite: &S,
     kex: &str,
 ) -> Result<Vec<u8>, Memory>
@@ -97,14 +96,14 @@ fn share_of<S: Suite>(
     ensures share { IfOk result (λ share. share.items ≡ (S.meaning suite.now).share kex.now client.now.side.random) }
     ensures short { IfOk result (λ share. length share.items ≤ SHARE_LIMIT) }
 {
-    suite.public(alloc, kex, client.exchange_random())
+    suite.public(alloc, kex, client_random(client))
 }
 
 /// The server's share and the shared number, as the server answers the client's share; where it
 /// answers nothing both are empty.
 fn answer_of<S: Suite>(
     alloc: Global,
-    server: &DrawnServer<'_>,
+    server: &ServerConfig,
     suite: &S,
     kex: &str,
     share: &[u8],
@@ -115,7 +114,7 @@ fn answer_of<S: Suite>(
     ensures share { IfOk result (λ answer. length answer.share.items ≤ SHARE_LIMIT) }
     ensures shared { IfOk result (λ answer. length answer.shared.items ≤ SHARE_LIMIT) }
 {
-    match suite.respond(alloc, kex, server.exchange_random(), share)? {
+    match suite.respond(alloc, kex, server_random(server), share)? {
         Some(answer) => Ok(answer),
         None => Ok(Response {
             share: Vec::new(alloc),
@@ -124,11 +123,27 @@ fn answer_of<S: Suite>(
     }
 }
 
+/// A client's random bytes of the exchange.
+fn client_random(client: &ClientConfig) -> &[u8]
+    ensures random { result.now ≡ client.now.side.random }
+    ensures long { length client.now.side.random ≡ 32 }
+{
+    &client.parts().side.exchange_random
+}
+
+/// A server's random bytes of the exchange.
+fn server_random(server: &ServerConfig) -> &[u8]
+    ensures random { result.now ≡ server.now.side.random }
+    ensures long { length server.now.side.random ≡ 32 }
+{
+    &server.parts().side.exchange_random
+}
+
 /// What is hashed (RFC 4253 section 8).
 fn input_of(
     alloc: Global,
-    client: &DrawnClient<'_>,
-    server: &DrawnServer<'_>,
+    client: &ClientConfig,
+    server: &ServerConfig,
     shares: &SharesGiven<'_>,
 ) -> Result<Vec<u8>, Memory>
     requires { AreShort shares.now }
@@ -154,21 +169,21 @@ fn input_of(
 }
 
 /// What a client says before the exchange.
-fn client_opening(alloc: Global, client: &DrawnClient<'_>) -> Result<Opening, Memory>
+fn client_opening(alloc: Global, client: &ClientConfig) -> Result<Opening, Memory>
     ensures version { IfOk result (λ opening. opening.version ≡ version_of client.now.side) }
     ensures kexinit { IfOk result (λ opening. opening.kexinit.items ≡ written_message (content.KexInit (client_offer client.now))) }
 {
-    let version = version_line(alloc, client.side())?;
+    let version = version_line(alloc, &client.parts().side)?;
     let kexinit = payload(alloc, client.kexinit()?)?;
     Ok(Opening { version, kexinit })
 }
 
 /// What a server says before the exchange, its notice lines left out.
-fn server_opening(alloc: Global, server: &DrawnServer<'_>) -> Result<Opening, Memory>
+fn server_opening(alloc: Global, server: &ServerConfig) -> Result<Opening, Memory>
     ensures version { IfOk result (λ opening. opening.version ≡ version_of server.now.side) }
     ensures kexinit { IfOk result (λ opening. opening.kexinit.items ≡ written_message (content.KexInit (server_offer server.now))) }
 {
-    let version = version_line(alloc, server.side())?;
+    let version = version_line(alloc, &server.parts().side)?;
     let kexinit = payload(alloc, server.kexinit()?)?;
     Ok(Opening { version, kexinit })
 }
