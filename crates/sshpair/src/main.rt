@@ -1,16 +1,19 @@
 //! The program `sshpair`: a client and a server carry each other's bytes over two vectors until the user is
 //! authenticated. The server's first message stands right behind SUCCESS, in one piece with it; then a message goes
-//! each way, by what both sides hand over.
+//! each way, by what both sides hand over. Each draws fresh bytes for its connection from the system's random source.
 #![tactic(auto)]
 
 ghost use Rattle.std.specs.Prelude.{◌<◌, ◌≤◌, length};
 
 use anyhow::bail;
-use sshcore::{Attempt, ClientConfig, Credential, Direction, End, Endpoint, ServerConfig, Session};
+use sshcore::{
+    Attempt, ClientConfig, Credential, Direction, Draws, End, Endpoint, ServerConfig, Session,
+};
 use sshpacket::{PacketReader, PacketStep, write_sealed};
 use sshsuites::{LabDecisions, LabSuite, lab_client_parts, lab_server_parts};
 use std::alloc::Global;
 use std::io::Write;
+use std::random::RandomSource;
 
 /// How often each side is given what the other has said, at the most.
 const ROUNDS: u32 = 4;
@@ -71,6 +74,20 @@ fn decisions(alloc: Global) -> anyhow::Result<LabDecisions> {
     Ok(decisions)
 }
 
+/// Fresh draws for one connection, from the system's random source.
+fn draw(rt: &HostRuntime) -> anyhow::Result<Draws> {
+    let mut cookie = [0; 16];
+    let (mut exchange_random, mut padding_seed) = ([0; 32], [0; 32]);
+    rt.fill_bytes(&mut cookie)?;
+    rt.fill_bytes(&mut exchange_random)?;
+    rt.fill_bytes(&mut padding_seed)?;
+    Ok(Draws {
+        cookie,
+        exchange_random,
+        padding_seed,
+    })
+}
+
 /// What both sides go on with once the user is authenticated.
 fn connect(rt: &HostRuntime) -> anyhow::Result<Pair> {
     let alloc = rt.alloc();
@@ -89,7 +106,9 @@ fn authenticate(
 ) -> anyhow::Result<Pair> {
     let alloc = rt.alloc();
     let mut to_server = Vec::new(alloc);
-    let mut client = Endpoint::client(alloc, ours, &LabSuite, decisions, &mut to_server)?;
+    let draws = draw(rt)?;
+    let mut client =
+        Endpoint::client_with(alloc, ours, draws, &LabSuite, decisions, &mut to_server)?;
     let (server, mut behind) = serve(rt, theirs, decisions, &mut client, &mut to_server)?;
     hear(alloc, &mut client, &mut behind, &mut to_server)?;
     match client.into_session() {
@@ -113,7 +132,9 @@ fn serve(
 ) -> anyhow::Result<(Session, Vec<u8>)> {
     let alloc = rt.alloc();
     let mut to_client = Vec::new(alloc);
-    let mut server = Endpoint::server(alloc, config, &LabSuite, decisions, &mut to_client)?;
+    let draws = draw(rt)?;
+    let mut server =
+        Endpoint::server_with(alloc, config, draws, &LabSuite, decisions, &mut to_client)?;
     talk(alloc, client, &mut server, to_server, &mut to_client)?;
     match server.into_session() {
         Some(session) => greet(alloc, session, to_client),
