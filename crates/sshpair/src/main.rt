@@ -107,8 +107,14 @@ fn authenticate(
     let alloc = rt.alloc();
     let mut to_server = Vec::new(alloc);
     let draws = draw(rt)?;
-    let mut client =
-        Endpoint::client_with(alloc, ours, draws, &LabSuite, decisions, &mut to_server)?;
+    let mut client = Endpoint::client_with(
+        alloc,
+        ours,
+        draws,
+        &LabSuite,
+        decisions,
+        &mut to_server,
+    )?;
     let (server, mut behind) = serve(rt, theirs, decisions, &mut client, &mut to_server)?;
     hear(alloc, &mut client, &mut behind, &mut to_server)?;
     match client.into_session() {
@@ -133,8 +139,14 @@ fn serve(
     let alloc = rt.alloc();
     let mut to_client = Vec::new(alloc);
     let draws = draw(rt)?;
-    let mut server =
-        Endpoint::server_with(alloc, config, draws, &LabSuite, decisions, &mut to_client)?;
+    let mut server = Endpoint::server_with(
+        alloc,
+        config,
+        draws,
+        &LabSuite,
+        decisions,
+        &mut to_client,
+    )?;
     talk(alloc, client, &mut server, to_server, &mut to_client)?;
     match server.into_session() {
         Some(session) => greet(alloc, session, to_client),

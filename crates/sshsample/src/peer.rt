@@ -35,8 +35,14 @@ impl<'a> Peer<'a> {
         let alloc = rt.alloc();
         let mut waiting = Vec::new(alloc);
         let draws = draw(rt)?;
-        let server =
-            Endpoint::server_with(alloc, config, draws, &LabSuite, decisions, &mut waiting)?;
+        let server = Endpoint::server_with(
+            alloc,
+            config,
+            draws,
+            &LabSuite,
+            decisions,
+            &mut waiting,
+        )?;
         Ok(Peer {
             alloc,
             server: Some(server),
