@@ -6,10 +6,11 @@ mod peer;
 
 use crate::peer::Peer;
 use anyhow::bail;
-use sshcore::{Attempt, ClientConfig, Credential, End, Endpoint, Session};
+use sshcore::{Attempt, ClientConfig, Credential, Draws, End, Endpoint, Session};
 use sshpacket::{PacketReader, PacketStep};
 use sshsuites::{LabDecisions, LabSuite, lab_client_parts};
 use std::alloc::Global;
+use std::random::RandomSource;
 
 fn main(rt: HostRuntime) -> anyhow::Result<()> {
     let (session, behind) = connect(&rt)?;
@@ -40,6 +41,20 @@ fn client_config(alloc: Global) -> anyhow::Result<Box<ClientConfig>> {
     Ok(Box::new(alloc, config)?)
 }
 
+/// Fresh draws for one connection, from the system's random source.
+pub(crate) fn draw(rt: &HostRuntime) -> anyhow::Result<Draws> {
+    let mut cookie = [0; 16];
+    let (mut exchange_random, mut padding_seed) = ([0; 32], [0; 32]);
+    rt.fill_bytes(&mut cookie)?;
+    rt.fill_bytes(&mut exchange_random)?;
+    rt.fill_bytes(&mut padding_seed)?;
+    Ok(Draws {
+        cookie,
+        exchange_random,
+        padding_seed,
+    })
+}
+
 /// A client from its making to its session, with the bytes that came behind SUCCESS.
 fn authenticate(
     rt: &HostRuntime,
@@ -49,7 +64,8 @@ fn authenticate(
 ) -> anyhow::Result<(Session, Vec<u8>)> {
     let alloc = rt.alloc();
     let (mut out, mut behind) = (Vec::new(alloc), Vec::new(alloc));
-    let mut client = Endpoint::client(alloc, config, &LabSuite, decisions, &mut out)?;
+    let draws = draw(rt)?;
+    let mut client = Endpoint::client_with(alloc, config, draws, &LabSuite, decisions, &mut out)?;
     for _ in 0..u64::MAX {
         peer.send(&mut out)?; // yours: sends these bytes, and empties `out`
         if !matches!(client.end(), End::Open) {

@@ -1,5 +1,6 @@
 //! The other side of the sample, in the place of a socket: a server of the lab.
 
+use crate::draw;
 use sshcore::{Credential, Direction, End, Endpoint, ServerConfig};
 use sshpacket::write_sealed;
 use sshsuites::{LabDecisions, LabSuite, lab_server_parts};
@@ -33,7 +34,15 @@ impl<'a> Peer<'a> {
     ) -> anyhow::Result<Peer<'a>> {
         let alloc = rt.alloc();
         let mut waiting = Vec::new(alloc);
-        let server = Endpoint::server(alloc, config, &LabSuite, decisions, &mut waiting)?;
+        let draws = draw(rt)?;
+        let server = Endpoint::server_with(
+            alloc,
+            config,
+            draws,
+            &LabSuite,
+            decisions,
+            &mut waiting,
+        )?;
         Ok(Peer {
             alloc,
             server: Some(server),
