@@ -54,7 +54,7 @@ fn decisions(alloc: Global) -> Result<LabDecisions, Fail> {
 }
 
 /// The lab.
-fn lab(alloc: Global) -> Result<Lab, Fail> {
+fn make_lab(alloc: Global) -> Result<Lab, Fail> {
     let client = client_config(alloc)?;
     let server = server_config(alloc)?;
     Ok(Lab {
@@ -196,7 +196,7 @@ fn to_client(
 #[test]
 fn refuses_a_recorded_client_by_fresh_draws(rt: HostRuntime) -> Result<(), Fail> {
     let alloc = rt.alloc();
-    let lab = lab(alloc)?;
+    let lab = make_lab(alloc)?;
     let recorded = record(alloc, &lab)?;
     assert!(rt; to_server(alloc, &lab, draws_of(2, 2), &recorded)? == Replayed::Authenticated);
     // The cookie alone is enough.
@@ -208,7 +208,7 @@ fn refuses_a_recorded_client_by_fresh_draws(rt: HostRuntime) -> Result<(), Fail>
 #[test]
 fn refuses_a_recorded_server_by_fresh_draws(rt: HostRuntime) -> Result<(), Fail> {
     let alloc = rt.alloc();
-    let lab = lab(alloc)?;
+    let lab = make_lab(alloc)?;
     let recorded = record(alloc, &lab)?;
     assert!(rt; to_client(alloc, &lab, draws_of(1, 1), &recorded)? == Replayed::Authenticated);
     assert!(rt; to_client(alloc, &lab, draws_of(3, 1), &recorded)? == Replayed::BadSignature);
