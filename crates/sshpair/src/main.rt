@@ -1,73 +1,60 @@
-//! The program `sshpair`: a client and a server carry each other's bytes over two vectors until the user is
-//! authenticated. The server's first message stands right behind SUCCESS, in one piece with it; then a message goes
-//! each way, by what both sides hand over. Each draws fresh bytes for its connection from the system's random source.
+//! The program `sshpair`: a client authenticates, in the place of a socket stands a server of the lab (`Peer`), and both
+//! go on behind SUCCESS. README and docs/USING.md show lines of it, word for word.
+//!
+//! The server's first message stands right behind SUCCESS, in one piece with it; then a message goes each way, by what
+//! both sides hand over. Each draws fresh bytes for its connection from the system's random source.
 #![tactic(auto)]
 
 ghost use Rattle.std.specs.Prelude.{◌<◌, ◌≤◌, length};
 
+mod peer;
+
+use crate::peer::Peer;
 use anyhow::bail;
 use sshcore::{
     Attempt, ClientConfig, Credential, Direction, Draws, End, Endpoint, ServerConfig, Session,
 };
 use sshpacket::{PacketReader, PacketStep, write_sealed};
-use sshsuites::{LabDecisions, LabSuite, lab_client_parts, lab_server_parts};
+use sshsuites::{LabDecisions, LabSuite, lab_client_parts};
 use std::alloc::Global;
 use std::io::Write;
 use std::random::RandomSource;
-
-/// How often each side is given what the other has said, at the most.
-const ROUNDS: u32 = 4;
-
-/// What the server says first behind SUCCESS.
-const GREETING: &[u8] = b"hello, client";
 
 /// What padding is made of, for as long as the program runs.
 const SEED: &[u8] = b"another seed";
 
 /// An endpoint of the lab.
-type LabEndpoint<'a> = Endpoint<'a, LabSuite, LabDecisions>;
+pub(crate) type LabEndpoint<'a> = Endpoint<'a, LabSuite, LabDecisions>;
 
-/// What both sides go on with.
+/// One side behind SUCCESS.
 #[derive(Drop)]
-struct Pair {
-    client: Session,
-    server: Session,
-    /// What came to the client behind SUCCESS.
-    behind: Vec<u8>,
+struct Side {
+    name: &'static str,
+    outgoing: Direction,
+    reader: PacketReader,
 }
 
 fn main(rt: HostRuntime) -> anyhow::Result<()> {
-    let pair = connect(&rt)?;
-    tell(&rt, &pair.client, &pair.server)?;
-    go_on(&rt, pair)
+    let alloc = rt.alloc();
+    let config = client_config(alloc)?;
+    let theirs = peer::server_config(alloc)?;
+    let decisions = decisions(alloc)?;
+    connect(&rt, &config, &theirs, &decisions)
 }
 
-/// The client's config: the lab's, with one attempt, by `al`, who needs no proof.
+/// The client's config: the lab's algorithms, and one attempt, by `al`, who needs no proof.
 fn client_config(alloc: Global) -> anyhow::Result<Box<ClientConfig>> {
     let mut parts = Box::new(alloc, lab_client_parts(alloc)?)?;
-    parts.plan.push(attempt(alloc)?)?;
+    parts.plan.push(Attempt {
+        user: String::from_str(alloc, "al")?,
+        service: String::from_str(alloc, "ssh-connection")?,
+        credential: Credential::None,
+    })?;
     let config = ClientConfig::new(alloc, Box::into_inner(parts))?;
     Ok(Box::new(alloc, config)?)
 }
 
-/// The one attempt.
-fn attempt(alloc: Global) -> anyhow::Result<Attempt> {
-    let user = String::from_str(alloc, "al")?;
-    let service = String::from_str(alloc, "ssh-connection")?;
-    Ok(Attempt {
-        user,
-        service,
-        credential: Credential::None,
-    })
-}
-
-/// The server's config.
-fn server_config(alloc: Global) -> anyhow::Result<Box<ServerConfig>> {
-    let config = ServerConfig::new(alloc, lab_server_parts(alloc)?)?;
-    Ok(Box::new(alloc, config)?)
-}
-
-/// Decisions that let `al` in, and trust the lab's host key.
+/// The decisions of both sides: `al` is let in without a proof, and the lab's host key is trusted.
 fn decisions(alloc: Global) -> anyhow::Result<LabDecisions> {
     let mut decisions = LabDecisions::new(alloc);
     decisions.allow("al", &Credential::None)?;
@@ -75,126 +62,74 @@ fn decisions(alloc: Global) -> anyhow::Result<LabDecisions> {
 }
 
 /// Fresh draws for one connection, from the system's random source.
-fn draw(rt: &HostRuntime) -> anyhow::Result<Draws> {
-    let mut cookie = [0; 16];
-    let (mut exchange_random, mut padding_seed) = ([0; 32], [0; 32]);
-    rt.fill_bytes(&mut cookie)?;
-    rt.fill_bytes(&mut exchange_random)?;
-    rt.fill_bytes(&mut padding_seed)?;
-    Ok(Draws {
-        cookie,
-        exchange_random,
-        padding_seed,
-    })
+pub(crate) fn draw(rt: &HostRuntime) -> anyhow::Result<Draws> {
+    let mut draws = Draws {
+        cookie: [0; 16],
+        exchange_random: [0; 32],
+        padding_seed: [0; 32],
+    };
+    fill(rt, &mut draws)?;
+    Ok(draws)
 }
 
-/// What both sides go on with once the user is authenticated.
-fn connect(rt: &HostRuntime) -> anyhow::Result<Pair> {
-    let alloc = rt.alloc();
-    let ours = client_config(alloc)?;
-    let theirs = server_config(alloc)?;
-    let decisions = decisions(alloc)?;
-    authenticate(rt, &ours, &theirs, &decisions)
+/// Fills all three with random bytes.
+fn fill(rt: &HostRuntime, draws: &mut Draws) -> anyhow::Result<()> {
+    rt.fill_bytes(&mut draws.cookie)?;
+    rt.fill_bytes(&mut draws.exchange_random)?;
+    rt.fill_bytes(&mut draws.padding_seed)?;
+    Ok(())
 }
 
-/// The same with these configs.
-fn authenticate(
+/// Both sides from their making to their sessions, and what they do with these.
+fn connect(
     rt: &HostRuntime,
-    ours: &ClientConfig,
+    config: &ClientConfig,
     theirs: &ServerConfig,
     decisions: &LabDecisions,
-) -> anyhow::Result<Pair> {
-    let alloc = rt.alloc();
-    let mut to_server = Vec::new(alloc);
-    let draws = draw(rt)?;
-    let mut client = Endpoint::client_with(
-        alloc,
-        ours,
-        draws,
-        &LabSuite,
-        decisions,
-        &mut to_server,
-    )?;
-    let (server, mut behind) = serve(rt, theirs, decisions, &mut client, &mut to_server)?;
-    hear(alloc, &mut client, &mut behind, &mut to_server)?;
-    match client.into_session() {
-        Some(client) => Ok(Pair {
-            client,
-            server,
-            behind,
-        }),
-        None => bail!("not authenticated"),
-    }
-}
-
-/// What a server hands over that was made for this client, and what it says to it last: its SUCCESS, with
-/// its first message right behind that.
-fn serve(
-    rt: &HostRuntime,
-    config: &ServerConfig,
-    decisions: &LabDecisions,
-    client: &mut LabEndpoint<'_>,
-    to_server: &mut Vec<u8>,
-) -> anyhow::Result<(Session, Vec<u8>)> {
-    let alloc = rt.alloc();
-    let mut to_client = Vec::new(alloc);
-    let draws = draw(rt)?;
-    let mut server = Endpoint::server_with(
-        alloc,
-        config,
-        draws,
-        &LabSuite,
-        decisions,
-        &mut to_client,
-    )?;
-    talk(alloc, client, &mut server, to_server, &mut to_client)?;
-    match server.into_session() {
-        Some(session) => greet(alloc, session, to_client),
-        None => bail!("not authenticated"),
-    }
-}
-
-/// A server's session, and what it says last, once its first message stands behind that.
-fn greet(
-    alloc: Global,
-    session: Session,
-    to_client: Vec<u8>,
-) -> anyhow::Result<(Session, Vec<u8>)> {
-    let (mut session, mut to_client) = (session, to_client);
-    seal(alloc, GREETING, &mut session.outgoing, &mut to_client)?;
-    Ok((session, to_client))
-}
-
-/// Gives each side what the other has said, in turns, up to the server's end.
-fn talk(
-    alloc: Global,
-    client: &mut LabEndpoint<'_>,
-    server: &mut LabEndpoint<'_>,
-    to_server: &mut Vec<u8>,
-    to_client: &mut Vec<u8>,
 ) -> anyhow::Result<()> {
-    for _ in 0..ROUNDS {
-        hear(alloc, server, to_server, to_client)?;
-        if !matches!(server.end(), End::Open) {
+    let mut peer = Peer::new(rt, theirs, decisions)?;
+    let (client, behind) = authenticate(rt, config, decisions, &mut peer)?;
+    match peer.into_session() {
+        Some(server) => go_on(rt, client, server, &behind),
+        None => bail!("the server isn't authenticated"),
+    }
+}
+
+/// A client from its making to its session, with the bytes that came behind SUCCESS.
+fn authenticate(
+    rt: &HostRuntime,
+    config: &ClientConfig,
+    decisions: &LabDecisions,
+    peer: &mut Peer<'_>,
+) -> anyhow::Result<(Session, Vec<u8>)> {
+    let alloc = rt.alloc();
+    let draws = draw(rt)?;
+    let (mut out, mut behind) = (Vec::new(alloc), Vec::new(alloc));
+    let mut client = Endpoint::client_with(alloc, config, draws, &LabSuite, decisions, &mut out)?;
+    for _ in 0..u64::MAX {
+        peer.send(&mut out)?; // yours: sends these bytes, and empties `out`
+        if !matches!(client.end(), End::Open) {
             break;
         }
-        hear(alloc, client, to_client, to_server)?;
+        let piece = peer.receive()?; // yours: what came, in any piece; no byte where the peer has gone
+        if piece.is_empty() {
+            client.end_of_input(); // it fails as F16
+        }
+        let used = client.feed(&piece, &mut out)?;
+        behind.extend_from_slice(&piece[used..])?; // the first bytes of what follows
     }
-    Ok(())
+    match client.into_session() {
+        Some(session) => Ok((session, behind)),
+        None => bail!("not authenticated"), // `client.end()` told why: F1 to F16, or closed
+    }
 }
 
-/// Gives a side what waits for it, in one piece. What it doesn't use waits on: it stands behind the packet
-/// that ended the side, and is for the session.
-fn hear(
-    alloc: Global,
-    side: &mut LabEndpoint<'_>,
-    waiting: &mut Vec<u8>,
-    out: &mut Vec<u8>,
-) -> anyhow::Result<()> {
-    let used = side.feed(waiting, out)?;
-    let left = Vec::from_slice(alloc, &waiting[used..])?;
-    *waiting = left;
-    Ok(())
+/// Says what both sides agreed on, and lets them speak.
+fn go_on(rt: &HostRuntime, client: Session, server: Session, behind: &[u8]) -> anyhow::Result<()> {
+    tell(rt, &client, &server)?;
+    let mut client = Side::new(rt.alloc(), "client", client);
+    let mut server = Side::new(rt.alloc(), "server", server);
+    speak(rt, &mut client, &mut server, behind)
 }
 
 /// Says what both sides agreed on.
@@ -208,46 +143,43 @@ fn tell(rt: &HostRuntime, client: &Session, server: &Session) -> anyhow::Result<
     Ok(())
 }
 
+impl Side {
+    /// The side that goes on with this session.
+    fn new(alloc: Global, name: &'static str, session: Session) -> Side {
+        let (keys, number) = (session.incoming.keys, session.incoming.sequence_number);
+        let reader = PacketReader::with_keys(alloc, keys, number);
+        Side {
+            name,
+            outgoing: session.outgoing,
+            reader,
+        }
+    }
+}
+
 /// Says what the client reads behind SUCCESS, and then carries a message each way.
-fn go_on(rt: &HostRuntime, pair: Pair) -> anyhow::Result<()> {
-    let (client, server) = (pair.client, pair.server);
-    let (mut to_server, mut to_client) = (client.outgoing, server.outgoing);
-    let mut at_server = reader_of(rt.alloc(), server.incoming);
-    let mut at_client = reader_of(rt.alloc(), client.incoming);
-    open(rt, "client", &pair.behind, &mut at_client)?;
-    carry(
-        rt,
-        "server",
-        b"hello, server",
-        &mut to_server,
-        &mut at_server,
-    )?;
-    carry(rt, "client", b"hello again", &mut to_client, &mut at_client)
-}
-
-/// Reads what comes in this direction.
-fn reader_of(alloc: Global, incoming: Direction) -> PacketReader {
-    PacketReader::with_keys(alloc, incoming.keys, incoming.sequence_number)
-}
-
-/// Seals a message by what one side goes on with, and says what the other reads.
-fn carry(
+fn speak(
     rt: &HostRuntime,
-    reader: &str,
-    message: &[u8],
-    outgoing: &mut Direction,
-    incoming: &mut PacketReader,
-) -> anyhow::Result<()>
+    client: &mut Side,
+    server: &mut Side,
+    behind: &[u8],
+) -> anyhow::Result<()> {
+    read(rt, client, behind)?;
+    carry(rt, b"hello, server", client, server)?;
+    carry(rt, b"hello again", server, client)
+}
+
+/// Carries a message from one side to the other.
+fn carry(rt: &HostRuntime, message: &[u8], from: &mut Side, to: &mut Side) -> anyhow::Result<()>
     requires some { 0 < length message.now }
     requires short { length message.now ≤ 32768 }
 {
     let mut packet = Vec::new(rt.alloc());
-    seal(rt.alloc(), message, outgoing, &mut packet)?;
-    open(rt, reader, &packet, incoming)
+    seal(rt.alloc(), message, &mut from.outgoing, &mut packet)?;
+    read(rt, to, &packet)
 }
 
 /// Appends the packet of a message; the next one has the next number.
-fn seal(
+pub(crate) fn seal(
     alloc: Global,
     message: &[u8],
     outgoing: &mut Direction,
@@ -263,21 +195,16 @@ fn seal(
 }
 
 /// Says what a side reads in a piece that is one packet.
-fn open(
-    rt: &HostRuntime,
-    reader: &str,
-    piece: &[u8],
-    incoming: &mut PacketReader,
-) -> anyhow::Result<()> {
-    match incoming.next(&LabSuite, piece)? {
-        PacketStep::Payload { payload, .. } => show(rt, reader, payload),
-        PacketStep::More => bail!("not whole"),
+fn read(rt: &HostRuntime, side: &mut Side, piece: &[u8]) -> anyhow::Result<()> {
+    match side.reader.next(&LabSuite, piece)? {
+        PacketStep::Payload { payload, .. } => show(rt, side.name, payload),
+        PacketStep::More => bail!("the rest of the packet is still to come"),
     }
 }
 
 /// Says what a side read.
-fn show(rt: &HostRuntime, reader: &str, payload: &[u8]) -> anyhow::Result<()> {
-    print!(rt; "{reader} read ")?;
+fn show(rt: &HostRuntime, side: &str, payload: &[u8]) -> anyhow::Result<()> {
+    print!(rt; "{side} read ")?;
     rt.stdout().write_all(payload)?;
     println!(rt)?;
     Ok(())
