@@ -1,9 +1,10 @@
 -- How the reply to a message ends, and what an endpoint has heard that ended authenticated.
 
-use Rattle.std.proofs.Common.{◌≡◌, ℕ, Bool, true, false, if◌then◌else◌, List, [], ◌∷◌, ◌++◌, Option, None, Some, Result, Ok, Err, refl, sym, ap, ◌∙◌, subst}
+use Rattle.std.proofs.Common.{◌≡◌, ℕ, ◌+◌, Bool, true, false, if◌then◌else◌, List, [], ◌∷◌, ◌++◌, Option, None, Some, Result, Ok, Err, refl, sym, ap, ◌∙◌, subst, arith}
 use Rattle.std.specs.Prelude.{◌&&◌, not}
 use Rattle.std.specs.Str.{bytes_eq}
 use Rattle.std.proofs.lemmas.Bool.{not-true, true≢false}
+use Rattle.sshwire.specs.declared.share_form.ShareForm.TheVariants.{Mpint}
 use Rattle.sshmsg.specs.declared.fault.MsgFault.{MsgFault}
 use Rattle.sshmsg.specs.Content.{Content, Disconnect, KexEcdhInit, KexEcdhReply, KexInit, KexdhInit, KexdhReply, Method, NewKeys, Offer, ServiceAccept, ServiceRequest, UserauthFailure, UserauthPkOk, UserauthRequest, UserauthSuccess}
 use Rattle.sshmsg.specs.Messages.{message_in}
@@ -11,6 +12,7 @@ use Rattle.sshmsg.specs.Numbers.{kind}
 use Rattle.sshmsg.specs.Written.{method_name, written_message}
 use Rattle.sshneg.specs.declared.choice.NoCommon.{NoCommon}
 use Rattle.sshneg.specs.declared.role.Role.{Role}
+use Rattle.sshneg.specs.declared.role.Role.TheVariants.{Server}
 use Rattle.sshneg.specs.ChoiceReadings.{is_in}
 use Rattle.sshneg.specs.Derivations.{ExchangeData}
 use Rattle.sshneg.specs.ExchangeEnd.{exchange_hash}
@@ -25,10 +27,10 @@ use Rattle.sshcore.specs.declared.table.Phase.{Phase}
 use Rattle.sshcore.specs.declared.table.Phase.TheVariants as phase
 use Rattle.sshcore.specs.Attempts.{agreed_by, attempt_reply, confirmed_by, is_asked, request_of, success_by}
 use Rattle.sshcore.specs.Authenticated.{IsAuthenticated, IsLetIn, LetsIn, WasLetIn}
-use Rattle.sshcore.specs.Before.{expects_guess, stood, strict_at, strict_towards}
+use Rattle.sshcore.specs.Before.{count_kept, expects_guess, kept, stood, strict_at, strict_towards}
 use Rattle.sshcore.specs.ConfigData.{Attempt}
 use Rattle.sshcore.specs.Counting.{number_in}
-use Rattle.sshcore.specs.Directions.{payloads_in}
+use Rattle.sshcore.specs.Directions.{payloads_in, version_in}
 use Rattle.sshcore.specs.Ending.{AgreedData, Authenticated, Closed, Ending, Failed, Open, Reply, fails, goes}
 use Rattle.sshcore.specs.Exchange.{answer_with, choice_with, exchange_with}
 use Rattle.sshcore.specs.Known.{Known, known_at, waits_at}
@@ -38,13 +40,14 @@ use Rattle.sshcore.specs.Plan.{behind_query, next_behind}
 use Rattle.sshcore.specs.Replies.{Ends, end_at, ended, goes_on, line_reply, read_reply, refusal_reply}
 use Rattle.sshcore.specs.Reached.{Reached, Tried, are_reached, is_complete, nothing_reached, reached_after, reached_behind}
 use Rattle.sshcore.specs.Requests.{completes, is_good, request_reply}
-use Rattle.sshcore.specs.Tries.{tried_at, tried_with}
+use Rattle.sshcore.specs.Tries.{is_good_at, session_known, tried_at, tried_in, tried_place, tried_with}
 use Rattle.sshcore.specs.Standing.{Tied}
 use Rattle.sshcore.specs.Table.{line_by}
 use Rattle.sshcore.specs.Work.{answered_by, banner_by, chosen_reply, init_reply, kexinit_reply, reply_reply, signed_by, userauth, work}
 use Rattle.sshcore.proofs.AnswerLemmas.{Elsewhere, IsAnswered, Last, More, Succeeds, answered}
 use Rattle.sshcore.proofs.Below.{Below}
-use Rattle.sshcore.proofs.PhaseLemmas.{tied_leaves, tied_phase}
+use Rattle.sshcore.proofs.PhaseLemmas.{kept_free, tied_leaves, tied_phase}
+use Rattle.sshcore.proofs.PlanLemmas.{tried_push}
 use Rattle.sshcore.proofs.ReachedLemmas.{complete_sound}
 use Rattle.sshcore.proofs.ReadsLemmas.{Reads, reads, success_read, user_request_read}
 use Rattle.sshcore.proofs.StrictLaws.{begun_none, past_parts, stands}
@@ -282,6 +285,40 @@ module _ (below : Below) (m : Meaning) (d : Policy) (role : Role) (party : Party
         agrees = at.agreed_is;
         let_in = at.let_in;
       }
+
+  one_tried : (session : List ℕ) (n : ℕ) (payload user service : List ℕ) (method : Method) → message_in Mpint payload ≡ Ok (UserauthRequest user service method)
+      → is_good_at m d party session n user service method ≡ true → tried_in m d party session n payload ≡ tried_with user service method true ∷ []
+  unfolding tried_in
+  one_tried session n payload user service method read good = rw (read, good) refl
+
+  tried_here : (version : List ℕ) (before : Units) (payload : List ℕ) → kept role party.offer 50 before payload ≡ true
+      → tried_place m d role party version before payload ≡ tried_in m d party (session_known m role party version before) (count_kept role party.offer 50 before + 1) payload
+  tried_here version before payload here = rw here refl
+
+  -- at a server, the requests end with the one that lets in
+  tried_last : (version : List ℕ) (before : Units) (last : List ℕ) (p : Phase) → Tied role party.offer before p → (a : AgreedData) → end_at m d role party (version ∷ before) last ≡ Authenticated a → role ≡ Server
+      → (method : Method) × (tried_at m d role party version (before ++ last ∷ []) ≡ tried_at m d role party version before ++ tried_with a.user a.service method true ∷ [])
+  tried_last version before last p t a end server =
+      let at = at_last version before last p t a end in
+      let known : Known = known_at m d role party version before in
+      let r : LetsIn m d party known (tried_at m d role party version before) last a = subst (λ (side : Role). IsLetIn m d side party known (tried_at m d role party version before) last a) server at.let_in in
+      let is : kind last ≡ 50 = below.numbers known.shares last (UserauthRequest a.user a.service r.method) r.requests in
+      let read : message_in Mpint last ≡ Ok (UserauthRequest a.user a.service r.method) = below.alike Mpint known.shares last (λ q. omega (arith, q, is)) (λ q. omega (arith, q, is)) ∙ r.requests in
+      let here : kept role party.offer 50 before last ≡ true = kept_free role party.offer before last 50 at.none_due ∙ rw is refl in (
+        r.method,
+        tried_push m d role party version before last
+            ∙ ap (λ (l : List Tried). tried_at m d role party version before ++ l) (tried_here version before last here
+            ∙ one_tried (session_known m role party version before) (count_kept role party.offer 50 before + 1) last a.user a.service r.method read r.good),
+      )
+
+  pub ends_tried : (units : Units) (refusal : Option Refusal) (a : AgreedData) → Ends m d role party units refusal (Authenticated a) → role ≡ Server
+      → (tried : List Tried) × (method : Method) × (tried_at m d role party (version_in units) (payloads_in units) ≡ tried ++ tried_with a.user a.service method true ∷ [])
+  ends_tried units refusal a (goes_on stays is) server = absurd (none_refused refusal a is)
+  ends_tried units refusal a (ended [] last units_are stays is shut none) server = absurd cc
+  ends_tried units refusal a (ended (version ∷ before) last units_are stays is shut none) server =
+      let f = stands below m d role party version [] before phase.KexInit (begun_none below m d role party) stays.1 in
+      let x = tried_last version before last f.0 f.1.tied a (sym is) server in
+      (tried_at m d role party version before, x.0, ap (λ (l : Units). tried_at m d role party (version_in l) (payloads_in l)) units_are ∙ x.1)
 
 -- an endpoint in phase auth has heard NEWKEYS
 pub auth_switched : (role : Role) (own : Offer) (payloads : Units) → phase_at role own payloads ≡ phase.Auth → stood role own 21 payloads ≡ true

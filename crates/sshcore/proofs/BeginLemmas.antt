@@ -22,7 +22,7 @@ use Rattle.sshcore.specs.Kept.{Kept, begun}
 use Rattle.sshcore.specs.Known.{Known}
 use Rattle.sshcore.specs.Output.{Sending, Speaks, said_from}
 use Rattle.sshcore.specs.Party.{Party, Policy}
-use Rattle.sshcore.specs.Phases.{past_kexinit}
+use Rattle.sshcore.specs.Phases.{past_exchange, past_kexinit}
 use Rattle.sshcore.specs.Standing.{Sits}
 use Rattle.sshcore.specs.Work.{making}
 use Rattle.sshcore.proofs.Below.{Below}
@@ -31,6 +31,7 @@ use Rattle.sshcore.proofs.HistoryLemmas as history
 use Rattle.sshcore.proofs.HistoryLemmas.{Streams}
 use Rattle.sshcore.proofs.KeyedLemmas.{still_making}
 use Rattle.sshcore.proofs.OutputLemmas.{said_quiet}
+use Rattle.sshcore.proofs.PlanLemmas.{no_good_key}
 use Rattle.sshcore.proofs.SayingLemmas as saying
 use Rattle.sshcore.proofs.StandingLemmas as standing
 
@@ -76,7 +77,12 @@ module _ (below : Below) (streams : Streams) (m : Meaning) (d : Policy) (role : 
             clear = λ not. clear_before m role party [] first phase.KexInit new.sending ((standing.begins m d role party []).tied.exchange) speaks begin.keyed refl;
           };
           reads = first_input m role party i reads;
-          pending = ap (λ (k : Kept). k.pending) is ∙ ap (λ (p : Phase). pending_at p (keys_at m role party [] [] (other role))) (sym phase_is);
+          carries = record {
+            pending = ap (λ (k : Kept). k.carried.pending) is ∙ ap (λ (p : Phase). pending_at p (keys_at m role party [] [] (other role))) (sym phase_is);
+            own_version = λ past. absurd (true≢false (sym past ∙ ap past_exchange phase_is));
+            host_key = λ past. absurd (true≢false (sym past ∙ ap past_exchange phase_is));
+            user_key = ap (λ (k : Kept). k.carried.user_key) is ∙ sym (no_good_key m d role party []);
+          };
           speaks = speaks;
         };
       }

@@ -7,14 +7,15 @@ use Rattle.sshmsg.specs.Content.{Method, UserauthRequest}
 use Rattle.sshmsg.specs.Messages.{message_in}
 use Rattle.sshmsg.specs.Numbers.{kind}
 use Rattle.sshpacket.specs.Suite.{Meaning}
-use Rattle.sshcore.specs.Authenticating.{confirmed_attempt, counted_request, failed_attempt}
-use Rattle.sshcore.specs.Brings.{heard_one}
+use Rattle.sshcore.specs.Authenticating.{confirmed_attempt, counted_request, failed_attempt, tried_key}
+use Rattle.sshcore.specs.Brings.{carried_behind, heard_one}
+use Rattle.sshcore.specs.Kept.{Carried}
 use Rattle.sshcore.specs.Known.{Known}
 use Rattle.sshcore.specs.Party.{Party, Policy}
 use Rattle.sshcore.specs.Plan.{listed_in}
 use Rattle.sshcore.specs.Requests.{is_good}
 use Rattle.sshcore.specs.Standing.{behind_payload}
-use Rattle.sshcore.specs.Tries.{tried_in, tried_with}
+use Rattle.sshcore.specs.Tries.{good_key_in, tried_in, tried_with}
 
 module _ (m : Meaning) (d : Policy) (party : Party) (known : Known) (payload : List ℕ) where
   -- a payload that is neither a request nor an answer to one changes nothing
@@ -42,3 +43,15 @@ module _ (m : Meaning) (d : Policy) (party : Party) (known : Known) (payload : L
   -- and behind a PK_OK to the attempt itself
   pub pk_ok_behind : kind payload ≡ 60 → behind_payload m d party known payload ≡ confirmed_attempt known
   pk_ok_behind is = rw is refl
+
+  -- what is carried along changes behind requests alone
+  pub carried_stays : (c : Carried) → kind payload ≢ 50 → carried_behind m d party known c payload ≡ c
+  carried_stays c request = let r : (kind payload == 50) ≡ false = ne_eqb (kind payload) 50 request in rw r refl
+
+  pub carried_number : (c : Carried) (n : ℕ) → kind payload ≡ n → n ≢ 50 → carried_behind m d party known c payload ≡ c
+  carried_number c n is request = carried_stays c (rw is request)
+
+  pub carried_request : (c : Carried) (user service : List ℕ) (method : Method) → kind payload ≡ 50 → message_in Mpint payload ≡ Ok (UserauthRequest user service method)
+      → carried_behind m d party known c payload ≡ tried_key c method (is_good m d party known user service method)
+  unfolding good_key_in
+  carried_request c user service method is read = rw (is, read) refl

@@ -24,7 +24,7 @@ use Rattle.sshcore.specs.Phases.{leaving}
 use Rattle.sshcore.specs.Replies.{line_reply, read_reply}
 use Rattle.sshcore.specs.Standing.{LeavesNone}
 use Rattle.sshcore.specs.Table.{is_ignored, is_of_auth, is_of_method, is_ruled, is_unknown, line_by, takes_extensions}
-use Rattle.sshcore.proofs.BehindLemmas.{heard_behind}
+use Rattle.sshcore.proofs.BehindLemmas.{carried_stays, heard_behind}
 use Rattle.sshcore.proofs.TableLemmas.{Closing, Dropped, Leaving, OffGuess, OffPhase, Sees, Staying, Useless, sees}
 use Rattle.sshcore.proofs.WorksLemmas.{failed_ends, silent}
 
@@ -126,7 +126,7 @@ module _ (m : Meaning) (d : Policy) (role : Role) (party : Party) (old new : Kep
       let works : Works m d role party old new payload before after (goes (written_message (Unimplemented packet) ∷ [])) = record {
         gives = gives _ _;
         moves = λ goes_on. Stays none seen.1
-            (ap (λ (k : Kept). k.pending) stays)
+            (ap (λ (k : Kept). k.carried) stays ∙ sym (carried_stays m d party old.known payload old.carried other.0))
             (record {
               phase_is = ap (λ (k : Kept). k.phase) stays;
               guess_is = ap (λ (k : Kept). k.guess) stays ∙ none;
@@ -146,7 +146,7 @@ drops_brings m d role party old new packet payload before is stays next =
     let works : Works m d role party old new payload before before (goes []) = record {
       gives = silent m party.seed old.known.strict _ old new before Open (ap (λ (k : Kept). k.end) next ∙ stays) (ap (λ (k : Kept). k.sending) next);
       moves = λ goes_on. Drops seen.0 seen.1
-          (ap (λ (k : Kept). k.pending) next)
+          (ap (λ (k : Kept). k.carried) next)
           (record {
             phase_is = ap (λ (k : Kept). k.phase) next;
             guess_is = ap (λ (k : Kept). k.guess) next;

@@ -28,7 +28,7 @@ use Rattle.sshcore.specs.Ending.{Ending, Failed, Open, Reply, fails, goes}
 use Rattle.sshcore.specs.Exchange.{exchange_with, host_key_read, keys_by, secret_of, share_read}
 use Rattle.sshcore.specs.Exchanged.{Accepts, AnswersInit, HasForm, HearsExchange, IsSigned, JudgesReply, Refuses, StandsBehind, client_shares, exchange_of_message, exchanged, kex_keys, server_shares}
 use Rattle.sshcore.specs.History.{AllFit, FitsPacket}
-use Rattle.sshcore.specs.Kept.{Kept}
+use Rattle.sshcore.specs.Kept.{Kept, with_exchange}
 use Rattle.sshcore.specs.Output.{Sending, sending_from, said_from, with_newkeys, with_packet}
 use Rattle.sshcore.specs.Party.{Party, Policy}
 use Rattle.sshcore.specs.Phases.{past_exchange, past_kexinit}
@@ -123,12 +123,12 @@ module _ (m : Meaning) (role : Role) (party : Party) (old new : Kept) (before af
   -- by what is hashed and what is replied
   hears : (x : ExchangeData) (r : Reply) → exchange_of_message m role party old.known message ≡ x
       → Gives m party.seed old.known.strict (keys_by m old.known.algorithms x role) old new before after r
-      → new.pending ≡ Some (keys_by m old.known.algorithms x (other role))
+      → new.carried ≡ with_exchange party (keys_by m old.known.algorithms x (other role)) x.host_key old.carried
       → StandsAt new phase.NewKeys old.guess (record old.known { session = exchange_hash m old.known.algorithms.kex x })
       → HearsExchange m role party old new before after message r
-  hears x r e gives keys stands = record {
+  hears x r e gives carries stands = record {
     gives = subst (λ (y : ExchangeData). Gives m party.seed old.known.strict (keys_by m old.known.algorithms y role) old new before after r) (sym e) gives;
-    keys = λ _. subst (λ (y : ExchangeData). new.pending ≡ Some (keys_by m old.known.algorithms y (other role))) (sym e) keys;
+    carries = λ _. subst (λ (y : ExchangeData). new.carried ≡ with_exchange party (keys_by m old.known.algorithms y (other role)) y.host_key old.carried) (sym e) carries;
     stands = λ _. subst (λ (y : ExchangeData). StandsAt new phase.NewKeys old.guess (record old.known { session = exchange_hash m old.known.algorithms.kex y })) (sym e) stands;
   }
 
@@ -141,13 +141,13 @@ module _ (m : Meaning) (role : Role) (party : Party) (old new : Kept) (before af
       let given : Gives m party.seed old.known.strict (keys_by m old.known.algorithms x role) old new before after (fails f) = gives old.known.strict (keys_by m old.known.algorithms x role) in
       record {
         gives = subst (λ (s : Reply). Gives m party.seed old.known.strict (keys_by m old.known.algorithms x role) old new before after s) (sym e) given;
-        keys = λ on. absurd (not_ongoing new.end f given.ends on);
+        carries = λ on. absurd (not_ongoing new.end f given.ends on);
         stands = λ on. absurd (not_ongoing new.end f given.ends on);
       }
 
   -- where it goes on it stands behind the exchange, with these answers said
   hears_on : (x : ExchangeData) (hash : List ℕ) (o : Sending) (answers : Units) → exchange_of_message m role party old.known message ≡ x
-      → hash ≡ exchange_hash m old.known.algorithms.kex x → old.end ≡ Open → StandsBehind m role old new x.shared hash o
+      → hash ≡ exchange_hash m old.known.algorithms.kex x → old.end ≡ Open → StandsBehind m role party old new x.host_key x.shared hash o
       → after ≡ before ++ said_from m party.seed old.known.strict (keys_by m old.known.algorithms x role) old.sending answers
       → o ≡ sending_from old.known.strict (keys_by m old.known.algorithms x role) old.sending answers → AllFit answers
       → HearsExchange m role party old new before after message (goes answers)
@@ -159,7 +159,7 @@ module _ (m : Meaning) (role : Role) (party : Party) (old new : Kept) (before af
         says = says;
         sends = ap (λ (k : Kept). k.sending) stands.kept ∙ sends;
         fits = fits;
-      }) (ap (λ (k : Kept). k.pending) stands.kept ∙ ap (λ (k : KeyData). Some k) keys) (record {
+      }) (ap (λ (k : Kept). k.carried) stands.kept ∙ ap (λ (k : KeyData). with_exchange party k x.host_key old.carried) keys) (record {
         phase_is = ap (λ (k : Kept). k.phase) stands.kept;
         guess_is = ap (λ (k : Kept). k.guess) stands.kept;
         known_is = ap (λ (k : Kept). k.known) stands.kept ∙ ap (λ (h : List ℕ). record old.known { session = h }) is;
@@ -187,11 +187,11 @@ module _ (m : Meaning) (party : Party) (old new : Kept) (before after : List ℕ
   init_fails none gives = hears_failure m Server party old new before after message fault.Exchange (init_reply m Server party old.known message) (rw (read, none) refl) gives
 
   -- else it answers
-  answers_as_server : (answer : ResponseData) (hash reply : List ℕ) → m.respond old.known.algorithms.kex party.random share ≡ Some answer
+  answers_as_server : (answer : ResponseData) (hash host_key reply : List ℕ) → m.respond old.known.algorithms.kex party.random share ≡ Some answer
       → old.end ≡ Open → old.phase ≡ phase.Exchange → HasForm m old
-      → IsSigned m Server party old.known share answer hash reply → AnswersInit m Server party old new answer.shared hash reply before after
+      → IsSigned m Server party old.known share answer hash host_key reply → AnswersInit m Server party old new host_key answer.shared hash reply before after
       → HearsExchange m Server party old new before after message (init_reply m Server party old.known message)
-  answers_as_server answer hash reply given ongoing at form signed said =
+  answers_as_server answer hash host_key reply given ongoing at form signed said =
       let a : Algorithms = old.known.algorithms in
       let secret : List ℕ = secret_of party.host_keys a.host_key in
       let x : ExchangeData = exchanged Server party old.known (server_shares m party old.known share answer) in
@@ -208,20 +208,20 @@ module _ (m : Meaning) (party : Party) (old new : Kept) (before after : List ℕ
       let two = said_two m party.seed old.known.strict next old.sending reply (written_message NewKeys) quiet newkeys_kind (form.clear (ap past_exchange at)) in
       subst (λ (r : Reply). HearsExchange m Server party old new before after message r) (sym is)
       (hears_on m Server party old new before after message x hash (with_newkeys old.known.strict (kex_keys m a answer.shared hash Server) (with_packet old.sending))
-      (reply ∷ written_message NewKeys ∷ []) (hashed_server answer given) signed.hash_is ongoing said.stands
+      (reply ∷ written_message NewKeys ∷ []) (hashed_server answer given) signed.hash_is ongoing (subst (λ (h : List ℕ). StandsBehind m Server party old new h answer.shared hash (with_newkeys old.known.strict (kex_keys m a answer.shared hash Server) (with_packet old.sending))) signed.host_key_is said.stands)
       (said.says ∙ append_assoc before (spelled_by m old.sending.keys party.seed old.sending.number reply)
       (spelled_by m old.sending.keys party.seed (with_packet old.sending).number (written_message NewKeys)) ∙ ap (λ (l : List ℕ). before ++ l) (sym two.0))
       (ap (λ (k : KeyData). with_newkeys old.known.strict k (with_packet old.sending)) keys ∙ sym two.1)
       (signed.fits, (newkeys_fits, tt)))
 
-  pub init_answers : (role : Role) (answer : ResponseData) (shared hash reply : List ℕ) → role ≡ Server → shared ≡ answer.shared
+  pub init_answers : (role : Role) (answer : ResponseData) (shared hash host_key reply : List ℕ) → role ≡ Server → shared ≡ answer.shared
       → m.respond old.known.algorithms.kex party.random share ≡ Some answer → old.end ≡ Open → old.phase ≡ phase.Exchange → HasForm m old
-      → IsSigned m role party old.known share answer hash reply → AnswersInit m role party old new shared hash reply before after
+      → IsSigned m role party old.known share answer hash host_key reply → AnswersInit m role party old new host_key shared hash reply before after
       → HearsExchange m Server party old new before after message (init_reply m Server party old.known message)
-  init_answers role answer shared hash reply is same given ongoing at form signed said =
-      answers_as_server answer hash reply given ongoing at form (subst (λ (r : Role). IsSigned m r party old.known share answer hash reply) is signed)
-      (subst (λ (l : List ℕ). AnswersInit m Server party old new l hash reply before after) same
-      (subst (λ (r : Role). AnswersInit m r party old new shared hash reply before after) is said))
+  init_answers role answer shared hash host_key reply is same given ongoing at form signed said =
+      answers_as_server answer hash host_key reply given ongoing at form (subst (λ (r : Role). IsSigned m r party old.known share answer hash host_key reply) is signed)
+      (subst (λ (l : List ℕ). AnswersInit m Server party old new host_key l hash reply before after) same
+      (subst (λ (r : Role). AnswersInit m r party old new host_key shared hash reply before after) is said))
 
 -- A client, that hears this host key and share.
 module _ (m : Meaning) (d : Policy) (party : Party) (old new : Kept) (before after : List ℕ) (message : Content) (host_key share signature : List ℕ)

@@ -24,8 +24,8 @@ use Rattle.sshcore.specs.Directions.{keys_in, parsers, payloads_in, spells, vers
 use Rattle.sshcore.specs.Ending.{Authenticated, Ending, Failed, Open, Reply, disconnect, fails}
 use Rattle.sshcore.specs.Exchange.{keys_at, keys_by}
 use Rattle.sshcore.specs.History.{AllFit, History, IsReady}
-use Rattle.sshcore.specs.Inputs.{AsHeard, CutOff, GoesOn, IsInput, IsInside, Stands, StandsSo, pending_at}
-use Rattle.sshcore.specs.Kept.{Kept, keys_due, keys_left}
+use Rattle.sshcore.specs.Inputs.{AsHeard, CutOff, GoesOn, IsCarried, IsInput, IsInside, Stands, StandsSo, pending_at}
+use Rattle.sshcore.specs.Kept.{Carried, Kept, keys_due, keys_left}
 use Rattle.sshcore.specs.Known.{Known}
 use Rattle.sshcore.specs.Output.{Sending, Speaks, said_from, sending_from}
 use Rattle.sshcore.specs.Party.{Party, Policy}
@@ -38,7 +38,7 @@ use Rattle.sshcore.proofs.Below.{Below}
 use Rattle.sshcore.proofs.HistoryLemmas as history
 use Rattle.sshcore.proofs.HistoryLemmas.{Streams, no_refusal}
 use Rattle.sshcore.proofs.KeyedLemmas.{IsExchangePlace, still_fails, told_at}
-use Rattle.sshcore.proofs.MoveLemmas.{form_behind, keys_with, number_with, sits_behind, turned}
+use Rattle.sshcore.proofs.MoveLemmas.{carries_on, form_behind, keys_with, number_with, sits_behind, turned}
 use Rattle.sshcore.proofs.OutputLemmas.{said_is, said_quiet, speaks_heard}
 use Rattle.sshcore.proofs.StandingLemmas as standing
 use Rattle.sshcore.proofs.UncutLemmas.{refusal_stays, unit_stays}
@@ -124,7 +124,7 @@ module _ (below : Below) (streams : Streams) (m : Meaning) (d : Policy) (role : 
     heard_end = Open;
     history = history.part below streams m d role party a.units a.rest a.answers h s open_history piece e;
     ends = AsHeard is;
-    inside = λ o. record { sits = within.sits; form = within.form; reads = reads; pending = within.pending; speaks = within.speaks };
+    inside = λ o. record { sits = within.sits; form = within.form; reads = reads; carries = within.carries; speaks = within.speaks };
   }
 
   -- the bytes are refused
@@ -154,9 +154,9 @@ module _ (below : Below) (streams : Streams) (m : Meaning) (d : Policy) (role : 
       (number : packet ≡ number_in role party before_units)
       (brings : Brings m d role party kept new packet payload before after)
       (same_end : last.end ≡ new.end) (same_phase : last.phase ≡ new.phase) (same_guess : last.guess ≡ new.guess) (same_known : last.known ≡ new.known) (same_sending : last.sending ≡ new.sending)
-      (left : last.pending ≡ keys_left new.phase new.pending)
-      (reads : keys_in m role party version (before_units ++ payload ∷ []) ≡ keys_with (keys_due new.phase new.pending) (keys_in m role party version before_units)
-      → number_in role party (before_units ++ payload ∷ []) ≡ number_with (keys_due new.phase new.pending) new.known.strict (number_in role party before_units)
+      (left : last.carried ≡ record new.carried { pending = keys_left new.phase new.carried.pending })
+      (reads : keys_in m role party version (before_units ++ payload ∷ []) ≡ keys_with (keys_due new.phase new.carried.pending) (keys_in m role party version before_units)
+      → number_in role party (before_units ++ payload ∷ []) ≡ number_with (keys_due new.phase new.carried.pending) new.known.strict (number_in role party before_units)
       → IsInput m role party (a.units ++ payload ∷ []) [] j) where
     abbrev more : Units
     more = answers_at m d role party a.units payload
@@ -230,21 +230,27 @@ module _ (below : Below) (streams : Streams) (m : Meaning) (d : Policy) (role : 
         subst (λ (k : Known). Sits m d role party version (before_units ++ payload ∷ []) last.phase last.guess k) (sym same_known)
         (subst (λ (g : Bool). Sits m d role party version (before_units ++ payload ∷ []) last.phase g new.known) (sym same_guess)
         (subst (λ (p : Phase). Sits m d role party version (before_units ++ payload ∷ []) p new.guess new.known) (sym same_phase) s1)) in
-        let pending : kept.pending ≡ pending_at kept.phase (keys_at m role party version before_units (other role)) =
-        within.pending ∙ ap (λ (us : Units). pending_at kept.phase (keys_at m role party (version_in us) (payloads_in us) (other role))) units_are in
-        let t = turned below m d role party version before_units payload kept new sits pending moves in
+        let carried : IsCarried m d role party version before_units kept.phase kept.carried =
+        subst (λ (us : Units). IsCarried m d role party (version_in us) (payloads_in us) kept.phase kept.carried) units_are within.carries in
+        let t = turned below m d role party version before_units payload kept new sits carried.pending moves in
+        let on = carries_on below m d role party version before_units payload kept new sits carried moves in
+        let carries : IsCarried m d role party version (before_units ++ payload ∷ []) last.phase last.carried = record {
+          pending = ap (λ (x : Carried). x.pending) left ∙ t.left ∙ ap (λ (p : Phase). pending_at p (keys_at m role party version (before_units ++ payload ∷ []) (other role))) (sym same_phase);
+          own_version = λ past. ap (λ (x : Carried). x.own_version) left ∙ on.own_version (ap past_exchange (sym same_phase) ∙ past);
+          host_key = λ past. ap (λ (x : Carried). x.host_key) left ∙ on.host_key (ap past_exchange (sym same_phase) ∙ past);
+          user_key = ap (λ (x : Carried). x.user_key) left ∙ on.user_key;
+        } in
         let speaks : Speaks m role party behind (a.answers ++ more) last.sending =
         subst (λ (o : Sending). Speaks m role party behind (a.answers ++ more) o)
         (sym (same_sending ∙ brings.gives.sends ∙ ap (λ (us : Units). sending_from kept.known.strict next kept.sending us) answers_are)) spoken.1 in
         record {
           sits = subst (λ (us : Units). Sits m d role party (version_in us) (payloads_in us) last.phase last.guess last.known) (sym behind_is) s2;
           form = record {
-            form = λ past. form_new (form_behind below m d role party version before_units payload kept new sits pending within.form.form moves) past;
+            form = λ past. form_new (form_behind below m d role party version before_units payload kept new sits carried.pending within.form.form moves) past;
             clear = λ not_past. clear_at m d role party version before_units payload last s2 behind_is (a.answers ++ more) speaks done.keyed not_past;
           };
           reads = reads t.keys t.number;
-          pending = left ∙ t.left ∙ ap (λ (p : Phase). pending_at p (keys_at m role party version (before_units ++ payload ∷ []) (other role))) (sym same_phase)
-              ∙ ap (λ (us : Units). pending_at last.phase (keys_at m role party (version_in us) (payloads_in us) (other role))) (sym behind_is);
+          carries = subst (λ (us : Units). IsCarried m d role party (version_in us) (payloads_in us) last.phase last.carried) (sym behind_is) carries;
           speaks = speaks;
         }
       where

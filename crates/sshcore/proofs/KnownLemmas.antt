@@ -17,7 +17,7 @@ use Rattle.sshpacket.proofs.Places.{first-push}
 use Rattle.sshcore.specs.declared.table.Phase.TheVariants as phase
 use Rattle.sshcore.specs.Before.{all_kept, count_kept, expects_guess, first_kept, kept, kexinit, offered, stood, strict_towards}
 use Rattle.sshcore.specs.ConfigData.{Attempt}
-use Rattle.sshcore.specs.Exchange.{algorithms_at, choice_with, chosen_or, exchange_message, exchange_with, keys_at, keys_by, session_at, shares_by}
+use Rattle.sshcore.specs.Exchange.{algorithms_at, choice_with, chosen_or, exchange_at, exchange_message, exchange_with, keys_at, keys_by, session_at, shares_by}
 use Rattle.sshcore.specs.Known.{Known, known_at, left_at}
 use Rattle.sshcore.specs.Party.{Party, Policy}
 use Rattle.sshcore.specs.Phases.{leaving}
@@ -57,7 +57,7 @@ module _ (m : Meaning) (role : Role) (party : Party) (version : List ℕ) where
   abbrev shares_of : List ℕ → ShareForm
   shares_of k = shares_by m (choice_with m role party.offer (offer_in k))
 
-  abbrev exchange_by_payloads : List ℕ → List ℕ → ExchangeData
+  abbrev pub exchange_by_payloads : List ℕ → List ℕ → ExchangeData
   exchange_by_payloads k message = exchange_with m role party (algorithms_of k) version k (message_in (shares_of k) message)
 
   abbrev session_by_payloads : List ℕ → List ℕ → List ℕ
@@ -82,6 +82,11 @@ module _ (m : Meaning) (role : Role) (party : Party) (version : List ℕ) where
         ap (λ (k : List ℕ). session_by_payloads k (exchange_message role party (before ++ payload ∷ []))) (kexinit_stays before payload is)
         ∙ ap (λ (l : List ℕ). session_by_payloads (kexinit before) l) message_stays
 
+    pub exchange_stays : exchange_at m role party version (before ++ payload ∷ []) ≡ exchange_at m role party version before
+    exchange_stays =
+        ap (λ (k : List ℕ). exchange_by_payloads k (exchange_message role party (before ++ payload ∷ []))) (kexinit_stays before payload is)
+        ∙ ap (λ (l : List ℕ). exchange_by_payloads (kexinit before) l) message_stays
+
     pub keys_stay : (sender : Role) → keys_at m role party version (before ++ payload ∷ []) sender ≡ keys_at m role party version before sender
     keys_stay sender =
         ap (λ (k : List ℕ). keys_by_payloads sender k (exchange_message role party (before ++ payload ∷ []))) (kexinit_stays before payload is)
@@ -97,6 +102,11 @@ module _ (m : Meaning) (role : Role) (party : Party) (version : List ℕ) where
     session_is =
         ap (λ (k : List ℕ). session_by_payloads k (exchange_message role party (before ++ payload ∷ []))) (kexinit_stays before payload is)
         ∙ ap (λ (l : List ℕ). session_by_payloads (kexinit before) l) message_is
+
+    pub exchange_is : (d : Policy) → exchange_at m role party version (before ++ payload ∷ []) ≡ exchange_heard m role party (known_at m d role party version before) payload
+    exchange_is d =
+        ap (λ (k : List ℕ). exchange_by_payloads k (exchange_message role party (before ++ payload ∷ []))) (kexinit_stays before payload is)
+        ∙ ap (λ (l : List ℕ). exchange_by_payloads (kexinit before) l) message_is
 
     pub keys_are : (d : Policy) (sender : Role) → keys_at m role party version (before ++ payload ∷ []) sender
         ≡ keys_by m (algorithms_at m role party before) (exchange_heard m role party (known_at m d role party version before) payload) sender

@@ -1,6 +1,7 @@
 -- What the line reader of an endpoint brings, at an endpoint that stands open.
 
 use Rattle.std.proofs.Common.{◌≡◌, ℕ, ◌+◌, ◌≤◌, Bool, false, List, [], ◌∷◌, ◌++◌, length, length-append, take, drop, Option, None, refl, sym, ap, ◌∙◌, subst, append_assoc}
+use Rattle.std.proofs.lemmas.Bool.{true≢false}
 use Rattle.std.proofs.lemmas.List.{append-nil, length-take-le, take-append-drop}
 use Rattle.std.proofs.Math.Seq.{take-length}
 use Rattle.sshwire.specs.Feeding.{StandsOpen}
@@ -32,6 +33,7 @@ use Rattle.sshcore.specs.History.{History}
 use Rattle.sshcore.specs.Inputs.{AsHeard, GoesOn, Stands, Steps, pending_at}
 use Rattle.sshcore.specs.Kept.{Kept}
 use Rattle.sshcore.specs.Known.{Known}
+use Rattle.sshcore.specs.Phases.{past_exchange}
 use Rattle.sshcore.specs.Output.{Speaks, said_from, sending_from}
 use Rattle.sshcore.specs.Party.{Party, Policy}
 use Rattle.sshcore.specs.Standing.{Sits, nothing_known}
@@ -40,6 +42,7 @@ use Rattle.sshcore.proofs.FeedLemmas.{open_history, stands_part, stands_refused,
 use Rattle.sshcore.proofs.HistoryLemmas as history
 use Rattle.sshcore.proofs.HistoryLemmas.{Streams}
 use Rattle.sshcore.proofs.OutputLemmas.{speaks_heard}
+use Rattle.sshcore.proofs.PlanLemmas.{last_good_key, no_good_key}
 use Rattle.sshcore.proofs.PhaseLemmas.{tied_none, tied_phase}
 use Rattle.sshcore.proofs.StandingLemmas as standing
 use Rattle.sshcore.proofs.UncutLemmas.{open_stays}
@@ -155,8 +158,14 @@ module _ (laws : LineLaws) (below : Below) (streams : Streams) (m : Meaning) (d 
               fresh ∙ ap (λ (x : Option KeyData). record { keys = x; seq = 0; held = []; fault = None }) (sym (keys_none m role party version))
                   ∙ ap (λ (n : ℕ). record { keys = keys_in m role party version []; seq = n; held = []; fault = None }) (sym (number_none role party)),
             );
-            pending = w.pending ∙ ap (λ (x : Phase). pending_at x (keys_at m role party (version_in a.units) (payloads_in a.units) (other role))) p
-                ∙ ap (λ (x : Phase). pending_at x (keys_at m role party (version_in (a.units ++ version ∷ [])) (payloads_in (a.units ++ version ∷ [])) (other role))) (sym p);
+            carries = record {
+              pending = w.carries.pending ∙ ap (λ (x : Phase). pending_at x (keys_at m role party (version_in a.units) (payloads_in a.units) (other role))) p
+                  ∙ ap (λ (x : Phase). pending_at x (keys_at m role party (version_in (a.units ++ version ∷ [])) (payloads_in (a.units ++ version ∷ [])) (other role))) (sym p);
+              own_version = λ past. absurd (true≢false (sym past ∙ ap past_exchange p));
+              host_key = λ past. absurd (true≢false (sym past ∙ ap past_exchange p));
+              user_key = w.carries.user_key ∙ ap (λ (us : Units). last_good_key m d role party (version_in us) (payloads_in us)) none ∙ no_good_key m d role party []
+                  ∙ sym (no_good_key m d role party version) ∙ sym (ap (λ (us : Units). last_good_key m d role party (version_in us) (payloads_in us)) behind);
+            };
             speaks = speaks_heard m role party a.units (version ∷ []) (a.answers ++ []) kept.sending
                 (λ on. a.history.keyed (sym (ap switched_out (append-nil a.answers)) ∙ on))
                 (subst (λ (us : Units). Speaks m role party a.units us kept.sending) (sym (append-nil a.answers)) w.speaks);

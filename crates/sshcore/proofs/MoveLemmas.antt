@@ -8,6 +8,7 @@ use Rattle.sshmsg.specs.Numbers.{kind}
 use Rattle.sshwire.specs.declared.share_form.ShareForm.TheVariants.{Mpint}
 use Rattle.sshneg.specs.declared.role.Role.{Role}
 use Rattle.sshneg.specs.declared.role.Role.TheVariants.{Client, Server}
+use Rattle.sshneg.specs.Derivations.{ExchangeData}
 use Rattle.sshneg.specs.Fields.{Algorithms}
 use Rattle.sshneg.specs.Markers.{other}
 use Rattle.sshpacket.specs.KeyData.{KeyData}
@@ -19,16 +20,18 @@ use Rattle.sshcore.specs.Before.{kept, wrong_guess}
 use Rattle.sshcore.specs.Brings.{Drops, Exchanges, Leaves, Moves, Offers, StandsAt, Stays, heard_one}
 use Rattle.sshcore.specs.Counting.{number_in}
 use Rattle.sshcore.specs.Directions.{keys_in}
-use Rattle.sshcore.specs.Exchange.{keys_at}
-use Rattle.sshcore.specs.Inputs.{pending_at}
-use Rattle.sshcore.specs.Kept.{Kept, keys_due, keys_left}
+use Rattle.sshcore.specs.Exchange.{exchange_at, keys_at}
+use Rattle.sshcore.specs.Inputs.{IsCarried, pending_at}
+use Rattle.sshcore.specs.Kept.{Carried, Kept, keys_due, keys_left}
 use Rattle.sshcore.specs.Known.{Known}
-use Rattle.sshcore.specs.Party.{Party, Policy}
+use Rattle.sshcore.specs.Party.{Party, Policy, UserKeyData}
 use Rattle.sshcore.specs.Phases.{behind, leaving, past_exchange, past_kexinit, past_newkeys}
 use Rattle.sshcore.specs.Standing.{Sits, behind_exchange, behind_offer, behind_payload}
 use Rattle.sshcore.proofs.Below.{Below}
 use Rattle.sshcore.proofs.GuessLemmas.{read_offer}
+use Rattle.sshcore.specs.Tries.{good_key_in, last_key}
 use Rattle.sshcore.proofs.PhaseLemmas.{kept_dropped, kept_free}
+use Rattle.sshcore.proofs.PlanLemmas.{key_more, key_stays, last_good_key}
 use Rattle.sshcore.proofs.StandingLemmas as standing
 
 -- the number of the next packet that is heard, by the keys that are set and strictness
@@ -44,6 +47,10 @@ keys_with (Some set) keys = Some set
 exchange_number : (role : Role) (n : ℕ) → n ≡ leaving role phase.Exchange → (n == 21) ≡ false
 exchange_number Client n e = rw e refl
 exchange_number Server n e = rw e refl
+
+exchange_request : (role : Role) (n : ℕ) → n ≡ leaving role phase.Exchange → (n == 50) ≡ false
+exchange_request Client n e = rw e refl
+exchange_request Server n e = rw e refl
 
 module _ (below : Below) (m : Meaning) (d : Policy) (role : Role) (party : Party) (version : List ℕ) (before : Units) (payload : List ℕ) where
   -- the keys of what is heard from the peer: before, and behind the payload
@@ -156,15 +163,15 @@ module _ (below : Below) (m : Meaning) (d : Policy) (role : Role) (party : Party
   as_old old new k form e f g past =
       ap (λ (x : Known). x.shares) e ∙ f ∙ form past ∙ ap (λ (a : Algorithms). m.share_form a.kex) (sym g) ∙ ap (λ (x : Known). m.share_form x.algorithms.kex) (sym e)
 
-  module _ (old new : Kept) (s : Sits m d role party version before old.phase old.guess old.known) (pending : old.pending ≡ pending_at old.phase keys_so_far) where
-    pub turned : Moves m d role party payload old new → Turned new.phase new.pending new.known.strict
+  module _ (old new : Kept) (s : Sits m d role party version before old.phase old.guess old.known) (pending : old.carried.pending ≡ pending_at old.phase keys_so_far) where
+    pub turned : Moves m d role party payload old new → Turned new.phase new.carried.pending new.known.strict
     turned (Offers peer at none is same form st) =
         let s0 : Sits m d role party version before phase.KexInit false old.known = as_known before old.phase phase.KexInit old.guess false old.known old.known at none refl s in
         let t0 : Sits m d role party version (before ++ payload ∷ []) phase.Exchange (wrong_guess role party.offer (Some peer)) (behind_offer m role party old.known payload peer) =
         standing.offers m d role party version before payload below peer old.known s0 is in
         let twenty : kind payload ≡ 20 = below.numbers Mpint payload (KexInit peer) (read_offer payload peer is) in
         let unkept : kept role party.offer 21 before payload ≡ false = kept_free role party.offer before payload 21 s0.due ∙ rw twenty refl in
-        turned_as phase.Exchange new.phase None new.pending new.known.strict new.known.strict st.phase_is (same ∙ pending ∙ ap (λ (p : Phase). pending_at p keys_so_far) at) refl (record {
+        turned_as phase.Exchange new.phase None new.carried.pending new.known.strict new.known.strict st.phase_is (ap (λ (c : Carried). c.pending) same ∙ pending ∙ ap (λ (p : Phase). pending_at p keys_so_far) at) refl (record {
           left = refl;
           keys = keys_in_at (before ++ payload ∷ []) phase.Exchange (wrong_guess role party.offer (Some peer)) (behind_offer m role party old.known payload peer) t0
               ∙ sym (keys_in_at before phase.KexInit false old.known s0);
@@ -173,15 +180,15 @@ module _ (below : Below) (m : Meaning) (d : Policy) (role : Role) (party : Party
     turned (Drops due one same st) =
         let s0 : Sits m d role party version before old.phase true old.known = as_known before old.phase old.phase old.guess true old.known old.known refl due refl s in
         let t0 : Sits m d role party version (before ++ payload ∷ []) old.phase false (heard_one old.known) = standing.drops m d role party version before payload old.phase old.known s0 one in
-        turned_as old.phase new.phase (pending_at old.phase keys_so_far) new.pending new.known.strict new.known.strict st.phase_is (same ∙ pending) refl
+        turned_as old.phase new.phase (pending_at old.phase keys_so_far) new.carried.pending new.known.strict new.known.strict st.phase_is (ap (λ (c : Carried). c.pending) same ∙ pending) refl
         (calm_turn old.phase true false old.known (heard_one old.known) new.known.strict s0 t0 (kept_dropped role party.offer before payload 21 s0.due one))
     turned (Exchanges at none is same st) =
         let s0 : Sits m d role party version before phase.Exchange false old.known = as_known before old.phase phase.Exchange old.guess false old.known old.known at none refl s in
         let t0 : Sits m d role party version (before ++ payload ∷ []) phase.NewKeys false (behind_exchange m role party old.known payload) =
         standing.exchanges m d role party version before payload old.known s0 is in
         let unkept : kept role party.offer 21 before payload ≡ false = kept_free role party.offer before payload 21 s0.due ∙ exchange_number role (kind payload) is in
-        turned_as phase.NewKeys new.phase (Some keys_behind) new.pending new.known.strict new.known.strict st.phase_is
-        (same ∙ ap Some (sym (standing.makes_keys m d role party version before payload old.known s0 is (other role)))) refl (record {
+        turned_as phase.NewKeys new.phase (Some keys_behind) new.carried.pending new.known.strict new.known.strict st.phase_is
+        (ap (λ (c : Carried). c.pending) same ∙ ap Some (sym (standing.makes_keys m d role party version before payload old.known s0 is (other role)))) refl (record {
           left = refl;
           keys = keys_in_at (before ++ payload ∷ []) phase.NewKeys false (behind_exchange m role party old.known payload) t0 ∙ sym (keys_in_at before phase.Exchange false old.known s0);
           number = standing.counts_on m d role party version before payload phase.Exchange false old.known s0 (inr unkept);
@@ -189,12 +196,12 @@ module _ (below : Below) (m : Meaning) (d : Policy) (role : Role) (party : Party
     turned (Leaves none past is same st) =
         let s0 : Sits m d role party version before old.phase false old.known = as_known before old.phase old.phase old.guess false old.known old.known refl none refl s in
         let t0 : Sits m d role party version (before ++ payload ∷ []) (behind old.phase) false (behind_payload m d party old.known payload) = standing.leaves m d role party version before payload old.phase old.known s0 past is in
-        turned_as (behind old.phase) new.phase (pending_at old.phase keys_so_far) new.pending old.known.strict new.known.strict st.phase_is (same ∙ pending) (ap (λ (k : Known). k.strict) st.known_is)
+        turned_as (behind old.phase) new.phase (pending_at old.phase keys_so_far) new.carried.pending old.known.strict new.known.strict st.phase_is (ap (λ (c : Carried). c.pending) same ∙ pending) (ap (λ (k : Known). k.strict) st.known_is)
         (leaving_turn old.phase false old.known (behind_payload m d party old.known payload) s0 t0 past is)
     turned (Stays none calm same st) =
         let s0 : Sits m d role party version before old.phase false old.known = as_known before old.phase old.phase old.guess false old.known old.known refl none refl s in
         let t0 : Sits m d role party version (before ++ payload ∷ []) old.phase false (behind_payload m d party old.known payload) = standing.stays m d role party version before payload old.phase old.known s0 calm in
-        turned_as old.phase new.phase (pending_at old.phase keys_so_far) new.pending new.known.strict new.known.strict st.phase_is (same ∙ pending) refl
+        turned_as old.phase new.phase (pending_at old.phase keys_so_far) new.carried.pending new.known.strict new.known.strict st.phase_is (ap (λ (c : Carried). c.pending) same ∙ pending) refl
         (calm_turn old.phase false false old.known (behind_payload m d party old.known payload) new.known.strict s0 t0 (kept_free role party.offer before payload 21 s0.due ∙ calm.newkeys))
 
     -- the form of shares stays that of the method
@@ -205,3 +212,66 @@ module _ (below : Below) (m : Meaning) (d : Policy) (role : Role) (party : Party
     form_behind form (Exchanges at none is same st) past = as_old old new (behind_exchange m role party old.known payload) form st.known_is refl refl (ap past_kexinit at)
     form_behind form (Leaves none gone is same st) past = as_old old new (behind_payload m d party old.known payload) form st.known_is refl refl (standing.past_past old.phase gone)
     form_behind form (Stays none calm same st) past = as_old old new (behind_payload m d party old.known payload) form st.known_is refl refl (ap past_kexinit (sym st.phase_is) ∙ past)
+
+  -- what is carried along behind a payload, the keys of what is heard apart
+  pub record CarriesOn (q : Phase) (carried : Carried) : Type 0 where
+    pub own_version : past_exchange q ≡ true → carried.own_version ≡ party.version
+    pub host_key : past_exchange q ≡ true → carried.host_key ≡ (exchange_at m role party version (before ++ payload ∷ [])).host_key
+    pub user_key : carried.user_key ≡ last_good_key m d role party version (before ++ payload ∷ [])
+
+  module _ (old new : Kept) (s : Sits m d role party version before old.phase old.guess old.known) (c : IsCarried m d role party version before old.phase old.carried) where
+    -- a payload that is no request
+    quiet_key : (key : Option UserKeyData) → key ≡ old.carried.user_key → kept role party.offer 50 before payload ≡ false → key ≡ last_good_key m d role party version (before ++ payload ∷ [])
+    quiet_key key same none = same ∙ c.user_key ∙ sym (key_stays m d role party version before payload none)
+
+    -- one that may be one
+    tried_on : (known : Known) → Sits m d role party version before old.phase false known
+        → cond (kind payload == 50) (last_key old.carried.user_key (good_key_in m d party known.session known.request payload)) old.carried.user_key ≡ last_good_key m d role party version (before ++ payload ∷ [])
+    tried_on known t =
+        ap (λ (x : Option UserKeyData). cond (kind payload == 50) (last_key x (good_key_in m d party known.session known.request payload)) x) c.user_key
+        ∙ ap (λ (k : Known). cond (kind payload == 50) (last_key (last_good_key m d role party version before) (good_key_in m d party k.session k.request payload)) (last_good_key m d role party version before)) (sym t.knows)
+        ∙ sym (key_more m d role party version before payload t.due)
+
+    -- past the exchange its host key stays
+    same_host : past_exchange old.phase ≡ true → old.carried.host_key ≡ (exchange_at m role party version (before ++ payload ∷ [])).host_key
+    same_host past = c.host_key past ∙ ap (λ (x : ExchangeData). x.host_key) (sym (standing.keeps_exchange m d role party version before payload old.phase old.guess old.known s past))
+
+    pub carries_on : Moves m d role party payload old new → CarriesOn new.phase new.carried
+    carries_on (Offers peer at none is same form st) =
+        let s0 : Sits m d role party version before phase.KexInit false old.known = as_known before old.phase phase.KexInit old.guess false old.known old.known at none refl s in
+        let twenty : kind payload ≡ 20 = below.numbers Mpint payload (KexInit peer) (read_offer payload peer is) in
+        record {
+          own_version = λ past. absurd (true≢false (sym past ∙ ap past_exchange st.phase_is));
+          host_key = λ past. absurd (true≢false (sym past ∙ ap past_exchange st.phase_is));
+          user_key = quiet_key new.carried.user_key (ap (λ (x : Carried). x.user_key) same) (kept_free role party.offer before payload 50 s0.due ∙ rw twenty refl);
+        }
+    carries_on (Drops due one same st) =
+        let s0 : Sits m d role party version before old.phase true old.known = as_known before old.phase old.phase old.guess true old.known old.known refl due refl s in
+        let gone : past_exchange new.phase ≡ true → past_exchange old.phase ≡ true = λ past. ap past_exchange (sym st.phase_is) ∙ past in
+        record {
+          own_version = λ past. ap (λ (x : Carried). x.own_version) same ∙ c.own_version (gone past);
+          host_key = λ past. ap (λ (x : Carried). x.host_key) same ∙ same_host (gone past);
+          user_key = quiet_key new.carried.user_key (ap (λ (x : Carried). x.user_key) same) (kept_dropped role party.offer before payload 50 s0.due one);
+        }
+    carries_on (Exchanges at none is same st) =
+        let s0 : Sits m d role party version before phase.Exchange false old.known = as_known before old.phase phase.Exchange old.guess false old.known old.known at none refl s in
+        record {
+          own_version = λ past. ap (λ (x : Carried). x.own_version) same;
+          host_key = λ past. ap (λ (x : Carried). x.host_key) same ∙ ap (λ (x : ExchangeData). x.host_key) (sym (standing.makes_exchange m d role party version before payload old.known s0 is));
+          user_key = quiet_key new.carried.user_key (ap (λ (x : Carried). x.user_key) same) (kept_free role party.offer before payload 50 s0.due ∙ exchange_request role (kind payload) is);
+        }
+    carries_on (Leaves none past is same st) =
+        let s0 : Sits m d role party version before old.phase false old.known = as_known before old.phase old.phase old.guess false old.known old.known refl none refl s in
+        record {
+          own_version = λ _. ap (λ (x : Carried). x.own_version) same ∙ c.own_version past;
+          host_key = λ _. ap (λ (x : Carried). x.host_key) same ∙ same_host past;
+          user_key = ap (λ (x : Carried). x.user_key) same ∙ tried_on old.known s0;
+        }
+    carries_on (Stays none calm same st) =
+        let s0 : Sits m d role party version before old.phase false old.known = as_known before old.phase old.phase old.guess false old.known old.known refl none refl s in
+        let gone : past_exchange new.phase ≡ true → past_exchange old.phase ≡ true = λ past. ap past_exchange (sym st.phase_is) ∙ past in
+        record {
+          own_version = λ past. ap (λ (x : Carried). x.own_version) same ∙ c.own_version (gone past);
+          host_key = λ past. ap (λ (x : Carried). x.host_key) same ∙ same_host (gone past);
+          user_key = ap (λ (x : Carried). x.user_key) same ∙ tried_on old.known s0;
+        }

@@ -1,6 +1,6 @@
 -- What is known of requests and of the plan, with one payload more.
 
-use Rattle.std.proofs.Common.{◌≡◌, ◌≢◌, ℕ, ◌+◌, ◌==◌, Bool, true, false, cond, List, [], ◌∷◌, ◌++◌, refl, sym, ap, ◌∙◌, arith}
+use Rattle.std.proofs.Common.{◌≡◌, ◌≢◌, ℕ, ◌+◌, ◌==◌, Bool, true, false, cond, List, [], ◌∷◌, ◌++◌, Option, None, Some, refl, sym, ap, ◌∙◌, arith}
 use Rattle.std.specs.Prelude.{◌&&◌, ◌||◌, not}
 use Rattle.std.proofs.lemmas.Bool.{and_parts, eqb-true, ne_eqb}
 use Rattle.std.proofs.lemmas.List.{append-nil}
@@ -15,11 +15,11 @@ use Rattle.sshcore.specs.declared.table.Phase.TheVariants as phase
 use Rattle.sshcore.specs.Before.{all_kept, count_kept, dropped, expects_guess, kept}
 use Rattle.sshcore.specs.ConfigData.{Attempt}
 use Rattle.sshcore.specs.Known.{left_at}
-use Rattle.sshcore.specs.Party.{Party, Policy}
+use Rattle.sshcore.specs.Party.{Party, Policy, UserKeyData}
 use Rattle.sshcore.specs.Phases.{leaving}
 use Rattle.sshcore.specs.Plan.{is_answer, left_after, left_behind}
 use Rattle.sshcore.specs.Reached.{Reached, Tried, nothing_reached, reached_after, reached_behind}
-use Rattle.sshcore.specs.Tries.{session_known, tried_at, tried_in, tried_place}
+use Rattle.sshcore.specs.Tries.{good_key_in, good_key_place, good_keys_at, last_key, session_known, tried_at, tried_in, tried_place}
 use Rattle.sshcore.proofs.PhaseLemmas.{and_true, kept_free}
 
 left_push : (plan : List Attempt) (us : Units) (u : List ℕ) → left_after plan (us ++ u ∷ []) ≡ left_behind (left_after plan us) u
@@ -101,7 +101,7 @@ reached_push r [] ys = refl
 reached_push r (x ∷ xs) ys = reached_push (reached_behind r x) xs ys
 
 module _ (m : Meaning) (d : Policy) (role : Role) (party : Party) (version : List ℕ) (before : Units) (payload : List ℕ) where
-  tried_push : tried_at m d role party version (before ++ payload ∷ []) ≡ tried_at m d role party version before ++ tried_place m d role party version before payload
+  pub tried_push : tried_at m d role party version (before ++ payload ∷ []) ≡ tried_at m d role party version before ++ tried_place m d role party version before payload
   unfolding tried_at
   tried_push = flat-push (tried_place m d role party version) [] before payload
 
@@ -127,3 +127,36 @@ module _ (m : Meaning) (d : Policy) (role : Role) (party : Party) (version : Lis
           (reached_after nothing_reached (tried_at m d role party version before))
       by true = refl
       by false = refl
+
+-- the key of the last request that was good by one
+last_push : (key : Option UserKeyData) (xs ys : List UserKeyData) → last_key key (xs ++ ys) ≡ last_key (last_key key xs) ys
+last_push key [] ys = refl
+last_push key (x ∷ xs) ys = last_push (Some x) xs ys
+
+module _ (m : Meaning) (d : Policy) (role : Role) (party : Party) (version : List ℕ) where
+  abbrev pub last_good_key : Units → Option UserKeyData
+  last_good_key before = last_key None (good_keys_at m d role party version before)
+
+  pub no_good_key : last_good_key [] ≡ None
+  unfolding good_keys_at
+  no_good_key = refl
+
+  module _ (before : Units) (payload : List ℕ) where
+    keys_push : good_keys_at m d role party version (before ++ payload ∷ []) ≡ good_keys_at m d role party version before ++ good_key_place m d role party version before payload
+    unfolding good_keys_at
+    keys_push = flat-push (good_key_place m d role party version) [] before payload
+
+    last_so : last_good_key (before ++ payload ∷ []) ≡ last_key (last_good_key before) (good_key_place m d role party version before payload)
+    last_so = ap (last_key None) keys_push ∙ last_push None (good_keys_at m d role party version before) (good_key_place m d role party version before payload)
+
+    pub key_stays : kept role party.offer 50 before payload ≡ false → last_good_key (before ++ payload ∷ []) ≡ last_good_key before
+    key_stays none = last_so ∙ rw none refl
+
+    pub key_more : expects_guess role party.offer before ≡ false → last_good_key (before ++ payload ∷ [])
+        ≡ cond (kind payload == 50) (last_key (last_good_key before) (good_key_in m d party (session_known m role party version before) (count_kept role party.offer 50 before + 1) payload)) (last_good_key before)
+    key_more none = last_so ∙ rw (kept_free role party.offer before payload 50 none) (by (kind payload == 50))
+      where
+        by : (b : Bool) → last_key (last_good_key before) (cond b (good_key_in m d party (session_known m role party version before) (count_kept role party.offer 50 before + 1) payload) [])
+            ≡ cond b (last_key (last_good_key before) (good_key_in m d party (session_known m role party version before) (count_kept role party.offer 50 before + 1) payload)) (last_good_key before)
+        by true = refl
+        by false = refl

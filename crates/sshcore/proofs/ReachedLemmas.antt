@@ -228,10 +228,10 @@ module _ (tried : List Tried) (t : Tried) (good : List ℕ) (is : t.good ≡ Som
       let s : now.service ≡ t.service = ap (λ (r : Reached). r.service) now_is ∙ g.1 in
       rw (u, s) (and_from _ _ (bytes_self t.user) (bytes_self t.service))
 
-  password_now : now.password ≡ list_any (is_good_for (codes "password")) (run_of t.user t.service (tried ++ t ∷ []))
+  pub password_now : (reached_after nothing_reached (tried ++ t ∷ [])).password ≡ list_any (is_good_for (codes "password")) (run_of t.user t.service (tried ++ t ∷ []))
   password_now = sym (ap (λ (b : Bool). b && now.password) them) ∙ password_is t.user t.service (tried ++ t ∷ [])
 
-  publickey_now : now.publickey ≡ list_any (is_good_for (codes "publickey")) (run_of t.user t.service (tried ++ t ∷ []))
+  pub publickey_now : (reached_after nothing_reached (tried ++ t ∷ [])).publickey ≡ list_any (is_good_for (codes "publickey")) (run_of t.user t.service (tried ++ t ∷ []))
   publickey_now = sym (ap (λ (b : Bool). b && now.publickey) them) ∙ publickey_is t.user t.service (tried ++ t ∷ [])
 
   abbrev reaches : List ℕ → Bool

@@ -87,10 +87,10 @@ module _ (below : Below) (streams : Streams) (m : Meaning) (d : Policy) (role : 
       → state p ≡ record (state r) { held = []; seq = ((state r).seq + 1) % 2 ^ 32 }
       → (HasForm m kept → Brings m d role party kept new packet payload before after)
       → last.end ≡ new.end → last.phase ≡ new.phase → last.guess ≡ new.guess → last.known ≡ new.known → last.sending ≡ new.sending
-      → last.pending ≡ keys_left new.phase new.pending
-      → state q ≡ reader_with (keys_due new.phase new.pending) new.known.strict (state p)
+      → last.carried ≡ record new.carried { pending = keys_left new.phase new.carried.pending }
+      → state q ≡ reader_with (keys_due new.phase new.carried.pending) new.known.strict (state p)
       → Steps m d role party (input.Packets r) kept (input.Packets q) last (take used piece) before after
-  packets_unit p new last used packet payload low e number left brings same_end same_phase same_guess same_known same_sending pending set h s a =
+  packets_unit p new last used packet payload low e number left brings same_end same_phase same_guess same_known same_sending carried set h s a =
       let i = within below streams m d role party kept (input.Packets r) h s is a in
       let x = i.reads in
       let seen : parsers m role party a.units (a.rest ++ piece) ≡ whole payload (length a.rest + used) =
@@ -99,14 +99,14 @@ module _ (below : Below) (streams : Streams) (m : Meaning) (d : Policy) (role : 
       let held : state p ≡ record { keys = keys_in m role party x.0 x.1; seq = (number_in role party x.1 + 1) % 2 ^ 32; held = []; fault = None } =
       left ∙ ap (λ (t : ReaderState). record t { held = []; seq = (t.seq + 1) % 2 ^ 32 }) x.3 in
       stands_unit below streams m d role party kept (input.Packets r) h s is a x.0 x.1 x.2 new last (input.Packets q) piece payload used packet before after low seen number_is
-      (brings i.form) same_end same_phase same_guess same_known same_sending pending
+      (brings i.form) same_end same_phase same_guess same_known same_sending carried
       (λ keys_are seq_is. (
         x.0,
         x.1 ++ payload ∷ [],
         ap (λ (us : Units). us ++ payload ∷ []) x.2,
-        set ∙ ap (λ (t : ReaderState). reader_with (keys_due new.phase new.pending) new.known.strict t) held
-            ∙ with_keys (keys_due new.phase new.pending) new.known.strict (keys_in m role party x.0 x.1) (number_in role party x.1)
-            ∙ ap (λ (k : Option KeyData). record { keys = k; seq = number_with (keys_due new.phase new.pending) new.known.strict (number_in role party x.1); held = []; fault = None }) (sym keys_are)
+        set ∙ ap (λ (t : ReaderState). reader_with (keys_due new.phase new.carried.pending) new.known.strict t) held
+            ∙ with_keys (keys_due new.phase new.carried.pending) new.known.strict (keys_in m role party x.0 x.1) (number_in role party x.1)
+            ∙ ap (λ (k : Option KeyData). record { keys = k; seq = number_with (keys_due new.phase new.carried.pending) new.known.strict (number_in role party x.1); held = []; fault = None }) (sym keys_are)
             ∙ ap (λ (n : ℕ). record { keys = keys_in m role party x.0 (x.1 ++ payload ∷ []); seq = n; held = []; fault = None }) (sym seq_is),
       ))
     where

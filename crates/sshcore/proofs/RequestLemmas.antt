@@ -16,12 +16,13 @@ use Rattle.sshpacket.specs.Suite.{Meaning}
 use Rattle.sshcore.specs.declared.end.Fault.TheVariants as fault
 use Rattle.sshcore.specs.Attempts.{agreed_by}
 use Rattle.sshcore.specs.Ending.{Authenticated, Ending, Reply, fails, goes}
-use Rattle.sshcore.specs.Kept.{Kept}
+use Rattle.sshcore.specs.Authenticating.{tried_key}
+use Rattle.sshcore.specs.Kept.{Carried, Kept}
 use Rattle.sshcore.specs.Known.{Known}
 use Rattle.sshcore.specs.Party.{KeyProof, Party, Policy, ProofData}
 use Rattle.sshcore.specs.Requests.{completes, is_good, method_reply, more_reply, query_answer, request_reply, tried_reply, would_do}
 use Rattle.sshcore.specs.Reached.{Reached, good_reached, is_complete, kept_reached, reached_behind}
-use Rattle.sshcore.specs.Tries.{proof_in, signed_proof, tried_with}
+use Rattle.sshcore.specs.Tries.{key_of, proof_in, signed_proof, tried_with}
 use Rattle.sshcore.proofs.ConfigLemmas.{BodyLaw}
 use Rattle.sshcore.proofs.ConfigOffers.{few_names}
 
@@ -156,10 +157,32 @@ no_query (message_method.TheVariants.PublicKey name blob signature) other algori
 no_query (message_method.TheVariants.PublicKeyQuery name blob) other algorithm key e = other name blob refl
 no_query (message_method.TheVariants.Other x) other algorithm key e = absurd cc
 
+-- a method of the code that has no signed key
+pub no_key : (x : message_method.Method) → ((algorithm key signature : Bor (List ℕ)) → x ≡ message_method.TheVariants.PublicKey algorithm key signature → ⊥) → key_of (method_of x) ≡ []
+no_key message_method.TheVariants.None other = refl
+no_key (message_method.TheVariants.Password password) other = refl
+no_key (message_method.TheVariants.PasswordChange old new) other = refl
+no_key (message_method.TheVariants.PublicKey name blob signature) other = absurd (other name blob signature refl)
+no_key (message_method.TheVariants.PublicKeyQuery name blob) other = refl
+no_key (message_method.TheVariants.Other x) other = refl
+
+-- no request by another method carries a key along, and none that wasn't good
+pub unkeyed : (c : Carried) (method : Method) → key_of method ≡ [] → (good : Bool) → tried_key c method good ≡ c
+unkeyed c method none true = rw none refl
+unkeyed c method none false = refl
+
+pub untried : (c : Carried) (method : Method) → tried_key c method false ≡ c
+untried c method = refl
+
 -- what is kept behind a request, as the endpoint goes on
 module _ (old new : Kept) where
   pub with_end : (known : Known) → new ≡ record old { known = known; sending = new.sending } → new ≡ record old { end = new.end; known = known; sending = new.sending }
   with_end known e = e ∙ ap (λ (x : Ending). record old { end = x; known = known; sending = new.sending }) (sym (ap (λ (k : Kept). k.end) e))
+
+  -- and with what is carried along
+  pub with_key : (known : Known) (carried : Carried) → old.carried ≡ carried → new ≡ record old { known = known; sending = new.sending }
+      → new ≡ record old { end = new.end; known = known; carried = carried; sending = new.sending }
+  with_key known carried same e = with_end known e ∙ ap (λ (x : Carried). record old { end = new.end; known = known; carried = x; sending = new.sending }) same
 
 module _ (m : Meaning) (d : Policy) (party : Party) (known : Known) (user service own : List ℕ) (method : Method) (same : own ≡ service) where
   -- a query, which is never good

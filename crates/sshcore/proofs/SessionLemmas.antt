@@ -1,16 +1,17 @@
 -- What an endpoint hands over that ended authenticated: both directions have keys.
 
-use Rattle.std.proofs.Common.{◌≡◌, ◌≢◌, ◌⊎◌, inl, inr, ℕ, Bool, true, false, cond, List, [], ◌∷◌, ◌++◌, Option, None, Some, Result, Ok, Err, refl, sym, ap, ◌∙◌, subst, append_assoc, arith}
+use Rattle.std.proofs.Common.{◌≡◌, ◌≢◌, ◌⊎◌, inl, inr, ℕ, Bool, true, false, cond, List, [], ◌∷◌, ◌++◌, codes, Option, None, Some, Vec, Global, Result, Ok, Err, refl, sym, ap, ◌∙◌, subst, append_assoc, arith}
+use Rattle.std.specs.List.{list_any}
 use Rattle.std.proofs.lemmas.Bool.{and_parts, cases_Bool, eq-eqb, eqb-true, true≢false}
 use Rattle.std.proofs.lemmas.List.{append-nil}
 use Rattle.sshwire.specs.declared.share_form.ShareForm.{ShareForm}
 use Rattle.sshwire.specs.declared.share_form.ShareForm.TheVariants.{Hybrid, Mpint, OctetString}
 use Rattle.sshwire.specs.LineState.{LineState}
 use Rattle.sshmsg.specs.declared.fault.MsgFault.{MsgFault}
-use Rattle.sshmsg.specs.Content.{Content, KexEcdhInit, KexEcdhReply, KexdhInit, KexdhReply, NewKeys, ServiceRequest}
+use Rattle.sshmsg.specs.Content.{Content, KexEcdhInit, KexEcdhReply, KexdhInit, KexdhReply, Method, NewKeys, ServiceRequest}
 use Rattle.sshmsg.specs.Messages.{message_in}
 use Rattle.sshmsg.specs.Numbers.{kind, number_of}
-use Rattle.sshmsg.specs.Written.{written_message}
+use Rattle.sshmsg.specs.Written.{method_name, written_message}
 use Rattle.sshneg.specs.declared.role.Role.{Role}
 use Rattle.sshneg.specs.declared.role.Role.TheVariants.{Client, Server}
 use Rattle.sshneg.specs.Derivations.{ExchangeData}
@@ -31,7 +32,9 @@ use Rattle.sshcore.specs.declared.end.Fault.{Fault}
 use Rattle.sshcore.specs.declared.end.Fault.TheVariants as fault
 use Rattle.sshcore.specs.declared.input.Input.{Input}
 use Rattle.sshcore.specs.declared.input.Input.TheVariants as input
+use Rattle.sshcore.specs.declared.session.Accepted.{Accepted}
 use Rattle.sshcore.specs.declared.session.Session.{Session}
+use Rattle.sshcore.specs.declared.session.UserKey.{UserKey}
 use Rattle.sshcore.specs.declared.table.Line.{Line}
 use Rattle.sshcore.specs.declared.table.Phase.{Phase}
 use Rattle.sshcore.specs.declared.table.Phase.TheVariants as phase
@@ -40,21 +43,24 @@ use Rattle.sshcore.specs.Before.{expects_guess, kept, stood, strict_at}
 use Rattle.sshcore.specs.Counting.{number_in, number_out, switched_out}
 use Rattle.sshcore.specs.Directions.{keys_in, keys_out, payloads_in, version_in}
 use Rattle.sshcore.specs.Ending.{AgreedData, Authenticated, Ending, Failed, Open, agreed_of, ending, fails, goes}
-use Rattle.sshcore.specs.Exchange.{answer_with, exchange_with, keys_at, secret_of}
+use Rattle.sshcore.specs.Exchange.{answer_with, exchange_at, exchange_with, keys_at, secret_of}
 use Rattle.sshcore.specs.Inputs.{AsHeard, CutOff, IsInside, Stands, StandsSo}
-use Rattle.sshcore.specs.Kept.{Kept}
+use Rattle.sshcore.specs.Kept.{Kept, user_key_of}
 use Rattle.sshcore.specs.Known.{Known, known_at, waits_at}
 use Rattle.sshcore.specs.Output.{Sending}
-use Rattle.sshcore.specs.Party.{Party, Policy}
-use Rattle.sshcore.specs.Phases.{leaving}
+use Rattle.sshcore.specs.Party.{Party, Policy, UserKeyData}
+use Rattle.sshcore.specs.Phases.{leaving, past_exchange}
+use Rattle.sshcore.specs.Reached.{Reached, Tried, is_good_for, nothing_reached, reached_after, run_of}
 use Rattle.sshcore.specs.Replies.{Ends, Replies, answers_at, end_at, ended, goes_on, line_reply, read_reply, refusal_reply}
-use Rattle.sshcore.specs.Sessions.{IsSession}
+use Rattle.sshcore.specs.Sessions.{CameIn, HasAccepted, IsSession}
 use Rattle.sshcore.specs.Standing.{Tied}
 use Rattle.sshcore.specs.Table.{line_by}
+use Rattle.sshcore.specs.Tries.{good_keys_at, last_key, tried_at, tried_with}
 use Rattle.sshcore.specs.Work.{answered_by, init_reply, making, reply_in, reply_reply, signed_by, trusted_by, userauth, work}
-use Rattle.sshcore.proofs.AuthenticatedLemmas.{auth_switched, authenticated, last_tied, none_refused}
+use Rattle.sshcore.proofs.AuthenticatedLemmas.{auth_switched, authenticated, ends_tried, last_tied, none_refused}
 use Rattle.sshcore.proofs.Below.{Below}
-use Rattle.sshcore.proofs.PhaseLemmas.{kept_dropped, stood_push}
+use Rattle.sshcore.proofs.PhaseLemmas.{kept_dropped, stood_push, tied_phase}
+use Rattle.sshcore.proofs.ReachedLemmas.{password_now, publickey_now}
 use Rattle.sshcore.proofs.StreamLemmas.{switched_append}
 use Rattle.sshcore.proofs.StrictLaws.{begun_none, not_open, stands}
 use Rattle.sshcore.proofs.StrictStages.{Follows}
@@ -295,16 +301,99 @@ none_authenticated (end.Authenticated x) not a is = not x refl
 none_authenticated (end.Failed f) not a is = cc
 none_authenticated (end.Closed reason) not a is = cc
 
+-- what is handed over besides: both version lines, the host key, and how the user came in
+pub record HandsOn (m : Meaning) (d : Policy) (role : Role) (party : Party) (units : Units) (a : AgreedData) (own_version peer_version host_key : List ℕ) (accepted : Option Accepted) : Type 0 where
+  pub own_version_is : own_version ≡ party.version
+  pub peer_version_is : peer_version ≡ version_in units
+  pub host_key_is : host_key ≡ (exchange_at m role party (version_in units) (payloads_in units)).host_key
+  pub accepted_is : HasAccepted m d role party (version_in units) (payloads_in units) a accepted
+
+-- a key that is there or not
+key_there : (b : Bool) (key : Option UserKey) → user_key_of (cond b key None) ≡ cond b (user_key_of key) None
+key_there true key = refl
+key_there false key = refl
+
+module _ (below : Below) (m : Meaning) (d : Policy) (role : Role) (party : Party) (kept : Kept) (i : Input) (h s : List ℕ) (p : Stands m d role party kept i h s) (a : AgreedData) (is : kept.end ≡ Authenticated a) where
+  abbrev tried : List Tried
+  tried = tried_at m d role party (version_in p.units) (payloads_in p.units)
+
+  abbrev keys : List UserKeyData
+  keys = good_keys_at m d role party (version_in p.units) (payloads_in p.units)
+
+  inner : IsInside m d role party p.units p.answers p.rest kept i
+  inner = inside below m d role party kept i h s p a is
+
+  past : past_exchange kept.phase ≡ true
+  past =
+      let e = ended_so below m d role party kept i h s p a is in
+      ap past_exchange (sym (tied_phase role party.offer (payloads_in p.units) kept.phase inner.sits.tied) ∙ e.stays_in_auth)
+
+  reached_is : reached_after nothing_reached tried ≡ kept.known.reached
+  reached_is = ap (λ (k : Known). k.reached) inner.sits.knows
+
+  -- at a server
+  came_in : role ≡ Server → (key : Option UserKey) → user_key_of key ≡ kept.carried.user_key
+      → CameIn tried keys a.user a.service (record { password = kept.known.reached.password; key = cond kept.known.reached.publickey key None })
+  came_in server key same =
+      let t = ends_tried below m d role party p.units p.refusal a (replies below m d role party kept i h s p a is).ends server in
+      let by : Tried = tried_with a.user a.service t.1 true in
+      record {
+        password = sym (ap (λ (r : Reached). r.password) reached_is) ∙ ap (λ (l : List Tried). (reached_after nothing_reached l).password) t.2
+            ∙ password_now t.0 by (method_name t.1) refl ∙ ap (λ (l : List Tried). list_any (is_good_for (codes "password")) (run_of a.user a.service l)) (sym t.2);
+        key = key_there kept.known.reached.publickey key
+            ∙ ap (λ (k : Option UserKeyData). cond kept.known.reached.publickey k None) (same ∙ inner.carries.user_key)
+            ∙ ap (λ (b : Bool). cond b (last_key None keys) None) (sym (ap (λ (r : Reached). r.publickey) reached_is) ∙ ap (λ (l : List Tried). (reached_after nothing_reached l).publickey) t.2
+            ∙ publickey_now t.0 by (method_name t.1) refl ∙ ap (λ (l : List Tried). list_any (is_good_for (codes "publickey")) (run_of a.user a.service l)) (sym t.2));
+      }
+
+  module _ (accepted : Option Accepted) (key : Option UserKey) (same : user_key_of key ≡ kept.carried.user_key) (at_client : role ≡ Client → accepted ≡ None)
+      (at_server : role ≡ Server → accepted ≡ Some (record { password = kept.known.reached.password; key = cond kept.known.reached.publickey key None })) where
+    accepted_as : (side : Role) → role ≡ side → HasAccepted m d side party (version_in p.units) (payloads_in p.units) a accepted
+    accepted_as Client e = at_client e
+    accepted_as Server e =
+        let here : Accepted = record { password = kept.known.reached.password; key = cond kept.known.reached.publickey key None } in
+        subst (λ (o : Option Accepted). HasAccepted m d Server party (version_in p.units) (payloads_in p.units) a o) (sym (at_server e))
+        (subst (λ (r : Role). CameIn (tried_at m d r party (version_in p.units) (payloads_in p.units)) (good_keys_at m d r party (version_in p.units) (payloads_in p.units)) a.user a.service here) e (came_in e key same))
+
+    pub hands_on : HandsOn m d role party p.units a kept.carried.own_version kept.known.version kept.carried.host_key accepted
+    hands_on = record {
+      own_version_is = inner.carries.own_version past;
+      peer_version_is = sym (ap (λ (k : Known). k.version) inner.sits.knows);
+      host_key_is = inner.carries.host_key past;
+      accepted_is = accepted_as role refl;
+    }
+
 -- what is made of what is handed over is the session
-pub session_is : (m : Meaning) (role : Role) (party : Party) (units answers : Units) (rest : List ℕ) (reading : ReaderState) (sending : Sending) → HandsOver m role party units answers reading sending → rest ≡ []
-    → (agreed : Agreed) (a : AgreedData) → Authenticated (agreed_of agreed) ≡ Authenticated a → (keys : Option KeyData) (number : ℕ) → keys ≡ reading.keys → number ≡ reading.seq → (result : Option Session)
-    → ((x y : KeyData) → keys ≡ Some x → sending.keys ≡ Some y → result ≡ Some (record { agreed = agreed; incoming = record { keys = x; sequence_number = number }; outgoing = record { keys = y; sequence_number = sending.number } }))
-    → (session : Session) × (result ≡ Some session) × IsSession m role party units answers a session × (rest ≡ [])
-session_is m role party units answers rest reading sending over none agreed a same keys number keys_are number_is result whole = (
-  record { agreed = agreed; incoming = record { keys = over.incoming; sequence_number = number }; outgoing = record { keys = over.outgoing; sequence_number = sending.number } },
+pub session_is : (m : Meaning) (d : Policy) (role : Role) (party : Party) (units answers : Units) (rest : List ℕ) (reading : ReaderState) (sending : Sending) → HandsOver m role party units answers reading sending → rest ≡ []
+    → (agreed : Agreed) (a : AgreedData) → Authenticated (agreed_of agreed) ≡ Authenticated a → (own peer host_key : Vec ℕ Global) (accepted : Option Accepted) → HandsOn m d role party units a own.items peer.items host_key.items accepted
+    → (keys : Option KeyData) (number : ℕ) → keys ≡ reading.keys → number ≡ reading.seq → (result : Option Session)
+    → ((x y : KeyData) → keys ≡ Some x → sending.keys ≡ Some y → result ≡ Some (record {
+      agreed = agreed;
+      own_version = own;
+      peer_version = peer;
+      host_key = host_key;
+      accepted = accepted;
+      incoming = record { keys = x; sequence_number = number };
+      outgoing = record { keys = y; sequence_number = sending.number };
+    }))
+    → (session : Session) × (result ≡ Some session) × IsSession m d role party units answers a session × (rest ≡ [])
+session_is m d role party units answers rest reading sending over none agreed a same own peer host_key accepted on keys number keys_are number_is result whole = (
+  record {
+    agreed = agreed;
+    own_version = own;
+    peer_version = peer;
+    host_key = host_key;
+    accepted = accepted;
+    incoming = record { keys = over.incoming; sequence_number = number };
+    outgoing = record { keys = over.outgoing; sequence_number = sending.number };
+  },
   whole over.incoming over.outgoing (keys_are ∙ over.reads_with) over.says_with,
   record {
     agreed_is = cc;
+    own_version = on.own_version_is;
+    peer_version = on.peer_version_is;
+    host_key = on.host_key_is;
+    accepted = on.accepted_is;
     incoming_keys = over.incoming_keys;
     incoming_number = number_is ∙ over.incoming_number;
     outgoing_keys = over.outgoing_keys;

@@ -14,7 +14,7 @@ use Rattle.sshcore.specs.declared.table.Phase.{Phase}
 use Rattle.sshcore.specs.declared.table.Phase.TheVariants as phase
 use Rattle.sshcore.specs.Before.{expects_guess, kept, offered, strict_at, stood, wrong_guess}
 use Rattle.sshcore.specs.Counting.{number_in}
-use Rattle.sshcore.specs.Exchange.{keys_at, keys_by}
+use Rattle.sshcore.specs.Exchange.{exchange_at, keys_at, keys_by}
 use Rattle.sshcore.specs.Known.{Known, waits_at}
 use Rattle.sshcore.specs.Party.{Party, Policy}
 use Rattle.sshcore.specs.Plan.{is_waiting}
@@ -25,7 +25,7 @@ use Rattle.sshcore.specs.Table.{line_by}
 use Rattle.sshcore.proofs.Below.{Below}
 use Rattle.sshcore.proofs.CountingLemmas.{number_more, number_switched}
 use Rattle.sshcore.proofs.GuessLemmas.{first_guess, no_guess, none_due, read_offer}
-use Rattle.sshcore.proofs.KnownLemmas.{keys_are, keys_stay, kexinit_none, kexinit_stays, known_behind, known_dropped, known_exchanged, known_none, known_offered}
+use Rattle.sshcore.proofs.KnownLemmas.{exchange_is, exchange_stays, keys_are, keys_stay, kexinit_none, kexinit_stays, known_behind, known_dropped, known_exchanged, known_none, known_offered}
 use Rattle.sshcore.proofs.PhaseLemmas.{guess_offered, kept_dropped, kept_free, tied_dropped, tied_leaves, tied_none, tied_phase, tied_stays}
 use Rattle.sshcore.proofs.StrictLemmas.{leaving_kexinit}
 
@@ -167,6 +167,16 @@ module _ (m : Meaning) (d : Policy) (role : Role) (party : Party) (version : Lis
         let here : kept role party.offer (leaving role phase.Exchange) before payload ≡ true = kept_free role party.offer before payload (leaving role phase.Exchange) s.due ∙ eq-eqb (kind payload) (leaving role phase.Exchange) is in
         keys_are m role party version before payload s.tied.offer s.tied.exchange here d sender
         ∙ ap (λ (k : Known). keys_by m k.algorithms (exchange_heard m role party k payload) sender) s.knows
+
+    pub makes_exchange : (known : Known) → Sits m d role party version before phase.Exchange false known → kind payload ≡ leaving role phase.Exchange
+        → exchange_at m role party version (before ++ payload ∷ []) ≡ exchange_heard m role party known payload
+    makes_exchange known s is =
+        let here : kept role party.offer (leaving role phase.Exchange) before payload ≡ true = kept_free role party.offer before payload (leaving role phase.Exchange) s.due ∙ eq-eqb (kind payload) (leaving role phase.Exchange) is in
+        exchange_is m role party version before payload s.tied.offer s.tied.exchange here d ∙ ap (λ (k : Known). exchange_heard m role party k payload) s.knows
+
+    pub keeps_exchange : (p : Phase) (guess : Bool) (known : Known) → Sits m d role party version before p guess known → past_exchange p ≡ true
+        → exchange_at m role party version (before ++ payload ∷ []) ≡ exchange_at m role party version before
+    keeps_exchange p guess known s past = exchange_stays m role party version before payload (s.tied.offer ∙ past_past p past) (s.tied.exchange ∙ past)
 
     pub keeps_keys : (p : Phase) (guess : Bool) (known : Known) → Sits m d role party version before p guess known → past_exchange p ≡ true → (sender : Role)
         → keys_at m role party version (before ++ payload ∷ []) sender ≡ keys_at m role party version before sender

@@ -13,11 +13,11 @@ use Rattle.sshcore.specs.declared.table.Phase.TheVariants as phase
 use Rattle.sshcore.specs.Before.{first_kept, is_kexinit, kept, kexinit, offered, stood, strict_at, strict_towards}
 use Rattle.sshcore.specs.Counting.{is_newkeys, number_out, switched_out}
 use Rattle.sshcore.specs.Directions.{payloads_in, spelled_by, spells}
-use Rattle.sshcore.specs.Exchange.{exchange_message, keys_at}
+use Rattle.sshcore.specs.Exchange.{exchange_at, exchange_message, keys_at}
 use Rattle.sshcore.specs.History.{IsReady}
 use Rattle.sshcore.specs.Party.{Party}
 use Rattle.sshcore.specs.Phases.{leaving}
-use Rattle.sshcore.proofs.KnownLemmas.{keys_by_payloads}
+use Rattle.sshcore.proofs.KnownLemmas.{exchange_by_payloads, keys_by_payloads}
 
 -- a KEXINIT and an exchange message that have stood stay the first
 kexinit_stays : (before more : Units) → offered before ≡ true → kexinit (before ++ more) ≡ kexinit before
@@ -61,6 +61,11 @@ module _ (m : Meaning) (role : Role) (party : Party) where
   keys_stay version before more sender r =
       ap (λ (k : List ℕ). keys_by_payloads m role party version sender k (exchange_message role party (before ++ more))) (kexinit_stays before more r.offer)
       ∙ ap (λ (l : List ℕ). keys_by_payloads m role party version sender (kexinit before) l) (message_stays role party before more r.exchange)
+
+  pub exchange_stays : (version : List ℕ) (before more : Units) → IsReady role party before → exchange_at m role party version (before ++ more) ≡ exchange_at m role party version before
+  exchange_stays version before more r =
+      ap (λ (k : List ℕ). exchange_by_payloads m role party version k (exchange_message role party (before ++ more))) (kexinit_stays before more r.offer)
+      ∙ ap (λ (l : List ℕ). exchange_by_payloads m role party version (kexinit before) l) (message_stays role party before more r.exchange)
 
   pub strict_stays : (before more : Units) → offered before ≡ true → strict_at role party (before ++ more) ≡ strict_at role party before
   strict_stays before more is = ap (λ (k : List ℕ). strict_towards role party.strict (offer_in k)) (kexinit_stays before more is)

@@ -25,9 +25,9 @@ use Rattle.sshcore.specs.declared.table.Line.TheVariants as line
 use Rattle.sshcore.specs.declared.table.Phase.{Phase}
 use Rattle.sshcore.specs.declared.table.Phase.TheVariants as phase
 use Rattle.sshcore.specs.Attempts.{failure_reply, pk_ok_reply, success_reply}
-use Rattle.sshcore.specs.Authenticating.{FitsMethod, confirmed_attempt, counted_request, failed_attempt}
+use Rattle.sshcore.specs.Authenticating.{FitsMethod, confirmed_attempt, counted_request, failed_attempt, tried_key}
 use Rattle.sshcore.specs.Before.{wrong_guess}
-use Rattle.sshcore.specs.Brings.{Exchanges, Gives, IsOngoing, Leaves, Offers, StandsAt, Stays, Works, heard_one}
+use Rattle.sshcore.specs.Brings.{Exchanges, Gives, IsOngoing, Leaves, Offers, StandsAt, Stays, Works, carried_behind, heard_one}
 use Rattle.sshcore.specs.Ending.{Authenticated, Closed, Ending, Failed, Open, Reply, goes}
 use Rattle.sshcore.specs.Exchanged.{HearsExchange}
 use Rattle.sshcore.specs.Kept.{Kept}
@@ -41,7 +41,7 @@ use Rattle.sshcore.specs.Tries.{tried_with}
 use Rattle.sshcore.specs.Standing.{LeavesNone, behind_offer, behind_payload}
 use Rattle.sshcore.specs.Table.{line_by}
 use Rattle.sshcore.specs.Work.{accept_reply, init_reply, kexinit_reply, reply_reply, service_reply, work}
-use Rattle.sshcore.proofs.BehindLemmas.{failure_behind, heard_number, pk_ok_behind, request_behind}
+use Rattle.sshcore.proofs.BehindLemmas.{carried_number, carried_request, failure_behind, heard_number, pk_ok_behind, request_behind}
 use Rattle.sshcore.proofs.ReadsLemmas as table
 use Rattle.sshcore.proofs.ReadsLemmas.{IsAt, IsPlain, Reads, plain_calm, plain_other, reads}
 
@@ -149,7 +149,7 @@ module _ (m : Meaning) (d : Policy) (role : Role) (party : Party) (old new : Kep
   pub kexinit_works : (peer : Offer) → c ≡ KexInit peer
       → ((strict : Bool) (next : KeyData) → Gives m party.seed strict next old new before after (kexinit_reply m role party old.known peer))
       → (IsOngoing new.end → new.known.shares ≡ m.share_form new.known.algorithms.kex)
-      → new.pending ≡ old.pending
+      → new.carried ≡ old.carried
       → (IsOngoing new.end → StandsAt new phase.Exchange (wrong_guess role party.offer (Some peer)) (behind_offer m role party old.known payload peer))
       → Works m d role party old new payload before after (work m d role party old.known c)
   unfolding work
@@ -171,7 +171,7 @@ module _ (m : Meaning) (d : Policy) (role : Role) (party : Party) (old new : Kep
         gives = rw (same, read) h.gives;
         moves = λ goes_on. Exchanges at.phase_is none
             (has.kind_is ∙ (number ∙ sym leaves ∙ ap (λ (x : Role). leaving x phase.Exchange) (sym same)))
-            (rw (same, read) (h.keys goes_on))
+            (rw (same, read) (h.carries goes_on))
             (rw (same, read, ← none) (h.stands goes_on));
       }
 
@@ -195,7 +195,7 @@ module _ (m : Meaning) (d : Policy) (role : Role) (party : Party) (old new : Kep
   leaves_works : (side : Role) (p q : Phase) (n : ℕ) (k : Known) (r : Reply) → number_of c ≡ n → leaving side p ≡ n → past_exchange p ≡ true → behind p ≡ q
       → IsAt role side old.phase p old.guess → behind_payload m d party old.known payload ≡ k
       → ((strict : Bool) (next : KeyData) → Gives m party.seed strict next old new before after r)
-      → (IsOngoing new.end → new.pending ≡ old.pending)
+      → (IsOngoing new.end → new.carried ≡ carried_behind m d party old.known old.carried payload)
       → (IsOngoing new.end → StandsAt new q old.guess k)
       → Works m d role party old new payload before after r
   leaves_works side p q n k r number leaves past next at known gives keys stands =
@@ -214,33 +214,38 @@ module _ (m : Meaning) (d : Policy) (role : Role) (party : Party) (old new : Kep
   heard_as : (n : ℕ) → number_of c ≡ n → n ≢ 50 → n ≢ 51 → n ≢ 60 → behind_payload m d party old.known payload ≡ heard_one old.known
   heard_as n number request failure confirmation = heard_number m d party old.known payload n (has.kind_is ∙ number) request failure confirmation
 
+  -- and what is carried along
+  carried_as : (n : ℕ) → number_of c ≡ n → n ≢ 50 → old.carried ≡ carried_behind m d party old.known old.carried payload
+  carried_as n number request = sym (carried_number m d party old.known payload old.carried n (has.kind_is ∙ number) request)
+
   pub request_works : (service : List ℕ) → c ≡ ServiceRequest service
       → ((strict : Bool) (next : KeyData) → Gives m party.seed strict next old new before after (service_reply party service))
-      → new.pending ≡ old.pending
+      → new.carried ≡ old.carried
       → (IsOngoing new.end → StandsAt new phase.Auth old.guess (heard_one old.known))
       → Works m d role party old new payload before after (work m d role party old.known c)
   unfolding work
   request_works service is gives keys stands =
       by_reply (service_reply party service) (ap (work m d role party old.known) is)
       (leaves_works Server phase.Service phase.Auth 5 (heard_one old.known) (service_reply party service) (ap number_of is) refl refl refl
-      (at_request role old payload c has (ap number_of is)) (heard_as 5 (ap number_of is) (λ q. omega arith) (λ q. omega arith) (λ q. omega arith)) gives (λ _. keys) stands)
+      (at_request role old payload c has (ap number_of is)) (heard_as 5 (ap number_of is) (λ q. omega arith) (λ q. omega arith) (λ q. omega arith)) gives (λ _. keys ∙ carried_as 5 (ap number_of is) (λ q. omega arith)) stands)
 
   pub accept_works : (service : List ℕ) → c ≡ ServiceAccept service
       → ((strict : Bool) (next : KeyData) → Gives m party.seed strict next old new before after (accept_reply m old.known service))
-      → new.pending ≡ old.pending
+      → new.carried ≡ old.carried
       → (IsOngoing new.end → StandsAt new phase.Auth old.guess (heard_one old.known))
       → Works m d role party old new payload before after (work m d role party old.known c)
   unfolding work
   accept_works service is gives keys stands =
       by_reply (accept_reply m old.known service) (ap (work m d role party old.known) is)
       (leaves_works Client phase.Service phase.Auth 6 (heard_one old.known) (accept_reply m old.known service) (ap number_of is) refl refl refl
-      (at_accept role old payload c has (ap number_of is)) (heard_as 6 (ap number_of is) (λ q. omega arith) (λ q. omega arith) (λ q. omega arith)) gives (λ _. keys) stands)
+      (at_accept role old payload c has (ap number_of is)) (heard_as 6 (ap number_of is) (λ q. omega arith) (λ q. omega arith) (λ q. omega arith)) gives (λ _. keys ∙ carried_as 6 (ap number_of is) (λ q. omega arith)) stands)
 
   pub user_request_works : (user service : List ℕ) (method : Method) → c ≡ UserauthRequest user service method
       → ((strict : Bool) (next : KeyData) → Gives m party.seed strict next old new before after (request_reply m d party old.known user service method))
       → (IsOngoing new.end → new ≡ record old {
         end = new.end;
         known = counted_request old.known (tried_with user service method (is_good m d party old.known user service method));
+        carried = tried_key old.carried method (is_good m d party old.known user service method);
         sending = new.sending;
       })
       → Works m d role party old new payload before after (work m d role party old.known c)
@@ -249,7 +254,8 @@ module _ (m : Meaning) (d : Policy) (role : Role) (party : Party) (old new : Kep
       let at = at_user_request role old payload c has (ap number_of is) in
       by_reply (request_reply m d party old.known user service method) (ap (work m d role party old.known) is)
       (leaves_works Server phase.Auth phase.Auth 50 (counted_request old.known (tried_with user service method (is_good m d party old.known user service method))) (request_reply m d party old.known user service method) (ap number_of is) refl refl refl
-      at (request_behind m d party old.known payload user service method (has.kind_is ∙ ap number_of is) (has.requests user service method is)) gives (λ goes_on. ap (λ (k : Kept). k.pending) (stays goes_on))
+      at (request_behind m d party old.known payload user service method (has.kind_is ∙ ap number_of is) (has.requests user service method is)) gives (λ goes_on. ap (λ (k : Kept). k.carried) (stays goes_on)
+      ∙ sym (carried_request m d party old.known payload old.carried user service method (has.kind_is ∙ ap number_of is) (has.requests user service method is)))
       (λ goes_on. record {
         phase_is = ap (λ (k : Kept). k.phase) (stays goes_on) ∙ at.phase_is;
         guess_is = ap (λ (k : Kept). k.guess) (stays goes_on);
@@ -265,7 +271,7 @@ module _ (m : Meaning) (d : Policy) (role : Role) (party : Party) (old new : Kep
       let at = at_success role old payload c has (ap number_of is) in
       by_reply (success_reply old.known) (ap (work m d role party old.known) is)
       (leaves_works Client phase.Auth phase.Auth 52 (heard_one old.known) (success_reply old.known) (ap number_of is) refl refl refl
-      at (heard_as 52 (ap number_of is) (λ q. omega arith) (λ q. omega arith) (λ q. omega arith)) gives (λ goes_on. ap (λ (k : Kept). k.pending) (stays goes_on))
+      at (heard_as 52 (ap number_of is) (λ q. omega arith) (λ q. omega arith) (λ q. omega arith)) gives (λ goes_on. ap (λ (k : Kept). k.carried) (stays goes_on) ∙ carried_as 52 (ap number_of is) (λ q. omega arith))
       (λ goes_on. record {
         phase_is = ap (λ (k : Kept). k.phase) (stays goes_on) ∙ at.phase_is;
         guess_is = ap (λ (k : Kept). k.guess) (stays goes_on);
@@ -284,7 +290,7 @@ module _ (m : Meaning) (d : Policy) (role : Role) (party : Party) (old new : Kep
       by_reply (failure_reply m old.known listed) (ap (work m d role party old.known) is) (record {
         gives = gives _ _;
         moves = λ goes_on. Stays none (subst (λ (n : ℕ). LeavesNone role n) (sym number) (table.late_leaves role 51 (omega arith)))
-            (ap (λ (k : Kept). k.pending) stays)
+            (ap (λ (k : Kept). k.carried) stays ∙ carried_as 51 (ap number_of is) (λ q. omega arith))
             (record {
               phase_is = ap (λ (k : Kept). k.phase) stays;
               guess_is = ap (λ (k : Kept). k.guess) stays ∙ none;
@@ -304,7 +310,7 @@ module _ (m : Meaning) (d : Policy) (role : Role) (party : Party) (old new : Kep
       by_reply (pk_ok_reply m old.known algorithm key) (ap (work m d role party old.known) is) (record {
         gives = gives _ _;
         moves = λ goes_on. Stays none (subst (λ (n : ℕ). LeavesNone role n) (sym number) (table.late_leaves role 60 (omega arith)))
-            (ap (λ (k : Kept). k.pending) (stays goes_on))
+            (ap (λ (k : Kept). k.carried) (stays goes_on) ∙ carried_as 60 (ap number_of is) (λ q. omega arith))
             (record {
               phase_is = ap (λ (k : Kept). k.phase) (stays goes_on);
               guess_is = ap (λ (k : Kept). k.guess) (stays goes_on) ∙ none;
@@ -344,7 +350,7 @@ module _ (m : Meaning) (d : Policy) (role : Role) (party : Party) (old new : Kep
         gives = silent m party.seed old.known.strict _ old new before Open (ap (λ (k : Kept). k.end) next ∙ stays) (ap (λ (k : Kept). k.sending) next);
         moves = λ goes_on. Leaves none (ap past_exchange at.phase_is)
             (has.kind_is ∙ ap number_of is ∙ sym (ap (leaving role) at.phase_is))
-            (ap (λ (k : Kept). k.pending) next)
+            (ap (λ (k : Kept). k.carried) next ∙ sym (carried_number m d party old.known payload old.carried 21 (has.kind_is ∙ ap number_of is) (λ q. omega arith)))
             (record {
               phase_is = ap (λ (k : Kept). k.phase) next ∙ sym (ap behind at.phase_is);
               guess_is = ap (λ (k : Kept). k.guess) next ∙ none;
@@ -360,7 +366,7 @@ module _ (m : Meaning) (d : Policy) (role : Role) (party : Party) (old new : Kep
       by_reply m d role party old new payload before before c has (goes []) is (record {
         gives = silent m party.seed old.known.strict _ old new before Open (ap (λ (k : Kept). k.end) next ∙ stays) (ap (λ (k : Kept). k.sending) next);
         moves = λ goes_on. Stays none (subst (λ (n : ℕ). LeavesNone role n) (sym has.kind_is) calm.1)
-            (ap (λ (k : Kept). k.pending) next)
+            (ap (λ (k : Kept). k.carried) next ∙ sym (carried_number m d party old.known payload old.carried (number_of c) has.kind_is plain.user_request))
             (record {
               phase_is = ap (λ (k : Kept). k.phase) next;
               guess_is = ap (λ (k : Kept). k.guess) next ∙ none;

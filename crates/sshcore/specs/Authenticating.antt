@@ -1,6 +1,6 @@
 -- What an endpoint does in authentication: what it keeps behind a request and behind a FAILURE, and what fits its messages.
 
-use Rattle.std.specs.Prelude.{◌≡◌, ◌==◌, ◌||◌, ℕ, ◌+◌, ◌≤◌, true, false, List, length}
+use Rattle.std.specs.Prelude.{◌≡◌, ◌==◌, ◌||◌, ℕ, ◌+◌, ◌≤◌, Bool, true, false, if◌then◌else◌, List, [], length}
 use Rattle.sshwire.specs.declared.limits.TheConstants.{NAME_LIMIT, PAYLOAD_LIMIT}
 use Rattle.sshmsg.specs.declared.numbers.TheConstants.{SSH_MSG_USERAUTH_PK_OK, SSH_MSG_USERAUTH_REQUEST, SSH_MSG_USERAUTH_SUCCESS}
 use Rattle.sshmsg.specs.Content.{Method, PublicKey}
@@ -8,10 +8,12 @@ use Rattle.sshmsg.specs.Lengths.{method_length}
 use Rattle.sshmsg.specs.Written.{method_name}
 use Rattle.sshpacket.specs.declared.limits.TheConstants.{PACKET_LIMIT}
 use Rattle.sshcore.specs.declared.config_parts.TheConstants.{USER_LIMIT}
+use Rattle.sshcore.specs.Kept.{Carried}
 use Rattle.sshcore.specs.Known.{Known}
 use Rattle.sshcore.specs.Plan.{confirmed, next_behind}
 use Rattle.sshcore.specs.Reached.{Tried, reached_behind}
 use Rattle.sshcore.specs.Table.{within}
+use Rattle.sshcore.specs.Tries.{key_of, last_key}
 
 -- a request is counted
 abbrev pub one_request : Known → Known
@@ -20,6 +22,10 @@ one_request known = record known { request = known.request + 1; first = false }
 -- what is known behind a request, which is counted, and may reach a method
 abbrev pub counted_request : Known → Tried → Known
 counted_request known t = record known { request = known.request + 1; reached = reached_behind known.reached t; first = false }
+
+-- what is carried along behind a request by this method, which was good or not: its key, if it has one
+abbrev pub tried_key : Carried → Method → Bool → Carried
+tried_key c method good = record c { user_key = last_key c.user_key (if good then key_of method else []) }
 
 -- behind a PK_OK
 abbrev pub confirmed_attempt : Known → Known

@@ -1,7 +1,7 @@
 -- What a packet does to what an endpoint keeps, and what is said to it.
 
-use Rattle.std.specs.Prelude.{◌≡◌, ◌⊎◌, ℕ, ◌==◌, Bool, true, false, List, ◌++◌, Some}
-use Rattle.sshmsg.specs.declared.numbers.TheConstants.{SSH_MSG_DISCONNECT}
+use Rattle.std.specs.Prelude.{◌≡◌, ◌⊎◌, ℕ, ◌==◌, Bool, true, false, if◌then◌else◌, List, ◌++◌, Some}
+use Rattle.sshmsg.specs.declared.numbers.TheConstants.{SSH_MSG_DISCONNECT, SSH_MSG_USERAUTH_REQUEST}
 use Rattle.sshmsg.specs.Content.{Offer}
 use Rattle.sshmsg.specs.Numbers.{kind}
 use Rattle.sshneg.specs.declared.role.Role.{Role}
@@ -15,7 +15,7 @@ use Rattle.sshcore.specs.Before.{wrong_guess}
 use Rattle.sshcore.specs.Ending.{AgreedData, Authenticated, Ending, Open, Reply}
 use Rattle.sshcore.specs.Exchange.{keys_by}
 use Rattle.sshcore.specs.History.{AllFit}
-use Rattle.sshcore.specs.Kept.{Kept}
+use Rattle.sshcore.specs.Kept.{Carried, Kept, with_exchange}
 use Rattle.sshcore.specs.Known.{Known}
 use Rattle.sshcore.specs.Output.{said_from, sending_from}
 use Rattle.sshcore.specs.Party.{Party, Policy}
@@ -24,6 +24,7 @@ use Rattle.sshcore.specs.Plan.{is_waiting}
 use Rattle.sshcore.specs.Replies.{line_reply}
 use Rattle.sshcore.specs.Standing.{LeavesNone, behind_exchange, behind_offer, behind_payload, exchange_heard}
 use Rattle.sshcore.specs.Table.{line_by}
+use Rattle.sshcore.specs.Tries.{good_key_in, last_key}
 
 -- the session goes on: the endpoint is open, or the user is authenticated
 abbrev pub IsOngoing : Ending → Type 0
@@ -32,6 +33,13 @@ IsOngoing end = (end ≡ Open) ⊎ ((a : AgreedData) × (end ≡ Authenticated a
 -- the same with one payload more, which changes nothing else
 abbrev pub heard_one : Known → Known
 heard_one known = record known { first = false }
+
+-- what is carried along behind a payload that is neither dropped nor the first KEXINIT nor the exchange message: the key of a
+-- request that was good
+abbrev pub carried_behind : Meaning → Policy → Party → Known → Carried → List ℕ → Carried
+carried_behind m d party known c payload = record c {
+  user_key = if kind payload == SSH_MSG_USERAUTH_REQUEST then last_key c.user_key (good_key_in m d party known.session known.request payload) else c.user_key;
+}
 
 -- It gives this reply: it ends so, and says these answers, padded from this seed, with these keys behind a NEWKEYS.
 pub record Gives (m : Meaning) (seed : List ℕ) (strict : Bool) (next : KeyData) (old new : Kept) (before after : List ℕ) (r : Reply) : Type 0 where
@@ -50,17 +58,18 @@ pub record StandsAt (new : Kept) (p : Phase) (guess : Bool) (known : Known) : Ty
 -- message, which brings the keys of what is heard; behind every other message that leaves a phase; and behind one that
 -- leaves none.
 pub data Moves (m : Meaning) (d : Policy) (role : Role) (party : Party) (payload : List ℕ) (old new : Kept) : Type 0 where
-  Offers : (peer : Offer) → old.phase ≡ phase.KexInit → old.guess ≡ false → offer_in payload ≡ Some peer → new.pending ≡ old.pending
+  Offers : (peer : Offer) → old.phase ≡ phase.KexInit → old.guess ≡ false → offer_in payload ≡ Some peer → new.carried ≡ old.carried
       → new.known.shares ≡ m.share_form new.known.algorithms.kex
       → StandsAt new phase.Exchange (wrong_guess role party.offer (Some peer)) (behind_offer m role party old.known payload peer) → Moves m d role party payload old new
-  Drops : old.guess ≡ true → (kind payload == SSH_MSG_DISCONNECT) ≡ false → new.pending ≡ old.pending
+  Drops : old.guess ≡ true → (kind payload == SSH_MSG_DISCONNECT) ≡ false → new.carried ≡ old.carried
       → StandsAt new old.phase false (heard_one old.known) → Moves m d role party payload old new
   Exchanges : old.phase ≡ phase.Exchange → old.guess ≡ false → kind payload ≡ leaving role phase.Exchange
-      → new.pending ≡ Some (keys_by m old.known.algorithms (exchange_heard m role party old.known payload) (other role))
+      → new.carried ≡ with_exchange party (keys_by m old.known.algorithms (exchange_heard m role party old.known payload) (other role))
+      (exchange_heard m role party old.known payload).host_key old.carried
       → StandsAt new phase.NewKeys false (behind_exchange m role party old.known payload) → Moves m d role party payload old new
-  Leaves : old.guess ≡ false → past_exchange old.phase ≡ true → kind payload ≡ leaving role old.phase → new.pending ≡ old.pending
+  Leaves : old.guess ≡ false → past_exchange old.phase ≡ true → kind payload ≡ leaving role old.phase → new.carried ≡ carried_behind m d party old.known old.carried payload
       → StandsAt new (behind old.phase) false (behind_payload m d party old.known payload) → Moves m d role party payload old new
-  Stays : old.guess ≡ false → LeavesNone role (kind payload) → new.pending ≡ old.pending
+  Stays : old.guess ≡ false → LeavesNone role (kind payload) → new.carried ≡ carried_behind m d party old.known old.carried payload
       → StandsAt new old.phase false (behind_payload m d party old.known payload) → Moves m d role party payload old new
 
 -- What a packet brings: this reply, and where the session goes on the endpoint stands behind the packet.

@@ -19,7 +19,7 @@ use Rattle.sshcore.specs.Ending.{Reply, fails}
 use Rattle.sshcore.specs.Exchange.{exchange_with, keys_by, own_kexinit, secret_of}
 use Rattle.sshcore.specs.Directions.{spelled_by}
 use Rattle.sshcore.specs.History.{FitsPacket}
-use Rattle.sshcore.specs.Kept.{Kept}
+use Rattle.sshcore.specs.Kept.{Kept, with_exchange}
 use Rattle.sshcore.specs.Output.{Sending, with_packet, with_newkeys}
 use Rattle.sshcore.specs.Work.{reply_in, userauth}
 use Rattle.sshcore.specs.Known.{Known}
@@ -62,10 +62,11 @@ abbrev pub exchange_of_message : Meaning → Role → Party → Known → Conten
 exchange_of_message m role party known message = exchange_with m role party known.algorithms known.version known.kexinit (Ok message)
 
 -- It hears the exchange message: it gives this reply; and where it goes on it stands behind the exchange, with the keys of what
--- is heard.
+-- is heard and the host key.
 pub record HearsExchange (m : Meaning) (role : Role) (party : Party) (old new : Kept) (before after : List ℕ) (message : Content) (r : Reply) : Type 0 where
   pub gives : Gives m party.seed old.known.strict (keys_by m old.known.algorithms (exchange_of_message m role party old.known message) role) old new before after r
-  pub keys : IsOngoing new.end → new.pending ≡ Some (keys_by m old.known.algorithms (exchange_of_message m role party old.known message) (other role))
+  pub carries : IsOngoing new.end → new.carried ≡ with_exchange party (keys_by m old.known.algorithms (exchange_of_message m role party old.known message) (other role))
+      (exchange_of_message m role party old.known message).host_key old.carried
   pub stands : IsOngoing new.end → StandsAt new phase.NewKeys old.guess
       (record old.known { session = exchange_hash m old.known.algorithms.kex (exchange_of_message m role party old.known message) })
 
@@ -88,40 +89,41 @@ server_shares m party known share answer = record {
   shared = answer.shared;
 }
 
--- The exchange hash of a server that has answered so, and the message with its signature.
-pub record IsSigned (m : Meaning) (role : Role) (party : Party) (known : Known) (share : List ℕ) (answer : ResponseData) (hash reply : List ℕ) : Type 0 where
+-- The exchange hash of a server that has answered so, its host key, and the message with its signature.
+pub record IsSigned (m : Meaning) (role : Role) (party : Party) (known : Known) (share : List ℕ) (answer : ResponseData) (hash host_key reply : List ℕ) : Type 0 where
   pub hash_is : hash ≡ exchange_hash m known.algorithms.kex (exchanged role party known (server_shares m party known share answer))
   pub short : length hash ≤ DIGEST_LIMIT
+  pub host_key_is : host_key ≡ (server_shares m party known share answer).host_key
   pub reply_is : reply ≡ written_message (reply_in (m.share_form known.algorithms.kex) (server_shares m party known share answer).host_key answer.share
       (m.sign known.algorithms.host_key (secret_of party.host_keys known.algorithms.host_key) hash))
   pub fits : FitsPacket reply
 
--- what is kept behind an exchange of this hash and shared number, with these packets said
-pub record StandsBehind (m : Meaning) (role : Role) (old new : Kept) (shared hash : List ℕ) (o : Sending) : Type 0 where
+-- what is kept behind an exchange of this host key, shared number and hash, with these packets said
+pub record StandsBehind (m : Meaning) (role : Role) (party : Party) (old new : Kept) (host_key shared hash : List ℕ) (o : Sending) : Type 0 where
   pub kept : new ≡ record old {
     phase = phase.NewKeys;
     known = record old.known { session = hash };
-    pending = Some (kex_keys m old.known.algorithms shared hash (other role));
+    carried = with_exchange party (kex_keys m old.known.algorithms shared hash (other role)) host_key old.carried;
     sending = o;
   }
 
 -- A server says its answer and NEWKEYS, and stands behind the exchange.
-pub record AnswersInit (m : Meaning) (role : Role) (party : Party) (old new : Kept) (shared hash reply before after : List ℕ) : Type 0 where
+pub record AnswersInit (m : Meaning) (role : Role) (party : Party) (old new : Kept) (host_key shared hash reply before after : List ℕ) : Type 0 where
   pub says : after ≡ (before ++ spelled_by m old.sending.keys party.seed old.sending.number reply)
       ++ spelled_by m old.sending.keys party.seed (with_packet old.sending).number (written_message NewKeys)
-  pub stands : StandsBehind m role old new shared hash (with_newkeys old.known.strict (kex_keys m old.known.algorithms shared hash role) (with_packet old.sending))
+  pub stands : StandsBehind m role party old new host_key shared hash (with_newkeys old.known.strict (kex_keys m old.known.algorithms shared hash role) (with_packet old.sending))
 
 -- the same of a client, which says NEWKEYS and requests the service
-pub record AcceptsReply (m : Meaning) (role : Role) (party : Party) (old new : Kept) (shared hash before after : List ℕ) : Type 0 where
+pub record AcceptsReply (m : Meaning) (role : Role) (party : Party) (old new : Kept) (host_key shared hash before after : List ℕ) : Type 0 where
   pub says : let o = with_newkeys old.known.strict (kex_keys m old.known.algorithms shared hash role) old.sending in
       after ≡ (before ++ spelled_by m old.sending.keys party.seed old.sending.number (written_message NewKeys))
       ++ spelled_by m o.keys party.seed o.number (written_message (ServiceRequest userauth))
-  pub stands : StandsBehind m role old new shared hash (with_packet (with_newkeys old.known.strict (kex_keys m old.known.algorithms shared hash role) old.sending))
+  pub stands : StandsBehind m role party old new host_key shared hash (with_packet (with_newkeys old.known.strict (kex_keys m old.known.algorithms shared hash role) old.sending))
 
 -- A client judges the signature over what both have given: it accepts, or fails.
 pub data JudgesReply (m : Meaning) (role : Role) (party : Party) (old new : Kept) (shares : ShareData) (signature before after : List ℕ) : Type 0 where
   Accepts : m.verify old.known.algorithms.host_key shares.host_key (exchange_hash m old.known.algorithms.kex (exchanged role party old.known shares)) signature ≡ true
-      → AcceptsReply m role party old new shares.shared (exchange_hash m old.known.algorithms.kex (exchanged role party old.known shares)) before after
+      → AcceptsReply m role party old new shares.host_key shares.shared (exchange_hash m old.known.algorithms.kex (exchanged role party old.known shares)) before after
       → JudgesReply m role party old new shares signature before after
   Refuses : m.verify old.known.algorithms.host_key shares.host_key (exchange_hash m old.known.algorithms.kex (exchanged role party old.known shares)) signature ≡ false
       → ((strict : Bool) (next : KeyData) → Gives m party.seed strict next old new before after (fails fault.Signature))

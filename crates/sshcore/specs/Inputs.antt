@@ -1,6 +1,6 @@
 -- What an endpoint keeps, as what it has heard and said.
 
-use Rattle.std.specs.Prelude.{◌≡◌, ◌≢◌, ◌&&◌, ℕ, not, if◌then◌else◌, List, [], ◌∷◌, ◌++◌, length, Option, None, Some}
+use Rattle.std.specs.Prelude.{◌≡◌, ◌≢◌, ◌&&◌, ℕ, true, not, if◌then◌else◌, List, [], ◌∷◌, ◌++◌, length, Option, None, Some}
 use Rattle.sshwire.specs.Feeding.{StandsOpen}
 use Rattle.sshwire.specs.LineState.{Finished, held}
 use Rattle.sshneg.specs.declared.role.Role.{Role}
@@ -18,14 +18,15 @@ use Rattle.sshcore.specs.Brings.{IsOngoing}
 use Rattle.sshcore.specs.Counting.{number_in}
 use Rattle.sshcore.specs.Directions.{keys_in, others_of, payloads_in, version_in}
 use Rattle.sshcore.specs.Ending.{Authenticated, Closed, Ending, Failed, Open}
-use Rattle.sshcore.specs.Exchange.{keys_at}
+use Rattle.sshcore.specs.Exchange.{exchange_at, keys_at}
 use Rattle.sshcore.specs.Exchanged.{HasForm}
 use Rattle.sshcore.specs.History.{History}
-use Rattle.sshcore.specs.Kept.{Kept}
+use Rattle.sshcore.specs.Kept.{Carried, Kept}
 use Rattle.sshcore.specs.Output.{Speaks}
 use Rattle.sshcore.specs.Party.{Party, Policy}
 use Rattle.sshcore.specs.Phases.{past_exchange, past_newkeys}
 use Rattle.sshcore.specs.Standing.{Sits}
+use Rattle.sshcore.specs.Tries.{good_keys_at, last_key}
 
 -- its reader may be given bytes
 abbrev pub CanRead : Meaning → Input → Type 0
@@ -58,12 +59,20 @@ IsInput m role party units rest (input.Packets reader) =
 abbrev pub pending_at : Phase → KeyData → Option KeyData
 pending_at p keys = if past_exchange p && not (past_newkeys p) then Some keys else None
 
+-- what is carried along agrees with what was heard: the keys of what is heard; from the exchange on the own version line and the
+-- exchange's host key; and the key of the last request that was good by one
+pub record IsCarried (m : Meaning) (d : Policy) (role : Role) (party : Party) (version : List ℕ) (before : Units) (p : Phase) (carried : Carried) : Type 0 where
+  pub pending : carried.pending ≡ pending_at p (keys_at m role party version before (other role))
+  pub own_version : past_exchange p ≡ true → carried.own_version ≡ party.version
+  pub host_key : past_exchange p ≡ true → carried.host_key ≡ (exchange_at m role party version before).host_key
+  pub user_key : carried.user_key ≡ last_key None (good_keys_at m d role party version before)
+
 -- what an endpoint keeps agrees with what was heard and said, while its session goes on
 pub record IsInside (m : Meaning) (d : Policy) (role : Role) (party : Party) (units answers : Units) (rest : List ℕ) (kept : Kept) (i : Input) : Type 0 where
   pub sits : Sits m d role party (version_in units) (payloads_in units) kept.phase kept.guess kept.known
   pub form : HasForm m kept
   pub reads : IsInput m role party units rest i
-  pub pending : kept.pending ≡ pending_at kept.phase (keys_at m role party (version_in units) (payloads_in units) (other role))
+  pub carries : IsCarried m d role party (version_in units) (payloads_in units) kept.phase kept.carried
   pub speaks : Speaks m role party units answers kept.sending
 
 -- how an endpoint stands that has come to this end by what it heard: so, or cut off where it stood open

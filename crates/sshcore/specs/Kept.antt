@@ -1,8 +1,9 @@
 -- What an endpoint keeps between two packets, besides its reader.
 
-use Rattle.std.specs.Prelude.{Bool, true, false, List, [], map, string_bytes, Option, None, Some}
+use Rattle.std.specs.Prelude.{ℕ, Bool, true, false, List, [], map, string_bytes, Option, None, Some}
 use Rattle.sshneg.specs.Fields.{Algorithms}
 use Rattle.sshpacket.specs.KeyData.{KeyData}
+use Rattle.sshcore.specs.declared.session.UserKey.{UserKey}
 use Rattle.sshcore.specs.declared.state.ReachedMethods as reached_methods
 use Rattle.sshcore.specs.declared.state.State.{State}
 use Rattle.sshcore.specs.declared.table.Phase.{Phase}
@@ -13,19 +14,31 @@ use Rattle.sshcore.specs.Ending.{Ending, Open, ending}
 use Rattle.sshcore.specs.Exchange.{no_algorithms}
 use Rattle.sshcore.specs.Known.{Known}
 use Rattle.sshcore.specs.Output.{Sending}
-use Rattle.sshcore.specs.Party.{Party}
+use Rattle.sshcore.specs.Party.{Party, UserKeyData}
 use Rattle.sshcore.specs.Plan.{confirmed}
 use Rattle.sshcore.specs.Reached.{Reached}
 use Rattle.sshcore.specs.Standing.{nothing_known}
 
--- How it stands; its phase; whether the packet of a wrong guess is due; what it knows; the keys of what is heard, from the
--- exchange up to NEWKEYS; and what it says packets with.
+-- What is carried along, on which no reply hangs: the keys of what is heard, from the exchange up to NEWKEYS; from the exchange on
+-- the own version line and the server's public host key; and the public key of the last signed request that was good.
+pub record Carried : Type 0 where
+  pub pending : Option KeyData
+  pub own_version : List ℕ
+  pub host_key : List ℕ
+  pub user_key : Option UserKeyData
+
+-- behind the exchange, by which these are the keys of what is heard and this is the host key
+abbrev pub with_exchange : Party → KeyData → List ℕ → Carried → Carried
+with_exchange party keys host_key c = record c { pending = Some keys; own_version = party.version; host_key = host_key }
+
+-- How it stands; its phase; whether the packet of a wrong guess is due; what it knows; what it carries along; and what it says
+-- packets with.
 pub record Kept : Type 0 where
   pub end : Ending
   pub phase : Phase
   pub guess : Bool
   pub known : Known
-  pub pending : Option KeyData
+  pub carried : Carried
   pub sending : Sending
 
 -- the algorithms of a choice, or no names before it
@@ -37,6 +50,11 @@ algorithms_or None = no_algorithms
 abbrev pub left_of : Bool → List Attempt → List Attempt
 left_of true attempts = confirmed attempts
 left_of false attempts = attempts
+
+-- a user's key, without where its texts lie in memory
+abbrev pub user_key_of : Option UserKey → Option UserKeyData
+user_key_of None = None
+user_key_of (Some k) = Some (record { algorithm = string_bytes k.algorithm; blob = k.blob.items })
 
 -- what is reached, without where its texts lie in memory
 abbrev pub reached_of : reached_methods.ReachedMethods → Reached
@@ -59,7 +77,7 @@ kept_of s = record {
     strict = s.strict;
     first = s.first;
   };
-  pending = s.pending;
+  carried = record { pending = s.pending; own_version = s.own_version.items; host_key = s.host_key.items; user_key = user_key_of s.user_key };
   sending = record { keys = s.keys_out; number = s.number_out };
 }
 
@@ -70,7 +88,7 @@ begun party = record {
   phase = phase.KexInit;
   guess = false;
   known = nothing_known party [];
-  pending = None;
+  carried = record { pending = None; own_version = []; host_key = []; user_key = None };
   sending = record { keys = None; number = 0 };
 }
 

@@ -61,6 +61,11 @@ pub data ProofData : Type 0 where
   PasswordProof : List ℕ → ProofData
   KeyProof : List ℕ → List ℕ → ProofData
 
+-- a user's public key, by its algorithm and blob (RFC 4252 section 7)
+pub record UserKeyData : Type 0 where
+  pub algorithm : List ℕ
+  pub blob : List ℕ
+
 -- the decisions of whoever runs an endpoint: on a host key (algorithm and blob), and on a request (its number from 1, user,
 -- service and proof)
 pub record Policy : Type 0 where

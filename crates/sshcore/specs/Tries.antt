@@ -17,7 +17,7 @@ use Rattle.sshpacket.specs.Suite.{Meaning}
 use Rattle.sshcore.specs.declared.table.Phase.TheVariants as phase
 use Rattle.sshcore.specs.Before.{count_kept, kept, stood}
 use Rattle.sshcore.specs.Exchange.{session_at}
-use Rattle.sshcore.specs.Party.{KeyProof, NoProof, Party, PasswordProof, Policy, ProofData}
+use Rattle.sshcore.specs.Party.{KeyProof, NoProof, Party, PasswordProof, Policy, ProofData, UserKeyData}
 use Rattle.sshcore.specs.Phases.{leaving}
 use Rattle.sshcore.specs.Reached.{Tried}
 
@@ -72,3 +72,32 @@ tried_place m d role party version before payload =
 
 unfoldable pub tried_at : Meaning → Policy → Role → Party → List ℕ → Units → List Tried
 tried_at m d role party version before = flat_places (tried_place m d role party version) [] before
+
+-- The key of a signed request, whose algorithm is a name.
+abbrev pub key_of : Method → List UserKeyData
+key_of (PublicKey algorithm key signature) = if is_name algorithm then record { algorithm = algorithm; blob = key } ∷ [] else []
+key_of _ = []
+
+-- The key by which a request was good, if it was by one.
+abbrev pub good_key_by : Meaning → Policy → Party → List ℕ → ℕ → Result Content MsgFault → List UserKeyData
+good_key_by m d party session request (Ok (UserauthRequest user service method)) =
+    if is_good_at m d party session request user service method then key_of method else []
+good_key_by m d party session request _ = []
+
+unfoldable pub good_key_in : Meaning → Policy → Party → List ℕ → ℕ → List ℕ → List UserKeyData
+good_key_in m d party session request payload = good_key_by m d party session request (message_in Mpint payload)
+
+-- The keys by which the requests of these payloads were good, in order.
+abbrev pub good_key_place : Meaning → Policy → Role → Party → List ℕ → Units → List ℕ → List UserKeyData
+good_key_place m d role party version before payload =
+    if kept role party.offer SSH_MSG_USERAUTH_REQUEST before payload
+    then good_key_in m d party (session_known m role party version before) (count_kept role party.offer SSH_MSG_USERAUTH_REQUEST before + 1) payload
+    else []
+
+unfoldable pub good_keys_at : Meaning → Policy → Role → Party → List ℕ → Units → List UserKeyData
+good_keys_at m d role party version before = flat_places (good_key_place m d role party version) [] before
+
+-- the last of these, or this one where there are none
+abbrev pub last_key : Option UserKeyData → List UserKeyData → Option UserKeyData
+last_key key [] = key
+last_key key (k ∷ later) = last_key (Some k) later

@@ -22,7 +22,7 @@ use crate::end::{End, Fault};
 use crate::greeting::say_lines;
 use crate::input::Input;
 use crate::server_config::ServerConfig;
-use crate::session::{Session, session_of};
+use crate::session::{Session, accepted_by, session_of};
 use crate::state::State;
 use sshpacket::Suite;
 use sshwire::Memory;
@@ -257,21 +257,32 @@ impl<'a, S: Suite, D: Decisions> Endpoint<'a, S, D> {
         }
     }
 
-    /// What goes on behind authentication, where the endpoint ended authenticated; None otherwise. The
-    /// session's first byte is the one behind those that `feed` has used. Takes no memory.
+    /// What goes on behind authentication, where the endpoint ended authenticated; None otherwise: what was
+    /// agreed, both version lines, the server's public host key, at a server how the user came in, and the
+    /// keys and numbers of both directions. The session's first byte is the one behind those that `feed` has
+    /// used. Takes no memory.
     pub fn into_session(self) -> Option<Session>
         ensures session { (h s : List ℕ) (p : After S.meaning D.policy self.entry h s) (a : AgreedData) → ending_of self.entry ≡ Authenticated a
-            → (session : Session) × (result ≡ Some session) × IsSession (S.meaning self.entry.suite) self.entry.role self.entry.party p.units p.answers a session × (p.rest ≡ []) }
+            → (session : Session) × (result ≡ Some session) × IsSession (S.meaning self.entry.suite) (D.policy self.entry.decisions) self.entry.role self.entry.party p.units p.answers a session × (p.rest ≡ []) }
         ensures none { ((a : AgreedData) → ending_of self.entry ≢ Authenticated a) → result ≡ None }
     {
         sshmsg::numbers_law();
         sshneg::markers_law();
+        let role = self.config.role();
         let state = self.state;
         let outgoing = (state.keys_out, state.number_out);
+        let versions = (state.own_version, state.version);
+        let user_key = state.user_key;
+        let accepted = accepted_by(role, &state.reached, user_key);
         match (state.end, self.input) {
-            (End::Authenticated(agreed), Input::Packets(reader)) => {
-                session_of(agreed, reader.into_keys(), outgoing)
-            }
+            (End::Authenticated(agreed), Input::Packets(reader)) => session_of(
+                agreed,
+                versions,
+                state.host_key,
+                accepted,
+                reader.into_keys(),
+                outgoing,
+            ),
             _ => None,
         }
     }

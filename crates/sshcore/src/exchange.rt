@@ -17,7 +17,7 @@ ghost use Rattle.sshcore.specs.Ending.{Failed, Open, ending};
 ghost use Rattle.sshcore.specs.Exchange.{host_key_read, secret_of, share_read};
 ghost use Rattle.sshcore.specs.Exchanged.{AcceptsReply, AnswersInit, HasForm, HearsExchange, IsSigned, JudgesReply, client_shares, exchanged, kex_keys};
 ghost use Rattle.sshcore.specs.ExchangedView.{shares_of};
-ghost use Rattle.sshcore.specs.Kept.{kept_of};
+ghost use Rattle.sshcore.specs.Kept.{kept_of, with_exchange};
 ghost use Rattle.sshcore.specs.History.{FitsPacket};
 ghost use Rattle.sshcore.specs.Output.{with_packet, with_newkeys};
 ghost use Rattle.sshcore.specs.Work.{init_reply, reply_in, reply_reply, userauth};
@@ -52,10 +52,11 @@ pub(crate) struct Shares<'a> {
     shared: &'a [u8],
 }
 
-/// A server's answer, and the exchange hash that it signs.
+/// A server's answer, the exchange hash that it signs, and its host key.
 #[derive(Drop)]
 pub(crate) struct Signed {
     hash: Vec<u8>,
+    host_key: Vec<u8>,
     reply: Vec<u8>,
 }
 
@@ -126,7 +127,7 @@ impl State<'_> {
         requires chosen { is_some self.now.algorithms ≡ true }
         requires short { length share.now ≤ PACKET_LIMIT }
         requires answer { (S.meaning suite.now).respond (kept_of self.now).known.algorithms.kex (party_of config.now).random share.now ≡ Some (response_data response.now) }
-        ensures { IfOk result (λ signed. IsSigned (S.meaning suite.now) (role_of config.now) (party_of config.now) (kept_of self.now).known share.now (response_data response.now) signed.hash.items signed.reply.items) }
+        ensures { IfOk result (λ signed. IsSigned (S.meaning suite.now) (role_of config.now) (party_of config.now) (kept_of self.now).known share.now (response_data response.now) signed.hash.items signed.host_key.items signed.reply.items) }
     {
         answer_law(config, suite);
         let algorithms = self.algorithms.as_ref().unwrap();
@@ -142,7 +143,11 @@ impl State<'_> {
         let signature = suite.sign(self.alloc, algorithms.host_key(), secret, &hash)?;
         let form = suite.share_form(algorithms.kex());
         let reply = reply_payload(self.alloc, form, &host_key, &response.share, &signature)?;
-        Ok(Signed { hash, reply })
+        Ok(Signed {
+            hash,
+            host_key,
+            reply,
+        })
     }
 
     /// Says the answer and NEWKEYS, and stands behind the exchange.
@@ -158,13 +163,12 @@ impl State<'_> {
         requires reply { FitsPacket signed.reply.items }
         requires hash { length signed.hash.items ≤ DIGEST_LIMIT }
         requires shared { length shared.now ≤ SHARE_LIMIT }
-        ensures { OnOk result (AnswersInit (S.meaning suite.now) (role_of config.now) (party_of config.now) (kept_of self.old) (kept_of self.new) shared.now signed.hash.items signed.reply.items said.old.items said.new.items) }
+        ensures { OnOk result (AnswersInit (S.meaning suite.now) (role_of config.now) (party_of config.now) (kept_of self.old) (kept_of self.new) signed.host_key.items shared.now signed.hash.items signed.reply.items said.old.items said.new.items) }
     {
         let keys = self.both_keys(config, suite, shared, &signed.hash)?;
         self.say(config, suite, &signed.reply, said)?;
         self.say_new_keys(config, suite, keys.outgoing, said)?;
-        self.stand_behind_exchange(signed.hash, keys.incoming);
-        Ok(())
+        self.stand_behind_exchange(config, signed.hash, signed.host_key, keys.incoming)
     }
 
     /// A client hears the server's share: it asks whether the host key is trusted (else `HostKey`), then
@@ -226,7 +230,8 @@ impl State<'_> {
         if !suite.verify(self.alloc, host_key, reply.host_key, &hash, reply.signature)? {
             return self.fail(config, suite, Fault::Signature, said);
         }
-        self.accept_reply(config, suite, shared, hash, said)
+        let key = Vec::from_slice(self.alloc, reply.host_key)?;
+        self.accept_reply(config, suite, shared, hash, key, said)
     }
 
     /// The exchange hash at a client.
@@ -265,19 +270,19 @@ impl State<'_> {
         suite: &S,
         shared: &[u8],
         hash: Vec<u8>,
+        host_key: Vec<u8>,
         said: &mut Vec<u8>,
     ) -> Result<(), Memory>
         requires at { self.old.phase ≡ phase.Exchange }
         requires hash { length hash.items ≤ DIGEST_LIMIT }
         requires shared { length shared.now ≤ SHARE_LIMIT }
-        ensures { OnOk result (AcceptsReply (S.meaning suite.now) (role_of config.now) (party_of config.now) (kept_of self.old) (kept_of self.new) shared.now hash.items said.old.items said.new.items) }
+        ensures { OnOk result (AcceptsReply (S.meaning suite.now) (role_of config.now) (party_of config.now) (kept_of self.old) (kept_of self.new) host_key.items shared.now hash.items said.old.items said.new.items) }
     {
         let keys = self.both_keys(config, suite, shared, &hash)?;
         let request = payload_of(self.alloc, &Message::ServiceRequest { service: USERAUTH })?;
         self.say_new_keys(config, suite, keys.outgoing, said)?;
         self.say(config, suite, &request, said)?;
-        self.stand_behind_exchange(hash, keys.incoming);
-        Ok(())
+        self.stand_behind_exchange(config, hash, host_key, keys.incoming)
     }
 
     /// The exchange hash (RFC 4253 section 8).
@@ -352,19 +357,29 @@ impl State<'_> {
         })
     }
 
-    /// Goes on to phase newkeys, with the session identifier and the keys of what is heard.
-    fn stand_behind_exchange(&mut self, hash: Vec<u8>, incoming: Keys)
+    /// Goes on to phase newkeys, with the session identifier, the server's public host key and the keys of
+    /// what is heard.
+    fn stand_behind_exchange(
+        &mut self,
+        config: &Config<'_>,
+        hash: Vec<u8>,
+        host_key: Vec<u8>,
+        incoming: Keys,
+    ) -> Result<(), Memory>
         requires at { self.old.phase ≡ phase.Exchange }
         requires short { length hash.items ≤ DIGEST_LIMIT }
-        ensures { kept_of self.new ≡ record (kept_of self.old) {
+        ensures { OnOk result (kept_of self.new ≡ record (kept_of self.old) {
           phase = phase.NewKeys;
-          pending = Some incoming;
           known = record (kept_of self.old).known { session = hash.items };
-        } }
+          carried = with_exchange (party_of config.now) incoming host_key.items (kept_of self.old).carried;
+        }) }
     {
+        self.own_version = Vec::from_slice(self.alloc, config.version().text())?;
+        self.host_key = host_key;
         self.session = hash;
         self.pending = Some(incoming);
         self.phase = Phase::NewKeys;
+        Ok(())
     }
 }
 

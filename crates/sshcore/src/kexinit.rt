@@ -57,7 +57,7 @@ impl State<'_> {
             (kexinit_reply (S.meaning suite.now) (role_of config.now) (party_of config.now) (kept_of self.old).known (offer_of peer.now))) }
         ensures form { OnOk result (IsOngoing (kept_of self.new).end
             → (kept_of self.new).known.shares ≡ (S.meaning suite.now).share_form (kept_of self.new).known.algorithms.kex) }
-        ensures keys { OnOk result ((kept_of self.new).pending ≡ (kept_of self.old).pending) }
+        ensures carries { OnOk result ((kept_of self.new).carried ≡ (kept_of self.old).carried) }
         ensures moves { OnOk result (IsOngoing (kept_of self.new).end
             → StandsAt (kept_of self.new) phase.Exchange (wrong_guess (role_of config.now) (party_of config.now).offer (Some (offer_of peer.now)))
             (behind_offer (S.meaning suite.now) (role_of config.now) (party_of config.now) (kept_of self.old).known payload.now (offer_of peer.now))) }

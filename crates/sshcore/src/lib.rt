@@ -50,5 +50,5 @@ pub use endpoint_laws::endpoint_law;
 pub use law::{authentication_law, history_law, reached_law, saying_law, standing_law, strict_law};
 pub use limits_laws::limits_law;
 pub use server_config::ServerConfig;
-pub use session::{Direction, Session};
+pub use session::{Accepted, Direction, Session, UserKey};
 pub use table::{Line, Phase};

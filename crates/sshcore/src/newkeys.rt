@@ -22,7 +22,7 @@ impl State<'_> {
     /// The keys of what is heard from here on, right behind NEWKEYS.
     pub(crate) fn take_keys(&mut self) -> Option<Keys>
         ensures keys { result ≡ keys_due self.old.phase self.old.pending }
-        ensures left { kept_of self.new ≡ record (kept_of self.old) { pending = keys_left self.old.phase self.old.pending } }
+        ensures left { kept_of self.new ≡ record (kept_of self.old) { carried = record (kept_of self.old).carried { pending = keys_left self.old.phase self.old.pending } } }
     {
         match self.phase {
             Phase::Service => self.pending.take(),

@@ -12,7 +12,7 @@ ghost use Rattle.sshcore.specs.declared.config_parts.TheConstants.{TRIES_LIMIT};
 ghost use Rattle.sshcore.specs.declared.end.Fault.TheVariants as fault;
 ghost use Rattle.sshcore.specs.declared.table.Phase.TheVariants as phase;
 ghost use Rattle.sshcore.specs.Attempts.{agreed_by};
-ghost use Rattle.sshcore.specs.Authenticating.{FitsMethod, counted_request, one_request};
+ghost use Rattle.sshcore.specs.Authenticating.{FitsMethod, counted_request, one_request, tried_key};
 ghost use Rattle.sshcore.specs.Brings.{Gives, IsOngoing};
 ghost use Rattle.sshcore.specs.ConfigParty.{party_of};
 ghost use Rattle.sshcore.specs.Ending.{Authenticated, Failed, Open, ending, goes};
@@ -27,6 +27,7 @@ use crate::config_kexinit::list_of;
 use crate::decisions::{Decisions, Proof};
 use crate::end::{End, Fault};
 use crate::payloads::payload_of;
+use crate::session::UserKey;
 use crate::state::{ReachedMethods, State};
 use sshmsg::{Message, Method};
 use sshneg::signed_request;
@@ -59,6 +60,8 @@ impl State<'_> {
           end = (kept_of self.new).end;
           known = counted_request (kept_of self.old).known (tried_with user.now service.now (method_of method.now)
               (is_good (S.meaning suite.now) (D.policy decisions.now) (party_of config.now) (kept_of self.old).known user.now service.now (method_of method.now)));
+          carried = tried_key (kept_of self.old).carried (method_of method.now)
+              (is_good (S.meaning suite.now) (D.policy decisions.now) (party_of config.now) (kept_of self.old).known user.now service.now (method_of method.now));
           sending = (kept_of self.new).sending;
         }) }
         ensures kept { OnOk result (ending self.new.end ≢ Failed fault.Memory) }
@@ -72,10 +75,28 @@ impl State<'_> {
             );
         }
         if self.is_good(config, suite, decisions, user, service, method)? {
+            self.keep_key(method)?;
             return self.hear_good(config, suite, user, service, method, said);
         }
         self.forget_others(user, service);
         self.refuse_more(config, suite, false, said)
+    }
+
+    /// Keeps the key of a good request, if it is signed.
+    fn keep_key(&mut self, method: &Method<'_>) -> Result<(), Memory>
+        ensures { OnOk result (kept_of self.new ≡ record (kept_of self.old) { carried = tried_key (kept_of self.old).carried (method_of method.now) true }) }
+    {
+        sshwire::names_law();
+        let Method::PublicKey { algorithm, key, .. } = method else {
+            return Ok(());
+        };
+        let Some(name) = as_name(algorithm) else {
+            return Ok(());
+        };
+        let algorithm = String::from_str(self.alloc, name)?;
+        let blob = Vec::from_slice(self.alloc, key)?;
+        self.user_key = Some(UserKey { algorithm, blob });
+        Ok(())
     }
 
     /// A server hears a query whether a key would do, for a service that it has: at the last try it fails as

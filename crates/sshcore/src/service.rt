@@ -35,7 +35,7 @@ impl State<'_> {
         ensures gives { OnOk result ((strict : Bool) (next : KeyData)
             → Gives (S.meaning suite.now) (party_of config.now).seed strict next (kept_of self.old) (kept_of self.new) said.old.items said.new.items
             (service_reply (party_of config.now) service.now)) }
-        ensures keys { OnOk result ((kept_of self.new).pending ≡ (kept_of self.old).pending) }
+        ensures carries { OnOk result ((kept_of self.new).carried ≡ (kept_of self.old).carried) }
         ensures stands { OnOk result (IsOngoing (kept_of self.new).end
             → StandsAt (kept_of self.new) phase.Auth (kept_of self.old).guess (heard_one (kept_of self.old).known)) }
         ensures kept { OnOk result (ending self.new.end ≢ Failed fault.Memory) }
@@ -95,7 +95,7 @@ impl State<'_> {
         ensures gives { OnOk result ((strict : Bool) (next : KeyData)
             → Gives (S.meaning suite.now) (party_of config.now).seed strict next (kept_of self.old) (kept_of self.new) said.old.items said.new.items
             (accept_reply (S.meaning suite.now) (kept_of self.old).known service.now)) }
-        ensures keys { OnOk result ((kept_of self.new).pending ≡ (kept_of self.old).pending) }
+        ensures carries { OnOk result ((kept_of self.new).carried ≡ (kept_of self.old).carried) }
         ensures stands { OnOk result (IsOngoing (kept_of self.new).end
             → StandsAt (kept_of self.new) phase.Auth (kept_of self.old).guess (heard_one (kept_of self.old).known)) }
         ensures kept { OnOk result (ending self.new.end ≢ Failed fault.Memory) }

@@ -1,9 +1,12 @@
 //! What an authenticated endpoint hands over.
 
-ghost use Rattle.std.specs.Prelude.{◌≡◌, None, Some};
+ghost use Rattle.std.specs.Prelude.{◌≡◌, if◌then◌else◌, None, Some};
+ghost use Rattle.sshneg.specs.declared.role.Role.TheVariants.{Client, Server};
 ghost use Rattle.sshpacket.specs.KeyData.{KeyData};
 
 use crate::end::Agreed;
+use crate::state::ReachedMethods;
+use sshneg::Role;
 use sshpacket::Keys;
 
 /// The keys of one direction, and the sequence number of its next packet (RFC 4253 section 6.4).
@@ -17,7 +20,28 @@ pub struct Direction {
     pub sequence_number: u32,
 }
 
-/// What goes on behind authentication: what both sides agreed on, and both directions.
+/// A user's public key (RFC 4252 section 7).
+#[derive(Debug, Drop)]
+pub struct UserKey {
+    /// The name of its algorithm, as the request had it.
+    pub algorithm: String,
+    /// The public key.
+    pub blob: Vec<u8>,
+}
+
+/// How a user came in, as a server has judged it. It speaks of the unbroken run of requests for the user
+/// and the service that ended with SUCCESS; where neither is here, the method `none` let the user in. No
+/// password is kept.
+#[derive(Debug, Drop)]
+pub struct Accepted {
+    /// Whether a password was good (RFC 4252 section 8).
+    pub password: bool,
+    /// The key of the last signed request that was good, if one was (RFC 4252 section 7).
+    pub key: Option<UserKey>,
+}
+
+/// What goes on behind authentication: what both sides agreed on, what a later exchange and the files of
+/// known hosts and of authorized keys ask for, and both directions.
 ///
 /// A `PacketReader` with the incoming keys and number reads what the peer sends next, from the first byte
 /// behind the packet that ended the endpoint; `write_sealed` with the outgoing ones writes what is sent
@@ -26,20 +50,38 @@ pub struct Direction {
 pub struct Session {
     /// What both sides agreed on.
     pub agreed: Agreed,
+    /// The text of the own version line, without CR LF: V_C of a client, V_S of a server (RFC 4253 section
+    /// 8). A later exchange hashes it again (section 9).
+    pub own_version: Vec<u8>,
+    /// The text of the peer's version line.
+    pub peer_version: Vec<u8>,
+    /// The server's public host key, K_S (RFC 4253 section 8), of the algorithm `agreed.host_key`: at a
+    /// client the one that the decisions trusted and whose signature was verified, at a server its own.
+    pub host_key: Vec<u8>,
+    /// How the user came in; None at a client.
+    pub accepted: Option<Accepted>,
     /// What the peer sends.
     pub incoming: Direction,
     /// What is sent to the peer.
     pub outgoing: Direction,
 }
 
-/// The session with these keys and numbers, where both directions have keys.
+/// The session of this, with these keys and numbers, where both directions have keys; of the version lines the
+/// own one is the first.
 pub(crate) fn session_of(
     agreed: Agreed,
+    versions: (Vec<u8>, Vec<u8>),
+    host_key: Vec<u8>,
+    accepted: Option<Accepted>,
     incoming: (Option<Keys>, u32),
     outgoing: (Option<Keys>, u32),
 ) -> Option<Session>
     ensures whole { (a b : KeyData) → incoming.0 ≡ Some a → outgoing.0 ≡ Some b → result ≡ Some (record {
       agreed = agreed;
+      own_version = versions.0;
+      peer_version = versions.1;
+      host_key = host_key;
+      accepted = accepted;
       incoming = record { keys = a; sequence_number = incoming.1 };
       outgoing = record { keys = b; sequence_number = outgoing.1 };
     }) }
@@ -47,6 +89,10 @@ pub(crate) fn session_of(
     match (incoming.0, outgoing.0) {
         (Some(incoming_keys), Some(outgoing_keys)) => Some(Session {
             agreed,
+            own_version: versions.0,
+            peer_version: versions.1,
+            host_key,
+            accepted,
             incoming: Direction {
                 keys: incoming_keys,
                 sequence_number: incoming.1,
@@ -58,4 +104,30 @@ pub(crate) fn session_of(
         }),
         _ => None,
     }
+}
+
+/// How the user came in, by what is reached and the key of the last signed request that was good; a client
+/// doesn't say.
+pub(crate) fn accepted_by(
+    role: Role,
+    reached: &ReachedMethods,
+    key: Option<UserKey>,
+) -> Option<Accepted>
+    ensures client { role ≡ Client → result ≡ None }
+    ensures server { role ≡ Server → result ≡ Some (record { password = reached.now.password; key = if reached.now.publickey then key else None }) }
+{
+    match role {
+        Role::Client => None,
+        Role::Server => Some(Accepted {
+            password: reached.password,
+            key: key_if(reached.publickey, key),
+        }),
+    }
+}
+
+/// The key, where its method is reached.
+fn key_if(reached: bool, key: Option<UserKey>) -> Option<UserKey>
+    ensures { result ≡ (if reached then key else None) }
+{
+    if reached { key } else { None }
 }

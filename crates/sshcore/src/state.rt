@@ -20,6 +20,7 @@ use crate::config::Config;
 use crate::config_parts::Attempt;
 use crate::end::{End, Fault};
 use crate::payloads::payload_of;
+use crate::session::UserKey;
 use crate::table::Phase;
 use sshmsg::{
     Message, SSH_DISCONNECT_HOST_KEY_NOT_VERIFIABLE, SSH_DISCONNECT_KEY_EXCHANGE_FAILED,
@@ -71,6 +72,12 @@ pub(crate) struct State<'a> {
     pub(crate) reached: ReachedMethods,
     /// The keys of what is heard, from the exchange up to NEWKEYS.
     pub(crate) pending: Option<Keys>,
+    /// The text of the own version line, from the exchange on.
+    pub(crate) own_version: Vec<u8>,
+    /// The server's public host key, from the exchange on.
+    pub(crate) host_key: Vec<u8>,
+    /// The key of the last signed request that was good.
+    pub(crate) user_key: Option<UserKey>,
     /// The keys of what is said.
     pub(crate) keys_out: Option<Keys>,
     /// The number of the next packet that is said.
@@ -119,6 +126,9 @@ impl<'a> State<'a> {
                 publickey: false,
             },
             pending: None,
+            own_version: Vec::new(alloc),
+            host_key: Vec::new(alloc),
+            user_key: None,
             keys_out: None,
             number_out: 0,
         }

@@ -10,7 +10,7 @@ use Rattle.sshworld.specs.Offered.{most_requests}
 use Rattle.sshworld.specs.declared.side.Delivery.{Delivery}
 use Rattle.sshworld.specs.Conversed.{EachReplies}
 use Rattle.sshworld.specs.Deliveries.{Delivered}
-use Rattle.sshworld.specs.WorldCourse.{AreUnderstoodIn}
+use Rattle.sshworld.specs.WorldCourse.{AreUnderstoodIn, KeepsHeadline}
 use Rattle.sshworld.specs.Worlds.{Complete, HadMemory, IsSameSetup, WorldData, waiting_for}
 use Rattle.sshlab.specs.declared.scenario_line.Step.{Step}
 use Rattle.sshlab.specs.declared.scenario_line.Step.TheVariants.{Deliver}
@@ -33,11 +33,11 @@ settles_at steps i default least lt e =
 module _ {S D : Type 0} (meaning : S → Meaning) (policy : D → Policy) where
   -- a delivery that answered how many bytes it moved
   pub delivery_done : (step : Step) (delivery : Delivery) (n : ℕ) (old new : WorldData S D) → step ≡ Deliver delivery → n ≡ min delivery.count (waiting_for delivery.to old)
-      → Delivered delivery.to n old new → IsSameSetup old new → EachReplies meaning policy new → StepDone meaning policy step old new
-  delivery_done step delivery n old new is count d setup replies =
+      → Delivered delivery.to n old new → IsSameSetup old new → EachReplies meaning policy new → KeepsHeadline meaning policy new → StepDone meaning policy step old new
+  delivery_done step delivery n old new is count d setup replies headline =
       subst (λ (s : Step). StepDone meaning policy s old new) (sym is)
       (record {
-        moves = record { delivered = subst (λ (k : ℕ). Delivered delivery.to k old new) count d; setup = setup; replies = replies };
+        moves = record { delivered = subst (λ (k : ℕ). Delivered delivery.to k old new) count d; setup = setup; replies = replies; headline = headline };
         setup = setup;
         replies = replies;
       })

@@ -63,21 +63,18 @@ fn decisions(alloc: Global) -> anyhow::Result<LabDecisions> {
 
 /// Fresh draws for one connection, from the system's random source.
 pub(crate) fn draw(rt: &HostRuntime) -> anyhow::Result<Draws> {
-    let mut draws = Draws {
-        cookie: [0; 16],
-        exchange_random: [0; 32],
-        padding_seed: [0; 32],
-    };
-    fill(rt, &mut draws)?;
-    Ok(draws)
+    Ok(Draws {
+        cookie: random(rt)?,
+        exchange_random: random(rt)?,
+        padding_seed: random(rt)?,
+    })
 }
 
-/// Fills all three with random bytes.
-fn fill(rt: &HostRuntime, draws: &mut Draws) -> anyhow::Result<()> {
-    rt.fill_bytes(&mut draws.cookie)?;
-    rt.fill_bytes(&mut draws.exchange_random)?;
-    rt.fill_bytes(&mut draws.padding_seed)?;
-    Ok(())
+/// Random bytes.
+fn random<const N: usize>(rt: &HostRuntime) -> anyhow::Result<[u8; N]> {
+    let mut bytes = [0; N];
+    rt.fill_bytes(&mut bytes)?;
+    Ok(bytes)
 }
 
 /// Both sides from their making to their sessions, and what they do with these.
@@ -134,12 +131,17 @@ fn go_on(rt: &HostRuntime, client: Session, server: Session, behind: &[u8]) -> a
 
 /// Says what both sides agreed on.
 fn tell(rt: &HostRuntime, client: &Session, server: &Session) -> anyhow::Result<()> {
-    for (side, agreed) in [("client", &client.agreed), ("server", &server.agreed)] {
-        let (user, service) = (&agreed.user, &agreed.service);
-        println!(rt; "{side} authenticated {user} {service}")?;
-    }
+    tell_side(rt, "client", client)?;
+    tell_side(rt, "server", server)?;
     let same = client.agreed.session == server.agreed.session;
     println!(rt; "session identifiers equal {same}")?;
+    Ok(())
+}
+
+/// Says whom a side authenticated, and for which service.
+fn tell_side(rt: &HostRuntime, side: &str, session: &Session) -> anyhow::Result<()> {
+    let (user, service) = (&session.agreed.user, &session.agreed.service);
+    println!(rt; "{side} authenticated {user} {service}")?;
     Ok(())
 }
 

@@ -2,6 +2,7 @@
 
 use Rattle.std.proofs.Common.{◌≡◌, ◌≢◌, ℕ, Bool, true, false, cond, List, [], ◌∷◌, ◌++◌, length, Option, None, Some, refl, sym, ap, subst, ◌∙◌, arith, append-nil, length-append}
 use Rattle.sshneg.specs.declared.role.Role.TheVariants.{Client, Server}
+use Rattle.sshneg.specs.Derivations.{ExchangeData}
 use Rattle.sshneg.specs.Markers.{other}
 use Rattle.sshpacket.specs.KeyData.{KeyData}
 use Rattle.sshpacket.specs.Parse.{Refusal}
@@ -17,7 +18,7 @@ use Rattle.sshcore.specs.ConfigData.{ClientData, ServerData, version_of}
 use Rattle.sshcore.specs.Counting.{number_in, number_out, switched_out}
 use Rattle.sshcore.specs.Directions.{keys_in, parsers, payloads_in, spells, version_in}
 use Rattle.sshcore.specs.Ending.{AgreedData, Authenticated, Ending, Open}
-use Rattle.sshcore.specs.Exchange.{keys_at}
+use Rattle.sshcore.specs.Exchange.{exchange_at, keys_at}
 use Rattle.sshcore.specs.History.{History, IsReady}
 use Rattle.sshcore.specs.Party.{Policy, client_party, server_party}
 use Rattle.sshcore.specs.Sessions.{IsSession}
@@ -82,9 +83,18 @@ module _ (laws : Laws) (m : Meaning) (d : Policy) (lawful : IsLawful m) (own the
       let nothing : to_own.rest ≡ [] = none_left to_own.rest (omega (arith, ap length none, length-append left to_own.rest)) in
       sym (to_own.whole_is ∙ (ap (λ (l : List ℕ). heard ++ l) nothing ∙ append-nil heard))
 
+  -- both have hashed the same
+  pub same_exchange : (us : Units) → us ≡ their.party.version ∷ answers → switched_out answers ≡ true → IsReady own.role own.party (payloads_in us)
+      → exchange_at m own.role own.party (version_in us) (payloads_in us) ≡ exchange_at m their.role their.party (version_in units) (payloads_in units)
+  same_exchange us all on ready =
+      let now_ready : IsReady own.role own.party answers = subst (λ (l : Units). IsReady own.role own.party (payloads_in l)) all ready in
+      let way : SameWay m own.role their.role own.party their.party units answers =
+      same_way m own.role their.role own.party their.party (payloads_of own) (payloads_of their) hears.heard units answers speaks answers (prefix-all answers) on now_ready in
+      ap (λ (l : Units). exchange_at m own.role own.party (version_in l) (payloads_in l)) all ∙ way.exchange
+
   -- what the one says next, the other hears
   pub direction : (us said : Units) → us ≡ their.party.version ∷ answers → IsReady own.role own.party (payloads_in us) → (agreed other_agreed : AgreedData) (speaker hearer : Session)
-      → IsSession m their.role their.party units answers agreed speaker → IsSession m own.role own.party us said other_agreed hearer → speaker.outgoing ≡ hearer.incoming
+      → IsSession m d their.role their.party units answers agreed speaker → IsSession m d own.role own.party us said other_agreed hearer → speaker.outgoing ≡ hearer.incoming
   direction us said all ready agreed other_agreed speaker hearer t u =
       let out = keyed_by (switched_out answers) (keys_at m their.role their.party (version_in units) (payloads_in units) their.role) speaker.outgoing.keys t.outgoing_keys in
       let heard_keys : keys_in m own.role own.party their.party.version answers ≡ Some hearer.incoming.keys = ap (λ (l : Units). keys_in m own.role own.party (version_in l) (payloads_in l)) (sym all) ∙ u.incoming_keys in
@@ -166,13 +176,17 @@ module _ (laws : Laws) (below : Below) (m : Meaning) (d : Policy) (lawful : IsLa
     same_agreed,
   )
 
-  pub crosswise : (one_session other_session : Session) → IsSession m Client (client_party c) client_units client_answers client_agreed one_session
-      → IsSession m Server (server_party s) server_units server_answers server_agreed other_session → AreCrosswise one_session other_session
+  pub crosswise : (one_session other_session : Session) → IsSession m d Client (client_party c) client_units client_answers client_agreed one_session
+      → IsSession m d Server (server_party s) server_units server_answers server_agreed other_session → AreCrosswise one_session other_session
   crosswise one_session other_session t u =
       let client_keyed = keyed_by (switched_out client_answers) (keys_at m Client (client_party c) (version_in client_units) (payloads_in client_units) Client) one_session.outgoing.keys t.outgoing_keys in
       let server_keyed = keyed_by (switched_out server_answers) (keys_at m Server (server_party s) (version_in server_units) (payloads_in server_units) Server) other_session.outgoing.keys u.outgoing_keys in
       record {
         same_agreed = t.agreed_is ∙ (same_agreed ∙ sym u.agreed_is);
+        there_version = t.own_version ∙ sym (u.peer_version ∙ ap version_in server_all);
+        back_version = u.own_version ∙ sym (t.peer_version ∙ ap version_in client_all);
+        same_host_key = t.host_key ∙ (ap (λ (x : ExchangeData). x.host_key) (sym (same_exchange laws m d lawful sp cp hear.to_server client_units client_answers client_rest client_heard client_said (Authenticated client_agreed) a client_in course.client_in_part
+            server_units server_all client_keyed.0 (b.keyed server_keyed.0))) ∙ sym u.host_key);
         there = direction laws m d lawful sp cp hear.to_server client_units client_answers client_rest client_heard client_said (Authenticated client_agreed) a client_in course.client_in_part
             server_units server_answers server_all (b.keyed server_keyed.0) client_agreed server_agreed one_session other_session t u;
         back = direction laws m d lawful cp sp hear.to_client server_units server_answers server_rest server_heard server_said (Authenticated server_agreed) b server_in course.server_in_part

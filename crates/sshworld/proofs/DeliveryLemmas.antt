@@ -18,6 +18,7 @@ use Rattle.sshworld.specs.declared.side.Side.TheVariants.{Client, Server}
 use Rattle.sshworld.specs.Conversed.{EachReplies}
 use Rattle.sshworld.specs.Deliveries.{Delivered, Done, DoneBy, Refused, Round, RoundInto, Rounds, RoundsInto, Runs, RunsInto, TakesIn}
 use Rattle.sshworld.specs.Stands.{BrokenWith, NodeStands, NodesStand, Receives, ReceivesInto, ReceivesNone, ReceivesSome, half_of, seen}
+use Rattle.sshworld.specs.WorldCourse.{KeepsHeadline}
 use Rattle.sshworld.specs.Worlds.{HadMemory, IsSameSetup, WorldData, waiting_for}
 use Rattle.sshworld.proofs.StandsLemmas.{breaks_off, receiver_stands, sender_stands, sent_on, side_replies}
 
@@ -46,11 +47,12 @@ module _ {S D : Type 0} where
 module _ {S D : Type 0} (meaning : S → Meaning) (policy : D → Policy) where
   -- a delivery that answered how many bytes it moved
   pub done : (to : Side) (n k : ℕ) (old new : WorldData S D) → n ≡ k → Delivered to n old new → IsSameSetup old new → EachReplies meaning policy new
-      → Done meaning policy to k old new
-  done to n k old new count d setup replies = record {
+      → KeepsHeadline meaning policy new → Done meaning policy to k old new
+  done to n k old new count d setup replies headline = record {
     delivered = subst (λ (j : ℕ). Delivered to j old new) count d;
     setup = setup;
     replies = replies;
+    headline = headline;
   }
 
   rounds_push : (n : ℕ) (old mid new : WorldData S D) → Rounds meaning policy n old mid → Round meaning policy mid new → Rounds meaning policy (suc n) old new

@@ -73,18 +73,19 @@ module _ {S D : Type 0} (meaning : S → Meaning) (policy : D → Policy) where
         all_heard laws below (meaning client.suite) (policy client.decisions) lawful c s (wording_of (meaning client.suite) (policy client.decisions) c s) hear p.units p.answers p.rest client_heard client_said a client_history
         q.units q.answers q.rest server_heard server_said b server_history j.to_client j.to_server
 
-    pub joined_crosswise : (one other : Session) → IsSession (meaning client.suite) client.role client.party j.client_after.units j.client_after.answers a one
-        → IsSession (meaning server.suite) server.role server.party j.server_after.units j.server_after.answers b other → AreCrosswise one other
+    pub joined_crosswise : (one other : Session) → IsSession (meaning client.suite) (policy client.decisions) client.role client.party j.client_after.units j.client_after.answers a one
+        → IsSession (meaning server.suite) (policy server.decisions) server.role server.party j.server_after.units j.server_after.answers b other → AreCrosswise one other
     joined_crosswise one other t u =
         let p = j.client_after in
         let q = j.server_after in
         crosswise laws below (meaning client.suite) (policy client.decisions) lawful c s (wording_of (meaning client.suite) (policy client.decisions) c s) hear p.units p.answers p.rest client_heard client_said a client_history
         q.units q.answers q.rest server_heard server_said b server_history j.to_client j.to_server one other
-        (subst (λ (r : Role). IsSession (meaning client.suite) r (client_party c) p.units p.answers a one) j.is_client
-        (subst (λ (x : Party). IsSession (meaning client.suite) client.role x p.units p.answers a one) j.of_client t))
-        (subst (λ (r : Role). IsSession (meaning client.suite) r (server_party s) q.units q.answers b other) j.is_server
-        (subst (λ (x : Party). IsSession (meaning client.suite) server.role x q.units q.answers b other) j.of_server
-        (subst (λ (k : S). IsSession (meaning k) server.role server.party q.units q.answers b other) j.one_suite u)))
+        (subst (λ (r : Role). IsSession (meaning client.suite) (policy client.decisions) r (client_party c) p.units p.answers a one) j.is_client
+        (subst (λ (x : Party). IsSession (meaning client.suite) (policy client.decisions) client.role x p.units p.answers a one) j.of_client t))
+        (subst (λ (r : Role). IsSession (meaning client.suite) (policy client.decisions) r (server_party s) q.units q.answers b other) j.is_server
+        (subst (λ (x : Party). IsSession (meaning client.suite) (policy client.decisions) server.role x q.units q.answers b other) j.of_server
+        (subst (λ (k : S). IsSession (meaning k) (policy client.decisions) server.role server.party q.units q.answers b other) j.one_suite
+        (subst (λ (k : D). IsSession (meaning server.suite) (policy k) server.role server.party q.units q.answers b other) j.same_decisions u))))
 
   had : (end : Ending) (a : AgreedData) → end ≡ Authenticated a → end ≢ Failed fault.Memory
   had end a is failed = cc (is, failed)

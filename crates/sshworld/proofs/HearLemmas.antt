@@ -30,7 +30,7 @@ both_hear m d c s client server keep places keys = record {
       is_other = refl;
       preamble = client_preamble c client;
       places = places.heard_by_server;
-      keys = λ on. let same = keys (inl on) in record { keys = λ sender. sym (same.keys sender); strict = sym same.strict };
+      keys = λ on. let same = keys (inl on) in record { exchange = sym same.exchange; keys = λ sender. sym (same.keys sender); strict = sym same.strict };
     };
     keeps = keep.client_keeps;
   };

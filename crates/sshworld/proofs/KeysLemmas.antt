@@ -17,14 +17,14 @@ use Rattle.sshcore.specs.declared.table.Phase.TheVariants as phase
 use Rattle.sshcore.specs.Before.{strict_at}
 use Rattle.sshcore.specs.ConfigData.{ClientData, ServerData, client_offer, server_offer, version_of}
 use Rattle.sshcore.specs.Counting.{is_newkeys, switched_out}
-use Rattle.sshcore.specs.Exchange.{chosen_or, keys_at, keys_by}
+use Rattle.sshcore.specs.Exchange.{chosen_or, exchange_at, keys_at, keys_by}
 use Rattle.sshcore.specs.Known.{Known}
 use Rattle.sshcore.specs.Party.{Policy, client_party, server_party}
 use Rattle.sshcore.specs.Reached.{nothing_reached}
 use Rattle.sshcore.specs.Standing.{Sits}
 use Rattle.sshcore.specs.Work.{guessed_method}
-use Rattle.sshcore.proofs.StandingLemmas.{makes_keys}
-use Rattle.sshcore.proofs.StreamLemmas.{keys_stay, strict_stays}
+use Rattle.sshcore.proofs.StandingLemmas.{makes_exchange, makes_keys}
+use Rattle.sshcore.proofs.StreamLemmas.{exchange_stays, keys_stay, strict_stays}
 use Rattle.sshworld.specs.Agreement.{exchange_between, host_key_of_server}
 use Rattle.sshworld.specs.Course.{NoTrust, Requests, Way, client_next, client_part, guessed, heard_last, init_anew, said_after, server_next, server_part, way_by}
 use Rattle.sshworld.specs.Guesses.{Guess, NoGuess, RightGuess, WrongGuess, guess_by, guess_of}
@@ -79,6 +79,14 @@ module _ (m : Meaning) (d : Policy) (c : ClientData) (s : ServerData) (understoo
         (client_begins m d c s understood sound offers a chosen readable) (reply_begun m d c s understood sound offers a chosen readable) sender
         ∙ ap (λ (x : ExchangeData). keys_by m a x sender) (client_hashed m d c s understood sound offers a chosen readable)
 
+    client_exchange : (tail : Units) → exchange_at m Client (client_party c) (version_of s.side) (w.server_offer ∷ w.reply ∷ tail) ≡ exchange_between m c s a
+    client_exchange tail =
+        let here = client_exchanges m d c s understood sound offers a chosen readable in
+        exchange_stays m Client (client_party c) (version_of s.side) (w.server_offer ∷ w.reply ∷ []) tail (record { offer = here.tied.offer; exchange = here.tied.exchange })
+        ∙ makes_exchange m d Client (client_party c) (version_of s.side) (w.server_offer ∷ []) w.reply (client_view m d c s understood sound offers a chosen readable [] c.plan)
+        (client_begins m d c s understood sound offers a chosen readable) (reply_begun m d c s understood sound offers a chosen readable)
+        ∙ client_hashed m d c s understood sound offers a chosen readable
+
     client_is_strict : (tail : Units) → strict_at Client (client_party c) (w.server_offer ∷ tail) ≡ (c.side.strict && s.side.strict)
     client_is_strict tail =
         let here = client_begins m d c s understood sound offers a chosen readable in
@@ -91,6 +99,14 @@ module _ (m : Meaning) (d : Policy) (c : ClientData) (s : ServerData) (understoo
         keys_stay m Server (server_party s) (version_of c.side) (before ++ w.init ∷ []) tail sender (record { offer = here.tied.offer; exchange = here.tied.exchange })
         ∙ makes_keys m d Server (server_party s) (version_of c.side) before w.init (server_view m d c s understood sound offers a chosen readable [] 1 nothing_reached) sits (init_begun m d c s understood sound offers a chosen readable) sender
         ∙ ap (λ (x : ExchangeData). keys_by m a x sender) (server_hashed m d c s understood sound offers a chosen readable)
+
+    server_exchange : (before tail : Units) → Sits m d Server (server_party s) (version_of c.side) before phase.Exchange false (server_view m d c s understood sound offers a chosen readable [] 1 nothing_reached)
+        → exchange_at m Server (server_party s) (version_of c.side) ((before ++ w.init ∷ []) ++ tail) ≡ exchange_between m c s a
+    server_exchange before tail sits =
+        let here = server_exchanges m d c s understood sound offers a chosen readable before sits in
+        exchange_stays m Server (server_party s) (version_of c.side) (before ++ w.init ∷ []) tail (record { offer = here.tied.offer; exchange = here.tied.exchange })
+        ∙ makes_exchange m d Server (server_party s) (version_of c.side) before w.init (server_view m d c s understood sound offers a chosen readable [] 1 nothing_reached) sits (init_begun m d c s understood sound offers a chosen readable)
+        ∙ server_hashed m d c s understood sound offers a chosen readable
 
     server_is_strict : (tail : Units) → strict_at Server (server_party s) (w.client_offer ∷ tail) ≡ (c.side.strict && s.side.strict)
     server_is_strict tail =
@@ -108,8 +124,20 @@ module _ (m : Meaning) (d : Policy) (c : ClientData) (s : ServerData) (understoo
         let drop = server_drops m d c s understood sound offers a chosen readable w.guess (init_kind m (client_party c) (guessed_method (client_party c))) (w.client_offer ∷ []) b in
         server_keys (w.client_offer ∷ w.guess ∷ []) tail drop.1 sender
 
+    server_hash : (g r : Bool) → c.guess ≡ g → is_right_guess (client_offer c) (server_offer s) ≡ r → (tail : Units)
+        → exchange_at m Server (server_party s) (version_of c.side) (w.client_offer ∷ (guessed w (guess_by g r) ++ (init_anew w (guess_by g r) ++ tail))) ≡ exchange_between m c s a
+    server_hash false r eg er tail =
+        server_exchange (w.client_offer ∷ []) tail (begun m d c s understood sound offers a chosen readable false (ap (λ (b : Bool). b && not (is_right_guess (client_offer c) (server_offer s))) eg))
+    server_hash true true eg er tail =
+        server_exchange (w.client_offer ∷ []) tail (begun m d c s understood sound offers a chosen readable false (ap (λ (b : Bool). b && not (is_right_guess (client_offer c) (server_offer s))) eg ∙ ap (λ (b : Bool). true && not b) er))
+    server_hash true false eg er tail =
+        let b = begun m d c s understood sound offers a chosen readable true (ap (λ (b : Bool). b && not (is_right_guess (client_offer c) (server_offer s))) eg ∙ ap (λ (b : Bool). true && not b) er) in
+        let drop = server_drops m d c s understood sound offers a chosen readable w.guess (init_kind m (client_party c) (guessed_method (client_party c))) (w.client_offer ∷ []) b in
+        server_exchange (w.client_offer ∷ w.guess ∷ []) tail drop.1
+
     same : (by_client by_server : Units) → SameKeys m c s (w.client_offer ∷ (guessed w (guess_of c s) ++ (init_anew w (guess_of c s) ++ by_client))) (w.server_offer ∷ w.reply ∷ by_server)
     same by_client by_server = record {
+      exchange = client_exchange by_server ∙ sym (server_hash c.guess (is_right_guess (client_offer c) (server_offer s)) refl refl by_client);
       keys = λ sender. client_keys by_server sender ∙ sym (server_all c.guess (is_right_guess (client_offer c) (server_offer s)) refl refl by_client sender);
       strict = client_is_strict (w.reply ∷ by_server) ∙ sym (server_is_strict (guessed w (guess_of c s) ++ (init_anew w (guess_of c s) ++ by_client)));
     }

@@ -20,6 +20,7 @@ pub mod InCourseLemmas
 pub mod StandsLemmas
 pub mod DeliveryLemmas
 pub mod HalfLemmas
+pub mod HandedLemmas
 pub mod CourseHeardLemmas
 pub mod MessageLemmas
 pub mod JudgedLemmas

@@ -17,10 +17,10 @@ use Rattle.sshcore.specs.Before.{kept, offered, since, stood, strict_at}
 use Rattle.sshcore.specs.Counting.{is_newkeys, number_by, number_in, number_out, switched_out}
 use Rattle.sshcore.specs.Directions.{keys_in, keys_out, others_of, parsers, payloads_in, spelled_by, spells, version_in}
 use Rattle.sshcore.specs.Ending.{Ending}
-use Rattle.sshcore.specs.Exchange.{keys_at}
+use Rattle.sshcore.specs.Exchange.{exchange_at, keys_at}
 use Rattle.sshcore.specs.History.{AllFit, FitsPacket, History, IsReady}
 use Rattle.sshcore.specs.Party.{Party, Policy}
-use Rattle.sshcore.proofs.StreamLemmas.{keys_stay, strict_stays}
+use Rattle.sshcore.proofs.StreamLemmas.{exchange_stays, keys_stay, strict_stays}
 use Rattle.sshworld.specs.Laws.{Laws}
 use Rattle.sshworld.specs.Links.{CanBeHeard}
 use Rattle.sshworld.specs.Placed.{HaveSameKeys, IsInPlace}
@@ -62,8 +62,9 @@ module _ (role : Role) (own : Party) where
 number_below : (switched strict : Bool) (since all : ℕ) → number_by switched strict since all < 2 ^ 32
 number_below switched strict since all = mod_below _ (2 ^ 32) (omega arith)
 
--- behind this NEWKEYS the hearer reads with what the speaker writes with
+-- behind this NEWKEYS the hearer reads with what the speaker writes with, and both have hashed the same
 pub record SameWay (m : Meaning) (role peer : Role) (own their : Party) (heard before : Units) : Type 0 where
+  pub exchange : exchange_at m role own their.version before ≡ exchange_at m peer their (version_in heard) (payloads_in heard)
   pub keys : keys_at m role own their.version before (other role) ≡ keys_at m peer their (version_in heard) (payloads_in heard) peer
   pub strict : strict_at role own before ≡ strict_at peer their (payloads_in heard)
 
@@ -138,6 +139,9 @@ module _ (m : Meaning) (role : Role) (party : Party) where
   keys_of_prefix : (version : List ℕ) (xs ys : Units) (sender : Role) → IsPrefix xs ys → IsReady role party xs → keys_at m role party version ys sender ≡ keys_at m role party version xs sender
   keys_of_prefix version xs ys sender f r = ap (λ (q : Units). keys_at m role party version q sender) f.whole_is ∙ keys_stay m role party version xs f.rest sender r
 
+  exchange_of_prefix : (version : List ℕ) (xs ys : Units) → IsPrefix xs ys → IsReady role party xs → exchange_at m role party version ys ≡ exchange_at m role party version xs
+  exchange_of_prefix version xs ys f r = ap (λ (q : Units). exchange_at m role party version q) f.whole_is ∙ exchange_stays m role party version xs f.rest r
+
   strict_of_prefix : (xs ys : Units) → IsPrefix xs ys → IsReady role party xs → strict_at role party ys ≡ strict_at role party xs
   strict_of_prefix xs ys f r = ap (λ (q : Units). strict_at role party q) f.whole_is ∙ strict_stays m role party xs f.rest r.offer
 
@@ -149,6 +153,10 @@ module _ (m : Meaning) (role peer : Role) (own their : Party) (ours theirs : Uni
       let agree : HaveSameKeys m role peer own their ours theirs = can.keys (switched_on b theirs all on) in
       let begins = begins_so units own.version ours speaks.heard mine.offer in
       record {
+        exchange = sym (exchange_of_prefix m role own their.version b theirs all ready)
+            ∙ (agree.exchange
+            ∙ (exchange_of_prefix m peer their own.version (payloads_in units) ours begins.1 mine
+            ∙ ap (λ (v : List ℕ). exchange_at m peer their v (payloads_in units)) (sym begins.0)));
         keys = sym (keys_of_prefix m role own their.version b theirs (other role) all ready)
             ∙ (agree.keys (other role)
             ∙ (ap (λ (sender : Role). keys_at m peer their own.version ours sender) can.is_other

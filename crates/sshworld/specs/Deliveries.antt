@@ -12,6 +12,7 @@ use Rattle.sshworld.specs.declared.side.Delivery.{Delivery}
 use Rattle.sshworld.specs.declared.side.Side.{Side}
 use Rattle.sshworld.specs.declared.side.Side.TheVariants.{Client, Server}
 use Rattle.sshworld.specs.Conversed.{EachReplies}
+use Rattle.sshworld.specs.WorldCourse.{KeepsHeadline}
 use Rattle.sshworld.specs.Worlds.{Half, IsSameSetup, WorldData, half_at, half_opposite, party_at, role_at, waiting_for}
 
 -- The next n bytes were moved to a side: it used all of them, or those up to its end, and what it said stands behind what it had
@@ -42,12 +43,13 @@ pub record BreaksOff (m : Meaning) (d : Policy) (role : Role) (party : Party) (n
   pub broken_off : BrokenOff m d role party (take (old.used + used) opposite.sent) new.sent
 
 module _ {S D : Type 0} (meaning : S → Meaning) (policy : D → Policy) where
-  -- A delivery of n bytes was done: the configs, the suite and the decisions are the same, and both sides of the new world have
-  -- replied to what was moved to them.
+  -- A delivery of n bytes was done: the configs, the suite and the decisions are the same, both sides of the new world have
+  -- replied to what was moved to them, and the headline holds of it.
   pub record Done (to : Side) (n : ℕ) (old new : WorldData S D) : Type 0 where
     pub delivered : Delivered to n old new
     pub setup : IsSameSetup old new
     pub replies : EachReplies meaning policy new
+    pub headline : KeepsHeadline meaning policy new
 
   -- A delivery of a schedule moves the lesser of its count and what waits.
   abbrev pub DoneBy : Delivery → WorldData S D → WorldData S D → Type 0

@@ -1,12 +1,12 @@
 -- Two endpoints that are joined, and what they hand over to each other.
 
-use Rattle.std.specs.Prelude.{◌≡◌, ℕ, List}
+use Rattle.std.specs.Prelude.{◌≡◌, ℕ, List, Option, None, Some}
 use Rattle.sshneg.specs.declared.role.Role.TheVariants as role
 use Rattle.sshpacket.specs.Places.{IsPrefix}
 use Rattle.sshpacket.specs.Suite.{Meaning}
 use Rattle.sshcore.specs.declared.session.Session.{Session}
-use Rattle.sshcore.specs.ConfigData.{ClientData, ServerData}
-use Rattle.sshcore.specs.Ending.{agreed_of}
+use Rattle.sshcore.specs.ConfigData.{ClientData, ServerData, version_of}
+use Rattle.sshcore.specs.Ending.{AgreedData, agreed_of}
 use Rattle.sshcore.specs.EndpointData.{EndpointData}
 use Rattle.sshcore.specs.Endpoints.{After}
 use Rattle.sshcore.specs.Party.{Policy, client_party, server_party}
@@ -26,9 +26,27 @@ pub record AreJoined {S D : Type 0} (meaning : S → Meaning) (policy : D → Po
   pub to_client : IsPrefix client_heard server_said
   pub to_server : IsPrefix server_heard client_said
 
--- Two sessions match crosswise: they agreed on the same; and the keys and the number of the next packet that either says are those of
+-- Two sessions match crosswise: they agreed on the same; the version line of either is what the other has of its peer, and both have
+-- one host key (RFC 4253 section 8); and the keys and the number of the next packet that either says are those of
 -- the next packet that the other hears (RFC 4253 sections 6.4 and 7.2).
 pub record AreCrosswise (one other : Session) : Type 0 where
   pub same_agreed : agreed_of one.agreed ≡ agreed_of other.agreed
+  pub there_version : one.own_version.items ≡ other.peer_version.items
+  pub back_version : other.own_version.items ≡ one.peer_version.items
+  pub same_host_key : one.host_key.items ≡ other.host_key.items
   pub there : one.outgoing ≡ other.incoming
   pub back : other.outgoing ≡ one.incoming
+
+-- The sessions of a client and a server that ended authenticated: each has what its side agreed on and its own version line; and
+-- where the two understood each other, they match crosswise.
+pub record HaveSessions (understood : Type 0) (client_config : ClientData) (server_config : ServerData) (a b : AgreedData) (client server : Session) : Type 0 where
+  pub client_agreed : agreed_of client.agreed ≡ a
+  pub server_agreed : agreed_of server.agreed ≡ b
+  pub client_version : client.own_version.items ≡ version_of client_config.side
+  pub server_version : server.own_version.items ≡ version_of server_config.side
+  pub crosswise : understood → AreCrosswise client server
+
+-- both are handed over, the client's first
+abbrev pub HandOver : Type 0 → ClientData → ServerData → AgreedData → AgreedData → Option (Session × Session) → Type 0
+HandOver understood client_config server_config a b None = ⊥
+HandOver understood client_config server_config a b (Some two) = HaveSessions understood client_config server_config a b two.0 two.1

@@ -11,7 +11,7 @@ use Rattle.sshpacket.specs.Suite.{Meaning}
 use Rattle.sshcore.specs.Before.{kept, strict_at}
 use Rattle.sshcore.specs.ConfigData.{ClientData, ServerData}
 use Rattle.sshcore.specs.Counting.{switched_out}
-use Rattle.sshcore.specs.Exchange.{keys_at}
+use Rattle.sshcore.specs.Exchange.{exchange_at, keys_at}
 use Rattle.sshcore.specs.History.{IsReady}
 use Rattle.sshcore.specs.Party.{Party, Policy, client_party, server_party}
 use Rattle.sshworld.specs.Course.{said_after}
@@ -38,8 +38,9 @@ pub record BothInPlace (m : Meaning) (d : Policy) (client : ClientData) (server 
   pub heard_by_client : EachPlace (IsInPlace Client (client_party client)) [] (said_by_server m d client server)
   pub heard_by_server : EachPlace (IsInPlace Server (server_party server)) [] (said_by_client m d client server)
 
--- Of two endpoints own hears theirs, and the other hears ours: by that both come to the same keys of each direction and are strict
--- alike (RFC 4253 section 7.2, OpenSSH PROTOCOL section 1.10).
+-- Of two endpoints own hears theirs, and the other hears ours: by that both hash the same, come to the same keys of each direction and
+-- are strict alike (RFC 4253 section 7.2, OpenSSH PROTOCOL section 1.10).
 pub record HaveSameKeys (m : Meaning) (role peer : Role) (own their : Party) (ours theirs : Units) : Type 0 where
+  pub exchange : exchange_at m role own their.version theirs ≡ exchange_at m peer their own.version ours
   pub keys : (sender : Role) → keys_at m role own their.version theirs sender ≡ keys_at m peer their own.version ours sender
   pub strict : strict_at role own theirs ≡ strict_at peer their ours

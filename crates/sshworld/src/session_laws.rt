@@ -32,8 +32,8 @@ pub fn session_law<S: Suite, D: Decisions>()
         → IsClient client_config → IsServer server_config → AreUnderstood (S.meaning client.suite) (D.policy client.decisions) client_config server_config
         → (j : AreJoined S.meaning D.policy client_config server_config client server client_heard client_said server_heard server_said)
         → (a b : AgreedData) → ending_of client ≡ Authenticated a → ending_of server ≡ Authenticated b
-        → (one other : Session) → IsSession (S.meaning client.suite) client.role client.party j.client_after.units j.client_after.answers a one
-        → IsSession (S.meaning server.suite) server.role server.party j.server_after.units j.server_after.answers b other → AreCrosswise one other }
+        → (one other : Session) → IsSession (S.meaning client.suite) (D.policy client.decisions) client.role client.party j.client_after.units j.client_after.answers a one
+        → IsSession (S.meaning server.suite) (D.policy server.decisions) server.role server.party j.server_after.units j.server_after.answers b other → AreCrosswise one other }
     // The two endpoints of a world that ended authenticated are joined so.
     ensures worlds { (w : WorldData S D) (a b : AgreedData) → EachReplies S.meaning D.policy w → w.client.end ≡ Authenticated a → w.server.end ≡ Authenticated b
         → (client : EndpointData S D) × (server : EndpointData S D) × (ending_of client ≡ w.client.end) × (ending_of server ≡ w.server.end) × (client.suite ≡ w.suite) × (client.decisions ≡ w.decisions)

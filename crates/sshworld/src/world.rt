@@ -1,18 +1,21 @@
 //! Two endpoints and the bytes between them.
 
-ghost use Rattle.std.specs.Prelude.{◌≡◌, ◌≢◌, ◌↔◌, ◌+◌, ◌≤◌, IfOk, IsTrue, Ok, OnErr, OnOk, min};
-ghost use Rattle.sshcore.specs.Ending.{Open, ending};
+ghost use Rattle.std.specs.Prelude.{◌≡◌, ◌≢◌, ◌↔◌, ◌+◌, ◌≤◌, IfOk, IsTrue, None, Ok, OnErr, OnOk, min};
+ghost use Rattle.sshcore.specs.ConfigRules.{IsClient, IsServer};
+ghost use Rattle.sshcore.specs.Ending.{AgreedData, Authenticated, Open, ending};
 ghost use Rattle.sshworld.specs.Conversed.{EachReplies, IsNew};
 ghost use Rattle.sshworld.specs.Offered.{most_requests};
 ghost use Rattle.sshworld.specs.Deliveries.{Delivered, DoneAll, Refused, RefusedAll, Round, RoundInto, Rounds, RoundsInto, Runs, RunsInto};
+ghost use Rattle.sshworld.specs.Joined.{HandOver};
 ghost use Rattle.sshworld.specs.WorldCourse.{AreUnderstoodIn, HearsAll, IsOnCourse, KeepsCourse, KeepsHeadline};
 ghost use Rattle.sshworld.specs.WorldRounds.{HearsRound, HearsTurn, Settles};
 ghost use Rattle.sshworld.specs.Worlds.{Complete, HadMemory, IsSameSetup, half_at, waiting_for};
 
 use crate::link_laws::{below_law, course_hearing_law};
 use crate::node::Node;
+use crate::session_laws::session_law;
 use crate::side::{Delivery, Side};
-use sshcore::{ClientConfig, Decisions, End, ServerConfig};
+use sshcore::{ClientConfig, Decisions, End, ServerConfig, Session};
 use sshpacket::Suite;
 use sshwire::Memory;
 use std::alloc::Global;
@@ -90,6 +93,7 @@ impl<'a, S: Suite, D: Decisions> World<'a, S, D> {
 
     /// What is true of every world. Takes no memory.
     fn holds(&self)
+        ensures accepted { IsClient self.now.client_config × IsServer self.now.server_config }
         ensures replies { EachReplies S.meaning D.policy self.now }
         ensures course { KeepsCourse S.meaning D.policy self.now }
         ensures headline { KeepsHeadline S.meaning D.policy self.now }
@@ -230,6 +234,7 @@ impl<'a, S: Suite, D: Decisions> World<'a, S, D> {
     /// Whether nothing waits for either side. Takes no memory.
     pub fn complete(&self) -> bool
         ensures complete { IsTrue result ↔ Complete self.now }
+        ensures accepted { IsClient self.now.client_config × IsServer self.now.server_config }
         ensures course { KeepsCourse S.meaning D.policy self.now }
         ensures headline { KeepsHeadline S.meaning D.policy self.now }
     {
@@ -241,11 +246,27 @@ impl<'a, S: Suite, D: Decisions> World<'a, S, D> {
     pub fn ends(&self) -> (&End, &End)
         ensures client { ending result.0.now ≡ self.now.client.end }
         ensures server { ending result.1.now ≡ self.now.server.end }
+        ensures accepted { IsClient self.now.client_config × IsServer self.now.server_config }
         ensures replies { EachReplies S.meaning D.policy self.now }
         ensures course { KeepsCourse S.meaning D.policy self.now }
         ensures headline { KeepsHeadline S.meaning D.policy self.now }
     {
         self.holds();
         (self.client.endpoint.end(), self.server.endpoint.end())
+    }
+
+    /// What both sides hand over, the client's session first, where both ended authenticated; None otherwise.
+    /// Where the two ends understand each other the sessions match crosswise. Takes no memory.
+    pub fn into_sessions(self) -> Option<(Session, Session)>
+        ensures sessions { (a b : AgreedData) → self.entry.client.end ≡ Authenticated a → self.entry.server.end ≡ Authenticated b
+            → HandOver (AreUnderstoodIn S.meaning D.policy self.entry) self.entry.client_config self.entry.server_config a b result }
+        ensures none { ((a b : AgreedData) → self.entry.client.end ≡ Authenticated a → self.entry.server.end ≢ Authenticated b) → result ≡ None }
+    {
+        session_law::<S, D>();
+        let client = self.client;
+        let server = self.server;
+        let of_client = client.endpoint.into_session()?;
+        let of_server = server.endpoint.into_session()?;
+        Some((of_client, of_server))
     }
 }

@@ -67,7 +67,7 @@ returns-in-Some-clause-steps g c =
     packets_unit below streams m (g.D.Decisions.policy c.args.decisions.now) (role_of c.args.config.now) (party_of c.args.config.now) r c.use_keys.new.self (kept_of c.args.state.now)
     c.args.piece.now c.args.said.now.items c.hear.new.said.items c.requires.open
     p new last c.in-Ok-Payload.used c.in-Ok-Payload.seq c.in-Ok-Payload.payload.now answer.0 answer.1 answer.2 leaves.0 c.in_ok-hear-in-Ok-Payload.ensures.brings
-    (ap (λ (k : Kept). k.end) left) (ap (λ (k : Kept). k.phase) left) (ap (λ (k : Kept). k.guess) left) (ap (λ (k : Kept). k.known) left) (ap (λ (k : Kept). k.sending) left) (ap (λ (k : Kept). k.pending) left)
+    (ap (λ (k : Kept). k.end) left) (ap (λ (k : Kept). k.phase) left) (ap (λ (k : Kept). k.guess) left) (ap (λ (k : Kept). k.known) left) (ap (λ (k : Kept). k.sending) left) (ap (λ (k : Kept). k.carried) left)
     (c.use_keys.ensures.state ∙ ap (λ b. reader_with (Some c.in-Some.keys) b (state p)) (ap (λ (k : Kept). k.known.strict) left)
     ∙ ap (λ k. reader_with k new.known.strict (state p)) due)
 
@@ -99,7 +99,7 @@ returns-in_default-clause-steps g c =
     packets_unit below streams m (g.D.Decisions.policy c.args.decisions.now) (role_of c.args.config.now) (party_of c.args.config.now) r p (kept_of c.args.state.now)
     c.args.piece.now c.args.said.now.items c.hear.new.said.items c.requires.open
     p new last c.in-Ok-Payload.used c.in-Ok-Payload.seq c.in-Ok-Payload.payload.now answer.0 answer.1 answer.2 leaves.0 c.in_ok-hear-in-Ok-Payload.ensures.brings
-    (ap (λ (k : Kept). k.end) left) (ap (λ (k : Kept). k.phase) left) (ap (λ (k : Kept). k.guess) left) (ap (λ (k : Kept). k.known) left) (ap (λ (k : Kept). k.sending) left) (ap (λ (k : Kept). k.pending) left)
+    (ap (λ (k : Kept). k.end) left) (ap (λ (k : Kept). k.phase) left) (ap (λ (k : Kept). k.guess) left) (ap (λ (k : Kept). k.known) left) (ap (λ (k : Kept). k.sending) left) (ap (λ (k : Kept). k.carried) left)
     (ap (λ k. reader_with k new.known.strict (state p)) due)
 
 pub returns-in_ok-fail_packet-in-Err : goal.returns-in_ok-fail_packet-in-Err

@@ -34,6 +34,6 @@ returns-in_ok-signed-in-Some-clause-hears g c =
     given_answer c.in_ok-respond.field-0 (m.respond old.known.algorithms.kex party.random c.args.share.now) c.in-Some.response c.in_ok-respond.ensures c.in-Some.is in
     on_ok_weaker c.answer_init.result
     (λ answers message read form. init_answers m party old (kept_of c.answer_init.new.self) c.args.said.now.items c.answer_init.new.said.items message c.args.share.now
-    read (role_of c.args.config.now) (response_data c.in-Some.response) c.deref.result.now c.in_ok-signed-in-Some.signed.hash.items
+    read (role_of c.args.config.now) (response_data c.in-Some.response) c.deref.result.now c.in_ok-signed-in-Some.signed.hash.items c.in_ok-signed-in-Some.signed.host_key.items
     c.in_ok-signed-in-Some.signed.reply.items c.requires.server c.deref.ensures.value given c.requires.open c.requires.at form c.in_ok-signed-in-Some.ensures answers)
     c.answer_init.ensures

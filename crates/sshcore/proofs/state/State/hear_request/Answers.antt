@@ -1,15 +1,16 @@
-use Rattle.std.proofs.Common.{◌≡◌, false, rules, true, sym, ap, ◌∙◌}
+use Rattle.std.proofs.Common.{◌≡◌, List, [], ℕ, Bool, false, rules, true, sym, ap, ◌∙◌, subst}
 use Rattle.std.proofs.lemmas.Result.{on_ok_weaker}
 use Rattle.sshmsg.specs.Content.{UserauthFailure}
 use Rattle.sshmsg.specs.View.{method_of}
-use Rattle.sshcore.specs.Authenticating.{counted_request, one_request}
+use Rattle.sshcore.specs.Authenticating.{counted_request, one_request, tried_key}
 use Rattle.sshcore.specs.ConfigParty.{party_of}
 use Rattle.sshcore.specs.Kept.{Kept, kept_of}
 use Rattle.sshcore.specs.Known.{Known}
 use Rattle.sshcore.specs.Reached.{Tried}
-use Rattle.sshcore.specs.Requests.{is_good, more_reply}
+use Rattle.sshcore.specs.Requests.{is_good, more_reply, tried_reply}
+use Rattle.sshcore.specs.Tries.{key_of, tried_with}
 use Rattle.sshcore.proofs.GivesLemmas.{gives_by, gives_from}
-use Rattle.sshcore.proofs.RequestLemmas.{had, no_query, other_tried, query_tried, reply_elsewhere, reply_other, reply_query, tried_method, with_end}
+use Rattle.sshcore.proofs.RequestLemmas.{had, no_query, other_tried, query_tried, reply_elsewhere, reply_other, reply_query, tried_method, unkeyed, untried, with_key}
 use Rattle.sshcore.proofs.state.State.hear_request.Goals as goal
 
 pub returns-in_default-clause-gives : goal.returns-in_default-clause-gives
@@ -25,8 +26,11 @@ pub returns-in-PublicKeyQuery-clause-stays : goal.returns-in-PublicKeyQuery-clau
 returns-in-PublicKeyQuery-clause-stays g c =
     let known : Known = (kept_of c.args.self.now).known in
     let found = had _ c.args.service.now c.service.result c.in-Some.service c.service.ensures.service c.in-Some.is in
+    let good : Bool = is_good (g.S.Suite.meaning c.args.suite.now) (g.D.Decisions.policy c.args.decisions.now) (party_of c.args.config.now) known c.args.user.now c.args.service.now (method_of c.args.method.now) in
     on_ok_weaker c.hear_query.result (λ stays goes_on.
-    with_end (kept_of c.args.self.now) (kept_of c.hear_query.new.self) _ (stays goes_on ∙ ap (λ (t : Tried). record (kept_of c.args.self.now) { known = counted_request known t; sending = (kept_of c.hear_query.new.self).sending })
+    with_key (kept_of c.args.self.now) (kept_of c.hear_query.new.self) _ (tried_key (kept_of c.args.self.now).carried (method_of c.args.method.now) good)
+    (sym (unkeyed (kept_of c.args.self.now).carried (method_of c.args.method.now) (ap (λ x. key_of (method_of x)) c.in-PublicKeyQuery.is) good))
+    (stays goes_on ∙ ap (λ (t : Tried). record (kept_of c.args.self.now) { known = counted_request known t; sending = (kept_of c.hear_query.new.self).sending })
     (query_tried (g.S.Suite.meaning c.args.suite.now) (g.D.Decisions.policy c.args.decisions.now) (party_of c.args.config.now) known c.args.user.now c.args.service.now c.in-Some.service.now (method_of c.args.method.now) found.1
     c.in-PublicKeyQuery.algorithm.now c.in-PublicKeyQuery.key.now (ap method_of c.in-PublicKeyQuery.is)))) c.hear_query.ensures.stays
 
@@ -35,17 +39,29 @@ returns-then-branch-clause-gives g c =
     let good : is_good (g.S.Suite.meaning c.args.suite.now) (g.D.Decisions.policy c.args.decisions.now) (party_of c.args.config.now) (kept_of c.args.self.now).known
     c.args.user.now c.in-Some.service.now (method_of c.args.method.now) ≡ true = search rules in
     let other = no_query c.args.method.now c.in_default-method.not-PublicKeyQuery in
+    let key = c.in_ok-keep_key.ensures in
     on_ok_weaker c.hear_good.result (λ given strict next.
-    gives_by _ _ strict next _ _ _ _ _ _ (reply_other (g.S.Suite.meaning c.args.suite.now) (g.D.Decisions.policy c.args.decisions.now) (party_of c.args.config.now) (kept_of c.args.self.now).known c.args.user.now c.args.service.now
-    (method_of c.args.method.now) c.service.result c.service.ensures.service c.in-Some.service c.in-Some.is true (tried_method (g.S.Suite.meaning c.args.suite.now) (g.D.Decisions.policy c.args.decisions.now) (party_of c.args.config.now) (kept_of c.args.self.now).known c.args.user.now c.args.service.now (method_of c.args.method.now) other) good) (given strict next)) c.hear_good.ensures.gives
+    gives_by _ _ strict next _ _ _ _ _ _ (ap (λ (k : Kept). tried_reply (party_of c.args.config.now) k.known c.args.user.now c.in-Some.service.now (method_of c.args.method.now) true) key
+    ∙ reply_other (g.S.Suite.meaning c.args.suite.now) (g.D.Decisions.policy c.args.decisions.now) (party_of c.args.config.now) (kept_of c.args.self.now).known c.args.user.now c.args.service.now
+    (method_of c.args.method.now) c.service.result c.service.ensures.service c.in-Some.service c.in-Some.is true (tried_method (g.S.Suite.meaning c.args.suite.now) (g.D.Decisions.policy c.args.decisions.now) (party_of c.args.config.now) (kept_of c.args.self.now).known c.args.user.now c.args.service.now (method_of c.args.method.now) other) good)
+    (gives_from _ _ strict next (kept_of c.keep_key.new.self) (kept_of c.args.self.now) _ _ _ _ (sym (ap (λ (k : Kept). k.sending) key)) (given strict next))) c.hear_good.ensures.gives
 
 pub returns-then-branch-clause-stays : goal.returns-then-branch-clause-stays
 returns-then-branch-clause-stays g c =
-    let good : is_good (g.S.Suite.meaning c.args.suite.now) (g.D.Decisions.policy c.args.decisions.now) (party_of c.args.config.now) (kept_of c.args.self.now).known
-    c.args.user.now c.in-Some.service.now (method_of c.args.method.now) ≡ true = search rules in
+    let m = g.S.Suite.meaning c.args.suite.now in
+    let d = g.D.Decisions.policy c.args.decisions.now in
+    let party = party_of c.args.config.now in
+    let old : Kept = kept_of c.args.self.now in
+    let method = method_of c.args.method.now in
+    let new : Kept = kept_of c.hear_good.new.self in
+    let good : is_good m d party old.known c.args.user.now c.in-Some.service.now method ≡ true = search rules in
     let found = had _ c.args.service.now c.service.result c.in-Some.service c.service.ensures.service c.in-Some.is in
-    on_ok_weaker c.hear_good.result (λ stays goes_on. stays goes_on ∙ ap (λ (t : Tried). record (kept_of c.args.self.now) { end = (kept_of c.hear_good.new.self).end; known = counted_request (kept_of c.args.self.now).known t; sending = (kept_of c.hear_good.new.self).sending })
-    (other_tried (g.S.Suite.meaning c.args.suite.now) (g.D.Decisions.policy c.args.decisions.now) (party_of c.args.config.now) (kept_of c.args.self.now).known c.args.user.now c.args.service.now c.in-Some.service.now (method_of c.args.method.now) found.1 true good)) c.hear_good.ensures.stays
+    let named : is_good m d party old.known c.args.user.now c.args.service.now method ≡ true = subst (λ (s : List ℕ). is_good m d party old.known c.args.user.now s method ≡ true) found.1 good in
+    on_ok_weaker c.hear_good.result (λ stays goes_on. stays goes_on
+    ∙ ap (λ (k : Kept). record k { end = new.end; known = counted_request k.known (tried_with c.args.user.now c.in-Some.service.now method true); sending = new.sending }) c.in_ok-keep_key.ensures
+    ∙ ap (λ (t : Tried). record old { end = new.end; known = counted_request old.known t; carried = tried_key old.carried method true; sending = new.sending })
+    (other_tried m d party old.known c.args.user.now c.args.service.now c.in-Some.service.now method found.1 true good)
+    ∙ ap (λ (b : Bool). record old { end = new.end; known = counted_request old.known (tried_with c.args.user.now c.args.service.now method (is_good m d party old.known c.args.user.now c.args.service.now method)); carried = tried_key old.carried method b; sending = new.sending }) (sym named)) c.hear_good.ensures.stays
 
 pub returns-clause-gives : goal.returns-clause-gives
 returns-clause-gives g c =
@@ -59,11 +75,18 @@ returns-clause-gives g c =
 
 pub returns-clause-stays : goal.returns-clause-stays
 returns-clause-stays g c =
-    let bad : is_good (g.S.Suite.meaning c.args.suite.now) (g.D.Decisions.policy c.args.decisions.now) (party_of c.args.config.now) (kept_of c.args.self.now).known
-    c.args.user.now c.in-Some.service.now (method_of c.args.method.now) ≡ false = search rules in
+    let m = g.S.Suite.meaning c.args.suite.now in
+    let d = g.D.Decisions.policy c.args.decisions.now in
+    let party = party_of c.args.config.now in
+    let old : Kept = kept_of c.args.self.now in
+    let method = method_of c.args.method.now in
+    let bad : is_good m d party old.known c.args.user.now c.in-Some.service.now method ≡ false = search rules in
     let found = had _ c.args.service.now c.service.result c.in-Some.service c.service.ensures.service c.in-Some.is in
+    let named : is_good m d party old.known c.args.user.now c.args.service.now method ≡ false = subst (λ (s : List ℕ). is_good m d party old.known c.args.user.now s method ≡ false) found.1 bad in
     on_ok_weaker c.refuse_more.result (λ stays goes_on.
-    with_end (kept_of c.args.self.now) (kept_of c.refuse_more.new.self) _ (stays goes_on
+    with_key old (kept_of c.refuse_more.new.self) _ (tried_key old.carried method (is_good m d party old.known c.args.user.now c.args.service.now method))
+    (sym (ap (λ (b : Bool). tried_key old.carried method b) named ∙ untried old.carried method))
+    (stays goes_on
     ∙ ap (λ (k : Kept). record k { known = one_request k.known; sending = (kept_of c.refuse_more.new.self).sending }) c.forget_others.ensures
-    ∙ ap (λ (t : Tried). record (kept_of c.args.self.now) { known = counted_request (kept_of c.args.self.now).known t; sending = (kept_of c.refuse_more.new.self).sending })
-    (other_tried (g.S.Suite.meaning c.args.suite.now) (g.D.Decisions.policy c.args.decisions.now) (party_of c.args.config.now) (kept_of c.args.self.now).known c.args.user.now c.args.service.now c.in-Some.service.now (method_of c.args.method.now) found.1 false bad))) c.refuse_more.ensures.stays
+    ∙ ap (λ (t : Tried). record old { known = counted_request old.known t; sending = (kept_of c.refuse_more.new.self).sending })
+    (other_tried m d party old.known c.args.user.now c.args.service.now c.in-Some.service.now method found.1 false bad))) c.refuse_more.ensures.stays

@@ -28,7 +28,7 @@ pub returns-in-KexInit-clause-works : goal.returns-in-KexInit-clause-works
 returns-in-KexInit-clause-works g c =
     let has = has_place c.messages_law.ensures.complete c.numbers_law.ensures.kind c.numbers_law.ensures.alike (role_of c.args.config.now) (kept_of c.args.self.now) c.args.payload.now (content_of c.args.message.now) c.requires.reads c.requires.spelled in
     let is : content_of c.args.message.now ≡ content.KexInit (offer_of c.deref.result.now) = ap content_of c.in-KexInit.is ∙ ap (λ k. content.KexInit (offer_of k)) (sym c.deref.ensures) in
-    on_four c.hear_kexinit.result c.hear_kexinit.ensures.gives c.hear_kexinit.ensures.form c.hear_kexinit.ensures.keys c.hear_kexinit.ensures.moves (λ gives form keys moves _.
+    on_four c.hear_kexinit.result c.hear_kexinit.ensures.gives c.hear_kexinit.ensures.form c.hear_kexinit.ensures.carries c.hear_kexinit.ensures.moves (λ gives form keys moves _.
     works.kexinit_works _ _ _ _ _ _ _ _ _ _ has (offer_of c.deref.result.now) is gives form keys moves)
 
 pub returns-in_default-clause-works : goal.returns-in_default-clause-works
@@ -60,13 +60,13 @@ returns-in-NewKeys-clause-works g c = λ _.
 pub returns-in-ServiceRequest-clause-works : goal.returns-in-ServiceRequest-clause-works
 returns-in-ServiceRequest-clause-works g c =
     let has = has_place c.messages_law.ensures.complete c.numbers_law.ensures.kind c.numbers_law.ensures.alike (role_of c.args.config.now) (kept_of c.args.self.now) c.args.payload.now (content_of c.args.message.now) c.requires.reads c.requires.spelled in
-    on_three c.hear_service_request.result c.hear_service_request.ensures.gives c.hear_service_request.ensures.keys c.hear_service_request.ensures.stands (λ gives keys stands _.
+    on_three c.hear_service_request.result c.hear_service_request.ensures.gives c.hear_service_request.ensures.carries c.hear_service_request.ensures.stands (λ gives keys stands _.
     works.request_works _ _ _ _ _ _ _ _ _ _ has c.in-ServiceRequest.service.now (ap content_of c.in-ServiceRequest.is) gives keys stands)
 
 pub returns-in-ServiceAccept-clause-works : goal.returns-in-ServiceAccept-clause-works
 returns-in-ServiceAccept-clause-works g c =
     let has = has_place c.messages_law.ensures.complete c.numbers_law.ensures.kind c.numbers_law.ensures.alike (role_of c.args.config.now) (kept_of c.args.self.now) c.args.payload.now (content_of c.args.message.now) c.requires.reads c.requires.spelled in
-    on_three c.hear_service_accept.result c.hear_service_accept.ensures.gives c.hear_service_accept.ensures.keys c.hear_service_accept.ensures.stands (λ gives keys stands _.
+    on_three c.hear_service_accept.result c.hear_service_accept.ensures.gives c.hear_service_accept.ensures.carries c.hear_service_accept.ensures.stands (λ gives keys stands _.
     works.accept_works _ _ _ _ _ _ _ _ _ _ has c.in-ServiceAccept.service.now (ap content_of c.in-ServiceAccept.is) gives keys stands)
 
 pub hear_service_accept-requires-clause-at : goal.hear_service_accept-requires-clause-at

@@ -1,10 +1,15 @@
 use Rattle.std.proofs.Common.{subst}
+use Rattle.sshcore.specs.ConfigRules.{IsClient, IsServer}
 use Rattle.sshworld.specs.Conversed.{EachReplies}
 use Rattle.sshworld.specs.WorldCourse.{AreUnderstoodIn, HearsAll, KeepsCourse, KeepsHeadline}
 use Rattle.sshworld.specs.WorldRounds.{Settles}
 use Rattle.sshworld.proofs.DeliveryLemmas.{each_replies}
 use Rattle.sshworld.proofs.WorldCourseLemmas.{course_in, headline_in, settles_in, understands_in}
 use Rattle.sshworld.proofs.world.World.holds.Goals as goal
+
+pub returns-clause-accepted : goal.returns-clause-accepted
+returns-clause-accepted g c =
+    subst (λ w. IsClient w.client_config × IsServer w.server_config) c.self.view_is (c.self.invariant.client_accepted, c.self.invariant.server_accepted)
 
 pub returns-clause-replies : goal.returns-clause-replies
 returns-clause-replies g c =
