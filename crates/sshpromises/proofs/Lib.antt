@@ -1,3 +1,0 @@
-pub mod RequestLemmas
-pub mod SessionLemmas
-pub mod WorldLemmas
