@@ -13,3 +13,4 @@ pub mod ScenarioTextLemmas
 pub mod ScenarioReadLemmas
 pub mod ScenarioSettingLemmas
 pub mod ScenarioCauseLemmas
+pub mod ToldLemmas

@@ -50,14 +50,3 @@ module _ {S D : Type 0} (m : Meaning) (policy : D → Policy) (client : ClientDa
       → (AreUnderstoodIn (λ suite. m) policy w → HadMemory w → EndsSettling (most_requests w.client_config.plan + 4) read → Complete new)
       → EndsSettling (most_requests client.plan + 4) steps → Complete new
   settled_of steps read new same = rw (sym of_client, sym of_server, sym of_rules, sym same) (λ u had settled. settled u had)
-
--- an answer that tells whether a world is whole by its status
-module _ {A E W : Type 0} (status : A → ℕ) (Whole : W → Type 0) (w : W) where
-  pub told_of : (Leads : W → Type 0) (r : Result A E) → Leads w → IfOk r (λ answer. (status answer ≡ 0) ↔ Whole w)
-      → IfOk r (λ answer. (x : W) × Leads x × ((status answer ≡ 0) ↔ Whole x))
-  told_of Leads (Ok answer) leads told = (w, leads, told)
-  told_of Leads (Err e) leads told = told
-
-  pub done_by : (Ends : Type 0) (r : Result A E) → (Ends → Whole w) → IfOk r (λ answer. (status answer ≡ 0) ↔ Whole w) → IfOk r (λ answer. Ends → status answer ≡ 0)
-  done_by Ends (Ok answer) whole told = λ ends. told.1 (whole ends)
-  done_by Ends (Err e) whole told = told

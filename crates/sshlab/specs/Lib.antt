@@ -7,6 +7,7 @@ pub mod TextLines
 pub mod Scenarios
 pub mod ScenarioView
 pub mod Steps
+pub mod Reports
 pub mod Recordings
 pub mod Engines
 pub mod ScenarioSettings
@@ -14,3 +15,4 @@ pub mod ScenarioParts
 pub mod ScenarioText
 pub mod ScenarioDrafts
 pub mod ScenarioFaults
+pub mod Told

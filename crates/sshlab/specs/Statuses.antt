@@ -40,11 +40,16 @@ IsFirstWord name words = slice_get (map string_bytes words) 0 ≡ Some name
 
 -- what the first word asks for
 abbrev pub IsAsked : List (String Global) → Request → Type 0
-IsAsked words (asks.Greet client server schedule) = Unit {0}
+IsAsked words (asks.Greet client server schedule) = IsFirstWord (codes "greet") words
 IsAsked words (asks.Predict session) = IsFirstWord (codes "predict") words
 IsAsked words (asks.Run session) = IsFirstWord (codes "run") words
 IsAsked words asks.Show = IsFirstWord (codes "show") words
 IsAsked words asks.Check = IsFirstWord (codes "check") words
+
+-- two sides are to greet each other: no input is read
+abbrev pub IsGreet : Request → Type 0
+IsGreet (asks.Greet client server schedule) = Unit {0}
+IsGreet _ = ⊥
 
 -- the first word asks for something of a scenario or of a recording, which is read from the input
 abbrev pub AsksForInput : List (String Global) → Type 0

@@ -1,15 +1,13 @@
 //! All that the program does with its words and streams.
 
-ghost use Rattle.std.specs.Prelude.{◌≡◌, ◌≢◌, ◌≤◌, ◌↔◌, ◌+◌, ◌||◌, ℕ, Err, IfErr, IfOk, OnErr, OnOk, false, length, string_bytes, take, true};
+ghost use Rattle.std.specs.Prelude.{◌≡◌, ◌≢◌, ◌≤◌, ◌==◌, ◌↔◌, ◌||◌, ℕ, Bool, Err, IfErr, IfOk, OnErr, OnOk, Some, codes, false, length, string_bytes, take, true};
 ghost use Rattle.std.specs.Io.KnownBytes.{Appends, Keeps};
 ghost use Rattle.std.specs.IoError.{error_kind};
-ghost use Rattle.sshworld.specs.Offered.{most_requests};
-ghost use Rattle.sshworld.specs.Worlds.{Complete, WorldData};
-ghost use Rattle.sshsuites.specs.Lab.{lab};
-ghost use Rattle.sshsuites.specs.LabRules.{LabRules, lab_policy};
-ghost use Rattle.sshlab.specs.Statuses.{AsksForInput, IsNoToolFault, status_of, words_status};
-ghost use Rattle.sshlab.specs.Steps.{EndsSettling, StepsLeadTo};
-ghost use Rattle.sshsuites.specs.declared.lab_suite.LabSuite.{LabSuite};
+ghost use Rattle.sshcore.specs.Ending.{ending};
+ghost use Rattle.sshworld.specs.Worlds.{Complete};
+ghost use Rattle.sshlab.specs.Reports.{report_text};
+ghost use Rattle.sshlab.specs.Statuses.{AsksForInput, IsFirstWord, IsGreet, IsNoToolFault, status_of, words_status};
+ghost use Rattle.sshlab.specs.Told.{IsAnswered, IsToldOfInput, IsToldOfRun, PredictTells, Prints, RunTells, Writes, foretold};
 ghost use Rattle.sshlab.specs.declared.program.CommandFault.TheVariants as command;
 ghost use Rattle.sshlab.specs.declared.scenario.TheConstants.{TEXT_LIMIT};
 ghost use Rattle.sshlab.specs.declared.tool_fault.ToolFault.TheVariants as fault;
@@ -123,6 +121,10 @@ pub fn tool<I: Source, O: Sink, E: Sink>(
     ensures unwritten { I.has_failed input.new ≡ true → output.new ≡ output.old }
     // No byte of the input is read unless the first word asks for a scenario or a recording.
     ensures unread { (AsksForInput words.now → ⊥) → input.new ≡ input.old }
+    // Where the first word is `predict`, what is written tells of the scenario that the input is how both sides are to end.
+    ensures predict { IsFirstWord (codes "predict") words.now → Prints PredictTells (I.remaining input.old) (O.contents output.old) (O.contents output.new) (O.has_failed output.new) result }
+    // Where it is `run`, it tells how both sides stand in a world to which its steps lead, and whether that is complete: 0 exactly if so.
+    ensures run { IsFirstWord (codes "run") words.now → Prints RunTells (I.remaining input.old) (O.contents output.old) (O.contents output.new) (O.has_failed output.new) result }
 {
     match done(alloc, words, input, output) {
         Ok(status) => status,
@@ -158,23 +160,45 @@ fn done<I: Source, O: Sink>(
     ensures write { (result ≡ Err (command.Tool fault.Write)) ↔ (O.has_failed output.new ≡ true) }
     ensures unwritten { IfErr result (λ cause. cause ≢ command.Tool fault.Write → output.new ≡ output.old) }
     ensures unread { (AsksForInput words.now → ⊥) → input.new ≡ input.old }
+    ensures predict { IsFirstWord (codes "predict") words.now → (session : Bool) × Writes (PredictTells session) (I.remaining input.old) (O.contents output.old) (O.contents output.new) result }
+    ensures run { IsFirstWord (codes "run") words.now → (session : Bool) × Writes (RunTells session) (I.remaining input.old) (O.contents output.old) (O.contents output.new) result }
 {
-    match request_of(alloc, words)? {
+    let request = request_of(alloc, words)?;
+    answered(alloc, request, input, output)
+}
+
+/// Does what is asked for, and answers the exit status.
+fn answered<I: Source, O: Sink>(
+    alloc: Global,
+    request: Request<'_>,
+    input: &mut I,
+    output: &mut O,
+) -> Result<u8, CommandFault>
+    requires input { I.has_failed input.old ≡ false }
+    requires output { O.has_failed output.old ≡ false }
+    ensures status { IfOk result (λ status. status ≤ 1) }
+    ensures read { (result ≡ Err (command.Tool fault.Read)) ↔ (I.has_failed input.new ≡ true) }
+    ensures write { (result ≡ Err (command.Tool fault.Write)) ↔ (O.has_failed output.new ≡ true) }
+    ensures unwritten { IfErr result (λ cause. cause ≢ command.Tool fault.Write → output.new ≡ output.old) }
+    ensures unread { IsGreet request.entry → input.new ≡ input.old }
+    ensures answered { IsAnswered request.entry (I.remaining input.old) (O.contents output.old) (O.contents output.new) result }
+{
+    match request {
         Request::Greet {
             client,
             server,
             schedule,
         } => {
             let greeting = greeting_of(alloc, client, server, schedule)?;
-            Ok(print(&greeting, output)?)
+            print(&greeting, output)
         }
         Request::Predict { session } => {
             let prediction = read_prediction(alloc, input, session)?;
-            Ok(print(&prediction, output)?)
+            print(&prediction, output)
         }
         Request::Run { session } => {
             let run = read_run(alloc, input, session)?;
-            Ok(print(&run, output)?)
+            print(&run, output)
         }
         Request::Show => {
             show(alloc, input, output)?;
@@ -197,6 +221,7 @@ fn read_prediction<I: Source>(
     ensures status { IfOk result (λ answer. answer.status ≤ 1) }
     ensures read { (result ≡ Err (command.Tool fault.Read)) ↔ (I.has_failed input.new ≡ true) }
     ensures unwritten { IfErr result (λ cause. cause ≢ command.Tool fault.Write) }
+    ensures told { IfOk result (λ answer. IsToldOfInput (PredictTells session) (I.remaining input.old) (string_bytes answer.text) answer.status) }
 {
     let text = read_all(alloc, input)?;
     prediction_of(alloc, &text, session)
@@ -208,6 +233,7 @@ fn read_run<I: Source>(alloc: Global, input: &mut I, session: bool) -> Result<An
     ensures status { IfOk result (λ answer. answer.status ≤ 1) }
     ensures read { (result ≡ Err (command.Tool fault.Read)) ↔ (I.has_failed input.new ≡ true) }
     ensures unwritten { IfErr result (λ cause. cause ≢ command.Tool fault.Write) }
+    ensures told { IfOk result (λ answer. IsToldOfInput (RunTells session) (I.remaining input.old) (string_bytes answer.text) answer.status) }
 {
     let text = read_all(alloc, input)?;
     run_of(alloc, &text, session)
@@ -217,6 +243,7 @@ fn read_run<I: Source>(alloc: Global, input: &mut I, session: bool) -> Result<An
 fn prediction_of(alloc: Global, text: &[u8], session: bool) -> Result<Answer, CommandFault>
     requires { length text.now ≤ TEXT_LIMIT }
     ensures status { IfOk result (λ answer. answer.status ≤ 1) }
+    ensures told { IfOk result (λ answer. PredictTells session text.now (string_bytes answer.text) answer.status) }
     ensures fault { IfErr result IsNoToolFault }
 {
     let (client, server) = ends_of(alloc, text)?;
@@ -229,10 +256,12 @@ fn prediction_of(alloc: Global, text: &[u8], session: bool) -> Result<Answer, Co
     printed(alloc, &report, DONE)
 }
 
-/// The ends of the sides of a scenario with this text.
+/// The ends of the sides of a scenario with this text, the client's end first.
 fn ends_of(alloc: Global, text: &[u8]) -> Result<(End, End), CommandFault>
     requires { length text.now ≤ TEXT_LIMIT }
-    ensures { IfErr result IsNoToolFault }
+    ensures client { IfOk result (λ ends. ending ends.0 ≡ (foretold text.now).client) }
+    ensures server { IfOk result (λ ends. ending ends.1 ≡ (foretold text.now).server) }
+    ensures fault { IfErr result IsNoToolFault }
 {
     match Scenario::parse(alloc, text) {
         Ok(scenario) => match scenario.predict(alloc) {
@@ -247,6 +276,7 @@ fn ends_of(alloc: Global, text: &[u8]) -> Result<(End, End), CommandFault>
 fn run_of(alloc: Global, text: &[u8], session: bool) -> Result<Answer, CommandFault>
     requires { length text.now ≤ TEXT_LIMIT }
     ensures status { IfOk result (λ answer. answer.status ≤ 1) }
+    ensures told { IfOk result (λ answer. RunTells session text.now (string_bytes answer.text) answer.status) }
     ensures fault { IfErr result IsNoToolFault }
 {
     match Scenario::parse(alloc, text) {
@@ -258,12 +288,7 @@ fn run_of(alloc: Global, text: &[u8], session: bool) -> Result<Answer, CommandFa
 /// How the sides of a scenario stand when its steps were done.
 fn steps_told(alloc: Global, scenario: &Scenario, session: bool) -> Result<Answer, CommandFault>
     ensures status { IfOk result (λ answer. answer.status ≤ 1) }
-    // The status is 0 exactly if the steps lead to a complete world.
-    ensures complete { IfOk result (λ answer. (w : WorldData LabSuite LabRules)
-        × StepsLeadTo (λ suite. lab) lab_policy scenario.now.client scenario.now.server scenario.now.decisions scenario.now.steps.items w
-        × ((answer.status ≡ 0) ↔ Complete w)) }
-    // So it is where the last step settles all.
-    ensures settled { IfOk result (λ answer. EndsSettling (most_requests scenario.now.client.plan + 4) scenario.now.steps.items → answer.status ≡ 0) }
+    ensures told { IfOk result (λ answer. IsToldOfRun scenario.now.client scenario.now.server scenario.now.decisions scenario.now.steps.items session (string_bytes answer.text) answer.status) }
     ensures fault { IfErr result IsNoToolFault }
 {
     match scenario.run(alloc) {
@@ -280,6 +305,7 @@ fn world_told<S: Suite, D: Decisions>(
 ) -> Result<Answer, CommandFault>
     ensures status { IfOk result (λ answer. answer.status ≤ 1) }
     ensures complete { IfOk result (λ answer. (answer.status ≡ 0) ↔ Complete world.now) }
+    ensures text { IfOk result (λ answer. string_bytes answer.text ≡ report_text world.now.client.end world.now.server.end (Some (answer.status == 0)) session) }
     ensures fault { IfErr result IsNoToolFault }
 {
     let (client, server) = world.ends();
@@ -297,6 +323,7 @@ fn world_told<S: Suite, D: Decisions>(
 /// The report as text, with the status once it is written.
 fn printed(alloc: Global, report: &Report<'_>, status: u8) -> Result<Answer, CommandFault>
     ensures status { IfOk result (λ answer. answer.status ≡ status) }
+    ensures text { IfOk result (λ answer. string_bytes answer.text ≡ report_text (ending report.now.client.now) (ending report.now.server.now) report.now.complete report.now.session) }
     ensures fault { IfErr result IsNoToolFault }
 {
     match report.to_string(alloc) {
@@ -348,10 +375,10 @@ fn line_of(alloc: Global, software: &str) -> Result<Vec<u8>, CommandFault>
 }
 
 /// Prints the answer, and answers the status.
-fn print<O: Sink>(answer: &Answer, output: &mut O) -> Result<u8, ToolFault>
+fn print<O: Sink>(answer: &Answer, output: &mut O) -> Result<u8, CommandFault>
     requires { O.has_failed output.old ≡ false }
-    ensures failed { (result ≡ Err fault.Write) ↔ (O.has_failed output.new ≡ true) }
-    ensures fault { IfErr result (λ cause. cause ≡ fault.Write) }
+    ensures failed { (result ≡ Err (command.Tool fault.Write)) ↔ (O.has_failed output.new ≡ true) }
+    ensures fault { IfErr result (λ cause. cause ≡ command.Tool fault.Write) }
     ensures status { IfOk result (λ status. status ≡ answer.now.status) }
     ensures whole { OnOk result (Appends (O.contents output.old) (O.contents output.new) (string_bytes answer.now.text)) }
     ensures prefix { OnErr result ((n : ℕ) × Appends (O.contents output.old) (O.contents output.new)

@@ -1,5 +1,10 @@
 //! How the ends of a session are printed.
 
+ghost use Rattle.std.specs.Prelude.{◌≡◌, Some, flat_map};
+ghost use Rattle.std.specs.Fmt.{WritesOnOk};
+ghost use Rattle.sshcore.specs.Ending.{agreed_of, ending};
+ghost use Rattle.sshlab.specs.Reports.{agreed_text, agreement_text, algorithms_text, complete_text, end_text, hex_digits, report_text, session_text, yes_or_no};
+
 use sshcore::{Agreed, End};
 use std::fmt;
 
@@ -15,31 +20,63 @@ pub(crate) struct Report<'a> {
 }
 
 impl fmt::Display for Report<'_> {
+    ghost output = { λ r. Some (report_text (ending r.client.now) (ending r.server.now) r.complete r.session) };
+
+    #[tactic(auto, unfolding(crate::specs::Reports::report_text))]
     fn fmt<W: fmt::Write>(&self, f: &mut fmt::Formatter<W>) -> fmt::Result {
-        write_end(f, "client", self.client)?;
-        write_end(f, "server", self.server)?;
-        if let Some(complete) = self.complete {
-            let complete = yes_or_no(complete);
-            writeln!(f, "complete {complete}")?;
-        }
-        match (self.client, self.server) {
-            (End::Authenticated(agreed), _) | (_, End::Authenticated(agreed)) => {
-                write_agreed(f, agreed, self.session)
+        let (client, server) = (EndText(self.client), EndText(self.server));
+        writeln!(f, "client {client}")?;
+        writeln!(f, "server {server}")?;
+        write_complete(f, self.complete)?;
+        write_agreement(f, self.client, self.server, self.session)
+    }
+}
+
+/// How a side stands, as text.
+#[derive(Clone, Copy)]
+struct EndText<'a>(&'a End);
+
+impl fmt::Display for EndText<'_> {
+    ghost output = { λ e. Some (end_text (ending e.0.now)) };
+
+    fn fmt<W: fmt::Write>(&self, f: &mut fmt::Formatter<W>) -> fmt::Result {
+        match self.0 {
+            End::Open => f.write_str("open"),
+            End::Authenticated(agreed) => {
+                let (user, service) = (&agreed.user, &agreed.service);
+                write!(f, "authenticated {user} {service}")
             }
-            _ => Ok(()),
+            End::Failed(fault) => write!(f, "failed {fault}"),
+            End::Closed(reason) => write!(f, "closed {reason}"),
         }
     }
 }
 
-fn write_end<W: fmt::Write>(f: &mut fmt::Formatter<W>, side: &str, end: &End) -> fmt::Result {
-    match end {
-        End::Open => writeln!(f, "{side} open"),
-        End::Authenticated(agreed) => {
-            let (user, service) = (&agreed.user, &agreed.service);
-            writeln!(f, "{side} authenticated {user} {service}")
+fn write_complete<W: fmt::Write>(f: &mut fmt::Formatter<W>, complete: Option<bool>) -> fmt::Result
+    ensures { WritesOnOk W.write_str_gives f.old result (complete_text complete) f.new }
+{
+    match complete {
+        Some(complete) => {
+            let complete = yes_or_no(complete);
+            writeln!(f, "complete {complete}")
         }
-        End::Failed(fault) => writeln!(f, "{side} failed {fault}"),
-        End::Closed(reason) => writeln!(f, "{side} closed {reason}"),
+        None => Ok(()),
+    }
+}
+
+fn write_agreement<W: fmt::Write>(
+    f: &mut fmt::Formatter<W>,
+    client: &End,
+    server: &End,
+    session: bool,
+) -> fmt::Result
+    ensures { WritesOnOk W.write_str_gives f.old result (agreement_text session (ending client.now) (ending server.now)) f.new }
+{
+    match (client, server) {
+        (End::Authenticated(agreed), _) | (_, End::Authenticated(agreed)) => {
+            write_agreed(f, agreed, session)
+        }
+        _ => Ok(()),
     }
 }
 
@@ -47,35 +84,65 @@ fn write_agreed<W: fmt::Write>(
     f: &mut fmt::Formatter<W>,
     agreed: &Agreed,
     session: bool,
-) -> fmt::Result {
-    for (field, name) in [
-        ("kex", &agreed.kex),
-        ("hostkey", &agreed.host_key),
-        ("cipher_cs", &agreed.encryption_client_to_server),
-        ("cipher_sc", &agreed.encryption_server_to_client),
-        ("mac_cs", &agreed.mac_client_to_server),
-        ("mac_sc", &agreed.mac_server_to_client),
-    ] {
-        writeln!(f, "{field} {name}")?;
-    }
+) -> fmt::Result
+    ensures { WritesOnOk W.write_str_gives f.old result (agreed_text session (agreed_of agreed.now)) f.new }
+{
+    write_algorithms(f, agreed)?;
     let strict = yes_or_no(agreed.strict);
     writeln!(f, "strict {strict}")?;
-    if session {
-        f.write_str("session ")?;
-        write_hex(f, &agreed.session)?;
-        f.write_str("\n")?;
+    write_session(f, session, &agreed.session)
+}
+
+fn write_algorithms<W: fmt::Write>(f: &mut fmt::Formatter<W>, agreed: &Agreed) -> fmt::Result
+    ensures { WritesOnOk W.write_str_gives f.old result (algorithms_text (agreed_of agreed.now).algorithms) f.new }
+{
+    let (kex, host_key) = (&agreed.kex, &agreed.host_key);
+    writeln!(f, "kex {kex}")?;
+    writeln!(f, "hostkey {host_key}")?;
+    let (to_server, to_client) = (
+        &agreed.encryption_client_to_server,
+        &agreed.encryption_server_to_client,
+    );
+    writeln!(f, "cipher_cs {to_server}")?;
+    writeln!(f, "cipher_sc {to_client}")?;
+    let (to_server, to_client) = (&agreed.mac_client_to_server, &agreed.mac_server_to_client);
+    writeln!(f, "mac_cs {to_server}")?;
+    writeln!(f, "mac_sc {to_client}")
+}
+
+fn write_session<W: fmt::Write>(
+    f: &mut fmt::Formatter<W>,
+    asked: bool,
+    session: &[u8],
+) -> fmt::Result
+    ensures { WritesOnOk W.write_str_gives f.old result (session_text asked session.now) f.new }
+{
+    if !asked {
+        return Ok(());
     }
-    Ok(())
+    f.write_str("session ")?;
+    write_hex(f, session)?;
+    f.write_str("\n")
 }
 
 /// Two digits in lower case for each byte.
-pub(crate) fn write_hex<W: fmt::Write>(f: &mut fmt::Formatter<W>, bytes: &[u8]) -> fmt::Result {
+pub(crate) fn write_hex<W: fmt::Write>(f: &mut fmt::Formatter<W>, bytes: &[u8]) -> fmt::Result
+    ensures { WritesOnOk W.write_str_gives f.old result (flat_map hex_digits bytes.now) f.new }
+{
     for byte in bytes {
-        write!(f, "{byte:02x}")?;
+        write_byte(f, *byte)?;
     }
     Ok(())
 }
 
-pub(crate) fn yes_or_no(flag: bool) -> &'static str {
+fn write_byte<W: fmt::Write>(f: &mut fmt::Formatter<W>, byte: u8) -> fmt::Result
+    ensures { WritesOnOk W.write_str_gives f.old result (hex_digits byte) f.new }
+{
+    write!(f, "{byte:02x}")
+}
+
+pub(crate) fn yes_or_no(flag: bool) -> &'static str
+    ensures { result.now ≡ yes_or_no flag }
+{
     if flag { "yes" } else { "no" }
 }

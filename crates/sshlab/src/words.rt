@@ -1,6 +1,6 @@
 //! The words of the program, read with `clap`.
 
-ghost use Rattle.std.specs.Prelude.{◌≡◌, IfErr, IfOk, IsTrue, List, String};
+ghost use Rattle.std.specs.Prelude.{◌≡◌, IfErr, IfOk, IsTrue, List, String, codes};
 ghost use Rattle.std.specs.declared.alloc.Global.{Global};
 ghost use Rattle.sshlab.specs.Statuses.{IsAsked, IsFirstWord, IsNoToolFault};
 
@@ -58,7 +58,7 @@ pub(crate) fn request_of(alloc: Global, words: &[String]) -> Result<Request<'_>,
         Err(_) => return Err(CommandFault::Words),
     };
     match matches.subcommand() {
-        Some(("greet", greet)) => greet_of(greet),
+        Some(("greet", greet)) if is_first(words, "greet") => greet_of(greet),
         Some(("predict", predict)) if is_first(words, "predict") => Ok(Request::Predict {
             session: predict.get_flag(SESSION_NAME),
         }),
@@ -83,7 +83,7 @@ fn is_first(words: &[String], name: &str) -> bool
 
 /// The words of `greet`.
 fn greet_of<'a>(greet: &ArgMatches<'a>) -> Result<Request<'a>, CommandFault>
-    ensures first { (words : List (String Global)) → IfOk result (λ found. IsAsked words found) }
+    ensures first { (words : List (String Global)) → IsFirstWord (codes "greet") words → IfOk result (λ found. IsAsked words found) }
     ensures fault { IfErr result IsNoToolFault }
 {
     match (

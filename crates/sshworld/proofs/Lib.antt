@@ -3,6 +3,7 @@ pub mod JudgeLemmas
 pub mod ProgressLemmas
 pub mod SessionLemmas
 pub mod OutcomeLemmas
+pub mod DrawnLemmas
 pub mod RoundLemmas
 pub mod CourseLemmas
 pub mod FitLemmas

@@ -3,6 +3,7 @@
 
 mod algorithms;
 mod course_laws;
+mod drawn;
 mod following;
 mod headline_laws;
 mod judge;
@@ -20,7 +21,7 @@ pub use course_laws::course_law;
 pub use following::{follows_law, keeps_law};
 pub use headline_laws::headline_law;
 pub use law::verdict_law;
-pub use prediction::predict;
+pub use prediction::{predict, predict_with};
 pub use session_laws::session_law;
 pub use side::{Delivery, Side};
 pub use world::World;

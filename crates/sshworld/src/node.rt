@@ -9,7 +9,8 @@ ghost use Rattle.sshcore.specs.Party.{client_party, server_party};
 ghost use Rattle.sshworld.specs.Stands.{BrokenWith, Receives};
 ghost use Rattle.sshworld.specs.Worlds.{waiting_at};
 
-use sshcore::{ClientConfig, Decisions, End, Endpoint, ServerConfig};
+use crate::drawn::{DrawnClient, DrawnServer};
+use sshcore::{Decisions, End, Endpoint};
 use sshpacket::Suite;
 use sshwire::Memory;
 use std::alloc::Global;
@@ -28,7 +29,7 @@ impl<'a, S: Suite, D: Decisions> Node<'a, S, D> {
     /// A client that has received nothing. Answers `Memory` for want of memory, as the next one.
     pub(crate) fn client(
         alloc: Global,
-        config: &'a ClientConfig,
+        config: &DrawnClient<'a>,
         suite: &'a S,
         decisions: &'a D,
     ) -> Result<Node<'a, S, D>, Memory>
@@ -37,7 +38,7 @@ impl<'a, S: Suite, D: Decisions> Node<'a, S, D> {
         ensures none_used { IfOk result (λ n. n.used ≡ 0) }
     {
         let mut sent = Vec::new(alloc);
-        let endpoint = Endpoint::client(alloc, config, suite, decisions, &mut sent)?;
+        let endpoint = config.endpoint(alloc, suite, decisions, &mut sent)?;
         Ok(Node {
             endpoint,
             sent,
@@ -49,7 +50,7 @@ impl<'a, S: Suite, D: Decisions> Node<'a, S, D> {
     /// A server that has received nothing.
     pub(crate) fn server(
         alloc: Global,
-        config: &'a ServerConfig,
+        config: &DrawnServer<'a>,
         suite: &'a S,
         decisions: &'a D,
     ) -> Result<Node<'a, S, D>, Memory>
@@ -58,7 +59,7 @@ impl<'a, S: Suite, D: Decisions> Node<'a, S, D> {
         ensures none_used { IfOk result (λ n. n.used ≡ 0) }
     {
         let mut sent = Vec::new(alloc);
-        let endpoint = Endpoint::server(alloc, config, suite, decisions, &mut sent)?;
+        let endpoint = config.endpoint(alloc, suite, decisions, &mut sent)?;
         Ok(Node {
             endpoint,
             sent,

@@ -6,15 +6,18 @@ ghost use Rattle.sshcore.specs.Chosen.{AreNamed};
 ghost use Rattle.sshcore.specs.ConfigView.{attempt_of, host_key_of};
 ghost use Rattle.sshcore.specs.Ending.{Authenticated, ending};
 ghost use Rattle.sshcore.specs.Exchange.{secret_of};
+ghost use Rattle.sshcore.specs.Redrawn.{redrawn_client, redrawn_server};
 ghost use Rattle.sshworld.specs.Agreement.{agreed, host_key_of_server};
 ghost use Rattle.sshworld.specs.JudgedView.{how_of};
 ghost use Rattle.sshworld.specs.AlgorithmsView.{algorithms_named};
 ghost use Rattle.sshworld.specs.Outcome.{case_of_choice, case_of_how, outcome, table};
+ghost use Rattle.sshworld.specs.Verdicts.{verdict};
 
 use crate::algorithms::{AlgorithmNames, agreed, algorithms_at};
+use crate::drawn::{DrawnClient, DrawnServer, again};
 use crate::judge::{Judged, judge};
 use crate::session::session;
-use sshcore::{Attempt, ClientConfig, Decisions, End, Fault, HostKey, ServerConfig};
+use sshcore::{Attempt, ClientConfig, Decisions, Draws, End, Fault, HostKey, ServerConfig};
 use sshmsg::{
     SSH_DISCONNECT_HOST_KEY_NOT_VERIFIABLE, SSH_DISCONNECT_NO_MORE_AUTH_METHODS_AVAILABLE,
     SSH_DISCONNECT_SERVICE_NOT_AVAILABLE,
@@ -48,6 +51,47 @@ pub fn predict<S: Suite, D: Decisions>(
     ensures outcome { IfOk result (λ ends. (ending ends.0 ≡ (outcome (S.meaning suite.now) (D.policy decisions.now) client.now server.now).client)
         × (ending ends.1 ≡ (outcome (S.meaning suite.now) (D.policy decisions.now) client.now server.now).server)) }
 {
+    let (client_draws, server_draws) = (client.draws(), server.draws());
+    predict_with(
+        alloc,
+        client,
+        &client_draws,
+        server,
+        &server_draws,
+        suite,
+        decisions,
+    )
+}
+
+/// The same of these configs with these draws, each in place of the config's own.
+pub fn predict_with<S: Suite, D: Decisions>(
+    alloc: Global,
+    client: &ClientConfig,
+    client_draws: &Draws,
+    server: &ServerConfig,
+    server_draws: &Draws,
+    suite: &S,
+    decisions: &D,
+) -> Result<(End, End), Memory>
+    ensures outcome { IfOk result (λ ends. (ending ends.0 ≡ (outcome (S.meaning suite.now) (D.policy decisions.now) (redrawn_client client_draws.now client.now) (redrawn_server server_draws.now server.now)).client)
+        × (ending ends.1 ≡ (outcome (S.meaning suite.now) (D.policy decisions.now) (redrawn_client client_draws.now client.now) (redrawn_server server_draws.now server.now)).server)) }
+{
+    let client = DrawnClient::new(client, again(client_draws));
+    let server = DrawnServer::new(server, again(server_draws));
+    predict_drawn(alloc, &client, &server, suite, decisions)
+}
+
+/// How both end. Answers `Memory` for want of memory, as each function below.
+fn predict_drawn<S: Suite, D: Decisions>(
+    alloc: Global,
+    client: &DrawnClient<'_>,
+    server: &DrawnServer<'_>,
+    suite: &S,
+    decisions: &D,
+) -> Result<(End, End), Memory>
+    ensures outcome { IfOk result (λ ends. (ending ends.0 ≡ (outcome (S.meaning suite.now) (D.policy decisions.now) client.now server.now).client)
+        × (ending ends.1 ≡ (outcome (S.meaning suite.now) (D.policy decisions.now) client.now server.now).server)) }
+{
     sshneg::choice_law();
     let of_client = client.kexinit()?;
     let of_server = server.kexinit()?;
@@ -63,12 +107,11 @@ pub fn predict<S: Suite, D: Decisions>(
     }
 }
 
-/// How both end, where these algorithms are chosen. Answers `Memory` for want of memory, as each
-/// function below.
+/// How both end, where these algorithms are chosen.
 fn predict_chosen<S: Suite, D: Decisions>(
     alloc: Global,
-    client: &ClientConfig,
-    server: &ServerConfig,
+    client: &DrawnClient<'_>,
+    server: &DrawnServer<'_>,
     suite: &S,
     decisions: &D,
     names: &AlgorithmNames<'_>,
@@ -82,15 +125,15 @@ fn predict_chosen<S: Suite, D: Decisions>(
         let reason = SSH_DISCONNECT_HOST_KEY_NOT_VERIFIABLE;
         return Ok((End::Failed(Fault::HostKey), End::Closed(reason)));
     }
-    let judged = judge(alloc, client, server, suite, decisions)?;
+    let judged = judge_drawn(alloc, client, server, suite, decisions)?;
     predict_judged(alloc, client, server, suite, names, &host_key, &judged)
 }
 
 /// How both end, where the client trusts the host key and the requests end so.
 fn predict_judged<S: Suite>(
     alloc: Global,
-    client: &ClientConfig,
-    server: &ServerConfig,
+    client: &DrawnClient<'_>,
+    server: &DrawnServer<'_>,
     suite: &S,
     names: &AlgorithmNames<'_>,
     host_key: &[u8],
@@ -123,8 +166,8 @@ fn predict_judged<S: Suite>(
 /// How both end, where this attempt succeeds: with one agreement.
 fn authenticated<S: Suite>(
     alloc: Global,
-    client: &ClientConfig,
-    server: &ServerConfig,
+    client: &DrawnClient<'_>,
+    server: &DrawnServer<'_>,
     suite: &S,
     names: &AlgorithmNames<'_>,
     host_key: &[u8],
@@ -136,7 +179,7 @@ fn authenticated<S: Suite>(
     ensures server { IfOk result (λ ends. ending ends.1 ≡ Authenticated (agreed (S.meaning suite.now) client.now server.now (algorithms_named names.now) (attempt_of attempt.now))) }
 {
     let session = session(alloc, client, server, suite, names, host_key)?;
-    let strict = client.parts().side.strict && server.parts().side.strict;
+    let strict = client.side().strict && server.side().strict;
     let of_client = agreed(alloc, names, strict, &session, attempt)?;
     let of_server = agreed(alloc, names, strict, &session, attempt)?;
     Ok((End::Authenticated(of_client), End::Authenticated(of_server)))
@@ -145,15 +188,28 @@ fn authenticated<S: Suite>(
 /// The server's public host key: that of its first private key of the chosen algorithm.
 fn host_key<S: Suite>(
     alloc: Global,
-    server: &ServerConfig,
+    server: &DrawnServer<'_>,
     suite: &S,
     names: &AlgorithmNames<'_>,
 ) -> Result<Vec<u8>, Memory>
     requires { AreNamed (algorithms_named names.now) }
     ensures { IfOk result (λ blob. blob.items ≡ host_key_of_server (S.meaning suite.now) server.now names.now.host_key.now) }
 {
-    let secret = secret(server, names.host_key);
+    let secret = secret(server.config(), names.host_key);
     suite.blob(alloc, names.host_key, secret)
+}
+
+/// How the requests of the client's plan end, which no draws decide.
+fn judge_drawn<'a, S: Suite, D: Decisions>(
+    alloc: Global,
+    client: &DrawnClient<'a>,
+    server: &DrawnServer<'_>,
+    suite: &S,
+    decisions: &D,
+) -> Result<Judged<'a>, Memory>
+    ensures { IfOk result (λ judged. how_of judged ≡ (verdict (S.meaning suite.now) (D.policy decisions.now) client.now server.now).how) }
+{
+    judge(alloc, client.config(), server.config(), suite, decisions)
 }
 
 /// The private key of the server's first host key of this algorithm, or no bytes.

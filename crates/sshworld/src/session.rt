@@ -19,7 +19,8 @@ ghost use Rattle.sshworld.specs.AlgorithmsView.{algorithms_named};
 ghost use Rattle.sshworld.specs.SharesView.{AreBetween, AreShort, exchange_given};
 
 use crate::algorithms::AlgorithmNames;
-use sshcore::{ClientConfig, ServerConfig, SideParts};
+use crate::drawn::{DrawnClient, DrawnServer};
+use sshcore::SideParts;
 use sshmsg::{KexInit, Message, write};
 use sshneg::{Exchange, exchange_input};
 use sshpacket::{Response, Suite};
@@ -47,8 +48,8 @@ pub(crate) struct SharesGiven<'a> {
 /// exchange hash (RFC 4253 section 7.2). Answers `Memory` for want of memory, as each function below.
 pub(crate) fn session<S: Suite>(
     alloc: Global,
-    client: &ClientConfig,
-    server: &ServerConfig,
+    client: &DrawnClient<'_>,
+    server: &DrawnServer<'_>,
     suite: &S,
     names: &AlgorithmNames<'_>,
     host_key: &[u8],
@@ -65,8 +66,8 @@ pub(crate) fn session<S: Suite>(
 /// The shares of both sides and the shared number, beside the host key.
 fn shares_between<'a, S: Suite>(
     alloc: Global,
-    client: &ClientConfig,
-    server: &ServerConfig,
+    client: &DrawnClient<'_>,
+    server: &DrawnServer<'_>,
     suite: &S,
     names: &AlgorithmNames<'_>,
     host_key: &'a [u8],
@@ -88,7 +89,7 @@ fn shares_between<'a, S: Suite>(
 /// The client's share, of its random bytes.
 fn share_of<S: Suite>(
     alloc: Global,
-    client: &ClientConfig,
+    client: &DrawnClient<'_>,
     suite: &S,
     kex: &str,
 ) -> Result<Vec<u8>, Memory>
@@ -96,14 +97,14 @@ fn share_of<S: Suite>(
     ensures share { IfOk result (λ share. share.items ≡ (S.meaning suite.now).share kex.now client.now.side.random) }
     ensures short { IfOk result (λ share. length share.items ≤ SHARE_LIMIT) }
 {
-    suite.public(alloc, kex, client_random(client))
+    suite.public(alloc, kex, client.exchange_random())
 }
 
 /// The server's share and the shared number, as the server answers the client's share; where it
 /// answers nothing both are empty.
 fn answer_of<S: Suite>(
     alloc: Global,
-    server: &ServerConfig,
+    server: &DrawnServer<'_>,
     suite: &S,
     kex: &str,
     share: &[u8],
@@ -114,7 +115,7 @@ fn answer_of<S: Suite>(
     ensures share { IfOk result (λ answer. length answer.share.items ≤ SHARE_LIMIT) }
     ensures shared { IfOk result (λ answer. length answer.shared.items ≤ SHARE_LIMIT) }
 {
-    match suite.respond(alloc, kex, server_random(server), share)? {
+    match suite.respond(alloc, kex, server.exchange_random(), share)? {
         Some(answer) => Ok(answer),
         None => Ok(Response {
             share: Vec::new(alloc),
@@ -123,27 +124,11 @@ fn answer_of<S: Suite>(
     }
 }
 
-/// A client's random bytes of the exchange.
-fn client_random(client: &ClientConfig) -> &[u8]
-    ensures random { result.now ≡ client.now.side.random }
-    ensures long { length client.now.side.random ≡ 32 }
-{
-    &client.parts().side.exchange_random
-}
-
-/// A server's random bytes of the exchange.
-fn server_random(server: &ServerConfig) -> &[u8]
-    ensures random { result.now ≡ server.now.side.random }
-    ensures long { length server.now.side.random ≡ 32 }
-{
-    &server.parts().side.exchange_random
-}
-
 /// What is hashed (RFC 4253 section 8).
 fn input_of(
     alloc: Global,
-    client: &ClientConfig,
-    server: &ServerConfig,
+    client: &DrawnClient<'_>,
+    server: &DrawnServer<'_>,
     shares: &SharesGiven<'_>,
 ) -> Result<Vec<u8>, Memory>
     requires { AreShort shares.now }
@@ -169,21 +154,21 @@ fn input_of(
 }
 
 /// What a client says before the exchange.
-fn client_opening(alloc: Global, client: &ClientConfig) -> Result<Opening, Memory>
+fn client_opening(alloc: Global, client: &DrawnClient<'_>) -> Result<Opening, Memory>
     ensures version { IfOk result (λ opening. opening.version ≡ version_of client.now.side) }
     ensures kexinit { IfOk result (λ opening. opening.kexinit.items ≡ written_message (content.KexInit (client_offer client.now))) }
 {
-    let version = version_line(alloc, &client.parts().side)?;
+    let version = version_line(alloc, client.side())?;
     let kexinit = payload(alloc, client.kexinit()?)?;
     Ok(Opening { version, kexinit })
 }
 
 /// What a server says before the exchange, its notice lines left out.
-fn server_opening(alloc: Global, server: &ServerConfig) -> Result<Opening, Memory>
+fn server_opening(alloc: Global, server: &DrawnServer<'_>) -> Result<Opening, Memory>
     ensures version { IfOk result (λ opening. opening.version ≡ version_of server.now.side) }
     ensures kexinit { IfOk result (λ opening. opening.kexinit.items ≡ written_message (content.KexInit (server_offer server.now))) }
 {
-    let version = version_line(alloc, &server.parts().side)?;
+    let version = version_line(alloc, server.side())?;
     let kexinit = payload(alloc, server.kexinit()?)?;
     Ok(Opening { version, kexinit })
 }

@@ -3,6 +3,7 @@
 ghost use Rattle.std.specs.Prelude.{◌≡◌, ◌≢◌, ◌↔◌, ◌+◌, ◌≤◌, IfOk, IsTrue, None, Ok, OnErr, OnOk, min};
 ghost use Rattle.sshcore.specs.ConfigRules.{IsClient, IsServer};
 ghost use Rattle.sshcore.specs.Ending.{AgreedData, Authenticated, Open, ending};
+ghost use Rattle.sshcore.specs.Redrawn.{redrawn_client, redrawn_server};
 ghost use Rattle.sshworld.specs.Conversed.{EachReplies, IsNew};
 ghost use Rattle.sshworld.specs.Offered.{most_requests};
 ghost use Rattle.sshworld.specs.Deliveries.{Delivered, DoneAll, Refused, RefusedAll, Round, RoundInto, Rounds, RoundsInto, Runs, RunsInto};
@@ -11,11 +12,12 @@ ghost use Rattle.sshworld.specs.WorldCourse.{AreUnderstoodIn, HearsAll, IsOnCour
 ghost use Rattle.sshworld.specs.WorldRounds.{HearsRound, HearsTurn, Settles};
 ghost use Rattle.sshworld.specs.Worlds.{Complete, HadMemory, IsSameSetup, half_at, waiting_for};
 
+use crate::drawn::{DrawnClient, DrawnServer};
 use crate::link_laws::{below_law, course_hearing_law};
 use crate::node::Node;
 use crate::session_laws::session_law;
 use crate::side::{Delivery, Side};
-use sshcore::{ClientConfig, Decisions, End, ServerConfig, Session};
+use sshcore::{ClientConfig, Decisions, Draws, End, ServerConfig, Session};
 use sshpacket::Suite;
 use sshwire::Memory;
 use std::alloc::Global;
@@ -31,8 +33,8 @@ use std::marker::Model;
 /// the suite comes to one shared number of both random values, and the keys of both configs sign.
 #[derive(Drop)]
 pub struct World<'a, S: Suite, D: Decisions> {
-    client_config: &'a ClientConfig,
-    server_config: &'a ServerConfig,
+    client_config: DrawnClient<'a>,
+    server_config: DrawnServer<'a>,
     suite: &'a S,
     decisions: &'a D,
     client: Node<'a, S, D>,
@@ -47,15 +49,15 @@ impl<'a, S: Suite, D: Decisions> Model for World<'a, S, D> {
     ghost Value = { WorldData S D };
 
     ghost view = { λ w. record {
-      client_config = w.client_config.now;
-      server_config = w.server_config.now;
+      client_config = w.client_config;
+      server_config = w.server_config;
       suite = w.suite.now;
       decisions = w.decisions.now;
       client = half_of w.client;
       server = half_of w.server;
     } };
 
-    ghost invariant = { λ w. WorldStands S.meaning D.policy w.client_config.now w.server_config.now w.suite.now w.decisions.now w.client w.server };
+    ghost invariant = { λ w. WorldStands S.meaning D.policy w.client_config w.server_config w.suite.now w.decisions.now w.client w.server };
 }
 
 impl<'a, S: Suite, D: Decisions> World<'a, S, D> {
@@ -77,17 +79,48 @@ impl<'a, S: Suite, D: Decisions> World<'a, S, D> {
         ensures course { IfOk result (λ w. KeepsCourse S.meaning D.policy w) }
         ensures headline { IfOk result (λ w. KeepsHeadline S.meaning D.policy w) }
     {
-        below_law();
-        course_hearing_law();
-        client.parts();
-        server.parts();
-        Ok(World {
-            client_config: client,
-            server_config: server,
+        World::new_with(
+            alloc,
+            client,
+            client.draws(),
+            server,
+            server.draws(),
             suite,
             decisions,
-            client: Node::client(alloc, client, suite, decisions)?,
-            server: Node::server(alloc, server, suite, decisions)?,
+        )
+    }
+
+    /// The same with these draws: the configs of this world are those two, each with its draws in place of
+    /// its own. So one config serves any number of worlds.
+    pub fn new_with(
+        alloc: Global,
+        client: &'a ClientConfig,
+        client_draws: Draws,
+        server: &'a ServerConfig,
+        server_draws: Draws,
+        suite: &'a S,
+        decisions: &'a D,
+    ) -> Result<World<'a, S, D>, Memory>
+        ensures client_config { IfOk result (λ w. w.client_config ≡ redrawn_client client_draws client.now) }
+        ensures server_config { IfOk result (λ w. w.server_config ≡ redrawn_server server_draws server.now) }
+        ensures suite { IfOk result (λ w. w.suite ≡ suite.now) }
+        ensures decisions { IfOk result (λ w. w.decisions ≡ decisions.now) }
+        ensures start { IfOk result (λ w. IsNew S.meaning D.policy w) }
+        ensures replies { IfOk result (λ w. EachReplies S.meaning D.policy w) }
+        ensures course { IfOk result (λ w. KeepsCourse S.meaning D.policy w) }
+        ensures headline { IfOk result (λ w. KeepsHeadline S.meaning D.policy w) }
+    {
+        below_law();
+        course_hearing_law();
+        let client_config = DrawnClient::new(client, client_draws);
+        let server_config = DrawnServer::new(server, server_draws);
+        Ok(World {
+            client: Node::client(alloc, &client_config, suite, decisions)?,
+            server: Node::server(alloc, &server_config, suite, decisions)?,
+            client_config,
+            server_config,
+            suite,
+            decisions,
         })
     }
 

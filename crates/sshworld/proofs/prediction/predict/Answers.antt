@@ -1,36 +1,17 @@
-use Rattle.std.proofs.Common.{◌∙◌, Err, Ok, ap, sym}
-use Rattle.sshmsg.specs.View.{offer_of}
-use Rattle.sshneg.specs.ChoiceReadings.{answer, choice}
-use Rattle.sshcore.proofs.AgreeLemmas.{answered, named}
-use Rattle.sshworld.specs.AlgorithmsView.{algorithms_named}
+use Rattle.std.proofs.Common.{◌∙◌, ap}
+use Rattle.sshcore.specs.Redrawn.{redrawn_client, redrawn_server}
 use Rattle.sshworld.specs.Outcome.{BothEnds}
-use Rattle.sshworld.proofs.OutcomeLemmas.{both_ok, outcome_by}
+use Rattle.sshworld.proofs.DrawnLemmas.{same_outcome}
+use Rattle.sshworld.proofs.SessionLemmas.{if_ok}
 use Rattle.sshworld.proofs.prediction.predict.Goals as goal
-
-pub returns-in-Err : goal.returns-in-Err
-returns-in-Err g c =
-    let m = g.S.Suite.meaning c.args.suite.now in
-    let d = g.D.Decisions.policy c.args.decisions.now in
-    let client = offer_of c.in_ok-of_client.of_client in
-    let server = offer_of c.in_ok-of_server.of_server in
-    let is = outcome_by m d c.args.client.now c.args.server.now client server (Err c.in-Err.field) c.in_ok-of_client.ensures.offer c.in_ok-of_server.ensures.offer
-    ((c.choice_law.ensures.refuses m client server c.in-Err.field).0 (sym c.choose.ensures.exact ∙ c.in-Err.is)) in
-    record { outcome = (ap (λ (e : BothEnds). e.client) (sym is), ap (λ (e : BothEnds). e.server) (sym is)) }
 
 pub returns : goal.returns
 returns g c =
     let m = g.S.Suite.meaning c.args.suite.now in
     let d = g.D.Decisions.policy c.args.decisions.now in
-    let client = offer_of c.in_ok-of_client.of_client in
-    let server = offer_of c.in_ok-of_server.of_server in
-    let chosen = c.in-Ok.chosen in
-    let names = algorithms_named c.algorithms_at-names.result in
-    let found = (c.choice_law.ensures.answers m client server chosen).0 (answered c.choose.result (answer m client server) chosen c.choose.ensures.exact c.in-Ok.is) in
-    let choice_is = (c.choice_law.ensures.names m client server found.0).0 found.1 in
-    let is = outcome_by m d c.args.client.now c.args.server.now client server (Ok names) c.in_ok-of_client.ensures.offer c.in_ok-of_server.ensures.offer
-    (named client chosen names (choice m client server) (found.0, found.1, (c.choice_law.ensures.placed m client server found.0 chosen choice_is).1 found.2)
-    (λ a. c.choice_law.ensures.stands client a chosen) c.algorithms_at-names.ensures.at) in
+    let client = c.args.client.now in
+    let server = c.args.server.now in
+    let same = same_outcome m d (redrawn_client c.draws-client_draws.result client) client (redrawn_server c.draws-server_draws.result server) server c.draws-client_draws.ensures.same c.draws-server_draws.ensures.same in
     record {
-      outcome = both_ok c.predict_chosen.result (λ ends p q. (p ∙ ap (λ (e : BothEnds). e.client) (sym is), q ∙ ap (λ (e : BothEnds). e.server) (sym is)))
-          c.predict_chosen.ensures.client c.predict_chosen.ensures.server;
+      outcome = if_ok c.predict_with.result (λ ends e. (e.0 ∙ ap (λ (b : BothEnds). b.client) same, e.1 ∙ ap (λ (b : BothEnds). b.server) same)) c.predict_with.ensures.outcome;
     }

@@ -15,28 +15,28 @@ pub returns-clause-replies : goal.returns-clause-replies
 returns-clause-replies g c =
     let i = c.self.inside in
     subst (λ w. EachReplies g.S.Suite.meaning g.D.Decisions.policy w) c.self.view_is
-    (each_replies g.S.Suite.meaning g.D.Decisions.policy i.client_config.now i.server_config.now i.suite.now i.decisions.now i.client i.server c.self.invariant.nodes)
+    (each_replies g.S.Suite.meaning g.D.Decisions.policy i.client_config i.server_config i.suite.now i.decisions.now i.client i.server c.self.invariant.nodes)
 
 pub returns-clause-course : goal.returns-clause-course
 returns-clause-course g c =
     let i = c.self.inside in
     subst (λ w. KeepsCourse g.S.Suite.meaning g.D.Decisions.policy w) c.self.view_is
-    (course_in g.S.Suite.meaning g.D.Decisions.policy i.client_config.now i.server_config.now i.suite.now i.decisions.now c.below_law.ensures.laws c.course_hearing_law.ensures.hear (g.met.S.Suite.lawful i.suite.now) i.client i.server c.self.invariant)
+    (course_in g.S.Suite.meaning g.D.Decisions.policy i.client_config i.server_config i.suite.now i.decisions.now c.below_law.ensures.laws c.course_hearing_law.ensures.hear (g.met.S.Suite.lawful i.suite.now) i.client i.server c.self.invariant)
 
 pub returns-clause-headline : goal.returns-clause-headline
 returns-clause-headline g c =
     let i = c.self.inside in
     subst (λ w. KeepsHeadline g.S.Suite.meaning g.D.Decisions.policy w) c.self.view_is
-    (headline_in g.S.Suite.meaning g.D.Decisions.policy i.client_config.now i.server_config.now i.suite.now i.decisions.now c.below_law.ensures.laws c.course_hearing_law.ensures.hear (g.met.S.Suite.lawful i.suite.now) i.client i.server c.self.invariant)
+    (headline_in g.S.Suite.meaning g.D.Decisions.policy i.client_config i.server_config i.suite.now i.decisions.now c.below_law.ensures.laws c.course_hearing_law.ensures.hear (g.met.S.Suite.lawful i.suite.now) i.client i.server c.self.invariant)
 
 pub returns-clause-understands : goal.returns-clause-understands
 returns-clause-understands g c =
     let i = c.self.inside in
     subst (λ w. AreUnderstoodIn g.S.Suite.meaning g.D.Decisions.policy w → HearsAll g.S.Suite.meaning g.D.Decisions.policy w) c.self.view_is
-    (understands_in g.S.Suite.meaning g.D.Decisions.policy i.client_config.now i.server_config.now i.suite.now i.decisions.now c.below_law.ensures.laws c.course_hearing_law.ensures.hear (g.met.S.Suite.lawful i.suite.now) i.client i.server c.self.invariant)
+    (understands_in g.S.Suite.meaning g.D.Decisions.policy i.client_config i.server_config i.suite.now i.decisions.now c.below_law.ensures.laws c.course_hearing_law.ensures.hear (g.met.S.Suite.lawful i.suite.now) i.client i.server c.self.invariant)
 
 pub returns-clause-settles : goal.returns-clause-settles
 returns-clause-settles g c =
     let i = c.self.inside in
     subst (λ w. Settles g.S.Suite.meaning g.D.Decisions.policy w) c.self.view_is
-    (settles_in g.S.Suite.meaning g.D.Decisions.policy i.client_config.now i.server_config.now i.suite.now i.decisions.now c.below_law.ensures.laws c.course_hearing_law.ensures.hear (g.met.S.Suite.lawful i.suite.now) i.client i.server c.self.invariant)
+    (settles_in g.S.Suite.meaning g.D.Decisions.policy i.client_config i.server_config i.suite.now i.decisions.now c.below_law.ensures.laws c.course_hearing_law.ensures.hear (g.met.S.Suite.lawful i.suite.now) i.client i.server c.self.invariant)

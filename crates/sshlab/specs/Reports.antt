@@ -1,0 +1,58 @@
+-- What `run` and `predict` print: a line for each side's end, whether it is complete, and what was agreed.
+
+use Rattle.std.specs.Prelude.{◌/◌, ◌%◌, ℕ, Bool, false, List, [], ◌∷◌, ◌++◌, codes, decimal, Option, None, Some, if◌then◌else◌, flat_map}
+use Rattle.std.specs.Fmt.{digit_glyph}
+use Rattle.sshneg.specs.Fields.{Algorithms}
+use Rattle.sshcore.specs.Ending.{AgreedData, Authenticated, Closed, Ending, Failed, Open}
+use Rattle.sshcore.specs.Printed.{fault_text}
+
+-- how a side stands, or how it is to end
+abbrev pub end_text : Ending → List ℕ
+end_text Open = codes "open"
+end_text (Authenticated agreed) = codes "authenticated " ++ (agreed.user ++ (codes " " ++ agreed.service))
+end_text (Failed fault) = codes "failed " ++ fault_text fault
+end_text (Closed reason) = codes "closed " ++ decimal reason
+
+-- a line: a word, a blank, a text and an LF
+abbrev pub line : List ℕ → List ℕ → List ℕ
+line word text = word ++ (32 ∷ (text ++ (10 ∷ [])))
+
+abbrev pub yes_or_no : Bool → List ℕ
+yes_or_no flag = if flag then codes "yes" else codes "no"
+
+-- a byte as two digits, in lower case
+abbrev pub hex_digits : ℕ → List ℕ
+hex_digits byte = digit_glyph false (byte / 16) ∷ digit_glyph false (byte % 16) ∷ []
+
+-- whether nothing waits for either side, where that is said
+abbrev pub complete_text : Option Bool → List ℕ
+complete_text None = []
+complete_text (Some complete) = line (codes "complete") (yes_or_no complete)
+
+-- the session identifier, where it is asked for
+abbrev pub session_text : Bool → List ℕ → List ℕ
+session_text asked session = if asked then line (codes "session") (flat_map hex_digits session) else []
+
+-- the names of the algorithms; compression has no line
+abbrev pub algorithms_text : Algorithms → List ℕ
+algorithms_text names =
+    line (codes "kex") names.kex ++ (line (codes "hostkey") names.host_key
+    ++ (line (codes "cipher_cs") names.encryption_client_to_server ++ (line (codes "cipher_sc") names.encryption_server_to_client
+    ++ (line (codes "mac_cs") names.mac_client_to_server ++ line (codes "mac_sc") names.mac_server_to_client))))
+
+-- what was agreed
+abbrev pub agreed_text : Bool → AgreedData → List ℕ
+agreed_text session agreed =
+    algorithms_text agreed.algorithms ++ (line (codes "strict") (yes_or_no agreed.strict) ++ session_text session agreed.session)
+
+-- what was agreed where a side is authenticated; where both are, it is the client's
+abbrev pub agreement_text : Bool → Ending → Ending → List ℕ
+agreement_text session (Authenticated agreed) server = agreed_text session agreed
+agreement_text session client (Authenticated agreed) = agreed_text session agreed
+agreement_text session client server = []
+
+-- What is printed of the client's end and of the server's.
+unfoldable pub report_text : Ending → Ending → Option Bool → Bool → List ℕ
+report_text client server complete session =
+    line (codes "client") (end_text client) ++ (line (codes "server") (end_text server)
+    ++ (complete_text complete ++ agreement_text session client server))

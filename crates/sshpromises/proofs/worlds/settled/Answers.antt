@@ -1,0 +1,29 @@
+use Rattle.std.proofs.Common.{length, ap, arith}
+use Rattle.sshcore.specs.declared.config_fault.ConfigFault.TheVariants as fault
+use Rattle.sshcore.specs.ConfigData.{ClientData}
+use Rattle.sshpromises.proofs.RequestLemmas.{few_requests}
+use Rattle.sshpromises.proofs.WorldLemmas.{settled_well}
+use Rattle.sshpromises.proofs.worlds.settled.Goals as goal
+
+pub overflow_cast-rounds : goal.overflow_cast-rounds
+overflow_cast-rounds g c = omega (arith, c.attempts.ensures.count, c.attempts.ensures.accepted.keeps fault.Plan)
+
+pub overflow_mul-rounds : goal.overflow_mul-rounds
+overflow_mul-rounds g c = omega (arith, c.attempts.ensures.count, c.attempts.ensures.accepted.keeps fault.Plan)
+
+pub overflow_add-rounds : goal.overflow_add-rounds
+overflow_add-rounds g c = omega (arith, c.attempts.ensures.count, c.attempts.ensures.accepted.keeps fault.Plan)
+
+pub returns-clause-complete : goal.returns-clause-complete
+returns-clause-complete g c =
+    let e = c.in_ok-world.ensures in
+    c.in_ok-settle.ensures.bound e.understood e.memory
+    (omega (arith, c.attempts.ensures.count, few_requests c.in_ok-world.world.client_config.plan, ap (λ (x : ClientData). length x.plan) e.client_config))
+
+pub returns-clause-ends : goal.returns-clause-ends
+returns-clause-ends g c =
+    let e = c.in_ok-world.ensures in
+    let s = c.in_ok-settle.ensures in
+    settled_well g.S.Suite.meaning g.D.Decisions.policy c.args.client.now c.args.server.now c.args.suite.now c.args.decisions.now c.in_ok-world.world c.settle.new.self
+    e.client_config e.server_config e.suite e.decisions s.setup e.understood (s.still e.memory) s.headline
+    (returns-clause-complete g c)
