@@ -1,8 +1,9 @@
 -- What is told of a scenario, carried from where its world is run up to what is written.
 
-use Rattle.std.proofs.Common.{◌≡◌, ◌≢◌, ◌↔◌, ◌+◌, ◌==◌, ◌≤◌, ◌∙◌, ℕ, Bool, true, List, Option, Some, Result, Ok, Err, sym, subst, arith}
+use Rattle.std.proofs.Common.{◌≡◌, ◌≢◌, ◌↔◌, ◌+◌, ◌==◌, ◌≤◌, ◌∙◌, ℕ, Bool, true, List, take, Option, Some, Result, Ok, Err, sym, subst, arith}
 use Rattle.std.specs.Prelude.{String, codes}
-use Rattle.std.specs.Result.{IfOk}
+use Rattle.std.specs.Result.{IfErr, IfOk, OnErr, OnOk}
+use Rattle.std.specs.Io.KnownBytes.{Appends}
 use Rattle.std.specs.declared.alloc.Global.{Global}
 use Rattle.sshcore.specs.ConfigData.{ClientData, ServerData}
 use Rattle.sshworld.specs.Offered.{most_requests}
@@ -21,7 +22,7 @@ use Rattle.sshlab.specs.declared.words.Request.TheVariants as asks
 use Rattle.sshlab.specs.Reports.{report_text}
 use Rattle.sshlab.specs.Statuses.{IsAsked, IsFirstWord, status_of}
 use Rattle.sshlab.specs.Steps.{EndsSettling, StepsLeadTo}
-use Rattle.sshlab.specs.Told.{IsAnswered, IsToldOfRun, PredictTells, Prints, RunTells, Writes}
+use Rattle.sshlab.specs.Told.{IsAnswered, IsToldOfInput, IsToldOfRun, PredictTells, Prints, RunTells, Writes}
 
 module _ {A E : Type 0} (text : A → List ℕ) (status : A → ℕ) where
   -- what is told of a world to which the steps of a scenario lead
@@ -40,6 +41,24 @@ module _ {A E : Type 0} (text : A → List ℕ) (status : A → ℕ) where
     settled = λ ends. says.1 (settled ends);
   }
   run_told client server rules steps session w (Err e) led predicted settled is says = says
+
+  -- the same of equal parts
+  pub run_of_equal : (client client' : ClientData) (server server' : ServerData) (rules rules' : LabRules) (steps steps' : List Step) (session : Bool) (r : Result A E)
+      → client ≡ client' → server ≡ server' → rules ≡ rules' → steps ≡ steps'
+      → IfOk r (λ a. IsToldOfRun client server rules steps session (text a) (status a))
+      → IfOk r (λ a. IsToldOfRun client' server' rules' steps' session (text a) (status a))
+  run_of_equal client client' server server' rules rules' steps steps' session r ec es er et = rw (ec, es, er, et) (λ told. told)
+
+-- what is printed of an answer
+pub print_writes : (Tells : List ℕ → List ℕ → ℕ → Type 0) (input old new : Option (List ℕ)) (text : List ℕ) (status : ℕ) (r : Result ℕ CommandFault)
+    → IsToldOfInput Tells input text status
+    → IfErr r (λ cause. cause ≡ command.Tool fault.Write) → IfOk r (λ s. s ≡ status)
+    → OnOk r (Appends old new text) → OnErr r ((n : ℕ) × Appends old new (take n text)) → Writes Tells input old new r
+print_writes Tells input old new text status (Ok s) told cause same whole prefix =
+    record { told = text; of_input = subst (λ (k : ℕ). IsToldOfInput Tells input text k) (sym same) told; written = whole }
+print_writes Tells input old new text status (Err e) told cause same whole prefix =
+    subst (λ (c : CommandFault). Writes Tells input old new (Err c)) (sym cause)
+    (record { told = text; status = status; of_input = told; count = prefix.0; written = prefix.1 })
 
 -- two words that differ aren't both the first
 not_both : (one other : List ℕ) (words : List (String Global)) → one ≢ other → IsFirstWord one words → IsFirstWord other words → ⊥
