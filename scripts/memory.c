@@ -3,9 +3,9 @@
        MEMORY_TO=FILE [MEMORY_REFUSE=N [MEMORY_ONWARDS=1]] LD_PRELOAD=memory.so PROGRAM ..
 
    A request is a call of malloc, calloc or realloc, which are all that a program of this repository calls. The Nth is
-   refused, or the Nth and all behind it. FILE gets a line when the program ends, one before each first request for
-   random bytes in a row, and one before each write to standard output: what happened, the requests so far, the bytes
-   in use, the most that were since the line before, and the blocks that are in use. Frees of no block are counted. */
+   refused, or the Nth and all behind it. FILE gets a line before each write to standard output and one when the program
+   ends: which it is, the requests so far, the bytes in use, the most that were since the line before, and the blocks in
+   use. The bytes are those of the allocator's blocks, which are a little longer than what was asked for. */
 #define _GNU_SOURCE
 #include <dlfcn.h>
 #include <fcntl.h>
@@ -21,7 +21,7 @@ extern void *__libc_calloc(size_t, size_t);
 extern void *__libc_realloc(void *, size_t);
 extern void __libc_free(void *);
 
-static long requests, in_use, most, blocks, refused_from, onwards, draws;
+static long requests, in_use, most, blocks, refused_from, onwards;
 static int to = -1;
 
 __attribute__((constructor)) static void begin(void) {
@@ -80,17 +80,9 @@ void free(void *block) {
     __libc_free(block);
 }
 
-ssize_t getrandom(void *bytes, size_t count, unsigned flags) {
-    static ssize_t (*real)(void *, size_t, unsigned);
-    if (!real) *(void **)&real = dlsym(RTLD_NEXT, "getrandom");
-    if (!draws++) tell("draws");
-    return real(bytes, count, flags);
-}
-
 ssize_t write(int file, const void *bytes, size_t count) {
     static ssize_t (*real)(int, const void *, size_t);
     if (!real) *(void **)&real = dlsym(RTLD_NEXT, "write");
     if (file == 1) tell("write");
-    draws = 0;
     return real(file, bytes, count);
 }
