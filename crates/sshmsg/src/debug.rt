@@ -27,26 +27,26 @@ impl<'a> fmt::Debug for Method<'a> {
     fn fmt<W: fmt::Write>(&self, f: &mut fmt::Formatter<W>) -> fmt::Result {
         match self {
             Method::None => f.write_str("None"),
-            Method::Password { .. } => f
-                .debug_struct("Password")
-                .field("password", &Hidden)
-                .finish(),
-            Method::PasswordChange { .. } => f
-                .debug_struct("PasswordChange")
-                .field("old", &Hidden)
-                .field("new", &Hidden)
-                .finish(),
-            Method::PublicKey { algorithm, key, .. } => f
-                .debug_struct("PublicKey")
-                .field("algorithm", algorithm)
-                .field("key", key)
-                .field("signature", &Hidden)
-                .finish(),
-            Method::PublicKeyQuery { algorithm, key } => f
-                .debug_struct("PublicKeyQuery")
-                .field("algorithm", algorithm)
-                .field("key", key)
-                .finish(),
+            Method::Password { .. } => put_one(f, "Password", ("password", &Hidden)),
+            Method::PasswordChange { .. } => put_two(
+                f,
+                "PasswordChange",
+                ("old", &Hidden),
+                ("new", &Hidden),
+            ),
+            Method::PublicKey { algorithm, key, .. } => put_three(
+                f,
+                "PublicKey",
+                ("algorithm", algorithm),
+                ("key", key),
+                ("signature", &Hidden),
+            ),
+            Method::PublicKeyQuery { algorithm, key } => put_two(
+                f,
+                "PublicKeyQuery",
+                ("algorithm", algorithm),
+                ("key", key),
+            ),
             Method::Other(other) => f.debug_tuple("Other").field(other).finish(),
         }
     }
@@ -60,95 +60,133 @@ impl<'a> fmt::Debug for Message<'a> {
                 reason,
                 description,
                 language,
-            } => f
-                .debug_struct("Disconnect")
-                .field("reason", reason)
-                .field("description", description)
-                .field("language", language)
-                .finish(),
-            Message::Ignore { .. } => f.debug_struct("Ignore").field("content", &Hidden).finish(),
-            Message::Unimplemented { sequence_number } => f
-                .debug_struct("Unimplemented")
-                .field("sequence_number", sequence_number)
-                .finish(),
+            } => put_three(
+                f,
+                "Disconnect",
+                ("reason", reason),
+                ("description", description),
+                ("language", language),
+            ),
+            Message::Ignore { .. } => put_one(f, "Ignore", ("content", &Hidden)),
+            Message::Unimplemented { sequence_number } => put_one(
+                f,
+                "Unimplemented",
+                ("sequence_number", sequence_number),
+            ),
             Message::Debug {
                 always_display,
                 text,
                 language,
-            } => f
-                .debug_struct("Debug")
-                .field("always_display", always_display)
-                .field("text", text)
-                .field("language", language)
-                .finish(),
-            Message::ServiceRequest { service } => f
-                .debug_struct("ServiceRequest")
-                .field("service", service)
-                .finish(),
-            Message::ServiceAccept { service } => f
-                .debug_struct("ServiceAccept")
-                .field("service", service)
-                .finish(),
-            Message::ExtInfo { extensions } => f
-                .debug_struct("ExtInfo")
-                .field("extensions", extensions)
-                .finish(),
+            } => put_three(
+                f,
+                "Debug",
+                ("always_display", always_display),
+                ("text", text),
+                ("language", language),
+            ),
+            Message::ServiceRequest { service } => {
+                put_one(f, "ServiceRequest", ("service", service))
+            }
+            Message::ServiceAccept { service } => put_one(f, "ServiceAccept", ("service", service)),
+            Message::ExtInfo { extensions } => put_one(f, "ExtInfo", ("extensions", extensions)),
             Message::KexInit(kexinit) => f.debug_tuple("KexInit").field(kexinit).finish(),
             Message::NewKeys => f.write_str("NewKeys"),
-            Message::KexdhInit { e } => f.debug_struct("KexdhInit").field("e", e).finish(),
+            Message::KexdhInit { e } => put_one(f, "KexdhInit", ("e", e)),
             Message::KexdhReply {
                 host_key,
                 f: share,
                 ..
-            } => f
-                .debug_struct("KexdhReply")
-                .field("host_key", host_key)
-                .field("f", share)
-                .field("signature", &Hidden)
-                .finish(),
-            Message::KexEcdhInit { client_share } => f
-                .debug_struct("KexEcdhInit")
-                .field("client_share", client_share)
-                .finish(),
+            } => put_three(
+                f,
+                "KexdhReply",
+                ("host_key", host_key),
+                ("f", share),
+                ("signature", &Hidden),
+            ),
+            Message::KexEcdhInit { client_share } => {
+                put_one(f, "KexEcdhInit", ("client_share", client_share))
+            }
             Message::KexEcdhReply {
                 host_key,
                 server_share,
                 ..
-            } => f
-                .debug_struct("KexEcdhReply")
-                .field("host_key", host_key)
-                .field("server_share", server_share)
-                .field("signature", &Hidden)
-                .finish(),
+            } => put_three(
+                f,
+                "KexEcdhReply",
+                ("host_key", host_key),
+                ("server_share", server_share),
+                ("signature", &Hidden),
+            ),
             Message::UserauthRequest {
                 user,
                 service,
                 method,
-            } => f
-                .debug_struct("UserauthRequest")
-                .field("user", user)
-                .field("service", service)
-                .field("method", method)
-                .finish(),
+            } => put_three(
+                f,
+                "UserauthRequest",
+                ("user", user),
+                ("service", service),
+                ("method", method),
+            ),
             Message::UserauthFailure {
                 methods,
                 partial_success,
-            } => f
-                .debug_struct("UserauthFailure")
-                .field("methods", methods)
-                .field("partial_success", partial_success)
-                .finish(),
+            } => put_two(
+                f,
+                "UserauthFailure",
+                ("methods", methods),
+                ("partial_success", partial_success),
+            ),
             Message::UserauthSuccess => f.write_str("UserauthSuccess"),
-            Message::UserauthBanner { text, language } => f
-                .debug_struct("UserauthBanner")
-                .field("text", text)
-                .field("language", language)
-                .finish(),
-            Message::UserauthPkOk { algorithm, key } => f
-                .debug_struct("UserauthPkOk")
-                .field("algorithm", algorithm)
-                .field("key", key)
-                .finish(),
+            Message::UserauthBanner { text, language } => put_two(
+                f,
+                "UserauthBanner",
+                ("text", text),
+                ("language", language),
+            ),
+            Message::UserauthPkOk { algorithm, key } => put_two(
+                f,
+                "UserauthPkOk",
+                ("algorithm", algorithm),
+                ("key", key),
+            ),
         }
     }
+}
+
+/// Writes a struct of one field, which is told by its name and value.
+fn put_one<W: fmt::Write, A: fmt::Debug>(
+    f: &mut fmt::Formatter<W>,
+    name: &str,
+    field: (&str, &A),
+) -> fmt::Result {
+    f.debug_struct(name).field(field.0, field.1).finish()
+}
+
+/// Writes a struct of two fields.
+fn put_two<W: fmt::Write, A: fmt::Debug, B: fmt::Debug>(
+    f: &mut fmt::Formatter<W>,
+    name: &str,
+    first: (&str, &A),
+    second: (&str, &B),
+) -> fmt::Result {
+    f.debug_struct(name)
+        .field(first.0, first.1)
+        .field(second.0, second.1)
+        .finish()
+}
+
+/// Writes a struct of three fields.
+fn put_three<W: fmt::Write, A: fmt::Debug, B: fmt::Debug, C: fmt::Debug>(
+    f: &mut fmt::Formatter<W>,
+    name: &str,
+    first: (&str, &A),
+    second: (&str, &B),
+    third: (&str, &C),
+) -> fmt::Result {
+    f.debug_struct(name)
+        .field(first.0, first.1)
+        .field(second.0, second.1)
+        .field(third.0, third.1)
+        .finish()
 }
