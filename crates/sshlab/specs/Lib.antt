@@ -1,6 +1,4 @@
 pub mod Streams
-pub mod Greetings
-pub mod Receivers
 pub mod Statuses
 pub mod ScenarioFields
 pub mod TextLines

@@ -1,9 +1,8 @@
-//! What the program `sshlab` does: line machines that greet one another, and the texts round them.
+//! What the program `sshlab` does: its words, scenarios and recordings, and what it prints.
 #![tactic(auto)]
 
 mod engines;
 mod findings;
-mod greetings;
 mod input;
 mod listing;
 mod program;
@@ -22,7 +21,6 @@ mod tool_fault;
 mod words;
 
 pub use engines::{check, show};
-pub use greetings::{Greeting, Hearing, greet};
 pub use program::{refuse_words, tool};
 pub use recording::piece;
 pub use scenario::{Scenario, ScenarioFault, TEXT_LIMIT};
@@ -31,6 +29,6 @@ pub use sshsuites::{
     KemSuite, LabDecisions, LabSuite, lab_client_parts, lab_decisions_law, lab_law,
     lab_server_parts,
 };
-pub use sshworld::{Delivery, Side};
+pub use sshworld::{Delivery, Greeting, Hearing, Side, greet};
 pub use streams::{Broken, Sink, Source, StreamSink, StreamSource};
 pub use tool_fault::ToolFault;

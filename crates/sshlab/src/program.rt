@@ -13,7 +13,6 @@ ghost use Rattle.sshlab.specs.declared.scenario.TheConstants.{TEXT_LIMIT};
 ghost use Rattle.sshlab.specs.declared.tool_fault.ToolFault.TheVariants as fault;
 
 use crate::engines::{check, show, write_text};
-use crate::greetings::greet;
 use crate::input::read_all;
 use crate::report::Report;
 use crate::scenario::{Scenario, ScenarioFault};
@@ -24,7 +23,7 @@ use crate::words::{Request, request_of};
 use sshcore::{Decisions, End};
 use sshpacket::Suite;
 use sshwire::{VersionLine, WireFault};
-use sshworld::World;
+use sshworld::{World, greet};
 use std::alloc::Global;
 use std::fmt::Write;
 use std::{fmt, io};

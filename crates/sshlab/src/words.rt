@@ -49,14 +49,33 @@ pub(crate) fn request_of(alloc: Global, words: &[String]) -> Result<Request<'_>,
     if words.iter().any(|word| is_foreign_option(word)) {
         return Err(CommandFault::Words);
     }
-    let matches = match command(alloc)
-        .map_err(|_| CommandFault::Memory)?
-        .try_get_matches_from(words)
-    {
-        Ok(matches) => matches,
-        Err(error) if error.kind() == ErrorKind::OutOfMemory => return Err(CommandFault::Memory),
-        Err(_) => return Err(CommandFault::Words),
-    };
+    let matches = matches_of(alloc, words)?;
+    found_in(words, &matches)
+}
+
+/// The words by the form that they have.
+fn matches_of(alloc: Global, words: &[String]) -> Result<ArgMatches<'_>, CommandFault>
+    ensures { IfErr result IsNoToolFault }
+{
+    match form_of(alloc)?.try_get_matches_from(words) {
+        Ok(matches) => Ok(matches),
+        Err(error) if error.kind() == ErrorKind::OutOfMemory => Err(CommandFault::Memory),
+        Err(_) => Err(CommandFault::Words),
+    }
+}
+
+/// The form of the words, or that memory was wanting.
+fn form_of<'a>(alloc: Global) -> Result<Command<'a>, CommandFault>
+    ensures { IfErr result IsNoToolFault }
+{
+    command(alloc).map_err(|_| CommandFault::Memory)
+}
+
+/// What the words ask for, which have this form.
+fn found_in<'a>(words: &[String], matches: &ArgMatches<'a>) -> Result<Request<'a>, CommandFault>
+    ensures first { IfOk result (λ found. IsAsked words.now found) }
+    ensures fault { IfErr result IsNoToolFault }
+{
     match matches.subcommand() {
         Some(("greet", greet)) if is_first(words, "greet") => greet_of(greet),
         Some(("predict", predict)) if is_first(words, "predict") => Ok(Request::Predict {
@@ -106,20 +125,56 @@ fn is_foreign_option(word: &String) -> bool {
 
 /// The form of the words.
 fn command<'a>(alloc: Global) -> Result<Command<'a>, AllocError> {
-    let greet = Command::new(alloc, "greet")
-        .disable_help_flag(true)
-        .arg(Arg::new(alloc, "CLIENT").required(true))?
-        .arg(Arg::new(alloc, "SERVER").required(true))?
-        .arg(Arg::new(alloc, "SCHEDULE").required(true))?;
-    Command::new(alloc, "sshlab")
+    let program = Command::new(alloc, "sshlab")
         .no_binary_name(true)
         .disable_help_subcommand(true)
         .disable_help_flag(true)
         .disable_version_flag(true)
-        .subcommand_required(true)
-        .subcommand(greet)?
-        .subcommand(of_scenario(alloc, "predict")?)?
-        .subcommand(of_scenario(alloc, "run")?)?
+        .subcommand_required(true);
+    let program = with_scenarios(alloc, with_greet(alloc, program)?)?;
+    with_recordings(alloc, program)
+}
+
+/// The program's form with `greet`.
+fn with_greet<'a>(alloc: Global, program: Command<'a>) -> Result<Command<'a>, AllocError> {
+    program.subcommand(of_greet(alloc)?)
+}
+
+/// The form of the words of `greet`: three, all required.
+fn of_greet<'a>(alloc: Global) -> Result<Command<'a>, AllocError> {
+    let greet = Command::new(alloc, "greet").disable_help_flag(true);
+    let greet = required(alloc, greet, "CLIENT")?;
+    let greet = required(alloc, greet, "SERVER")?;
+    required(alloc, greet, "SCHEDULE")
+}
+
+/// The form with one required word more.
+fn required<'a>(
+    alloc: Global,
+    form: Command<'a>,
+    name: &'a str,
+) -> Result<Command<'a>, AllocError> {
+    form.arg(Arg::new(alloc, name).required(true))
+}
+
+/// The program's form with `predict` and `run`.
+fn with_scenarios<'a>(alloc: Global, program: Command<'a>) -> Result<Command<'a>, AllocError> {
+    let program = with_scenario(alloc, program, "predict")?;
+    with_scenario(alloc, program, "run")
+}
+
+/// The program's form with one of these two.
+fn with_scenario<'a>(
+    alloc: Global,
+    program: Command<'a>,
+    name: &'a str,
+) -> Result<Command<'a>, AllocError> {
+    program.subcommand(of_scenario(alloc, name)?)
+}
+
+/// The program's form with `show` and `check`.
+fn with_recordings<'a>(alloc: Global, program: Command<'a>) -> Result<Command<'a>, AllocError> {
+    program
         .subcommand(Command::new(alloc, "show").disable_help_flag(true))?
         .subcommand(Command::new(alloc, "check").disable_help_flag(true))
 }

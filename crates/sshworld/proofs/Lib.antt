@@ -48,3 +48,4 @@ pub mod JoinedLemmas
 pub mod LetInLemmas
 pub mod CrosswiseLemmas
 pub mod EndpointPairs
+pub mod ReceiverLemmas

@@ -27,3 +27,5 @@ pub mod CourseHeard
 pub mod Joined
 pub mod WorldCourse
 pub mod WorldRounds
+pub mod Greetings
+pub mod Receivers

@@ -1,10 +1,12 @@
-//! Two endpoints of SSH, a client and a server, and what comes of them.
+//! Two endpoints of SSH, a client and a server, and what comes of them; and two readers of version lines, which
+//! hear each other by the same deliveries.
 #![tactic(auto)]
 
 mod algorithms;
 mod course_laws;
 mod drawn;
 mod following;
+mod greetings;
 mod headline_laws;
 mod judge;
 mod law;
@@ -19,6 +21,7 @@ mod world;
 
 pub use course_laws::course_law;
 pub use following::{follows_law, keeps_law};
+pub use greetings::{Greeting, Hearing, greet};
 pub use headline_laws::headline_law;
 pub use law::verdict_law;
 pub use prediction::{predict, predict_with};

@@ -1,8 +1,10 @@
 //! What comes of two configs, without messages.
 
 ghost use Rattle.std.specs.Prelude.{◌≡◌, ◌≤◌, IfOk, Ok, length, map};
+ghost use Rattle.sshmsg.specs.View.{offer_of};
 ghost use Rattle.sshcore.specs.declared.config_parts.TheConstants.{PRIVATE_KEY_LIMIT};
 ghost use Rattle.sshcore.specs.Chosen.{AreNamed};
+ghost use Rattle.sshcore.specs.ConfigData.{client_offer, server_offer};
 ghost use Rattle.sshcore.specs.ConfigView.{attempt_of, host_key_of};
 ghost use Rattle.sshcore.specs.Ending.{Authenticated, ending};
 ghost use Rattle.sshcore.specs.Exchange.{secret_of};
@@ -19,7 +21,7 @@ use crate::judge::{Judged, judge};
 use crate::session::session;
 use sshcore::{Attempt, ClientConfig, Decisions, Draws, End, Fault, HostKey, ServerConfig};
 use sshmsg::{
-    SSH_DISCONNECT_HOST_KEY_NOT_VERIFIABLE, SSH_DISCONNECT_NO_MORE_AUTH_METHODS_AVAILABLE,
+    KexInit, SSH_DISCONNECT_HOST_KEY_NOT_VERIFIABLE, SSH_DISCONNECT_NO_MORE_AUTH_METHODS_AVAILABLE,
     SSH_DISCONNECT_SERVICE_NOT_AVAILABLE,
 };
 use sshneg::choose;
@@ -92,16 +94,52 @@ fn predict_drawn<S: Suite, D: Decisions>(
     ensures outcome { IfOk result (λ ends. (ending ends.0 ≡ (outcome (S.meaning suite.now) (D.policy decisions.now) client.now server.now).client)
         × (ending ends.1 ≡ (outcome (S.meaning suite.now) (D.policy decisions.now) client.now server.now).server)) }
 {
-    sshneg::choice_law();
     let of_client = client.kexinit()?;
+    predict_offered(alloc, client, server, suite, decisions, &of_client)
+}
+
+/// How both end, where the client's KEXINIT is this one.
+fn predict_offered<S: Suite, D: Decisions>(
+    alloc: Global,
+    client: &DrawnClient<'_>,
+    server: &DrawnServer<'_>,
+    suite: &S,
+    decisions: &D,
+    of_client: &KexInit<'_>,
+) -> Result<(End, End), Memory>
+    requires { offer_of of_client.now ≡ client_offer client.now }
+    ensures outcome { IfOk result (λ ends. (ending ends.0 ≡ (outcome (S.meaning suite.now) (D.policy decisions.now) client.now server.now).client)
+        × (ending ends.1 ≡ (outcome (S.meaning suite.now) (D.policy decisions.now) client.now server.now).server)) }
+{
     let of_server = server.kexinit()?;
-    match choose(&of_client, &of_server, suite) {
+    predict_between(
+        alloc, client, server, suite, decisions, of_client, &of_server,
+    )
+}
+
+/// How both end, where these are their KEXINITs.
+fn predict_between<S: Suite, D: Decisions>(
+    alloc: Global,
+    client: &DrawnClient<'_>,
+    server: &DrawnServer<'_>,
+    suite: &S,
+    decisions: &D,
+    of_client: &KexInit<'_>,
+    of_server: &KexInit<'_>,
+) -> Result<(End, End), Memory>
+    requires client { offer_of of_client.now ≡ client_offer client.now }
+    requires server { offer_of of_server.now ≡ server_offer server.now }
+    ensures outcome { IfOk result (λ ends. (ending ends.0 ≡ (outcome (S.meaning suite.now) (D.policy decisions.now) client.now server.now).client)
+        × (ending ends.1 ≡ (outcome (S.meaning suite.now) (D.policy decisions.now) client.now server.now).server)) }
+{
+    sshneg::choice_law();
+    match choose(of_client, of_server, suite) {
         Err(field) => {
             let fault = Fault::NoCommon(field);
             Ok((End::Failed(fault), End::Failed(fault)))
         }
         Ok(chosen) => {
-            let names = algorithms_at(&of_client, &chosen);
+            let names = algorithms_at(of_client, &chosen);
             predict_chosen(alloc, client, server, suite, decisions, &names)
         }
     }

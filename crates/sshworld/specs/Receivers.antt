@@ -4,9 +4,9 @@ use Rattle.std.specs.Prelude.{◌≡◌, ◌≢◌, ℕ, List, length}
 use Rattle.sshwire.specs.Feeding.{StandsOpen}
 use Rattle.sshwire.specs.LineState.{Finished, Progress}
 use Rattle.sshwire.specs.Meaning.{BeginsPreamble, IsLineRefused}
-use Rattle.sshlab.specs.declared.greetings.Receiver.{Receiver}
-use Rattle.sshlab.specs.declared.greetings.Hearing.{Hearing}
-use Rattle.sshlab.specs.declared.greetings.Hearing.TheVariants as hearing
+use Rattle.sshworld.specs.declared.greetings.Receiver.{Receiver}
+use Rattle.sshworld.specs.declared.greetings.Hearing.{Hearing}
+use Rattle.sshworld.specs.declared.greetings.Hearing.TheVariants as hearing
 
 -- the reader of a side that waits may be fed
 abbrev pub MayRead : Hearing → Progress → Type 0

@@ -7,9 +7,9 @@ use Rattle.sshwire.specs.Meaning.{BeginsPreamble, IsLineRefused}
 use Rattle.sshworld.specs.declared.side.Side.{Side}
 use Rattle.sshworld.specs.declared.side.Side.TheVariants.{Client, Server}
 use Rattle.sshworld.specs.declared.side.Delivery.{Delivery}
-use Rattle.sshlab.specs.declared.greetings.Hearing.{Hearing}
-use Rattle.sshlab.specs.declared.greetings.Hearing.TheVariants.{Got, Refused, Waiting}
-use Rattle.sshlab.specs.declared.greetings.Greeting.{Greeting}
+use Rattle.sshworld.specs.declared.greetings.Hearing.{Hearing}
+use Rattle.sshworld.specs.declared.greetings.Hearing.TheVariants.{Got, Refused, Waiting}
+use Rattle.sshworld.specs.declared.greetings.Greeting.{Greeting}
 use Rattle.sshwire.specs.declared.limits.TheConstants.{OTHER_LINE_LIMIT}
 
 -- what a delivery to the first side asks for the second

@@ -1,8 +1,8 @@
 use Rattle.std.proofs.Common.{drop}
 use Rattle.sshworld.specs.declared.side.Side.TheVariants.{Client, Server}
-use Rattle.sshlab.specs.Greetings.{asked}
-use Rattle.sshlab.proofs.ReceiverLemmas.{Delivered}
-use Rattle.sshlab.proofs.greetings.greet.Given as goal
+use Rattle.sshworld.specs.Greetings.{asked}
+use Rattle.sshworld.proofs.ReceiverLemmas.{Delivered}
+use Rattle.sshworld.proofs.greetings.greet.Given as goal
 use Rattle.sshwire.specs.declared.limits.TheConstants.{OTHER_LINE_LIMIT}
 
 abbrev pub invariant-loop-delivery : goal.invariant-loop-delivery

@@ -1,5 +1,5 @@
-use Rattle.sshlab.proofs.ReceiverLemmas.{done_follows}
-use Rattle.sshlab.proofs.greetings.hearing_of.Goals as goal
+use Rattle.sshworld.proofs.ReceiverLemmas.{done_follows}
+use Rattle.sshworld.proofs.greetings.hearing_of.Goals as goal
 
 pub returns-in-Ok-More-clause-follows : goal.returns-in-Ok-More-clause-follows
 returns-in-Ok-More-clause-follows c =

@@ -3,11 +3,11 @@
 ghost use Rattle.std.specs.Prelude.{◌≡◌, ◌≢◌, ◌+◌, ◌≤◌, ◌++◌, ◌↔◌, ℕ, IfOk, IsTrue, List, OnOk, length, min, take};
 ghost use Rattle.sshwire.specs.Feeding.{StandsOpen};
 ghost use Rattle.sshwire.specs.LineState.{Finished};
-ghost use Rattle.sshlab.specs.Receivers.{Follows, HasAll, MayRead};
-ghost use Rattle.sshlab.specs.Greetings.{Greets};
+ghost use Rattle.sshworld.specs.Receivers.{Follows, HasAll, MayRead};
+ghost use Rattle.sshworld.specs.Greetings.{Greets};
 
+use crate::side::{Delivery, Side};
 use sshwire::{LineReader, LineStep, Memory, OTHER_LINE_LIMIT, VersionLine, WireFault};
-use sshworld::{Delivery, Side};
 use std::alloc::Global;
 use std::fmt;
 
@@ -47,7 +47,7 @@ pub struct Greeting {
 }
 
 impl fmt::Display for Greeting {
-    /// Writes the three lines of `sshlab greet`.
+    /// Writes three lines: what each side has heard, and whether nothing waits.
     fn fmt<W: fmt::Write>(&self, f: &mut fmt::Formatter<W>) -> fmt::Result {
         let client = &self.client;
         let server = &self.server;
@@ -107,7 +107,7 @@ struct Receiver {
 
 impl Receiver {
     ghost use Rattle.std.specs.Prelude.{◌<◌, ◌^◌, [], true};
-    ghost use Rattle.sshlab.specs.Receivers.{Stands};
+    ghost use Rattle.sshworld.specs.Receivers.{Stands};
 
     fn new(alloc: Global, others: u32) -> Receiver
         ensures nothing { result.moved ≡ 0 }

@@ -1,9 +1,9 @@
 use Rattle.std.proofs.Common.{refl}
 use Rattle.sshworld.specs.declared.side.Side.TheVariants.{Client, Server}
-use Rattle.sshlab.specs.Greetings.{asked}
-use Rattle.sshlab.proofs.ReceiverLemmas.{IsLaw, delivered_new, done, greets, step_other, step_own}
-use Rattle.sshlab.proofs.greetings.greet.Goals.{in-Client+in_ok-deliver-in-Client, in-Server+in_ok-deliver-in-Server}
-use Rattle.sshlab.proofs.greetings.greet.Goals as goal
+use Rattle.sshworld.specs.Greetings.{asked}
+use Rattle.sshworld.proofs.ReceiverLemmas.{IsLaw, delivered_new, done, greets, step_other, step_own}
+use Rattle.sshworld.proofs.greetings.greet.Goals.{in-Client+in_ok-deliver-in-Client, in-Server+in_ok-deliver-in-Server}
+use Rattle.sshworld.proofs.greetings.greet.Goals as goal
 use Rattle.sshwire.specs.declared.limits.TheConstants.{OTHER_LINE_LIMIT}
 
 pub loop-delivery-init : goal.loop-delivery-init

@@ -13,11 +13,11 @@ use Rattle.sshwire.specs.Meaning.{BeginsPreamble, EndsPreamble, IsLineRefused, R
 use Rattle.sshworld.specs.declared.side.Side.{Side}
 use Rattle.sshworld.specs.declared.side.Side.TheVariants.{Client, Server}
 use Rattle.sshworld.specs.declared.side.Delivery.{Delivery}
-use Rattle.sshlab.specs.declared.greetings.Receiver.{Receiver}
-use Rattle.sshlab.specs.declared.greetings.Hearing.{Hearing}
-use Rattle.sshlab.specs.declared.greetings.Hearing.TheVariants as hearing
-use Rattle.sshlab.specs.Receivers.{Follows, HasAll, MayRead, Stands}
-use Rattle.sshlab.specs.Greetings.{Greets, Hears, NothingWaits, asked, count_for, moved}
+use Rattle.sshworld.specs.declared.greetings.Receiver.{Receiver}
+use Rattle.sshworld.specs.declared.greetings.Hearing.{Hearing}
+use Rattle.sshworld.specs.declared.greetings.Hearing.TheVariants as hearing
+use Rattle.sshworld.specs.Receivers.{Follows, HasAll, MayRead, Stands}
+use Rattle.sshworld.specs.Greetings.{Greets, Hears, NothingWaits, asked, count_for, moved}
 use Rattle.sshwire.specs.declared.limits.TheConstants.{OTHER_LINE_LIMIT}
 
 -- the clauses of the law

@@ -1,5 +1,5 @@
-use Rattle.sshlab.proofs.ReceiverLemmas.{stands_front}
-use Rattle.sshlab.proofs.greetings.Receiver.deliver.Goals as goal
+use Rattle.sshworld.proofs.ReceiverLemmas.{stands_front}
+use Rattle.sshworld.proofs.greetings.Receiver.deliver.Goals as goal
 
 pub returns-clause-stands : goal.returns-clause-stands
 returns-clause-stands c = λ k s.

@@ -1,7 +1,7 @@
 use Rattle.std.proofs.Common.{◌+◌, ℕ, length, sym, ap, ◌∙◌, refl}
 use Rattle.std.proofs.lemmas.List.{length-append}
-use Rattle.sshlab.proofs.ReceiverLemmas.{IsLaw, ended_follows, waiting_stands}
-use Rattle.sshlab.proofs.greetings.Receiver.receive.Goals as goal
+use Rattle.sshworld.proofs.ReceiverLemmas.{IsLaw, ended_follows, waiting_stands}
+use Rattle.sshworld.proofs.greetings.Receiver.receive.Goals as goal
 
 pub returns-in_ok-self-clause-stands : goal.returns-in_ok-self-clause-stands
 returns-in_ok-self-clause-stands c = λ k heard s.
