@@ -279,13 +279,17 @@ module _ (below : Below) (m : Meaning) (d : Policy) (role : Role) (party : Party
       }
 
   -- an endpoint that ended authenticated reads packets
-  pub none_by_lines : (kept : Kept) (i : Input) (reader : LineState) → i ≡ input.Lines reader → (h s : List ℕ) (p : Stands m d role party kept i h s) (a : AgreedData) → kept.end ≡ Authenticated a → ⊥
+  none_by_lines : (kept : Kept) (i : Input) (reader : LineState) → i ≡ input.Lines reader → (h s : List ℕ) (p : Stands m d role party kept i h s) (a : AgreedData) → kept.end ≡ Authenticated a → ⊥
   none_by_lines kept (input.Lines r) reader same h s p a is =
       let e = ended_so kept (input.Lines r) h s p a is in
       let none : p.units ≡ [] = (inside kept (input.Lines r) h s p a is).reads.0 in
       let some = e.units_are in
       cc
   none_by_lines kept (input.Packets r) reader same h s p a is = cc
+
+  pub packets_at : (kept : Kept) (i : Input) (h s : List ℕ) (p : Stands m d role party kept i h s) (a : AgreedData) → kept.end ≡ Authenticated a → (reader : PacketReader) × (i ≡ input.Packets reader)
+  packets_at kept (input.Lines r) h s p a is = absurd (none_by_lines kept (input.Lines r) r refl h s p a is)
+  packets_at kept (input.Packets r) h s p a is = (r, refl)
 
   pub hands_over : (kept : Kept) (i : Input) (reader : PacketReader) → i ≡ input.Packets reader → (h s : List ℕ) (p : Stands m d role party kept i h s) (a : AgreedData) → kept.end ≡ Authenticated a
       → HandsOver m role party p.units p.answers (state reader) kept.sending
@@ -294,12 +298,12 @@ module _ (below : Below) (m : Meaning) (d : Policy) (role : Role) (party : Party
       let e : r ≡ reader = cc in
       subst (λ (x : PacketReader). HandsOver m role party p.units p.answers (state x) kept.sending) e (by_packets kept r h s p a is)
 
--- an end that isn't authenticated
-pub none_authenticated : (e : End) → ((x : Agreed) → e ≢ end.Authenticated x) → (a : AgreedData) → ending e ≢ Authenticated a
-none_authenticated end.Open not a is = cc
-none_authenticated (end.Authenticated x) not a is = not x refl
-none_authenticated (end.Failed f) not a is = cc
-none_authenticated (end.Closed reason) not a is = cc
+-- an end that is authenticated
+pub authenticated_at : (e : End) (a : AgreedData) → ending e ≡ Authenticated a → (agreed : Agreed) × (e ≡ end.Authenticated agreed)
+authenticated_at end.Open a is = absurd cc
+authenticated_at (end.Authenticated x) a is = (x, refl)
+authenticated_at (end.Failed f) a is = absurd cc
+authenticated_at (end.Closed reason) a is = absurd cc
 
 -- what is handed over besides: both version lines, the host key, and how the user came in
 pub record HandsOn (m : Meaning) (d : Policy) (role : Role) (party : Party) (units : Units) (a : AgreedData) (own_version peer_version host_key : List ℕ) (accepted : Option Accepted) : Type 0 where

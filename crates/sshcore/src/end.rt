@@ -1,6 +1,8 @@
 //! How an endpoint ends.
 
-ghost use Rattle.std.specs.Prelude.{Some};
+ghost use Rattle.std.specs.Prelude.{◌≡◌, ◌≢◌, None, Some};
+ghost use Rattle.sshcore.specs.declared.end.Agreed.{Agreed};
+ghost use Rattle.sshcore.specs.declared.end.End.TheVariants as end;
 ghost use Rattle.sshcore.specs.Printed.{fault_text};
 
 use sshneg::NoCommon;
@@ -111,4 +113,17 @@ pub enum End {
     Failed(Fault),
     /// The peer sent a DISCONNECT with this reason.
     Closed(u32),
+}
+
+impl End {
+    /// What was agreed, where the user is authenticated.
+    pub(crate) fn into_agreed(self) -> Option<Agreed>
+        ensures some { (a : Agreed) → self ≡ end.Authenticated a → result ≡ Some a }
+        ensures none { ((a : Agreed) → self ≢ end.Authenticated a) → result ≡ None }
+    {
+        match self {
+            End::Authenticated(agreed) => Some(agreed),
+            _ => None,
+        }
+    }
 }

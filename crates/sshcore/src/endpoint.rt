@@ -19,7 +19,6 @@ use crate::config::Config;
 use crate::decisions::Decisions;
 use crate::draws::Draws;
 use crate::end::{End, Fault};
-use crate::greeting::say_lines;
 use crate::input::Input;
 use crate::server_config::ServerConfig;
 use crate::session::{Session, accepted_by, session_of};
@@ -158,10 +157,7 @@ impl<'a, S: Suite, D: Decisions> Endpoint<'a, S, D> {
         sshmsg::numbers_law();
         sshneg::markers_law();
         let mut state = State::new(alloc, &config);
-        let mut said = Vec::new(alloc);
-        say_lines(&config, &mut said)?;
-        state.say_making(&config, suite, &mut said)?;
-        out.extend_from_slice(&said)?;
+        state.say_greeting(&config, suite, out)?;
         Ok(Endpoint {
             input: Input::new(alloc, config.role()),
             config,
@@ -274,17 +270,14 @@ impl<'a, S: Suite, D: Decisions> Endpoint<'a, S, D> {
         let versions = (state.own_version, state.version);
         let user_key = state.user_key;
         let accepted = accepted_by(role, &state.reached, user_key);
-        match (state.end, self.input) {
-            (End::Authenticated(agreed), Input::Packets(reader)) => session_of(
-                agreed,
-                versions,
-                state.host_key,
-                accepted,
-                reader.into_keys(),
-                outgoing,
-            ),
-            _ => None,
-        }
+        session_of(
+            state.end.into_agreed(),
+            versions,
+            state.host_key,
+            accepted,
+            self.input.into_keys(),
+            outgoing,
+        )
     }
 
     /// Whether it is open.

@@ -1,13 +1,14 @@
 //! What an endpoint reads its bytes with.
 
-ghost use Rattle.std.specs.Prelude.{◌≡◌, ◌≢◌, ◌+◌, ◌*◌, ◌<◌, ◌≤◌, ℕ, Bool, IfOk, List, OnOk, length, take};
+ghost use Rattle.std.specs.Prelude.{◌≡◌, ◌≢◌, ◌+◌, ◌*◌, ◌<◌, ◌≤◌, ℕ, Bool, IfOk, List, None, OnOk, length, take};
 ghost use Rattle.sshwire.specs.Feeding.{StandsOpen};
-ghost use Rattle.sshwire.specs.LineState.{Finished};
+ghost use Rattle.sshwire.specs.LineState.{Finished, LineState};
 ghost use Rattle.sshwire.specs.declared.fault.WireFault.TheVariants as wire;
 ghost use Rattle.sshpacket.specs.declared.fault.PacketFault.TheVariants as packet;
 ghost use Rattle.sshpacket.specs.KeyData.{KeyData};
 ghost use Rattle.sshpacket.specs.Parse.{OfPacket};
-ghost use Rattle.sshpacket.specs.ReaderState.{ReaderWaits};
+ghost use Rattle.sshpacket.specs.ReaderState.{ReaderWaits, state};
+ghost use Rattle.sshpacket.specs.declared.reader.PacketReader.{PacketReader};
 ghost use Rattle.sshpacket.specs.declared.limits.TheConstants.{PACKET_LIMIT};
 ghost use Rattle.sshcore.specs.declared.end.Fault.TheVariants as failed;
 ghost use Rattle.sshcore.specs.declared.input.Input.TheVariants as input;
@@ -24,7 +25,7 @@ use crate::decisions::Decisions;
 use crate::end::{End, Fault};
 use crate::state::State;
 use sshneg::Role;
-use sshpacket::{PacketFault, PacketReader, PacketStep, Suite};
+use sshpacket::{Keys, PacketFault, PacketReader, PacketStep, Suite};
 use sshwire::{LineReader, LineStep, Memory, OTHER_LINE_LIMIT, WireFault};
 use std::alloc::Global;
 
@@ -55,6 +56,19 @@ impl Input {
         match self {
             Input::Lines(reader) => reader.buffered(),
             Input::Packets(reader) => reader.buffered(),
+        }
+    }
+
+    /// The keys of what the peer sends, and the number of its next packet; before packets there are no keys,
+    /// and the number is 0.
+    pub(crate) fn into_keys(self) -> (Option<Keys>, u32)
+        ensures keys { (reader : PacketReader) → self ≡ input.Packets reader → result.0 ≡ (state reader).keys }
+        ensures number { (reader : PacketReader) → self ≡ input.Packets reader → result.1 ≡ (state reader).seq }
+        ensures before { (reader : LineState) → self ≡ input.Lines reader → result ≡ (None, 0) }
+    {
+        match self {
+            Input::Lines(_) => (None, 0),
+            Input::Packets(reader) => reader.into_keys(),
         }
     }
 

@@ -160,9 +160,23 @@ fn negotiate<S: Suite>(
         (client_of (role_of config.now) (party_of config.now).offer (offer_of peer.now)) (server_of (role_of config.now) (party_of config.now).offer (offer_of peer.now)) found) }
 {
     let own = config.kexinit()?;
-    match config.role() {
-        Role::Client => agree(alloc, suite, &own, peer),
-        Role::Server => agree(alloc, suite, peer, &own),
+    agree_as(alloc, suite, config.role(), &own, peer)
+}
+
+/// What the KEXINIT of this role and its peer's come to, or the first field without a choice.
+fn agree_as<S: Suite>(
+    alloc: Global,
+    suite: &S,
+    role: Role,
+    own: &KexInit<'_>,
+    peer: &KexInit<'_>,
+) -> Result<Result<Negotiated, NoCommon>, Memory>
+    ensures { IfOk result (λ found. IsNegotiated (S.meaning suite.now)
+        (client_of role (offer_of own.now) (offer_of peer.now)) (server_of role (offer_of own.now) (offer_of peer.now)) found) }
+{
+    match role {
+        Role::Client => agree(alloc, suite, own, peer),
+        Role::Server => agree(alloc, suite, peer, own),
     }
 }
 

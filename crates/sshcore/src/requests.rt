@@ -26,7 +26,6 @@ use crate::config::Config;
 use crate::config_kexinit::list_of;
 use crate::decisions::{Decisions, Proof};
 use crate::end::{End, Fault};
-use crate::payloads::payload_of;
 use crate::session::UserKey;
 use crate::state::{ReachedMethods, State};
 use sshmsg::{Message, Method};
@@ -391,8 +390,7 @@ impl State<'_> {
     {
         sshmsg::lengths_law();
         let agreed = self.agreed(user, service)?;
-        let success = payload_of(self.alloc, &Message::UserauthSuccess)?;
-        self.say(config, suite, &success, said)?;
+        self.say_message(config, suite, &Message::UserauthSuccess, said)?;
         self.request += 1;
         self.first = false;
         self.end = End::Authenticated(agreed);
@@ -420,12 +418,16 @@ impl State<'_> {
         sshmsg::lengths_law();
         sshwire::names_law();
         let methods = list_of(self.alloc, config.methods())?;
-        let message = Message::UserauthFailure {
-            methods,
-            partial_success: partial,
-        };
-        let failure = payload_of(self.alloc, &message)?;
-        self.say(config, suite, &failure, said)?;
+        let refused = self.say_message(
+            config,
+            suite,
+            &Message::UserauthFailure {
+                methods,
+                partial_success: partial,
+            },
+            said,
+        );
+        refused?;
         self.request += 1;
         self.first = false;
         Ok(())
@@ -453,12 +455,16 @@ impl State<'_> {
         }) }
     {
         sshmsg::lengths_law();
-        let message = Message::UserauthPkOk {
-            algorithm: algorithm.as_bytes(),
-            key,
-        };
-        let confirmation = payload_of(self.alloc, &message)?;
-        self.say(config, suite, &confirmation, said)?;
+        let confirmed = self.say_message(
+            config,
+            suite,
+            &Message::UserauthPkOk {
+                algorithm: algorithm.as_bytes(),
+                key,
+            },
+            said,
+        );
+        confirmed?;
         self.request += 1;
         self.first = false;
         Ok(())

@@ -69,14 +69,15 @@ impl State<'_> {
         match config.banner() {
             None => Ok(()),
             Some(text) => {
-                let banner = payload_of(
-                    self.alloc,
+                self.say_message(
+                    config,
+                    suite,
                     &Message::UserauthBanner {
                         text,
                         language: b"",
                     },
-                )?;
-                self.say(config, suite, &banner, said)
+                    said,
+                )
             }
         }
     }

@@ -3,6 +3,7 @@
 ghost use Rattle.std.specs.Prelude.{◌≡◌, if◌then◌else◌, None, Some};
 ghost use Rattle.sshneg.specs.declared.role.Role.TheVariants.{Client, Server};
 ghost use Rattle.sshpacket.specs.KeyData.{KeyData};
+ghost use Rattle.sshcore.specs.declared.end.Agreed.{Agreed};
 
 use crate::end::Agreed;
 use crate::state::ReachedMethods;
@@ -66,18 +67,18 @@ pub struct Session {
     pub outgoing: Direction,
 }
 
-/// The session of this, with these keys and numbers, where both directions have keys; of the version lines the
+/// The session of this, with these keys and numbers, where it is agreed and both directions have keys; of the version lines the
 /// own one is the first.
 pub(crate) fn session_of(
-    agreed: Agreed,
+    agreed: Option<Agreed>,
     versions: (Vec<u8>, Vec<u8>),
     host_key: Vec<u8>,
     accepted: Option<Accepted>,
     incoming: (Option<Keys>, u32),
     outgoing: (Option<Keys>, u32),
 ) -> Option<Session>
-    ensures whole { (a b : KeyData) → incoming.0 ≡ Some a → outgoing.0 ≡ Some b → result ≡ Some (record {
-      agreed = agreed;
+    ensures whole { (end : Agreed) (a b : KeyData) → agreed ≡ Some end → incoming.0 ≡ Some a → outgoing.0 ≡ Some b → result ≡ Some (record {
+      agreed = end;
       own_version = versions.0;
       peer_version = versions.1;
       host_key = host_key;
@@ -85,9 +86,10 @@ pub(crate) fn session_of(
       incoming = record { keys = a; sequence_number = incoming.1 };
       outgoing = record { keys = b; sequence_number = outgoing.1 };
     }) }
+    ensures none { agreed ≡ None → result ≡ None }
 {
-    match (incoming.0, outgoing.0) {
-        (Some(incoming_keys), Some(outgoing_keys)) => Some(Session {
+    match (agreed, incoming.0, outgoing.0) {
+        (Some(agreed), Some(incoming_keys), Some(outgoing_keys)) => Some(Session {
             agreed,
             own_version: versions.0,
             peer_version: versions.1,

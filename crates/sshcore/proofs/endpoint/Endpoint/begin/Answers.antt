@@ -1,4 +1,4 @@
-use Rattle.std.proofs.Common.{◌≡◌, ◌++◌, true, [], List, ℕ, refl, ap, ◌∙◌, subst}
+use Rattle.std.proofs.Common.{◌≡◌, true, [], refl, ap, ◌∙◌, subst}
 use Rattle.sshpacket.specs.KeyData.{KeyData}
 use Rattle.sshcore.specs.ConfigParty.{party_of, role_of}
 use Rattle.sshcore.specs.Brings.{Gives}
@@ -32,17 +32,16 @@ returns-clause-made g c =
     let d = g.D.Decisions.policy c.args.decisions.now in
     let role = role_of c.args.config in
     let party = party_of c.args.config in
-    let new = kept_of c.say_making.new.self in
+    let new = kept_of c.say_greeting.new.self in
     let first = c.new-state.ensures in
     let next : KeyData = record { cipher = []; mac = []; iv = []; enc = []; mac_key = [] } in
-    let gives = subst (λ (k : Kept). Gives m party.seed true next k new c.say_lines.new.said.items c.say_making.new.said.items (goes (making m role party))) first (c.in_ok-say_making.ensures.gives true next) in
-    let stays : new ≡ record (begun party) { sending = new.sending } = c.in_ok-say_making.ensures.stays ∙ ap (λ (k : Kept). record k { sending = new.sending }) first in
-    let lines = c.in_ok-say_lines.ensures in
+    let said = c.in_ok-say_greeting.ensures.gives in
+    let gives = subst (λ (k : Kept). Gives m party.seed true next k new (preamble_of party) said.0 (goes (making m role party))) first (said.2 true next) in
+    let stays : new ≡ record (begun party) { sending = new.sending } = c.in_ok-say_greeting.ensures.stays ∙ ap (λ (k : Kept). record k { sending = new.sending }) first in
     record {
-      added = c.say_making.new.said.items;
-      appended = c.in_ok-extend_from_slice.ensures.items ∙ ap (λ (l : List ℕ). c.args.out.now.items ++ l) c.deref.ensures.value;
-      begins = begins_stands below streams m d role party new c.new.result c.say_lines.new.said.items c.say_making.new.said.items true next stays gives
-          (lines ∙ ap (λ (l : List ℕ). l ++ preamble_of party) c.new-said.ensures.items) (subst (λ (r : Role). Begins r c.new.result) c.role.ensures c.new.ensures);
+      added = said.0;
+      appended = said.1;
+      begins = begins_stands below streams m d role party new c.new.result (preamble_of party) said.0 true next stays gives refl (subst (λ (r : Role). Begins r c.new.result) c.role.ensures c.new.ensures);
       is_open = ap (λ (k : Kept). k.end) stays;
       is_role = refl;
       is_party = refl;

@@ -4,7 +4,7 @@ use Rattle.sshmsg.specs.Written.{written_message}
 use Rattle.sshcore.specs.ConfigParty.{party_of}
 use Rattle.sshcore.specs.Ending.{Open}
 use Rattle.sshcore.specs.Kept.{Kept, kept_of}
-use Rattle.sshcore.proofs.GivesLemmas.{gives_as, gives_moved, gives_one}
+use Rattle.sshcore.proofs.GivesLemmas.{gives_as, gives_moved}
 use Rattle.sshcore.proofs.RequestLemmas.{few_texts}
 use Rattle.sshcore.proofs.state.State.refuse.Goals as goal
 
@@ -17,7 +17,7 @@ list_of-requires g c =
 pub returns-clause-gives : goal.returns-clause-gives
 unfolding written_message
 returns-clause-gives g c = λ strict next.
-    gives_moved _ _ strict next (kept_of c.args.self.now) (kept_of c.say.new.self) _ _ _ _ _ Open _ refl refl (ap (λ (k : Kept). k.end) c.in_ok-say.ensures.counts ∙ c.requires.open)
+    gives_moved _ _ strict next (kept_of c.args.self.now) (kept_of c.say_message-refused.new.self) _ _ _ _ _ Open _ refl refl (ap (λ (k : Kept). k.end) c.in_ok-refused.ensures.counts ∙ c.requires.open)
     (gives_as _ _ strict next _ _ _ _ (written_message (UserauthFailure c.in_ok-methods.methods c.args.partial) ∷ []) _ _
     (ap (λ (l : List (List ℕ)). written_message (UserauthFailure l c.args.partial) ∷ []) (c.in_ok-methods.ensures ∙ c.methods.ensures.methods))
-    (gives_one _ _ strict next _ _ _ _ _ _ _ _ refl c.in_ok-failure.ensures c.deref.ensures.value c.requires.open c.in_ok-say.ensures.spells c.in_ok-say.ensures.counts))
+    (c.in_ok-refused.ensures.gives refl strict next))

@@ -2,15 +2,15 @@ use Rattle.std.proofs.Common.{[], ◌∷◌, refl, ap}
 use Rattle.sshmsg.specs.Content.{UserauthBanner}
 use Rattle.sshmsg.specs.Written.{written_message}
 use Rattle.sshcore.specs.Work.{banner_by}
-use Rattle.sshcore.proofs.GivesLemmas.{gives_as, gives_nothing, gives_one, on_both}
+use Rattle.sshcore.proofs.GivesLemmas.{gives_as, gives_nothing, on_both}
 use Rattle.sshcore.proofs.state.State.say_banner.Goals as goal
 
 pub returns-in-None-clause-gives : goal.returns-in-None-clause-gives
 returns-in-None-clause-gives g c = λ strict next.
     gives_as _ _ strict next _ _ _ _ _ _ _ (ap banner_by c.in-None.ensures.banner) (gives_nothing _ _ strict next _ _ _ _ _ c.requires.open refl refl)
 
-pub returns-in_ok-banner-in-Some-clause-gives : goal.returns-in_ok-banner-in-Some-clause-gives
+pub returns-in-Some-clause-gives : goal.returns-in-Some-clause-gives
 unfolding written_message
-returns-in_ok-banner-in-Some-clause-gives g c = on_both c.say.result c.say.ensures.spells c.say.ensures.counts (λ s k strict next.
+returns-in-Some-clause-gives g c = on_both c.say_message.result c.say_message.ensures.gives c.say_message.ensures.counts (λ gives k strict next.
     gives_as _ _ strict next _ _ _ _ (written_message (UserauthBanner c.in-Some.text.now []) ∷ []) _ _ (ap banner_by c.in-Some.ensures.banner)
-    (gives_one _ _ strict next _ _ _ _ _ _ _ _ refl c.in_ok-banner-in-Some.ensures c.deref.ensures.value c.requires.open s k))
+    (gives refl strict next))
