@@ -1,3 +1,4 @@
+pub mod OwnedLemmas
 pub mod RequestLemmas
 pub mod SessionLemmas
 pub mod WorldLemmas

@@ -1,6 +1,7 @@
 -- Two endpoints that were made and fed by hand.
 
-use Rattle.std.proofs.Common.{◌≡◌, ◌∙◌, ◌++◌, ℕ, List, [], ap, append_assoc, drop, sym, take}
+use Rattle.std.proofs.Common.{◌≡◌, ◌∙◌, ◌++◌, ℕ, List, [], Result, Ok, ap, append_assoc, drop, subst, sym, take}
+use Rattle.std.specs.Result.{IfOk}
 use Rattle.std.proofs.lemmas.List.{take-append-drop}
 use Rattle.sshneg.specs.declared.role.Role.TheVariants as role
 use Rattle.sshpacket.specs.Places.{IsPrefix}
@@ -10,6 +11,7 @@ use Rattle.sshcore.specs.EndpointData.{EndpointData}
 use Rattle.sshcore.specs.Endpoints.{Fed, Made}
 use Rattle.sshcore.specs.Party.{Policy, client_party, server_party}
 use Rattle.sshpromises.specs.Claims.{AreJoinedSomehow}
+use Rattle.sshpromises.proofs.OwnedLemmas.{there}
 
 -- the first n of some bytes are a prefix of these and more
 front : (n : ℕ) (bytes said : List ℕ) → said ≡ bytes → IsPrefix (take n bytes) said
@@ -21,9 +23,16 @@ front_more n bytes first more e = record {
   whole_is = ap (λ (b : List ℕ). b ++ more) (sym e ∙ sym (take-append-drop n bytes)) ∙ append_assoc (take n bytes) (drop n bytes) more;
 }
 
-module _ {S D : Type 0} (meaning : S → Meaning) (policy : D → Policy) (cc : ClientData) (sc : ServerData) (suite : S) (decisions : D) (c0 c1 s0 s1 : EndpointData S D)
-    (p q a b t x a2 t2 : List ℕ) (same_a : a2 ≡ a) (same_t : t2 ≡ t) (none : p ≡ []) (nothing : q ≡ []) (used other : ℕ) (mc : Made meaning policy role.Client (client_party cc) suite decisions c0 p a) (ms : Made meaning policy role.Server (server_party sc) suite decisions s0 q b)
-    (fs : Fed meaning policy s0 s1 (take used a2) b t) (fc : Fed meaning policy c0 c1 (take other t2) a x) where
+module _ {S D E : Type 0} (meaning : S → Meaning) (policy : D → Policy) (cc : ClientData) (sc : ServerData) (suite : S) (decisions : D) (first c0 c1 s0 s1 : EndpointData S D)
+    (made : Result (EndpointData S D) E) (p q a b : List ℕ) (none : p ≡ []) (nothing : q ≡ []) (is_first : c0 ≡ first) (is_made : made ≡ Ok s0)
+    (of_first : Made meaning policy role.Client (client_party cc) suite decisions first p a) (of_made : IfOk made (λ e. Made meaning policy role.Server (server_party sc) suite decisions e q b))
+    (used other : ℕ) (t x : List ℕ) (fs : Fed meaning policy s0 s1 (take used a) b t) (fc : Fed meaning policy c0 c1 (take other t) a x) where
+  mc : Made meaning policy role.Client (client_party cc) suite decisions c0 p a
+  mc = subst (λ (e : EndpointData S D). Made meaning policy role.Client (client_party cc) suite decisions e p a) (sym is_first) of_first
+
+  ms : Made meaning policy role.Server (server_party sc) suite decisions s0 q b
+  ms = there made (λ e. Made meaning policy role.Server (server_party sc) suite decisions e q b) s0 is_made of_made
+
   of_a : a ≡ mc.added
   of_a = mc.appended ∙ ap (λ (l : List ℕ). l ++ mc.added) none
 
@@ -32,9 +41,9 @@ module _ {S D : Type 0} (meaning : S → Meaning) (policy : D → Policy) (cc : 
 
   pub hand_joined : AreJoinedSomehow meaning policy cc sc c1 s1
   hand_joined = record {
-    client_heard = take other t2;
+    client_heard = take other t;
     client_said = mc.added ++ fc.added;
-    server_heard = take used a2;
+    server_heard = take used a;
     server_said = ms.added ++ fs.added;
     joined = record {
       is_client = fc.same.same_role ∙ mc.is_role;
@@ -45,7 +54,7 @@ module _ {S D : Type 0} (meaning : S → Meaning) (policy : D → Policy) (cc : 
       same_decisions = (fs.same.same_decisions ∙ ms.is_decisions) ∙ sym (fc.same.same_decisions ∙ mc.is_decisions);
       client_after = fc.follows [] mc.added mc.begins;
       server_after = fs.follows [] ms.added ms.begins;
-      to_client = front other t2 (ms.added ++ fs.added) ((ap (λ (l : List ℕ). l ++ fs.added) (sym of_b) ∙ sym fs.appended) ∙ sym same_t);
-      to_server = front_more used a2 mc.added fc.added (same_a ∙ of_a);
+      to_client = front other t (ms.added ++ fs.added) (ap (λ (l : List ℕ). l ++ fs.added) (sym of_b) ∙ sym fs.appended);
+      to_server = front_more used a mc.added fc.added of_a;
     };
   }

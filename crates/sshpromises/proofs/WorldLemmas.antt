@@ -1,6 +1,8 @@
 -- Two worlds of one setup.
 
-use Rattle.std.proofs.Common.{◌≡◌, ◌≢◌, ◌∙◌, refl, sym}
+use Rattle.std.proofs.Common.{◌≡◌, ◌≢◌, ◌∙◌, Result, refl, sym}
+use Rattle.std.proofs.lemmas.Result.{IfOk-weaker}
+use Rattle.std.specs.Result.{IfOk}
 use Rattle.sshpacket.specs.Suite.{Meaning}
 use Rattle.sshcore.specs.ConfigData.{ClientData, ServerData}
 use Rattle.sshcore.specs.declared.end.Fault.TheVariants as fault
@@ -52,6 +54,17 @@ pair_of ends one other a b = record {
   client = λ x y. a.client_end x ∙ sym (b.client_end y);
   server = λ x y. a.server_end x ∙ sym (b.server_end y);
 }
+
+-- the second of two worlds, or a world that was foretold, where there is one
+module _ {S D E : Type 0} (r : Result (WorldData S D) E) (ends : BothEnds) (well : IfOk r (λ w. EndsWell ends w)) where
+  pub pair_with : (one : WorldData S D) → EndsWell ends one → IfOk r (λ w. PairIs one w)
+  pair_with one is = IfOk-weaker r (λ w. EndsWell ends w) (λ w. PairIs one w) (λ w b. pair_of ends one w is b) well
+
+  pub told_client : (told : Ending) → told ≡ ends.client → IfOk r (λ w. Complete w → w.client.end ≡ told)
+  told_client told is = IfOk-weaker r (λ w. EndsWell ends w) (λ w. Complete w → w.client.end ≡ told) (λ w b done. b.client_end done ∙ sym is) well
+
+  pub told_server : (told : Ending) → told ≡ ends.server → IfOk r (λ w. Complete w → w.server.end ≡ told)
+  told_server told is = IfOk-weaker r (λ w. EndsWell ends w) (λ w. Complete w → w.server.end ≡ told) (λ w b done. b.server_end done ∙ sym is) well
 
 module _ {S D : Type 0} (meaning : S → Meaning) (policy : D → Policy) (one other : WorldData S D)
     (client : other.client_config ≡ one.client_config) (server : other.server_config ≡ one.server_config) (suite : other.suite ≡ one.suite) (decisions : other.decisions ≡ one.decisions)

@@ -3,6 +3,7 @@
 //! clauses come to.
 #![tactic(auto)]
 
+mod owned;
 mod sessions;
 mod worlds;
 

@@ -1,11 +1,13 @@
 //! What is promised of sessions.
 
-ghost use Rattle.std.specs.Prelude.{◌≡◌, IfOk, Some};
+ghost use Rattle.std.specs.Prelude.{◌≡◌, ℕ, IfOk, List, OnOk, Some, take};
 ghost use Rattle.sshcore.specs.declared.session.Session.{Session};
 ghost use Rattle.sshcore.specs.Ending.{AgreedData, Authenticated};
+ghost use Rattle.sshcore.specs.Endpoints.{Fed};
 ghost use Rattle.sshworld.specs.Joined.{AreCrosswise};
 ghost use Rattle.sshpromises.specs.Claims.{AreJoinedSomehow, IsJoinedEnd};
 
+use crate::owned::{beside, both, once};
 use sshcore::{ClientConfig, Decisions, Endpoint, ServerConfig, Session};
 use sshpacket::{AgreeingSuite, Suite};
 use sshwire::Memory;
@@ -22,10 +24,7 @@ pub fn hand_over<S: Suite, D: Decisions>(
     session_law::<S, D>();
     let of_client = client.into_session();
     let of_server = server.into_session();
-    match (of_client, of_server) {
-        (Some(one), Some(other)) => Some((one, other)),
-        _ => None,
-    }
+    both(of_client, of_server)
 }
 
 /// A world over a suite whose ends agree hands over sessions that match crosswise, the client's first, where both
@@ -52,9 +51,27 @@ pub fn joined_by_hand<'a, S: Suite, D: Decisions>(
 {
     let mut to_server = Vec::new(alloc);
     let mut to_client = Vec::new(alloc);
-    let mut of_client = Endpoint::client(alloc, client, suite, decisions, &mut to_server)?;
-    let mut of_server = Endpoint::server(alloc, server, suite, decisions, &mut to_client)?;
+    let of_client = Endpoint::client(alloc, client, suite, decisions, &mut to_server)?;
+    let of_server = Endpoint::server(alloc, server, suite, decisions, &mut to_client);
+    let (mut of_client, mut of_server) = beside(of_client, of_server)?;
+    let fed = feed_each(&mut of_client, &mut of_server, to_server, to_client);
+    once((of_client, of_server), fed)
+}
+
+/// Feeds the server what the client said, and then the client all that the server said.
+fn feed_each<S: Suite, D: Decisions>(
+    of_client: &mut Endpoint<'_, S, D>,
+    of_server: &mut Endpoint<'_, S, D>,
+    to_server: Vec<u8>,
+    to_client: Vec<u8>,
+) -> Result<(), Memory>
+    ensures { OnOk result ((used : ℕ) × (other : ℕ) × (t : List ℕ) × (x : List ℕ)
+        × Fed S.meaning D.policy of_server.old of_server.new (take used to_server.items) to_client.items t
+        × Fed S.meaning D.policy of_client.old of_client.new (take other t) to_server.items x) }
+{
+    let mut to_server = to_server;
+    let mut to_client = to_client;
     of_server.feed(&to_server, &mut to_client)?;
     of_client.feed(&to_client, &mut to_server)?;
-    Ok((of_client, of_server))
+    Ok(())
 }

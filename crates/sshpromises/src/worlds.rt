@@ -7,6 +7,7 @@ ghost use Rattle.sshworld.specs.WorldCourse.{AreUnderstoodIn};
 ghost use Rattle.sshworld.specs.Worlds.{Complete, HadMemory};
 ghost use Rattle.sshpromises.specs.Claims.{EndsWell, EndsWellOnce, PairIs};
 
+use crate::owned::{beside, once};
 use sshcore::{ClientConfig, Decisions, End, ServerConfig};
 use sshpacket::{AgreeingSuite, Suite};
 use sshwire::Memory;
@@ -54,8 +55,8 @@ pub fn schedule_ends<'a, S: AgreeingSuite, D: Decisions>(
     client.parts();
     server.parts();
     let mut world = World::new(alloc, client, server, suite, decisions)?;
-    world.run(schedule)?;
-    Ok(world)
+    let ran = world.run(schedule);
+    once(world, ran)
 }
 
 /// Any two schedules over one setup: where both are complete, the pairs of ends are equal.
@@ -71,8 +72,8 @@ pub fn any_two<'a, S: AgreeingSuite, D: Decisions>(
     ensures one { IfOk result (λ two. PairIs two.0 two.1) }
 {
     let one = schedule_ends(alloc, client, server, suite, decisions, first)?;
-    let other = schedule_ends(alloc, client, server, suite, decisions, second)?;
-    Ok((one, other))
+    let other = schedule_ends(alloc, client, server, suite, decisions, second);
+    beside(one, other)
 }
 
 /// `settle` by four rounds more than twice the attempts ends both sides, as the outcome says: no plan has more
@@ -90,8 +91,8 @@ pub fn settled<'a, S: AgreeingSuite, D: Decisions>(
 {
     let mut world = schedule_ends(alloc, client, server, suite, decisions, schedule)?;
     let rounds = 2 * client.attempts() as u32 + 4;
-    world.settle(rounds)?;
-    Ok(world)
+    let done = world.settle(rounds);
+    once(world, done)
 }
 
 /// What `predict` answers is how any complete schedule ends.
@@ -107,8 +108,8 @@ pub fn foretold<'a, S: AgreeingSuite, D: Decisions>(
     ensures server { IfOk result (λ two. Complete two.1 → two.1.server.end ≡ ending two.0.1) }
 {
     let told = predict(alloc, client, server, suite, decisions)?;
-    let world = schedule_ends(alloc, client, server, suite, decisions, schedule)?;
-    Ok((told, world))
+    let world = schedule_ends(alloc, client, server, suite, decisions, schedule);
+    beside(told, world)
 }
 
 /// A world that was handed in, without its configs, settles over a suite whose ends agree: no plan has more than

@@ -1,6 +1,10 @@
 use Rattle.std.proofs.Common.{length, ap, arith}
 use Rattle.sshcore.specs.declared.config_fault.ConfigFault.TheVariants as fault
 use Rattle.sshcore.specs.ConfigData.{ClientData}
+use Rattle.sshworld.specs.Outcome.{outcome}
+use Rattle.sshworld.specs.Worlds.{Complete}
+use Rattle.sshpromises.specs.Claims.{EndsWellOnce}
+use Rattle.sshpromises.proofs.OwnedLemmas.{once_ok, where_both, where_ok}
 use Rattle.sshpromises.proofs.RequestLemmas.{few_requests}
 use Rattle.sshpromises.proofs.WorldLemmas.{settled_well}
 use Rattle.sshpromises.proofs.worlds.settled.Goals as goal
@@ -17,13 +21,19 @@ overflow_add-rounds g c = omega (arith, c.attempts.ensures.count, c.attempts.ens
 pub returns-clause-complete : goal.returns-clause-complete
 returns-clause-complete g c =
     let e = c.in_ok-world.ensures in
-    c.in_ok-settle.ensures.bound e.understood e.memory
-    (omega (arith, c.attempts.ensures.count, few_requests c.in_ok-world.world.client_config.plan, ap (λ (x : ClientData). length x.plan) e.client_config))
+    let s = c.settle-done in
+    once_ok c.once.result (λ w. Complete w) tt s.result s.new.self c.once.ensures.value c.once.ensures.done
+    (where_ok s.result s.ensures.bound (λ bound. bound e.understood e.memory
+    (omega (arith, c.attempts.ensures.count, few_requests c.in_ok-world.world.client_config.plan, ap (λ (x : ClientData). length x.plan) e.client_config))))
 
 pub returns-clause-ends : goal.returns-clause-ends
 returns-clause-ends g c =
     let e = c.in_ok-world.ensures in
-    let s = c.in_ok-settle.ensures in
-    settled_well g.S.Suite.meaning g.D.Decisions.policy c.args.client.now c.args.server.now c.args.suite.now c.args.decisions.now c.in_ok-world.world c.settle.new.self
-    e.client_config e.server_config e.suite e.decisions s.setup e.understood (s.still e.memory) s.headline
-    (returns-clause-complete g c)
+    let s = c.settle-done in
+    once_ok c.once.result (λ w. EndsWellOnce (outcome (g.S.Suite.meaning c.args.suite.now) (g.D.Decisions.policy c.args.decisions.now) c.args.client.now c.args.server.now) w)
+    tt s.result s.new.self c.once.ensures.value c.once.ensures.done
+    (where_both s.result s.ensures.still s.ensures.bound (λ still bound.
+    settled_well g.S.Suite.meaning g.D.Decisions.policy c.args.client.now c.args.server.now c.args.suite.now c.args.decisions.now c.in_ok-world.world s.new.self
+    e.client_config e.server_config e.suite e.decisions s.ensures.setup e.understood (still e.memory) s.ensures.headline
+    (bound e.understood e.memory
+    (omega (arith, c.attempts.ensures.count, few_requests c.in_ok-world.world.client_config.plan, ap (λ (x : ClientData). length x.plan) e.client_config)))))
