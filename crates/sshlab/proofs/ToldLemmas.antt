@@ -12,13 +12,13 @@ use Rattle.sshworld.specs.Worlds.{Complete, WorldData}
 use Rattle.sshsuites.specs.Lab.{lab}
 use Rattle.sshsuites.specs.LabRules.{LabRules, lab_policy}
 use Rattle.sshsuites.specs.declared.lab_suite.LabSuite.{LabSuite}
-use Rattle.sshlab.specs.declared.program.CommandFault.{CommandFault}
-use Rattle.sshlab.specs.declared.program.CommandFault.TheVariants as command
+use Rattle.sshlab.specs.declared.command_fault.CommandFault.{CommandFault}
+use Rattle.sshlab.specs.declared.command_fault.CommandFault.TheVariants as command
 use Rattle.sshlab.specs.declared.scenario.ScenarioFault.TheVariants as scenario
 use Rattle.sshlab.specs.declared.scenario_line.Step.{Step}
 use Rattle.sshlab.specs.declared.tool_fault.ToolFault.TheVariants as fault
-use Rattle.sshlab.specs.declared.words.Request.{Request}
-use Rattle.sshlab.specs.declared.words.Request.TheVariants as asks
+use Rattle.sshlab.specs.declared.request.Request.{Request}
+use Rattle.sshlab.specs.declared.request.Request.TheVariants as asks
 use Rattle.sshlab.specs.Reports.{report_text}
 use Rattle.sshlab.specs.Statuses.{IsAsked, IsFirstWord, status_of}
 use Rattle.sshlab.specs.Steps.{EndsSettling, StepsLeadTo}

@@ -5,11 +5,11 @@ use Rattle.std.specs.List.{slice_get}
 use Rattle.std.specs.declared.alloc.Global.{Global}
 use Rattle.std.specs.declared.io.ErrorKind.{ErrorKind}
 use Rattle.std.specs.declared.io.ErrorKind.TheVariants.{OutOfMemory}
-use Rattle.sshlab.specs.declared.program.CommandFault.{CommandFault}
-use Rattle.sshlab.specs.declared.program.CommandFault.TheVariants as command
+use Rattle.sshlab.specs.declared.command_fault.CommandFault.{CommandFault}
+use Rattle.sshlab.specs.declared.command_fault.CommandFault.TheVariants as command
 use Rattle.sshlab.specs.declared.scenario.ScenarioFault.TheVariants as scenario
-use Rattle.sshlab.specs.declared.words.Request.{Request}
-use Rattle.sshlab.specs.declared.words.Request.TheVariants as asks
+use Rattle.sshlab.specs.declared.request.Request.{Request}
+use Rattle.sshlab.specs.declared.request.Request.TheVariants as asks
 use Rattle.sshlab.specs.declared.tool_fault.ToolFault.TheVariants as fault
 
 abbrev pub status_of : CommandFault → ℕ

@@ -9,12 +9,12 @@ use Rattle.sshworld.specs.Worlds.{Complete, WorldData}
 use Rattle.sshsuites.specs.Lab.{lab}
 use Rattle.sshsuites.specs.LabRules.{LabRules, lab_policy}
 use Rattle.sshsuites.specs.declared.lab_suite.LabSuite.{LabSuite}
-use Rattle.sshlab.specs.declared.program.CommandFault.{CommandFault}
-use Rattle.sshlab.specs.declared.program.CommandFault.TheVariants as command
+use Rattle.sshlab.specs.declared.command_fault.CommandFault.{CommandFault}
+use Rattle.sshlab.specs.declared.command_fault.CommandFault.TheVariants as command
 use Rattle.sshlab.specs.declared.scenario_line.Step.{Step}
 use Rattle.sshlab.specs.declared.tool_fault.ToolFault.TheVariants as fault
-use Rattle.sshlab.specs.declared.words.Request.{Request}
-use Rattle.sshlab.specs.declared.words.Request.TheVariants as asks
+use Rattle.sshlab.specs.declared.request.Request.{Request}
+use Rattle.sshlab.specs.declared.request.Request.TheVariants as asks
 use Rattle.sshlab.specs.Reports.{report_text}
 use Rattle.sshlab.specs.ScenarioParts.{client_of_lines, rules_of_lines, server_of_lines, steps_of_lines}
 use Rattle.sshlab.specs.ScenarioText.{said}

@@ -1,6 +1,7 @@
 //! What the program `sshlab` does: its words, scenarios and recordings, and what it prints.
 #![tactic(auto)]
 
+mod command_fault;
 mod engines;
 mod findings;
 mod input;
@@ -9,6 +10,7 @@ mod program;
 mod recorded_stream;
 mod recording;
 mod report;
+mod request;
 mod scenario;
 mod scenario_draft;
 mod scenario_fields;

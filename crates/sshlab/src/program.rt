@@ -8,18 +8,19 @@ ghost use Rattle.sshworld.specs.Worlds.{Complete};
 ghost use Rattle.sshlab.specs.Reports.{report_text};
 ghost use Rattle.sshlab.specs.Statuses.{AsksForInput, IsFirstWord, IsGreet, IsNoToolFault, status_of, words_status};
 ghost use Rattle.sshlab.specs.Told.{IsAnswered, IsToldOfInput, IsToldOfRun, PredictTells, Prints, RunTells, Writes, foretold};
-ghost use Rattle.sshlab.specs.declared.program.CommandFault.TheVariants as command;
+ghost use Rattle.sshlab.specs.declared.command_fault.CommandFault.TheVariants as command;
 ghost use Rattle.sshlab.specs.declared.scenario.TheConstants.{TEXT_LIMIT};
 ghost use Rattle.sshlab.specs.declared.tool_fault.ToolFault.TheVariants as fault;
 
+use crate::command_fault::CommandFault;
 use crate::engines::{check, show, write_text};
 use crate::input::read_all;
 use crate::report::Report;
-use crate::scenario::{Scenario, ScenarioFault};
+use crate::request::Request;
+use crate::scenario::Scenario;
 use crate::schedule::schedule_of;
 use crate::streams::{Sink, Source, write_all};
-use crate::tool_fault::ToolFault;
-use crate::words::{Request, request_of};
+use crate::words::request_of;
 use sshcore::{Decisions, End};
 use sshpacket::Suite;
 use sshwire::{VersionLine, WireFault};
@@ -27,7 +28,6 @@ use sshworld::{World, greet};
 use std::alloc::Global;
 use std::fmt::Write;
 use std::{fmt, io};
-use thiserror::Error;
 
 /// The status where all is done.
 const DONE: u8 = 0;
@@ -35,66 +35,11 @@ const DONE: u8 = 0;
 /// The status where bytes still wait.
 const NOT_COMPLETE: u8 = 1;
 
-/// The status of bad words or input.
-const BAD_INPUT: u8 = 2;
-
-/// The status for want of memory.
-const NO_MEMORY: u8 = 3;
-
-/// The status of a read or a write that failed.
-const BROKEN: u8 = 4;
-
-/// Why the words get no answer.
-#[derive(Clone, Copy, Debug, Error)]
-pub(crate) enum CommandFault {
-    /// The words have none of the forms that there are.
-    #[error("bad words")]
-    Words,
-    /// A softwareversion that no version line has.
-    #[error("bad version")]
-    Version,
-    /// Not deliveries with commas between.
-    #[error("bad schedule")]
-    Schedule,
-    /// The input is no scenario.
-    #[error("{0}")]
-    Scenario(ScenarioFault),
-    /// The input or the output failed, or the input is no recording.
-    #[error("{0}")]
-    Tool(ToolFault),
-    /// A growth was refused.
-    #[error("out of memory")]
-    Memory,
-}
-
-impl From<ToolFault> for CommandFault {
-    ghost from_gives = { λ fault e. e ≡ command.Tool fault };
-
-    fn from(fault: ToolFault) -> CommandFault {
-        CommandFault::Tool(fault)
-    }
-}
-
 /// What the words are answered: the text for the output, and the status once it is written.
 #[derive(Drop)]
 struct Answer {
     text: String,
     status: u8,
-}
-
-impl CommandFault {
-    /// The exit status.
-    fn status(self) -> u8
-        ensures { result ≡ status_of self }
-    {
-        match self {
-            CommandFault::Scenario(ScenarioFault::Memory)
-            | CommandFault::Tool(ToolFault::Memory)
-            | CommandFault::Memory => NO_MEMORY,
-            CommandFault::Tool(ToolFault::Read | ToolFault::Write) => BROKEN,
-            _ => BAD_INPUT,
-        }
-    }
 }
 
 /// Does all that the program does with its words, its name left out, and answers the exit status.

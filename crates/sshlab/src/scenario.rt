@@ -109,6 +109,11 @@ impl From<Memory> for ScenarioFault {
 }
 
 impl Scenario {
+    ghost use Rattle.sshcore.specs.Ending.{ending};
+    ghost use Rattle.sshsuites.specs.Lab.{lab};
+    ghost use Rattle.sshsuites.specs.LabRules.{lab_policy};
+    ghost use Rattle.sshworld.specs.Outcome.{outcome};
+
     /// Reads a scenario of at most 1048576 bytes.
     ///
     /// Answers the fault of the first bad line; if there is none, that of the client's config, and then
@@ -137,14 +142,6 @@ impl Scenario {
             steps,
         })
     }
-}
-
-impl Scenario {
-    ghost use Rattle.std.specs.Prelude.{IfOk};
-    ghost use Rattle.sshcore.specs.Ending.{ending};
-    ghost use Rattle.sshsuites.specs.Lab.{lab};
-    ghost use Rattle.sshsuites.specs.LabRules.{lab_policy};
-    ghost use Rattle.sshworld.specs.Outcome.{outcome};
 
     /// How both sides end, the client's end first, where they use the lab suite and all that either
     /// sends reaches the other. Answers `Memory` for want of memory alone.

@@ -4,7 +4,7 @@ ghost use Rattle.std.specs.Prelude.{◌≡◌, IfErr};
 ghost use Rattle.sshlab.specs.ScenarioFields.{number_of, with_digit};
 ghost use Rattle.sshlab.specs.Statuses.{IsNoToolFault};
 
-use crate::program::CommandFault;
+use crate::command_fault::CommandFault;
 use sshworld::{Delivery, Side};
 use std::alloc::Global;
 

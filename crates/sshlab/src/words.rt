@@ -4,7 +4,8 @@ ghost use Rattle.std.specs.Prelude.{◌≡◌, IfErr, IfOk, IsTrue, List, String
 ghost use Rattle.std.specs.declared.alloc.Global.{Global};
 ghost use Rattle.sshlab.specs.Statuses.{IsAsked, IsFirstWord, IsNoToolFault};
 
-use crate::program::CommandFault;
+use crate::command_fault::CommandFault;
+use crate::request::Request;
 use clap::error::ErrorKind;
 use clap::{Arg, ArgAction, ArgMatches, Command, Error};
 use std::alloc::{AllocError, Global};
@@ -14,30 +15,6 @@ const SESSION: &str = "--session";
 
 /// The name of that option.
 const SESSION_NAME: &str = "session";
-
-/// What the words ask for.
-pub(crate) enum Request<'a> {
-    /// Two line machines greet each other.
-    Greet {
-        client: &'a str,
-        server: &'a str,
-        schedule: &'a str,
-    },
-    /// The ends of a scenario's sides are predicted.
-    Predict {
-        /// Whether the session identifier is printed too.
-        session: bool,
-    },
-    /// A scenario's steps are done.
-    Run {
-        /// Whether the session identifier is printed too.
-        session: bool,
-    },
-    /// What a recording's streams spell is told.
-    Show,
-    /// A recording's streams are judged.
-    Check,
-}
 
 /// Reads the words, the program's name left out.
 ///
