@@ -12,6 +12,14 @@ UNKNOWN = {*range(8, 20), *range(22, 30), *range(32, 50), *range(54, 60), *range
 PADDING = {(SERVER, "strict"): [(125, 135), (178, 183), (189, 199)], (SERVER, "loose"): [(96, 103), (146, 151), (157, 167)],
            (CLIENT, "strict"): [(125, 135), (259, 263), (269, 279)], (CLIENT, "loose"): [(125, 135), (259, 263), (269, 279)]}
 
+# how many flipped bits end so, as docs/HOSTILE.md has it
+ENDS = ["failed F1", "failed F2", "failed F3", "failed F4", "failed F5", "failed F6", "failed F7", "failed F8", "failed F9", "failed F11", "open",
+        LET_IN[:10]]
+COUNTS = {(SERVER, "strict"): (88, 737, 12, 1094, 437, 7, 16, 102, 7, 0, 44, 200),
+          (CLIENT, "strict"): (88, 97, 11, 835, 502, 7, 16, 102, 7, 1225, 46, 192),
+          (SERVER, "loose"): (88, 517, 12, 0, 396, 20, 0, 96, 7, 0, 24, 176),
+          (CLIENT, "loose"): (88, 61, 11, 0, 502, 20, 0, 102, 7, 1225, 24, 192)}
+
 
 class Session:
     """A whole session as one role hears it: each unit, what is said for it, and what that asks."""
@@ -112,6 +120,7 @@ def injected(file, s):
 
 def flips(file, s):
     """Each bit of the stream; of a loose one each up to NEWKEYS, since nothing changes behind it but numbers."""
+    ends = []
     nothing = {place for start, end in PADDING[s.role, s.name] for place in range(start, end)}
     sealed = sum(len(unit) for unit, _, _ in s.turns[:3])
     for place in range(len(s.heard) if s.is_strict else sealed):
@@ -121,6 +130,8 @@ def flips(file, s):
             # behind NEWKEYS a packet is refused by its length or its tag; byte 262 of the client's is the last of its first tag
             assert place < sealed or end in ("failed F2", "failed F4", "open")
             assert (s.role, place) != (SERVER, 262) or end == "failed F4"
+            ends.append(end[:10].rstrip())
+    assert tuple(ends.count(end) for end in ENDS) == COUNTS[s.role, s.name] and len(ends) == sum(COUNTS[s.role, s.name])
 
 
 def flipped(file, s, name, data, place, bit):
@@ -151,8 +162,9 @@ def unread(file, s):
 
 
 def truncated(file, s):
-    """The input ends behind each byte past the accepted service; endpoint.py has the fronts up to it, which are the same."""
-    for count in range(sum(len(unit) for unit, _, _ in s.turns[:4]) + 1, len(s.heard)):
+    """The input ends behind each byte past the fronts that endpoint.py has, which are the same in each session: a server's up to
+    SERVICE_REQUEST, a client's up to NEWKEYS."""
+    for count in range(sum(len(unit) for unit, _, _ in s.turns[:4 if s.role == SERVER else 3]) + 1, len(s.heard)):
         said, asks, held = s.by(count)
         if s.name == "strict":
             ear = Hearer(s.role, True, s.heard[:count])
