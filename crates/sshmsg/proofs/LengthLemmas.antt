@@ -37,7 +37,7 @@ pub capped_exact : (number len : ℕ) → IsCapped number len → len ≤ PAYLOA
 unfolding IsCapped
 capped_exact number len (limit, exact) within = exact within
 
-pub request_length : (user service method : List ℕ) (two more : ℕ) → two ≡ length (user ++ service) → more ≡ length method → 1 + two + more ≡ length (50 ∷ (user ++ (service ++ method)))
+pub request_length : (user service method : List ℕ) (two more : ℕ) → two ≡ 1 + length (user ++ service) → more ≡ length method → two + more ≡ length (50 ∷ (user ++ (service ++ method)))
 request_length user service method two more is of =
     let both : length (user ++ service) ≡ length user + length service = length-append user service in
     let all : length (user ++ (service ++ method)) ≡ length user + length (service ++ method) = length-append user (service ++ method) in

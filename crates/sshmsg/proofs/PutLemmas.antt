@@ -27,9 +27,6 @@ pub thirteen_parts : (out a b c d e f g h i j k l m n : List ℕ)
     ≡ out ++ (a ++ (b ++ (c ++ (d ++ (e ++ (f ++ (g ++ (h ++ (i ++ (j ++ (k ++ (l ++ (m ++ n)))))))))))))
 thirteen_parts out a b c d e f g h i j k l m n = simp append_assoc
 
-pub four_parts : (out a b c d : List ℕ) → (((out ++ a) ++ b) ++ c) ++ d ≡ out ++ (a ++ (b ++ (c ++ d)))
-four_parts out a b c d = simp append_assoc
-
 pub few_pairs : (pairs : List (List ℕ × List ℕ)) → length pairs ≤ length (pairs_written pairs)
 few_pairs [] = lit≤ tt
 few_pairs (p ∷ ps) =

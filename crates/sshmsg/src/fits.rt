@@ -1,7 +1,7 @@
 //! How long the payload of a message is.
 
 ghost use Rattle.sshwire.specs.declared.limits.TheConstants.{PAYLOAD_LIMIT};
-ghost use Rattle.std.specs.Prelude.{◌≡◌, ◌≤◌, ◌<◌, ◌^◌, ◌++◌, length, nat_le};
+ghost use Rattle.std.specs.Prelude.{◌≡◌, ◌≤◌, ◌<◌, ◌+◌, ◌^◌, ◌++◌, length, nat_le};
 ghost use Rattle.sshwire.specs.Types.{string};
 ghost use Rattle.sshmsg.specs.Content as content;
 ghost use Rattle.sshmsg.specs.Lengths.{IsCapped};
@@ -40,59 +40,62 @@ impl<'a> Message<'a> {
                 description,
                 language,
                 ..
-            } => 5 + two_len(description, language),
-            Message::Ignore { content } => 1 + string_len(content),
+            } => two_len(5, description, language),
+            Message::Ignore { content } => string_len(1, content),
             Message::Unimplemented { .. } => 5,
-            Message::Debug { text, language, .. } => 2 + two_len(text, language),
-            Message::ServiceRequest { service } => 1 + string_len(service),
-            Message::ServiceAccept { service } => 1 + string_len(service),
+            Message::Debug { text, language, .. } => two_len(2, text, language),
+            Message::ServiceRequest { service } => string_len(1, service),
+            Message::ServiceAccept { service } => string_len(1, service),
             Message::ExtInfo { extensions } => ext_info_len(extensions),
             Message::KexInit(kexinit) => kexinit_len(kexinit),
             Message::NewKeys => 1,
-            Message::KexdhInit { e } => 1 + string_len(e.body()),
+            Message::KexdhInit { e } => string_len(1, e.body()),
             Message::KexdhReply {
                 host_key,
                 f,
                 signature,
-            } => 1 + three_len(host_key, f.body(), signature),
-            Message::KexEcdhInit { client_share } => 1 + string_len(client_share),
+            } => three_len(1, host_key, f.body(), signature),
+            Message::KexEcdhInit { client_share } => string_len(1, client_share),
             Message::KexEcdhReply {
                 host_key,
                 server_share,
                 signature,
-            } => 1 + three_len(host_key, server_share, signature),
+            } => three_len(1, host_key, server_share, signature),
             Message::UserauthRequest {
                 user,
                 service,
                 method,
-            } => 1 + two_len(user.as_bytes(), service) + method_len(method),
+            } => two_len(1, user.as_bytes(), service) + method_len(method),
             Message::UserauthFailure { methods, .. } => 2 + methods.written_len() as u128,
             Message::UserauthSuccess => 1,
-            Message::UserauthBanner { text, language } => 1 + two_len(text, language),
-            Message::UserauthPkOk { algorithm, key } => 1 + two_len(algorithm, key),
+            Message::UserauthBanner { text, language } => two_len(1, text, language),
+            Message::UserauthPkOk { algorithm, key } => two_len(1, algorithm, key),
         }
     }
 }
 
-fn string_len(bytes: &[u8]) -> u128
-    ensures len { result ≡ length (string bytes.now) }
+/// So many bytes, and a string.
+fn string_len(before: u8, bytes: &[u8]) -> u128
+    ensures len { result ≡ before + length (string bytes.now) }
     ensures bounded { result < 2 ^ 65 }
 {
-    4 + bytes.len() as u128
+    before as u128 + 4 + bytes.len() as u128
 }
 
-fn two_len(first: &[u8], second: &[u8]) -> u128
-    ensures len { result ≡ length (string first.now ++ string second.now) }
+/// So many bytes, and two strings.
+fn two_len(before: u8, first: &[u8], second: &[u8]) -> u128
+    ensures len { result ≡ before + length (string first.now ++ string second.now) }
     ensures bounded { result < 2 ^ 66 }
 {
-    string_len(first) + string_len(second)
+    string_len(before, first) + string_len(0, second)
 }
 
-fn three_len(first: &[u8], second: &[u8], third: &[u8]) -> u128
-    ensures len { result ≡ length (string first.now ++ (string second.now ++ string third.now)) }
+/// So many bytes, and three strings.
+fn three_len(before: u8, first: &[u8], second: &[u8], third: &[u8]) -> u128
+    ensures len { result ≡ before + length (string first.now ++ (string second.now ++ string third.now)) }
     ensures bounded { result < 2 ^ 67 }
 {
-    string_len(first) + two_len(second, third)
+    string_len(before, first) + two_len(0, second, third)
 }
 
 #[tactic(auto, unfolding(crate::specs::Written::written_message))]
@@ -121,15 +124,15 @@ fn method_len(method: &Method<'_>) -> u128
 {
     match method {
         Method::None => 8,
-        Method::Password { password } => 13 + string_len(password),
-        Method::PasswordChange { old, new } => 13 + two_len(old, new),
+        Method::Password { password } => string_len(13, password),
+        Method::PasswordChange { old, new } => two_len(13, old, new),
         Method::PublicKey {
             algorithm,
             key,
             signature,
-        } => 14 + three_len(algorithm, key, signature),
-        Method::PublicKeyQuery { algorithm, key } => 14 + two_len(algorithm, key),
-        Method::Other(other) => string_len(other.name()) + other.fields().len() as u128,
+        } => three_len(14, algorithm, key, signature),
+        Method::PublicKeyQuery { algorithm, key } => two_len(14, algorithm, key),
+        Method::Other(other) => string_len(0, other.name()) + other.fields().len() as u128,
     }
 }
 
@@ -143,7 +146,7 @@ fn ext_info_len(extensions: &[Extension<'_>]) -> u128
         if len > PAYLOAD_LIMIT as u128 {
             return len;
         }
-        len += two_len(extension.name, extension.value);
+        len += two_len(0, extension.name, extension.value);
     }
     len
 }

@@ -320,7 +320,6 @@ fn lend_ext_info<'a>(reader: &mut Reader<'a>) -> Result<(u32, Reader<'a>), WireF
 }
 
 /// Judges so many pairs.
-#[tactic(auto, using(crate::proofs::ExtensionLemmas::one_pair, crate::proofs::ExtensionLemmas::no_pair, crate::proofs::ExtensionLemmas::no_more))]
 fn pass_extensions(count: u32, reader: &mut Reader<'_>) -> Result<(), WireFault>
     ensures { Passes result reader.new (form_at (extensions count []) reader.old) }
 {
@@ -344,7 +343,6 @@ fn own_extensions<'a>(
 }
 
 /// Reads so many pairs behind those that were found.
-#[tactic(auto, using(crate::proofs::ExtensionLemmas::one_pair, crate::proofs::ExtensionLemmas::no_pair, crate::proofs::ExtensionLemmas::no_more))]
 fn keep_extensions<'a>(
     count: u32,
     reader: &mut Reader<'a>,

@@ -314,10 +314,13 @@ fn put_userauth_request(
     ensures well { OnOk result (IsWellFormed (content.UserauthRequest user.now service.now (method_of method.now))) }
     ensures err { OnErr result (take (length out.old.items) out.new.items ≡ out.old.items) }
 {
-    out.push(SSH_MSG_USERAUTH_REQUEST)?;
-    put_string(out, user.as_bytes())?;
-    put_string(out, service)?;
-    put_string(out, method.name())?;
+    put_three_strings(
+        out,
+        SSH_MSG_USERAUTH_REQUEST,
+        user.as_bytes(),
+        service,
+        method.name(),
+    )?;
     put_method_fields(out, method)
 }
 
@@ -406,7 +409,6 @@ fn put_ext_info(out: &mut Vec<u8>, extensions: &[Extension<'_>]) -> Result<(), M
 }
 
 /// Appends pairs of a name and a value.
-#[tactic(auto, using(crate::proofs::PutLemmas::pairs_more))]
 fn put_extensions(out: &mut Vec<u8>, extensions: &[Extension<'_>]) -> Result<(), Memory>
     requires { length (pairs_written (pairs_of extensions.now)) ≤ PAYLOAD_LIMIT }
     ensures ok { OnOk result (out.new.items ≡ out.old.items ++ pairs_written (pairs_of extensions.now)) }
