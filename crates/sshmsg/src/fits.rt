@@ -31,7 +31,7 @@ impl<'a> Message<'a> {
     }
 
     /// The length of the payload, or some length above the limit where its own is.
-    #[tactic(auto, unfolding(crate::specs::Written::written_message), using(crate::proofs::LengthLemmas::exactly))]
+    #[tactic(auto, unfolding(crate::specs::Written::written_message), using(crate::proofs::LengthLemmas::exactly, crate::proofs::LengthLemmas::failure_length))]
     fn len(&self) -> u128
         ensures { IsCapped result (length (written_message (content_of self.now))) }
     {
@@ -65,7 +65,7 @@ impl<'a> Message<'a> {
                 user,
                 service,
                 method,
-            } => two_len(1, user.as_bytes(), service) + method_len(method),
+            } => request_len(user.as_bytes(), service, method),
             Message::UserauthFailure { methods, .. } => 2 + methods.written_len() as u128,
             Message::UserauthSuccess => 1,
             Message::UserauthBanner { text, language } => two_len(1, text, language),
@@ -115,6 +115,13 @@ fn kexinit_len(kexinit: &KexInit<'_>) -> u128
         + kexinit.languages_client_to_server.written_len() as u128
         + kexinit.languages_server_to_client.written_len() as u128;
     6 + cookie_len + algorithms
+}
+
+/// The length of a USERAUTH_REQUEST.
+fn request_len(user: &[u8], service: &[u8], method: &Method<'_>) -> u128
+    ensures { result ≡ length (written_message (content.UserauthRequest user.now service.now (method_of method.now))) }
+{
+    two_len(1, user, service) + method_len(method)
 }
 
 /// The name of a method and its fields.
