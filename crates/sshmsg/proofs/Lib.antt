@@ -3,6 +3,7 @@ pub mod ExtensionLemmas
 pub mod LengthLemmas
 pub mod ListLemmas
 pub mod NumberLemmas
+pub mod OfferLemmas
 pub mod PutLemmas
 pub mod ShareLemmas
 pub mod SizeLemmas

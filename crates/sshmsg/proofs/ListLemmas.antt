@@ -3,9 +3,9 @@
 use Rattle.std.proofs.Common.{◌≡◌, ℕ, ◌+◌, ◌-◌, ◌<◌, List, [], ◌∷◌, ◌++◌, length, Result, Ok, refl, sym, ◌∙◌, arith}
 use Rattle.sshwire.specs.declared.fault.WireFault.{WireFault}
 use Rattle.sshwire.specs.declared.share_form.ShareForm.{ShareForm}
-use Rattle.sshwire.specs.TypeReadings.{string_at}
 use Rattle.sshmsg.specs.Content.{Content}
 use Rattle.sshmsg.specs.Form.{form_at}
+use Rattle.sshmsg.specs.Lists.{pair_at}
 use Rattle.sshmsg.specs.Messages.{ext_info, extensions, form_of, kexinit, message_in, userauth_failure, whole_form}
 use Rattle.sshmsg.specs.View.{HoldsList}
 use Rattle.sshmsg.proofs.ExtensionLemmas.{one_pair}
@@ -21,12 +21,10 @@ pub wanted : (n : ℕ) (r : Result (Content × List ℕ) WireFault) (m : Content
 wanted n r m rest holds e none = (m, read_whole n r m rest e none, holds)
 
 -- what stands behind a pair, behind some pairs more
-pub pass_pair : (count counter : ℕ) (all bytes name rest value behind : List ℕ) → counter < count
-    → string_at bytes ≡ Ok (name, rest) → string_at rest ≡ Ok (value, behind)
+pub pass_pair : (count counter : ℕ) (all bytes : List ℕ) (pair : List ℕ × List ℕ) (behind : List ℕ) → counter < count → pair_at bytes ≡ Ok (pair, behind)
     → ((found : List (List ℕ × List ℕ)) × (form_at (extensions (count - counter) found) bytes ≡ form_at (extensions count []) all))
     → (found : List (List ℕ × List ℕ)) × (form_at (extensions (count - (counter + 1)) found) behind ≡ form_at (extensions count []) all)
-pass_pair count counter all bytes name rest value behind h e f (found, is) =
-    (found ++ (name, value) ∷ [], sym (one_pair count counter found bytes name rest value behind h e f) ∙ is)
+pass_pair count counter all bytes pair behind h e (found, is) = (found ++ pair ∷ [], sym (one_pair count counter found bytes pair behind h e) ∙ is)
 
 -- The rows of the messages that hold lists, in whatever form shares are.
 pub ext_info_read : (shares : ShareForm) (payload fields : List ℕ) → payload ≡ 7 ∷ fields → message_in shares payload ≡ whole_form 7 (form_at ext_info fields)

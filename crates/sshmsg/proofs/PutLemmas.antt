@@ -21,14 +21,11 @@ keeps_on (Err e) old more mid new is keeps =
     sym (take-take (length old) (length (old ++ more)) new within)
     ∙ (ap (λ (xs : List ℕ). take (length old) xs) kept ∙ take_at old more (length old) refl)
 
--- the parts of a KEXINIT, one behind another
+-- the parts of a KEXINIT, one behind another: two lists, and four, and four
 pub thirteen_parts : (out a b c d e f g h i j k l m n : List ℕ)
-    → (((((((((((((out ++ a) ++ b) ++ c) ++ d) ++ e) ++ f) ++ g) ++ h) ++ i) ++ j) ++ k) ++ l) ++ m) ++ n
+    → ((((out ++ a) ++ b) ++ ((c ++ d) ++ (((e ++ f) ++ (g ++ h)) ++ ((i ++ j) ++ (k ++ l))))) ++ m) ++ n
     ≡ out ++ (a ++ (b ++ (c ++ (d ++ (e ++ (f ++ (g ++ (h ++ (i ++ (j ++ (k ++ (l ++ (m ++ n)))))))))))))
 thirteen_parts out a b c d e f g h i j k l m n = simp append_assoc
-
-pub four_parts : (out a b c d : List ℕ) → (((out ++ a) ++ b) ++ c) ++ d ≡ out ++ (a ++ (b ++ (c ++ d)))
-four_parts out a b c d = simp append_assoc
 
 pub few_pairs : (pairs : List (List ℕ × List ℕ)) → length pairs ≤ length (pairs_written pairs)
 few_pairs [] = lit≤ tt

@@ -1,6 +1,7 @@
 -- How long the payload of a message is, by its parts.
 
-use Rattle.std.specs.Prelude.{ℕ, ◌+◌, List, [], ◌∷◌, length}
+use Rattle.std.specs.Prelude.{◌≡◌, ℕ, ◌+◌, ◌≤◌, List, [], ◌∷◌, length, nat_le}
+use Rattle.sshwire.specs.declared.limits.TheConstants.{PAYLOAD_LIMIT}
 use Rattle.sshwire.specs.Types.{names_body}
 use Rattle.sshmsg.specs.Content.{Content, Debug, Disconnect, ExtInfo, Ignore, KexEcdhInit, KexEcdhReply, KexInit, KexdhInit, KexdhReply, Method, NewKeys, NoMethod, Offer, OtherMethod, Password, PasswordChange, PublicKey, PublicKeyQuery, ServiceAccept, ServiceRequest, Unimplemented, UserauthBanner, UserauthFailure, UserauthPkOk, UserauthRequest, UserauthSuccess}
 use Rattle.sshmsg.specs.Written.{method_name}
@@ -48,3 +49,7 @@ payload_length (UserauthFailure methods partial_success) = length (names_body me
 payload_length UserauthSuccess = 1
 payload_length (UserauthBanner text language) = length text + length language + 9
 payload_length (UserauthPkOk algorithm key) = length algorithm + length key + 9
+
+-- the number is this length, or both are above the limit
+unfoldable pub IsCapped : ℕ → ℕ → Type 0
+IsCapped number len = (nat_le number PAYLOAD_LIMIT ≡ nat_le len PAYLOAD_LIMIT) × (len ≤ PAYLOAD_LIMIT → number ≡ len)

@@ -1,6 +1,7 @@
 pub mod Content
 pub mod Form
 pub mod Lengths
+pub mod Lists
 pub mod Messages
 pub mod Numbers
 pub mod View

@@ -1,9 +1,10 @@
 //! How long the payload of a message is.
 
 ghost use Rattle.sshwire.specs.declared.limits.TheConstants.{PAYLOAD_LIMIT};
-ghost use Rattle.std.specs.Prelude.{◌≡◌, ◌≤◌, ◌<◌, ◌^◌, ◌++◌, length, nat_le};
+ghost use Rattle.std.specs.Prelude.{◌≡◌, ◌≤◌, ◌<◌, ◌+◌, ◌^◌, ◌++◌, length, nat_le};
 ghost use Rattle.sshwire.specs.Types.{string};
 ghost use Rattle.sshmsg.specs.Content as content;
+ghost use Rattle.sshmsg.specs.Lengths.{IsCapped};
 ghost use Rattle.sshmsg.specs.View.{content_of, method_of, offer_of, pair_of, pairs_of};
 ghost use Rattle.sshmsg.specs.Written.{method_fields, method_name, pair_written, pairs_written, written_message};
 
@@ -13,6 +14,7 @@ use sshwire::PAYLOAD_LIMIT;
 impl<'a> Message<'a> {
     /// Whether the payload that [`write`](crate::write) appends has at most 32768 bytes. Takes no
     /// memory.
+    #[tactic(auto, using(crate::proofs::LengthLemmas::capped_limit))]
     pub fn fits(&self) -> bool
         ensures { result ≡ nat_le (length (written_message (content_of self.now))) PAYLOAD_LIMIT }
     {
@@ -20,6 +22,7 @@ impl<'a> Message<'a> {
     }
 
     /// How much room to ask for before the message is written: that of its payload.
+    #[tactic(auto, using(crate::proofs::LengthLemmas::capped_exact))]
     pub(crate) fn room(&self) -> usize
         requires { length (written_message (content_of self.now)) ≤ PAYLOAD_LIMIT }
         ensures { result ≡ length (written_message (content_of self.now)) }
@@ -28,56 +31,71 @@ impl<'a> Message<'a> {
     }
 
     /// The length of the payload, or some length above the limit where its own is.
-    #[tactic(auto, unfolding(crate::specs::Written::written_message))]
+    #[tactic(auto, unfolding(crate::specs::Written::written_message), using(crate::proofs::LengthLemmas::exactly, crate::proofs::LengthLemmas::failure_length))]
     fn len(&self) -> u128
-        ensures limit { nat_le result PAYLOAD_LIMIT ≡ nat_le (length (written_message (content_of self.now))) PAYLOAD_LIMIT }
-        ensures exact { length (written_message (content_of self.now)) ≤ PAYLOAD_LIMIT → result ≡ length (written_message (content_of self.now)) }
+        ensures { IsCapped result (length (written_message (content_of self.now))) }
     {
         match self {
             Message::Disconnect {
                 description,
                 language,
                 ..
-            } => 5 + string_len(description) + string_len(language),
-            Message::Ignore { content } => 1 + string_len(content),
+            } => two_len(5, description, language),
+            Message::Ignore { content } => string_len(1, content),
             Message::Unimplemented { .. } => 5,
-            Message::Debug { text, language, .. } => 2 + string_len(text) + string_len(language),
-            Message::ServiceRequest { service } => 1 + string_len(service),
-            Message::ServiceAccept { service } => 1 + string_len(service),
+            Message::Debug { text, language, .. } => two_len(2, text, language),
+            Message::ServiceRequest { service } => string_len(1, service),
+            Message::ServiceAccept { service } => string_len(1, service),
             Message::ExtInfo { extensions } => ext_info_len(extensions),
             Message::KexInit(kexinit) => kexinit_len(kexinit),
             Message::NewKeys => 1,
-            Message::KexdhInit { e } => 1 + string_len(e.body()),
+            Message::KexdhInit { e } => string_len(1, e.body()),
             Message::KexdhReply {
                 host_key,
                 f,
                 signature,
-            } => 1 + string_len(host_key) + string_len(f.body()) + string_len(signature),
-            Message::KexEcdhInit { client_share } => 1 + string_len(client_share),
+            } => three_len(1, host_key, f.body(), signature),
+            Message::KexEcdhInit { client_share } => string_len(1, client_share),
             Message::KexEcdhReply {
                 host_key,
                 server_share,
                 signature,
-            } => 1 + string_len(host_key) + string_len(server_share) + string_len(signature),
+            } => three_len(1, host_key, server_share, signature),
             Message::UserauthRequest {
                 user,
                 service,
                 method,
-            } => 1 + string_len(user.as_bytes()) + string_len(service) + method_len(method),
+            } => request_len(user.as_bytes(), service, method),
             Message::UserauthFailure { methods, .. } => 2 + methods.written_len() as u128,
             Message::UserauthSuccess => 1,
-            Message::UserauthBanner { text, language } => {
-                1 + string_len(text) + string_len(language)
-            }
-            Message::UserauthPkOk { algorithm, key } => 1 + string_len(algorithm) + string_len(key),
+            Message::UserauthBanner { text, language } => two_len(1, text, language),
+            Message::UserauthPkOk { algorithm, key } => two_len(1, algorithm, key),
         }
     }
 }
 
-fn string_len(bytes: &[u8]) -> u128
-    ensures { result ≡ length (string bytes.now) }
+/// So many bytes, and a string.
+fn string_len(before: u8, bytes: &[u8]) -> u128
+    ensures len { result ≡ before + length (string bytes.now) }
+    ensures bounded { result < 2 ^ 65 }
 {
-    4 + bytes.len() as u128
+    before as u128 + 4 + bytes.len() as u128
+}
+
+/// So many bytes, and two strings.
+fn two_len(before: u8, first: &[u8], second: &[u8]) -> u128
+    ensures len { result ≡ before + length (string first.now ++ string second.now) }
+    ensures bounded { result < 2 ^ 66 }
+{
+    string_len(before, first) + string_len(0, second)
+}
+
+/// So many bytes, and three strings.
+fn three_len(before: u8, first: &[u8], second: &[u8], third: &[u8]) -> u128
+    ensures len { result ≡ before + length (string first.now ++ (string second.now ++ string third.now)) }
+    ensures bounded { result < 2 ^ 67 }
+{
+    string_len(before, first) + two_len(0, second, third)
 }
 
 #[tactic(auto, unfolding(crate::specs::Written::written_message))]
@@ -99,6 +117,13 @@ fn kexinit_len(kexinit: &KexInit<'_>) -> u128
     6 + cookie_len + algorithms
 }
 
+/// The length of a USERAUTH_REQUEST.
+fn request_len(user: &[u8], service: &[u8], method: &Method<'_>) -> u128
+    ensures { result ≡ length (written_message (content.UserauthRequest user.now service.now (method_of method.now))) }
+{
+    two_len(1, user, service) + method_len(method)
+}
+
 /// The name of a method and its fields.
 fn method_len(method: &Method<'_>) -> u128
     ensures len { result ≡ length (string (method_name (method_of method.now)) ++ method_fields (method_of method.now)) }
@@ -106,30 +131,29 @@ fn method_len(method: &Method<'_>) -> u128
 {
     match method {
         Method::None => 8,
-        Method::Password { password } => 13 + string_len(password),
-        Method::PasswordChange { old, new } => 13 + string_len(old) + string_len(new),
+        Method::Password { password } => string_len(13, password),
+        Method::PasswordChange { old, new } => two_len(13, old, new),
         Method::PublicKey {
             algorithm,
             key,
             signature,
-        } => 14 + string_len(algorithm) + string_len(key) + string_len(signature),
-        Method::PublicKeyQuery { algorithm, key } => 14 + string_len(algorithm) + string_len(key),
-        Method::Other(other) => string_len(other.name()) + other.fields().len() as u128,
+        } => three_len(14, algorithm, key, signature),
+        Method::PublicKeyQuery { algorithm, key } => two_len(14, algorithm, key),
+        Method::Other(other) => string_len(0, other.name()) + other.fields().len() as u128,
     }
 }
 
 /// The length of an EXT_INFO, or some length above the limit where its own is.
 #[tactic(auto, using(crate::proofs::LengthLemmas::too_long, crate::proofs::LengthLemmas::length_more, crate::proofs::LengthLemmas::length_all))]
 fn ext_info_len(extensions: &[Extension<'_>]) -> u128
-    ensures limit { nat_le result PAYLOAD_LIMIT ≡ nat_le (length (written_message (content.ExtInfo (pairs_of extensions.now)))) PAYLOAD_LIMIT }
-    ensures exact { length (written_message (content.ExtInfo (pairs_of extensions.now))) ≤ PAYLOAD_LIMIT → result ≡ length (written_message (content.ExtInfo (pairs_of extensions.now))) }
+    ensures { IsCapped result (length (written_message (content.ExtInfo (pairs_of extensions.now)))) }
 {
     let mut len = 5;
     for extension in extensions {
         if len > PAYLOAD_LIMIT as u128 {
             return len;
         }
-        len += string_len(extension.name) + string_len(extension.value);
+        len += two_len(0, extension.name, extension.value);
     }
     len
 }

@@ -6,7 +6,6 @@
 //! the message.
 #![tactic(auto)]
 
-mod debug;
 mod fault;
 mod fits;
 mod law;
@@ -14,6 +13,7 @@ mod limits_laws;
 mod lists;
 mod message;
 mod numbers;
+mod owned;
 mod reading;
 mod writing;
 

@@ -7,11 +7,13 @@ ghost use Rattle.sshwire.specs.TypeReadings.{Gives};
 ghost use Rattle.sshmsg.specs.Content as content;
 ghost use Rattle.sshmsg.specs.Form.{Reserved, bytes_at, field_at, form_at};
 ghost use Rattle.sshmsg.specs.Messages.{ext_info, extensions, kexinit, userauth_failure, whole_form};
-ghost use Rattle.sshmsg.specs.View.{Answers, Goes, LendsPairs, Passes, WantsMemory, lent_offer, offer_of, pairs_of};
+ghost use Rattle.sshmsg.specs.View.{Answers, Goes, LendsPairs, Passes, WantsMemory, lent_offer, offer_of, pair_of, pairs_of};
+ghost use Rattle.sshmsg.specs.Lists.{end_at, four_at, offer_with, pair_at, ten_at, two_at};
 
 use crate::fault::MsgFault;
 use crate::message::{Extension, KexInit, Message};
 use crate::numbers::{SSH_MSG_EXT_INFO, SSH_MSG_KEXINIT, SSH_MSG_USERAUTH_FAILURE};
+use crate::owned::{beside, once};
 use sshwire::{BorrowedNameList, Memory, NameList, Reader, WireFault};
 use std::alloc::Global;
 
@@ -50,74 +52,114 @@ pub(crate) fn read_kexinit<'a>(alloc: Global, fields: &'a [u8]) -> Result<Messag
     }
 }
 
-#[tactic(auto, unfolding(crate::specs::Messages::kexinit))]
+/// Reads what a KEXINIT says, with nothing owned.
 fn lend_kexinit<'a>(reader: &mut Reader<'a>) -> Result<LentKexInit<'a>, WireFault>
     ensures { Goes (λ k. content.KexInit (lent_offer k)) result reader.new (form_at kexinit reader.old) }
 {
     let cookie = read_cookie(reader)?;
-    let kex_algorithms = reader.borrowed_name_list()?;
-    let server_host_key_algorithms = reader.borrowed_name_list()?;
-    let encryption_client_to_server = reader.borrowed_name_list()?;
-    let encryption_server_to_client = reader.borrowed_name_list()?;
-    let mac_client_to_server = reader.borrowed_name_list()?;
-    let mac_server_to_client = reader.borrowed_name_list()?;
-    let compression_client_to_server = reader.borrowed_name_list()?;
-    let compression_server_to_client = reader.borrowed_name_list()?;
-    let languages_client_to_server = reader.borrowed_name_list()?;
-    let languages_server_to_client = reader.borrowed_name_list()?;
-    let first_kex_packet_follows = reader.boolean()?;
-    read_reserved(reader)?;
-    Ok(LentKexInit {
+    let lists = lend_ten(reader)?;
+    let follows = read_end(reader);
+    let (lists, follows) = beside(lists, follows)?;
+    Ok(lent_kexinit(cookie, lists, follows))
+}
+
+/// Two lists that are lent.
+type LentTwo<'a> = (BorrowedNameList<'a>, BorrowedNameList<'a>);
+
+/// Four lists that are lent, in pairs.
+type LentFour<'a> = (LentTwo<'a>, LentTwo<'a>);
+
+/// The ten lists of a KEXINIT that are lent: two, and four, and four.
+type LentTen<'a> = ((LentTwo<'a>, LentFour<'a>), LentFour<'a>);
+
+/// The KEXINIT that says this, all of it lent.
+fn lent_kexinit<'a>(cookie: &'a [u8; 16], lists: LentTen<'a>, follows: bool) -> LentKexInit<'a>
+    ensures { lent_offer result ≡ offer_with cookie.now lists.entry follows }
+{
+    let ((algorithms, (encryption, mac)), (compression, languages)) = lists;
+    LentKexInit {
         cookie,
-        kex_algorithms,
-        server_host_key_algorithms,
-        encryption_client_to_server,
-        encryption_server_to_client,
-        mac_client_to_server,
-        mac_server_to_client,
-        compression_client_to_server,
-        compression_server_to_client,
-        languages_client_to_server,
-        languages_server_to_client,
-        first_kex_packet_follows,
-    })
+        kex_algorithms: algorithms.0,
+        server_host_key_algorithms: algorithms.1,
+        encryption_client_to_server: encryption.0,
+        encryption_server_to_client: encryption.1,
+        mac_client_to_server: mac.0,
+        mac_server_to_client: mac.1,
+        compression_client_to_server: compression.0,
+        compression_server_to_client: compression.1,
+        languages_client_to_server: languages.0,
+        languages_server_to_client: languages.1,
+        first_kex_packet_follows: follows,
+    }
+}
+
+/// Reads ten lists.
+#[tactic(auto, unfolding(crate::specs::Lists::ten_at))]
+fn lend_ten<'a>(reader: &mut Reader<'a>) -> Result<LentTen<'a>, WireFault>
+    ensures { Goes (λ lists. lists) result reader.new (ten_at reader.old) }
+{
+    let two = lend_two(reader)?;
+    let four = lend_four(reader);
+    let six = beside(two, four)?;
+    let four = lend_four(reader);
+    beside(six, four)
+}
+
+/// Reads four lists.
+#[tactic(auto, unfolding(crate::specs::Lists::four_at))]
+fn lend_four<'a>(reader: &mut Reader<'a>) -> Result<LentFour<'a>, WireFault>
+    ensures { Goes (λ lists. lists) result reader.new (four_at reader.old) }
+{
+    let first = lend_two(reader)?;
+    let other = lend_two(reader);
+    beside(first, other)
+}
+
+/// Reads two lists.
+#[tactic(auto, unfolding(crate::specs::Lists::two_at))]
+fn lend_two<'a>(reader: &mut Reader<'a>) -> Result<LentTwo<'a>, WireFault>
+    ensures { Goes (λ lists. lists) result reader.new (two_at reader.old) }
+{
+    let first = reader.borrowed_name_list()?;
+    let other = reader.borrowed_name_list();
+    beside(first, other)
+}
+
+/// Reads what stands behind the lists of a KEXINIT: whether a packet follows, and the reserved word.
+fn read_end(reader: &mut Reader<'_>) -> Result<bool, WireFault>
+    ensures { Goes (λ follows. follows) result reader.new (end_at reader.old) }
+{
+    let follows = reader.boolean()?;
+    read_reserved(reader)?;
+    Ok(follows)
 }
 
 /// The KEXINIT with lists of its own, in a box.
 fn own_kexinit<'a>(alloc: Global, lent: &LentKexInit<'a>) -> Result<Box<KexInit<'a>>, Memory>
     ensures { IfOk result (λ k. offer_of k.value ≡ lent_offer lent.now) }
 {
-    let kexinit = own_lists(alloc, lent)?;
-    Ok(Box::new(alloc, kexinit)?)
+    let lists = own_lists(alloc, lent)?;
+    Ok(Box::new(alloc, owned_kexinit(lent, lists))?)
 }
 
-/// The KEXINIT with lists of its own.
-fn own_lists<'a>(alloc: Global, lent: &LentKexInit<'a>) -> Result<KexInit<'a>, Memory>
-    ensures { IfOk result (λ k. offer_of k ≡ lent_offer lent.now) }
+/// Two lists of their own.
+type Two = (NameList, NameList);
+
+/// Four lists of their own, in pairs.
+type Four = (Two, Two);
+
+/// The ten lists of a KEXINIT of their own: two, and four, and four.
+type Ten = ((Two, Four), Four);
+
+/// The KEXINIT with these lists.
+fn owned_kexinit<'a>(lent: &LentKexInit<'a>, lists: Ten) -> KexInit<'a>
+    ensures { offer_of result ≡ offer_with lent.now.cookie.now lists lent.now.first_kex_packet_follows }
 {
-    let (kex_algorithms, server_host_key_algorithms) = own_two(
-        alloc,
-        &lent.kex_algorithms,
-        &lent.server_host_key_algorithms,
-    )?;
-    let (encryption, mac) = own_four(
-        alloc,
-        &lent.encryption_client_to_server,
-        &lent.encryption_server_to_client,
-        &lent.mac_client_to_server,
-        &lent.mac_server_to_client,
-    )?;
-    let (compression, languages) = own_four(
-        alloc,
-        &lent.compression_client_to_server,
-        &lent.compression_server_to_client,
-        &lent.languages_client_to_server,
-        &lent.languages_server_to_client,
-    )?;
-    Ok(KexInit {
+    let ((algorithms, (encryption, mac)), (compression, languages)) = lists;
+    KexInit {
         cookie: lent.cookie,
-        kex_algorithms,
-        server_host_key_algorithms,
+        kex_algorithms: algorithms.0,
+        server_host_key_algorithms: algorithms.1,
         encryption_client_to_server: encryption.0,
         encryption_server_to_client: encryption.1,
         mac_client_to_server: mac.0,
@@ -127,11 +169,35 @@ fn own_lists<'a>(alloc: Global, lent: &LentKexInit<'a>) -> Result<KexInit<'a>, M
         languages_client_to_server: languages.0,
         languages_server_to_client: languages.1,
         first_kex_packet_follows: lent.first_kex_packet_follows,
-    })
+    }
 }
 
-/// Two lists of their own.
-type Two = (NameList, NameList);
+/// The lists of a KEXINIT, owned.
+fn own_lists(alloc: Global, lent: &LentKexInit<'_>) -> Result<Ten, Memory>
+    ensures { IfOk result (λ lists. offer_with lent.now.cookie.now lists lent.now.first_kex_packet_follows ≡ lent_offer lent.now) }
+{
+    let two = own_two(
+        alloc,
+        &lent.kex_algorithms,
+        &lent.server_host_key_algorithms,
+    )?;
+    let four = own_four(
+        alloc,
+        &lent.encryption_client_to_server,
+        &lent.encryption_server_to_client,
+        &lent.mac_client_to_server,
+        &lent.mac_server_to_client,
+    );
+    let six = beside(two, four)?;
+    let four = own_four(
+        alloc,
+        &lent.compression_client_to_server,
+        &lent.compression_server_to_client,
+        &lent.languages_client_to_server,
+        &lent.languages_server_to_client,
+    );
+    beside(six, four)
+}
 
 /// Four lists of their own, in pairs.
 fn own_four(
@@ -140,15 +206,12 @@ fn own_four(
     second: &BorrowedNameList<'_>,
     third: &BorrowedNameList<'_>,
     fourth: &BorrowedNameList<'_>,
-) -> Result<(Two, Two), Memory>
-    ensures first { IfOk result (λ four. four.0.0 ≡ first.now) }
-    ensures second { IfOk result (λ four. four.0.1 ≡ second.now) }
-    ensures third { IfOk result (λ four. four.1.0 ≡ third.now) }
-    ensures fourth { IfOk result (λ four. four.1.1 ≡ fourth.now) }
+) -> Result<Four, Memory>
+    ensures { IfOk result (λ four. four ≡ ((first.now, second.now), (third.now, fourth.now))) }
 {
     let one = own_two(alloc, first, second)?;
-    let other = own_two(alloc, third, fourth)?;
-    Ok((one, other))
+    let other = own_two(alloc, third, fourth);
+    beside(one, other)
 }
 
 /// Two lists of their own.
@@ -157,12 +220,11 @@ fn own_two(
     first: &BorrowedNameList<'_>,
     second: &BorrowedNameList<'_>,
 ) -> Result<Two, Memory>
-    ensures first { IfOk result (λ two. two.0 ≡ first.now) }
-    ensures second { IfOk result (λ two. two.1 ≡ second.now) }
+    ensures { IfOk result (λ two. two ≡ (first.now, second.now)) }
 {
     let first = first.to_owned(alloc)?;
-    let second = second.to_owned(alloc)?;
-    Ok((first, second))
+    let second = second.to_owned(alloc);
+    beside(first, second)
 }
 
 /// The 16 bytes of the cookie.
@@ -258,19 +320,16 @@ fn lend_ext_info<'a>(reader: &mut Reader<'a>) -> Result<(u32, Reader<'a>), WireF
 }
 
 /// Judges so many pairs.
-#[tactic(auto, using(crate::proofs::ExtensionLemmas::one_pair, crate::proofs::ExtensionLemmas::no_name, crate::proofs::ExtensionLemmas::no_value, crate::proofs::ExtensionLemmas::no_more))]
 fn pass_extensions(count: u32, reader: &mut Reader<'_>) -> Result<(), WireFault>
     ensures { Passes result reader.new (form_at (extensions count []) reader.old) }
 {
     for _ in 0..count {
-        reader.string()?;
-        reader.string()?;
+        read_extension(reader)?;
     }
     Ok(())
 }
 
 /// So many pairs, which stand there: room for them is asked for once.
-#[tactic(auto, using(crate::proofs::ExtensionLemmas::one_pair, crate::proofs::ExtensionLemmas::no_name, crate::proofs::ExtensionLemmas::no_value, crate::proofs::ExtensionLemmas::no_more))]
 fn own_extensions<'a>(
     alloc: Global,
     count: u32,
@@ -278,16 +337,37 @@ fn own_extensions<'a>(
 ) -> Result<Vec<Extension<'a>>, WireFault>
     ensures { Gives (λ xs. (content.ExtInfo (pairs_of xs.items), reader.new)) result (form_at (extensions count []) reader.old) }
 {
-    let mut extensions = with_room(alloc, count)?;
+    let mut found = with_room(alloc, count)?;
+    let kept = keep_extensions(count, reader, &mut found);
+    once(found, kept)
+}
+
+/// Reads so many pairs behind those that were found.
+fn keep_extensions<'a>(
+    count: u32,
+    reader: &mut Reader<'a>,
+    found: &mut Vec<Extension<'a>>,
+) -> Result<(), WireFault>
+    ensures { Gives (λ _. (content.ExtInfo (pairs_of found.new.items), reader.new)) result (form_at (extensions count (pairs_of found.old.items)) reader.old) }
+{
     for _ in 0..count {
-        let name = reader.string()?;
-        let value = reader.string()?;
-        match extensions.push(Extension { name, value }) {
+        let extension = read_extension(reader)?;
+        match found.push(extension) {
             Ok(()) => {}
             Err(_) => return Err(WireFault::Memory),
         }
     }
-    Ok(extensions)
+    Ok(())
+}
+
+/// Reads a pair of a name and a value.
+#[tactic(auto, unfolding(crate::specs::Lists::pair_at))]
+fn read_extension<'a>(reader: &mut Reader<'a>) -> Result<Extension<'a>, WireFault>
+    ensures { Goes pair_of result reader.new (pair_at reader.old) }
+{
+    let name = reader.string()?;
+    let value = reader.string()?;
+    Ok(Extension { name, value })
 }
 
 /// No pairs, with room for so many.

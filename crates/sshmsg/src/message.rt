@@ -47,8 +47,10 @@ pub struct Extension<'a> {
 ///
 /// Contracts see the name and the fields. `Debug` prints the name alone.
 #[derive(Drop)]
+#[derive_where(Debug)]
 pub struct OtherMethod<'a> {
     name: &'a [u8],
+    #[derive_where(skip)]
     fields: &'a [u8],
 }
 
@@ -104,19 +106,23 @@ impl<'a> OtherMethod<'a> {
 /// The method of a USERAUTH_REQUEST with its fields (RFC 4252 sections 5 to 8). `Debug` prints no
 /// password and no signature.
 #[derive(Drop)]
+#[derive_where(Debug)]
 pub enum Method<'a> {
     /// `none`.
     None,
     /// `password` with FALSE.
     Password {
         /// Any bytes.
+        #[derive_where(skip)]
         password: &'a [u8],
     },
     /// `password` with TRUE: a change.
     PasswordChange {
         /// The password until now, any bytes.
+        #[derive_where(skip)]
         old: &'a [u8],
         /// The password from now on, any bytes.
+        #[derive_where(skip)]
         new: &'a [u8],
     },
     /// `publickey` with TRUE.
@@ -126,6 +132,7 @@ pub enum Method<'a> {
         /// The public key, any bytes.
         key: &'a [u8],
         /// The signature by the key, any bytes.
+        #[derive_where(skip)]
         signature: &'a [u8],
     },
     /// `publickey` with FALSE: a query.
@@ -163,6 +170,7 @@ impl<'a> Method<'a> {
 /// kept; its name-lists, and the list of an EXT_INFO's pairs, are its own. `Debug` prints no password
 /// and no signature, and of an IGNORE no content.
 #[derive(Drop)]
+#[derive_where(Debug)]
 pub enum Message<'a> {
     /// DISCONNECT (1, RFC 4253 section 11.1).
     Disconnect {
@@ -176,6 +184,7 @@ pub enum Message<'a> {
     /// IGNORE (2, RFC 4253 section 11.2).
     Ignore {
         /// Any bytes.
+        #[derive_where(skip)]
         content: &'a [u8],
     },
     /// UNIMPLEMENTED (3, RFC 4253 section 11.4).
@@ -223,6 +232,7 @@ pub enum Message<'a> {
         /// The server's share.
         f: Mpint<'a>,
         /// The signature of the exchange hash, any bytes.
+        #[derive_where(skip)]
         signature: &'a [u8],
     },
     /// KEX_ECDH_INIT (30, RFC 5656 section 4), where shares are octet strings.
@@ -237,6 +247,7 @@ pub enum Message<'a> {
         /// The server's share, any bytes.
         server_share: &'a [u8],
         /// The signature of the exchange hash, any bytes.
+        #[derive_where(skip)]
         signature: &'a [u8],
     },
     /// USERAUTH_REQUEST (50, RFC 4252 section 5).

@@ -5,6 +5,7 @@ ghost use Rattle.std.specs.Prelude.{◌≡◌, ◌≤◌, ◌++◌, ◌∷◌, [
 ghost use Rattle.sshwire.specs.Types.{string};
 ghost use Rattle.sshwire.specs.declared.share_form.ShareForm.{ShareForm};
 ghost use Rattle.sshmsg.specs.Content as content;
+ghost use Rattle.sshmsg.specs.Lists.{AreFour, AreLists, AreTwo, four_written, lists_written, two_written};
 ghost use Rattle.sshmsg.specs.Messages.{Spells};
 ghost use Rattle.sshmsg.specs.View.{content_of, method_of, offer_of, pair_of, pairs_of};
 ghost use Rattle.sshmsg.specs.Written.{IsMessageOf, IsMethod, IsWellFormed, method_fields, pair_written, pairs_written, written_message};
@@ -71,12 +72,12 @@ fn put_message(out: &mut Vec<u8>, message: &Message<'_>) -> Result<(), Memory>
         Message::ExtInfo { extensions } => put_ext_info(out, extensions),
         Message::KexInit(kexinit) => put_kexinit(out, kexinit),
         Message::NewKeys => put_number(out, SSH_MSG_NEWKEYS),
-        Message::KexdhInit { e } => put_kexdh_init(out, e),
+        Message::KexdhInit { e } => put_one_string(out, SSH_MSG_KEXDH_INIT, e.body()),
         Message::KexdhReply {
             host_key,
             f,
             signature,
-        } => put_kexdh_reply(out, host_key, f, signature),
+        } => put_three_strings(out, SSH_MSG_KEXDH_REPLY, host_key, f.body(), signature),
         Message::KexEcdhInit { client_share } => put_one_string(
             out,
             SSH_MSG_KEX_ECDH_INIT,
@@ -86,7 +87,13 @@ fn put_message(out: &mut Vec<u8>, message: &Message<'_>) -> Result<(), Memory>
             host_key,
             server_share,
             signature,
-        } => put_kex_ecdh_reply(out, host_key, server_share, signature),
+        } => put_three_strings(
+            out,
+            SSH_MSG_KEX_ECDH_REPLY,
+            host_key,
+            server_share,
+            signature,
+        ),
         Message::UserauthRequest {
             user,
             service,
@@ -97,8 +104,18 @@ fn put_message(out: &mut Vec<u8>, message: &Message<'_>) -> Result<(), Memory>
             partial_success,
         } => put_userauth_failure(out, methods, *partial_success),
         Message::UserauthSuccess => put_number(out, SSH_MSG_USERAUTH_SUCCESS),
-        Message::UserauthBanner { text, language } => put_userauth_banner(out, text, language),
-        Message::UserauthPkOk { algorithm, key } => put_userauth_pk_ok(out, algorithm, key),
+        Message::UserauthBanner { text, language } => put_two_strings(
+            out,
+            SSH_MSG_USERAUTH_BANNER,
+            text,
+            language,
+        ),
+        Message::UserauthPkOk { algorithm, key } => put_two_strings(
+            out,
+            SSH_MSG_USERAUTH_PK_OK,
+            algorithm,
+            key,
+        ),
     }
 }
 
@@ -118,6 +135,42 @@ fn put_one_string(out: &mut Vec<u8>, number: u8, bytes: &[u8]) -> Result<(), Mem
 {
     out.push(number)?;
     put_string(out, bytes)
+}
+
+/// A message whose two fields are strings.
+fn put_two_strings(out: &mut Vec<u8>, number: u8, first: &[u8], second: &[u8]) -> Result<(), Memory>
+    requires { length (number ∷ (string first.now ++ string second.now)) ≤ PAYLOAD_LIMIT }
+    ensures ok { OnOk result (out.new.items ≡ out.old.items ++ number ∷ (string first.now ++ string second.now)) }
+    ensures err { OnErr result (take (length out.old.items) out.new.items ≡ out.old.items) }
+{
+    out.push(number)?;
+    put_pair(out, first, second)
+}
+
+/// A message whose three fields are strings.
+fn put_three_strings(
+    out: &mut Vec<u8>,
+    number: u8,
+    first: &[u8],
+    second: &[u8],
+    third: &[u8],
+) -> Result<(), Memory>
+    requires { length (number ∷ (string first.now ++ (string second.now ++ string third.now))) ≤ PAYLOAD_LIMIT }
+    ensures ok { OnOk result (out.new.items ≡ out.old.items ++ number ∷ (string first.now ++ (string second.now ++ string third.now))) }
+    ensures err { OnErr result (take (length out.old.items) out.new.items ≡ out.old.items) }
+{
+    put_two_strings(out, number, first, second)?;
+    put_string(out, third)
+}
+
+/// Two strings, one behind the other.
+fn put_pair(out: &mut Vec<u8>, first: &[u8], second: &[u8]) -> Result<(), Memory>
+    requires { length (string first.now ++ string second.now) ≤ PAYLOAD_LIMIT }
+    ensures ok { OnOk result (out.new.items ≡ out.old.items ++ (string first.now ++ string second.now)) }
+    ensures err { OnErr result (take (length out.old.items) out.new.items ≡ out.old.items) }
+{
+    put_string(out, first)?;
+    put_string(out, second)
 }
 
 #[tactic(auto, unfolding(crate::specs::Written::written_message))]
@@ -175,65 +228,63 @@ fn put_kexinit(out: &mut Vec<u8>, kexinit: &KexInit<'_>) -> Result<(), Memory>
     let cookie = kexinit.cookie;
     out.push(SSH_MSG_KEXINIT)?;
     out.extend_from_slice(cookie)?;
-    kexinit.kex_algorithms.write(out)?;
-    kexinit.server_host_key_algorithms.write(out)?;
-    kexinit.encryption_client_to_server.write(out)?;
-    kexinit.encryption_server_to_client.write(out)?;
-    kexinit.mac_client_to_server.write(out)?;
-    kexinit.mac_server_to_client.write(out)?;
-    kexinit.compression_client_to_server.write(out)?;
-    kexinit.compression_server_to_client.write(out)?;
-    kexinit.languages_client_to_server.write(out)?;
-    kexinit.languages_server_to_client.write(out)?;
+    put_lists(out, kexinit)?;
     put_boolean(out, kexinit.first_kex_packet_follows)?;
     put_u32(out, 0)?;
     Ok(())
 }
 
-#[tactic(auto, unfolding(crate::specs::Written::written_message))]
-fn put_kexdh_init(out: &mut Vec<u8>, e: &Mpint<'_>) -> Result<(), Memory>
-    ensures ok { OnOk result (out.new.items ≡ out.old.items ++ written_message (content.KexdhInit e.now)) }
-    ensures well { OnOk result (IsWellFormed (content.KexdhInit e.now)) }
+/// The ten lists of a KEXINIT.
+fn put_lists(out: &mut Vec<u8>, kexinit: &KexInit<'_>) -> Result<(), Memory>
+    ensures ok { OnOk result (out.new.items ≡ out.old.items ++ lists_written (offer_of kexinit.now)) }
+    ensures well { OnOk result (AreLists (offer_of kexinit.now)) }
     ensures err { OnErr result (take (length out.old.items) out.new.items ≡ out.old.items) }
 {
-    out.push(SSH_MSG_KEXDH_INIT)?;
-    put_string(out, e.body())
+    put_two_lists(
+        out,
+        &kexinit.kex_algorithms,
+        &kexinit.server_host_key_algorithms,
+    )?;
+    put_four_lists(
+        out,
+        &kexinit.encryption_client_to_server,
+        &kexinit.encryption_server_to_client,
+        &kexinit.mac_client_to_server,
+        &kexinit.mac_server_to_client,
+    )?;
+    put_four_lists(
+        out,
+        &kexinit.compression_client_to_server,
+        &kexinit.compression_server_to_client,
+        &kexinit.languages_client_to_server,
+        &kexinit.languages_server_to_client,
+    )
 }
 
-#[tactic(auto, unfolding(crate::specs::Written::written_message))]
-fn put_kexdh_reply(
+/// Four lists, one behind the other.
+fn put_four_lists(
     out: &mut Vec<u8>,
-    host_key: &[u8],
-    f: &Mpint<'_>,
-    signature: &[u8],
+    first: &NameList,
+    second: &NameList,
+    third: &NameList,
+    fourth: &NameList,
 ) -> Result<(), Memory>
-    requires { length (written_message (content.KexdhReply host_key.now f.now signature.now)) ≤ PAYLOAD_LIMIT }
-    ensures ok { OnOk result (out.new.items ≡ out.old.items ++ written_message (content.KexdhReply host_key.now f.now signature.now)) }
-    ensures well { OnOk result (IsWellFormed (content.KexdhReply host_key.now f.now signature.now)) }
+    ensures ok { OnOk result (out.new.items ≡ out.old.items ++ four_written ((first.now, second.now), (third.now, fourth.now))) }
+    ensures well { OnOk result (AreFour ((first.now, second.now), (third.now, fourth.now))) }
     ensures err { OnErr result (take (length out.old.items) out.new.items ≡ out.old.items) }
 {
-    out.push(SSH_MSG_KEXDH_REPLY)?;
-    put_string(out, host_key)?;
-    put_string(out, f.body())?;
-    put_string(out, signature)
+    put_two_lists(out, first, second)?;
+    put_two_lists(out, third, fourth)
 }
 
-#[tactic(auto, unfolding(crate::specs::Written::written_message))]
-fn put_kex_ecdh_reply(
-    out: &mut Vec<u8>,
-    host_key: &[u8],
-    server_share: &[u8],
-    signature: &[u8],
-) -> Result<(), Memory>
-    requires { length (written_message (content.KexEcdhReply host_key.now server_share.now signature.now)) ≤ PAYLOAD_LIMIT }
-    ensures ok { OnOk result (out.new.items ≡ out.old.items ++ written_message (content.KexEcdhReply host_key.now server_share.now signature.now)) }
-    ensures well { OnOk result (IsWellFormed (content.KexEcdhReply host_key.now server_share.now signature.now)) }
+/// Two lists, one behind the other.
+fn put_two_lists(out: &mut Vec<u8>, first: &NameList, second: &NameList) -> Result<(), Memory>
+    ensures ok { OnOk result (out.new.items ≡ out.old.items ++ two_written (first.now, second.now)) }
+    ensures well { OnOk result (AreTwo (first.now, second.now)) }
     ensures err { OnErr result (take (length out.old.items) out.new.items ≡ out.old.items) }
 {
-    out.push(SSH_MSG_KEX_ECDH_REPLY)?;
-    put_string(out, host_key)?;
-    put_string(out, server_share)?;
-    put_string(out, signature)
+    first.write(out)?;
+    second.write(out)
 }
 
 #[tactic(auto, unfolding(crate::specs::Written::written_message))]
@@ -252,30 +303,6 @@ fn put_userauth_failure(
 }
 
 #[tactic(auto, unfolding(crate::specs::Written::written_message))]
-fn put_userauth_banner(out: &mut Vec<u8>, text: &[u8], language: &[u8]) -> Result<(), Memory>
-    requires { length (written_message (content.UserauthBanner text.now language.now)) ≤ PAYLOAD_LIMIT }
-    ensures ok { OnOk result (out.new.items ≡ out.old.items ++ written_message (content.UserauthBanner text.now language.now)) }
-    ensures well { OnOk result (IsWellFormed (content.UserauthBanner text.now language.now)) }
-    ensures err { OnErr result (take (length out.old.items) out.new.items ≡ out.old.items) }
-{
-    out.push(SSH_MSG_USERAUTH_BANNER)?;
-    put_string(out, text)?;
-    put_string(out, language)
-}
-
-#[tactic(auto, unfolding(crate::specs::Written::written_message))]
-fn put_userauth_pk_ok(out: &mut Vec<u8>, algorithm: &[u8], key: &[u8]) -> Result<(), Memory>
-    requires { length (written_message (content.UserauthPkOk algorithm.now key.now)) ≤ PAYLOAD_LIMIT }
-    ensures ok { OnOk result (out.new.items ≡ out.old.items ++ written_message (content.UserauthPkOk algorithm.now key.now)) }
-    ensures well { OnOk result (IsWellFormed (content.UserauthPkOk algorithm.now key.now)) }
-    ensures err { OnErr result (take (length out.old.items) out.new.items ≡ out.old.items) }
-{
-    out.push(SSH_MSG_USERAUTH_PK_OK)?;
-    put_string(out, algorithm)?;
-    put_string(out, key)
-}
-
-#[tactic(auto, unfolding(crate::specs::Written::written_message))]
 fn put_userauth_request(
     out: &mut Vec<u8>,
     user: &str,
@@ -287,10 +314,13 @@ fn put_userauth_request(
     ensures well { OnOk result (IsWellFormed (content.UserauthRequest user.now service.now (method_of method.now))) }
     ensures err { OnErr result (take (length out.old.items) out.new.items ≡ out.old.items) }
 {
-    out.push(SSH_MSG_USERAUTH_REQUEST)?;
-    put_string(out, user.as_bytes())?;
-    put_string(out, service)?;
-    put_string(out, method.name())?;
+    put_three_strings(
+        out,
+        SSH_MSG_USERAUTH_REQUEST,
+        user.as_bytes(),
+        service,
+        method.name(),
+    )?;
     put_method_fields(out, method)
 }
 
@@ -330,8 +360,7 @@ fn put_password_change(out: &mut Vec<u8>, old: &[u8], new: &[u8]) -> Result<(), 
     ensures err { OnErr result (take (length out.old.items) out.new.items ≡ out.old.items) }
 {
     put_boolean(out, true)?;
-    put_string(out, old)?;
-    put_string(out, new)
+    put_pair(out, old, new)
 }
 
 fn put_publickey(
@@ -345,8 +374,7 @@ fn put_publickey(
     ensures err { OnErr result (take (length out.old.items) out.new.items ≡ out.old.items) }
 {
     put_boolean(out, true)?;
-    put_string(out, algorithm)?;
-    put_string(out, key)?;
+    put_pair(out, algorithm, key)?;
     put_string(out, signature)
 }
 
@@ -356,8 +384,7 @@ fn put_publickey_query(out: &mut Vec<u8>, algorithm: &[u8], key: &[u8]) -> Resul
     ensures err { OnErr result (take (length out.old.items) out.new.items ≡ out.old.items) }
 {
     put_boolean(out, false)?;
-    put_string(out, algorithm)?;
-    put_string(out, key)
+    put_pair(out, algorithm, key)
 }
 
 fn put_bytes(out: &mut Vec<u8>, bytes: &[u8]) -> Result<(), Memory>
@@ -382,23 +409,13 @@ fn put_ext_info(out: &mut Vec<u8>, extensions: &[Extension<'_>]) -> Result<(), M
 }
 
 /// Appends pairs of a name and a value.
-#[tactic(auto, using(crate::proofs::PutLemmas::pairs_more))]
 fn put_extensions(out: &mut Vec<u8>, extensions: &[Extension<'_>]) -> Result<(), Memory>
     requires { length (pairs_written (pairs_of extensions.now)) ≤ PAYLOAD_LIMIT }
     ensures ok { OnOk result (out.new.items ≡ out.old.items ++ pairs_written (pairs_of extensions.now)) }
     ensures err { OnErr result (take (length out.old.items) out.new.items ≡ out.old.items) }
 {
     for extension in extensions {
-        put_extension(out, extension)?;
+        put_pair(out, extension.name, extension.value)?;
     }
     Ok(())
-}
-
-fn put_extension(out: &mut Vec<u8>, extension: &Extension<'_>) -> Result<(), Memory>
-    requires { length (pair_written (pair_of extension.now)) ≤ PAYLOAD_LIMIT }
-    ensures ok { OnOk result (out.new.items ≡ out.old.items ++ pair_written (pair_of extension.now)) }
-    ensures err { OnErr result (take (length out.old.items) out.new.items ≡ out.old.items) }
-{
-    put_string(out, extension.name)?;
-    put_string(out, extension.value)
 }

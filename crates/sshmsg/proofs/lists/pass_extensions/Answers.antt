@@ -1,11 +1,23 @@
-use Rattle.std.proofs.Common.{rules, ◌≡◌, Ok}
-use Rattle.sshwire.specs.TypeReadings.{string_at}
+use Rattle.std.proofs.Common.{rules, ◌≡◌, [], Err, sym, ◌∙◌, arith}
+use Rattle.sshwire.specs.declared.fault.WireFault.{WireFault}
+use Rattle.sshmsg.specs.Form.{form_at}
+use Rattle.sshmsg.specs.Lists.{pair_at}
+use Rattle.sshmsg.specs.Messages.{extensions}
+use Rattle.sshmsg.specs.View.{pair_of}
+use Rattle.sshmsg.proofs.ExtensionLemmas.{no_more, no_pair}
 use Rattle.sshmsg.proofs.ListLemmas.{pass_pair}
 use Rattle.sshmsg.proofs.lists.pass_extensions.Goals as goal
 
+pub returns-in_err-read_extension : goal.returns-in_err-read_extension
+returns-in_err-read_extension c =
+    let none : (code : WireFault) → pair_at c.loop.reader ≡ Err code → form_at (extensions c.args.count []) c.args.reader.now ≡ Err code =
+    λ code e. sym c.loop.invariant.1 ∙ no_pair c.args.count c.loop.counter c.loop.invariant.0 c.loop.reader code c.loop-test.true e in
+    search (rules, none)
+
 pub loop-preserved : goal.loop-preserved
 loop-preserved c =
-    let first : string_at c.loop.reader ≡ Ok (c.in_ok-string.field-0.now, c.string.new.self) = search rules in
-    let second : string_at c.string.new.self ≡ Ok (c.in_ok-string-2.field-0.now, c.string-in-loop.new.self) = search rules in
-    pass_pair c.args.count c.loop.counter c.args.reader.now c.loop.reader c.in_ok-string.field-0.now c.string.new.self
-    c.in_ok-string-2.field-0.now c.string-in-loop.new.self (search rules) first second c.loop.invariant
+    pass_pair c.args.count c.loop.counter c.args.reader.now c.loop.reader (pair_of c.in_ok-read_extension.field-0) c.read_extension.new.reader
+    c.loop-test.true c.in_ok-read_extension.ensures c.loop.invariant
+
+pub returns : goal.returns
+returns c = (c.loop.invariant.0, sym c.loop.invariant.1 ∙ no_more c.args.count c.loop.counter c.loop.invariant.0 c.loop.reader (omega arith))

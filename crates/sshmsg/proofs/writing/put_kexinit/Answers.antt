@@ -11,16 +11,7 @@ returns-clause-ok c =
     rw (
       c.in_ok-put_u32.ensures.appends,
       c.in_ok-put_boolean.ensures.appends,
-      c.in_ok-write-10.ensures.appends,
-      c.in_ok-write-9.ensures.appends,
-      c.in_ok-write-8.ensures.appends,
-      c.in_ok-write-7.ensures.appends,
-      c.in_ok-write-6.ensures.appends,
-      c.in_ok-write-5.ensures.appends,
-      c.in_ok-write-4.ensures.appends,
-      c.in_ok-write-3.ensures.appends,
-      c.in_ok-write-2.ensures.appends,
-      c.in_ok-write.ensures.appends,
+      c.in_ok-put_lists.ensures.ok,
       c.in_ok-extend_from_slice.ensures.items,
       c.in_ok-push.ensures.items,
     )
