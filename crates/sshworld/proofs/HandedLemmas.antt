@@ -7,10 +7,8 @@ use Rattle.sshpacket.specs.Places.{IsPrefix}
 use Rattle.sshpacket.specs.Suite.{Meaning}
 use Rattle.sshcore.specs.declared.end.Fault.TheVariants as fault
 use Rattle.sshcore.specs.declared.session.Session.{Session}
-use Rattle.sshcore.specs.ConfigData.{ClientData, ServerData, version_of}
-use Rattle.sshcore.specs.ConfigRules.{IsClient, IsServer}
-use Rattle.sshcore.specs.Ending.{AgreedData, Authenticated, Closed, Ending, Failed, Open, agreed_of}
-use Rattle.sshcore.specs.EndpointData.{EndpointData}
+use Rattle.sshcore.specs.ConfigData.{ClientData, ServerData}
+use Rattle.sshcore.specs.Ending.{AgreedData, Authenticated, Closed, Ending, Failed, Open}
 use Rattle.sshcore.specs.Endpoints.{After, ending_of}
 use Rattle.sshcore.specs.Party.{Party, Policy}
 use Rattle.sshcore.specs.Sessions.{IsSession}

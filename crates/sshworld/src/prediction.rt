@@ -96,7 +96,9 @@ fn predict_drawn<S: Suite, D: Decisions>(
         × (ending ends.1 ≡ (outcome (S.meaning suite.now) (D.policy decisions.now) client.now server.now).server)) }
 {
     let of_client = client.kexinit()?;
-    predict_offered(alloc, client, server, suite, decisions, &of_client)
+    let ends = predict_offered(alloc, client, server, suite, decisions, &of_client);
+    drop(of_client);
+    ends
 }
 
 /// How both end, where the client's KEXINIT is this one.
@@ -113,9 +115,11 @@ fn predict_offered<S: Suite, D: Decisions>(
         × (ending ends.1 ≡ (outcome (S.meaning suite.now) (D.policy decisions.now) client.now server.now).server)) }
 {
     let of_server = server.kexinit()?;
-    predict_between(
+    let ends = predict_between(
         alloc, client, server, suite, decisions, of_client, &of_server,
-    )
+    );
+    drop(of_server);
+    ends
 }
 
 /// How both end, where these are their KEXINITs.

@@ -1,5 +1,3 @@
-use Rattle.std.proofs.Common.{◌∙◌, ap}
-use Rattle.sshcore.specs.ConfigData.{ClientData, ServerData}
 use Rattle.sshworld.proofs.DeliveryLemmas.{each_replies}
 use Rattle.sshworld.proofs.WorldCourseLemmas.{course_in, fresh_new, fresh_world, headline_in}
 use Rattle.sshworld.proofs.world.World.new_with.Goals as goal
@@ -10,12 +8,6 @@ invariant_of-result g c =
     fresh_world g.S.Suite.meaning g.D.Decisions.policy n.client_config n.server_config c.args.suite.now c.args.decisions.now c.below_law.ensures.laws n.client n.server
     c.new-client_config.result c.new-server_config.result n.ensures.first c.new-client_config.ensures.accepted c.new-server_config.ensures.accepted
     c.nodes-nodes.result n.ensures.other c.nodes-nodes.ensures.client c.nodes-nodes.ensures.server
-
-pub returns-clause-client_config : goal.returns-clause-client_config
-returns-clause-client_config g c = ap (λ (two : ClientData × ServerData). two.0) c.in_ok-client_config.ensures.first ∙ c.new-client_config.ensures.drawn
-
-pub returns-clause-server_config : goal.returns-clause-server_config
-returns-clause-server_config g c = ap (λ (two : ClientData × ServerData). two.1) c.in_ok-client_config.ensures.first ∙ c.new-server_config.ensures.drawn
 
 pub returns-clause-start : goal.returns-clause-start
 returns-clause-start g c =
