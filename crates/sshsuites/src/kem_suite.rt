@@ -1,10 +1,12 @@
 //! A second suite of algorithms for tests, over SHA-256, in the other mode. It is insecure.
 
-ghost use Rattle.std.specs.Prelude.{◌≡◌, ◌^◌, ◌<◌, IfOk, drop, length, take};
-ghost use Rattle.sshsuites.specs.Kem.{crossed, kem, kem_number, kem_tag};
+ghost use Rattle.std.specs.Prelude.{◌≡◌, ◌^◌, ◌+◌, ◌<◌, ◌≤◌, ◌∷◌, IfOk, drop, length, take};
+ghost use Rattle.sshsuites.specs.Kem.{crossed, kem, kem_answer, kem_number, kem_tag};
+ghost use Rattle.sshsuites.specs.Lab.{xored};
 ghost use Rattle.sshsuites.specs.KemLaws.{kem_agreeing, kem_lawful};
 
 use crate::lab_suite::{LabSuite, masked, xor_with};
+use crate::owned::beside;
 use sha2::{Digest, Sha256};
 use sshpacket::{
     AgreeingSuite, Capability, KeyLens, Keys, Need, Response, ShareForm, Suite, leading_uint32,
@@ -96,10 +98,7 @@ impl Suite for KemSuite {
     }
 
     fn public(&self, alloc: Global, _kex: &str, random: &[u8]) -> Result<Vec<u8>, Memory> {
-        let mut share = Vec::new(alloc);
-        share.push(2)?;
-        share.extend_from_slice(random)?;
-        Ok(share)
+        behind(alloc, 2, random)
     }
 
     #[tactic(auto, unfolding(crate::specs::Kem::kem_shared))]
@@ -113,13 +112,9 @@ impl Suite for KemSuite {
         if peer.len() != 33 || peer[0] != 3 {
             return Ok(None);
         }
-        let mut own = Vec::new(alloc);
-        own.push(2)?;
-        own.extend_from_slice(random)?;
-        let mut secret = Vec::from_slice(alloc, &peer[1..])?;
-        xor_with(&mut secret, random);
-        let shared = shared_number(&secret, &own, peer);
-        Ok(Some(Vec::from_slice(alloc, &shared)?))
+        let own = behind(alloc, 2, random)?;
+        let shared = number_with(alloc, random, &own, peer)?;
+        Ok(Some(shared))
     }
 
     #[tactic(auto, unfolding(crate::specs::Kem::kem_respond))]
@@ -133,12 +128,9 @@ impl Suite for KemSuite {
         if peer.len() != 33 || peer[0] != 2 {
             return Ok(None);
         }
-        let mut masked = Vec::from_slice(alloc, random)?;
-        xor_with(&mut masked, &peer[1..]);
-        let mut share = Vec::new(alloc);
-        share.push(3)?;
-        share.extend_from_slice(&masked)?;
-        let shared = Vec::from_slice(alloc, &shared_number(random, peer, &share))?;
+        let share = answer_to(alloc, random, peer)?;
+        let shared = number_of(alloc, random, peer, &share);
+        let (share, shared) = beside(share, shared)?;
         Ok(Some(Response { share, shared }))
     }
 
@@ -176,6 +168,45 @@ impl Suite for KemSuite {
 
 impl AgreeingSuite for KemSuite {
     ghost agrees = { λ _. kem_agreeing };
+}
+
+/// The client's number: of the server's random bytes, which its share masks, and both shares.
+fn number_with(alloc: Global, random: &[u8], own: &[u8], peer: &[u8]) -> Result<Vec<u8>, Memory>
+    requires some { 0 < length peer.now }
+    requires long { length peer.now ≤ length random.now + 1 }
+    ensures { IfOk result (λ number. number.items ≡ kem_number (xored (drop 1 peer.now) random.now) own.now peer.now) }
+{
+    let mut secret = Vec::from_slice(alloc, &peer[1..])?;
+    xor_with(&mut secret, random);
+    number_of(alloc, &secret, own, peer)
+}
+
+/// The server's share, which answers the client's: its random bytes, masked by the client's.
+fn answer_to(alloc: Global, random: &[u8], peer: &[u8]) -> Result<Vec<u8>, Memory>
+    requires some { 0 < length peer.now }
+    requires long { length random.now < length peer.now }
+    ensures { IfOk result (λ share. share.items ≡ kem_answer random.now peer.now) }
+{
+    let mut masked = Vec::from_slice(alloc, random)?;
+    xor_with(&mut masked, &peer[1..]);
+    behind(alloc, 3, &masked)
+}
+
+/// A byte, and these behind it.
+fn behind(alloc: Global, first: u8, bytes: &[u8]) -> Result<Vec<u8>, Memory>
+    ensures { IfOk result (λ all. all.items ≡ first ∷ bytes.now) }
+{
+    let mut all = Vec::new(alloc);
+    all.push(first)?;
+    all.extend_from_slice(bytes)?;
+    Ok(all)
+}
+
+/// The shared number, as its own.
+fn number_of(alloc: Global, random: &[u8], client: &[u8], server: &[u8]) -> Result<Vec<u8>, Memory>
+    ensures { IfOk result (λ number. number.items ≡ kem_number random.now client.now server.now) }
+{
+    Ok(Vec::from_slice(alloc, &shared_number(random, client, server))?)
 }
 
 /// The first four bytes as they are, and the others XOR the key stream.

@@ -6,6 +6,7 @@ mod kem_suite;
 mod lab_decisions;
 mod lab_parts;
 mod lab_suite;
+mod owned;
 
 pub use kem_suite::KemSuite;
 pub use lab_decisions::{LabDecisions, lab_decisions_law};

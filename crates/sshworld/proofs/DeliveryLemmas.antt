@@ -7,7 +7,7 @@ use Rattle.sshwire.specs.declared.fault.Memory.{Memory}
 use Rattle.sshpacket.specs.Suite.{Meaning}
 use Rattle.sshcore.specs.declared.end.Fault.TheVariants as fault
 use Rattle.sshcore.specs.ConfigData.{ClientData, ServerData}
-use Rattle.sshcore.specs.Ending.{Failed}
+use Rattle.sshcore.specs.Ending.{Authenticated, Closed, Ending, Failed, Open}
 use Rattle.sshcore.specs.Endpoints.{ending_of}
 use Rattle.sshcore.specs.Party.{Party, Policy}
 use Rattle.sshneg.specs.declared.role.Role.{Role}
@@ -17,9 +17,9 @@ use Rattle.sshworld.specs.declared.side.Side.{Side}
 use Rattle.sshworld.specs.declared.side.Side.TheVariants.{Client, Server}
 use Rattle.sshworld.specs.Conversed.{EachReplies}
 use Rattle.sshworld.specs.Deliveries.{Delivered, Done, DoneBy, Refused, Round, RoundInto, Rounds, RoundsInto, Runs, RunsInto, TakesIn}
-use Rattle.sshworld.specs.Stands.{BrokenWith, NodeStands, NodesStand, Receives, ReceivesInto, ReceivesNone, ReceivesSome, half_of, seen}
+use Rattle.sshworld.specs.Stands.{BrokenWith, NodeStands, NodesStand, Receives, ReceivesInto, ReceivesNone, ReceivesSome, Takes, TakesNone, TakesSome, half_of, seen}
 use Rattle.sshworld.specs.WorldCourse.{KeepsHeadline}
-use Rattle.sshworld.specs.Worlds.{HadMemory, IsSameSetup, WorldData, waiting_for}
+use Rattle.sshworld.specs.Worlds.{HadMemory, IsSameSetup, WorldData, waiting_at, waiting_for}
 use Rattle.sshworld.proofs.StandsLemmas.{breaks_off, receiver_stands, sender_stands, sent_on, side_replies}
 
 module _ {T E : Type 0} where
@@ -102,24 +102,62 @@ module _ {S D : Type 0} (meaning : S → Meaning) (policy : D → Policy) where
     server = side_replies meaning policy _ _ suite decisions server client s.server_stands;
   }
 
-  -- a node that received n bytes
-  pub takes_in : (role : Role) (party : Party) (suite : S) (decisions : D) (sent : List ℕ) (old new : Node S D) (n : ℕ)
-      → NodeStands meaning policy role party suite decisions old sent → NodeStands meaning policy role party suite decisions new sent → Receives meaning policy sent old new
-      → new.moved ≡ old.moved + n → (n ≡ 0 → new ≡ old) → (ending_of old.endpoint ≢ Failed fault.Memory → ending_of new.endpoint ≢ Failed fault.Memory) → TakesIn n (half_of old) (half_of new)
-  takes_in role party suite decisions sent old new n s t r moved none had = record {
-    moved_on = moved;
-    used_on = used_more r;
-    used_within = t.used_within;
-    all_used = t.all_used;
-    more_sent = sent_on meaning policy sent old new r;
-    had_memory = had;
-    by_none = λ z. ap (λ (x : Node S D). half_of x) (none z);
-  }
-    where
-      used_more : Receives meaning policy sent old new → old.used ≤ new.used
-      used_more (ReceivesNone e) = omega (arith, ap (λ (x : Node S D). x.used) e)
-      used_more (ReceivesSome f) = omega (arith, f.used_on, s.all_used f.was_open)
-      used_more (ReceivesInto k b) = omega (arith, b.same_used)
+  -- what a node did that received n bytes, or for which memory was wanting
+  module _ (sent : List ℕ) (old new : Node S D) where
+    receives : (n : ℕ) → Takes meaning policy sent n old new → Receives meaning policy sent old new
+    receives n (TakesNone z e) = ReceivesNone e
+    receives n (TakesSome some f) = ReceivesSome n f
+
+    pub either : (r : Result ℕ Memory) (n : ℕ) → IfOk r (λ k. Takes meaning policy sent k old new) → OnErr r (BrokenWith meaning policy sent n old new) → Receives meaning policy sent old new
+    either (Ok k) n takes broken = receives k takes
+    either (Err e) n takes broken = ReceivesInto n broken
+
+    had_still : (n : ℕ) → Takes meaning policy sent n old new → ending_of old.endpoint ≢ Failed fault.Memory → ending_of new.endpoint ≢ Failed fault.Memory
+    had_still n (TakesNone z e) had failed = had (ap (λ (x : Node S D). ending_of x.endpoint) (sym e) ∙ failed)
+    had_still n (TakesSome some f) had failed = f.had_memory failed
+
+    moved_on : (n : ℕ) → Takes meaning policy sent n old new → new.moved ≡ old.moved + n
+    moved_on n (TakesNone z e) = omega (arith, z, ap (λ (x : Node S D). x.moved) e)
+    moved_on n (TakesSome some f) = f.moved_on
+
+    unmoved : (n : ℕ) → Takes meaning policy sent n old new → n ≡ 0 → new ≡ old
+    unmoved n (TakesNone z e) h = e
+    unmoved n (TakesSome some f) h = absurd (some h)
+
+    used_more : (n : ℕ) → Takes meaning policy sent n old new → (ending_of old.endpoint ≡ Open → old.used ≡ old.moved) → old.used ≤ new.used
+    used_more n (TakesNone z e) even = omega (arith, ap (λ (x : Node S D). x.used) e)
+    used_more n (TakesSome some f) even = omega (arith, f.used_on, even f.was_open)
+
+    -- a node that has ended takes nothing
+    pub none_ended : (count : ℕ) (r : Result ℕ Memory) → ending_of old.endpoint ≢ Open → IfOk r (λ k. Takes meaning policy sent k old new)
+        → IfOk r (λ k. k ≡ min count (waiting_at (ending_of old.endpoint) (length sent) old.moved)) → OnErr r (BrokenWith meaning policy sent (min count (waiting_at (ending_of old.endpoint) (length sent) old.moved)) old new)
+        → (r ≡ Ok 0) × (new ≡ old)
+    none_ended count (Ok k) ended takes is broken =
+        let none : k ≡ 0 = omega (arith, is, none_waits (ending_of old.endpoint) ended) in
+        (ap (λ (n : ℕ). Ok n) none, unmoved k takes none)
+      where
+        none_waits : (e : Ending) → e ≢ Open → waiting_at e (length sent) old.moved ≡ 0
+        none_waits Open h = absurd (h refl)
+        none_waits (Authenticated a) h = refl
+        none_waits (Failed f) h = refl
+        none_waits (Closed reason) h = refl
+    none_ended count (Err e) ended takes is broken = absurd (ended broken.was_open)
+
+  -- so callers see it, if n bytes were received
+  takes_in : (role : Role) (party : Party) (suite : S) (decisions : D) (sent : List ℕ) (old new : Node S D) (n : ℕ)
+      → NodeStands meaning policy role party suite decisions old sent → Takes meaning policy sent n old new → TakesIn n (half_of old) (half_of new)
+  takes_in role party suite decisions sent old new n s t =
+      let r = receives sent old new n t in
+      let stands = receiver_stands meaning policy role party suite decisions sent old new s r in
+      record {
+        moved_on = moved_on sent old new n t;
+        used_on = used_more sent old new n t s.all_used;
+        used_within = stands.used_within;
+        all_used = stands.all_used;
+        more_sent = sent_on meaning policy sent old new r;
+        had_memory = had_still sent old new n t;
+        by_none = λ z. ap (λ (x : Node S D). half_of x) (unmoved sent old new n t z);
+      }
 
 module _ {S D : Type 0} (meaning : S → Meaning) (policy : D → Policy) (client_config : ClientData) (server_config : ServerData) (suite : S) (decisions : D) where
   -- a world of the node of this side, and the other one
@@ -142,22 +180,18 @@ module _ {S D : Type 0} (meaning : S → Meaning) (policy : D → Policy) (clien
     server_stands = receiver_stands meaning policy _ _ suite decisions their.sent.items own next s.server_stands r;
   }
 
-  taken : (to : Side) (own their next : Node S D) (n : ℕ) → StandAt to own their → Receives meaning policy their.sent.items own next
-      → next.moved ≡ own.moved + n → (n ≡ 0 → next ≡ own) → (ending_of own.endpoint ≢ Failed fault.Memory → ending_of next.endpoint ≢ Failed fault.Memory) → TakesIn n (half_of own) (half_of next)
-  taken Client own their next n s r moved none had =
-      takes_in meaning policy _ _ suite decisions their.sent.items own next n s.client_stands (received Client own their next s r).client_stands r moved none had
-  taken Server own their next n s r moved none had =
-      takes_in meaning policy _ _ suite decisions their.sent.items own next n s.server_stands (received Server own their next s r).server_stands r moved none had
+  taken : (to : Side) (own their next : Node S D) (n : ℕ) → StandAt to own their → Takes meaning policy their.sent.items n own next → TakesIn n (half_of own) (half_of next)
+  taken Client own their next n s t = takes_in meaning policy _ _ suite decisions their.sent.items own next n s.client_stands t
+  taken Server own their next n s t = takes_in meaning policy _ _ suite decisions their.sent.items own next n s.server_stands t
 
   delivered_at : (to : Side) (own their next : Node S D) (n : ℕ) → TakesIn n (half_of own) (half_of next) → Delivered to n (seen_at to own their) (seen_at to next their)
   delivered_at Client own their next n t = record { receiver = t; sender = refl }
   delivered_at Server own their next n t = record { receiver = t; sender = refl }
 
-  pub delivered : (to : Side) (own their next : Node S D) (r : Result ℕ Memory) → StandAt to own their → Receives meaning policy their.sent.items own next
-      → IfOk r (λ n. next.moved ≡ own.moved + n) → IfOk r (λ n. n ≡ 0 → next ≡ own) → OnOk r (ending_of own.endpoint ≢ Failed fault.Memory → ending_of next.endpoint ≢ Failed fault.Memory)
+  pub delivered : (to : Side) (own their next : Node S D) (r : Result ℕ Memory) → StandAt to own their → IfOk r (λ n. Takes meaning policy their.sent.items n own next)
       → IfOk r (λ n. Delivered to n (seen_at to own their) (seen_at to next their))
-  delivered to own their next (Ok n) s x moved none had = delivered_at to own their next n (taken to own their next n s x moved none had)
-  delivered to own their next (Err e) s x moved none had = tt
+  delivered to own their next (Ok n) s takes = delivered_at to own their next n (taken to own their next n s takes)
+  delivered to own their next (Err e) s takes = tt
 
   refused_at : (to : Side) (own their next : Node S D) (n : ℕ) → StandAt to own their → BrokenWith meaning policy their.sent.items n own next
       → Refused meaning policy to n (seen_at to own their) (seen_at to next their)
@@ -173,6 +207,7 @@ module _ {S D : Type 0} (meaning : S → Meaning) (policy : D → Policy) (clien
   still_at Client own their next f h = record { client_had = f h.client_had; server_had = h.server_had }
   still_at Server own their next f h = record { client_had = h.client_had; server_had = f h.server_had }
 
-  pub still : (to : Side) (own their next : Node S D) (r : Result ℕ Memory) → OnOk r (ending_of own.endpoint ≢ Failed fault.Memory → ending_of next.endpoint ≢ Failed fault.Memory)
+  pub still : (to : Side) (own their next : Node S D) (r : Result ℕ Memory) → IfOk r (λ n. Takes meaning policy their.sent.items n own next)
       → OnOk r (HadMemory (seen_at to own their) → HadMemory (seen_at to next their))
-  still to own their next r f = on_ok r f (still_at to own their next)
+  still to own their next (Ok n) takes = still_at to own their next (had_still meaning policy their.sent.items own next n takes)
+  still to own their next (Err e) takes = tt

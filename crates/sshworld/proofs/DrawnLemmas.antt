@@ -6,8 +6,8 @@ use Rattle.sshcore.specs.declared.draws.Draws.{Draws}
 use Rattle.sshcore.specs.ConfigData.{ClientData, ServerData}
 use Rattle.sshcore.specs.Party.{Policy}
 use Rattle.sshcore.specs.Redrawn.{redrawn_client, redrawn_server}
-use Rattle.sshworld.specs.Outcome.{BothEnds, outcome}
-use Rattle.sshworld.specs.Verdicts.{Verdict, verdict}
+use Rattle.sshworld.specs.Outcome.{outcome}
+use Rattle.sshworld.specs.Verdicts.{verdict}
 
 -- no draws decide on requests
 undrawn : (m : Meaning) (d : Policy) (one other : Draws) (client : ClientData) (server : ServerData)

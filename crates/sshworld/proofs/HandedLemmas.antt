@@ -2,14 +2,13 @@
 
 use Rattle.std.proofs.Common.{◌≡◌, ◌≢◌, ◌⊎◌, inl, inr, ℕ, List, [], Option, None, Some, take, drop, refl, sym, ap, subst, ◌∙◌}
 use Rattle.std.proofs.lemmas.List.{take-append-drop}
+use Rattle.std.specs.Option.{option_zip}
 use Rattle.sshpacket.specs.Places.{IsPrefix}
 use Rattle.sshpacket.specs.Suite.{Meaning}
 use Rattle.sshcore.specs.declared.end.Fault.TheVariants as fault
 use Rattle.sshcore.specs.declared.session.Session.{Session}
-use Rattle.sshcore.specs.ConfigData.{ClientData, ServerData, version_of}
-use Rattle.sshcore.specs.ConfigRules.{IsClient, IsServer}
-use Rattle.sshcore.specs.Ending.{AgreedData, Authenticated, Closed, Ending, Failed, Open, agreed_of}
-use Rattle.sshcore.specs.EndpointData.{EndpointData}
+use Rattle.sshcore.specs.ConfigData.{ClientData, ServerData}
+use Rattle.sshcore.specs.Ending.{AgreedData, Authenticated, Closed, Ending, Failed, Open}
 use Rattle.sshcore.specs.Endpoints.{After, ending_of}
 use Rattle.sshcore.specs.Party.{Party, Policy}
 use Rattle.sshcore.specs.Sessions.{IsSession}
@@ -33,16 +32,21 @@ is_authenticated (Closed reason) = inr (λ a e. cc)
 
 -- where not both are, one hands over nothing
 pub not_both : (x y : Ending) (r q : Option Session) → (((a : AgreedData) → x ≢ Authenticated a) → r ≡ None) → (((a : AgreedData) → y ≢ Authenticated a) → q ≡ None)
-    → ((a b : AgreedData) → x ≡ Authenticated a → y ≢ Authenticated b) → (one other : Session) → r ≡ Some one → q ≡ Some other → ⊥
-not_both x y r q first second off one other e f = by (is_authenticated x) (is_authenticated y)
+    → ((a b : AgreedData) → x ≡ Authenticated a → y ≢ Authenticated b) → option_zip r q ≡ None
+not_both x y r q first second off = by (is_authenticated x) (is_authenticated y)
   where
-    none_some : (o : Option Session) (s : Session) → o ≡ None → o ≡ Some s → ⊥
-    none_some o s n t = cc
+    none_behind : (o : Option Session) → option_zip {U = Session} o None ≡ None
+    none_behind None = refl
+    none_behind (Some s) = refl
 
-    by : ((a : AgreedData) × (x ≡ Authenticated a)) ⊎ ((a : AgreedData) → x ≢ Authenticated a) → ((b : AgreedData) × (y ≡ Authenticated b)) ⊎ ((b : AgreedData) → y ≢ Authenticated b) → ⊥
-    by (inl (a, is)) (inl (b, other_is)) = off a b is other_is
-    by (inl a) (inr not) = none_some q other (second not) f
-    by (inr not) b = none_some r one (first not) e
+    by : ((a : AgreedData) × (x ≡ Authenticated a)) ⊎ ((a : AgreedData) → x ≢ Authenticated a) → ((b : AgreedData) × (y ≡ Authenticated b)) ⊎ ((b : AgreedData) → y ≢ Authenticated b) → option_zip r q ≡ None
+    by (inl (a, is)) (inl (b, other_is)) = absurd (off a b is other_is)
+    by (inl a) (inr not) = ap (option_zip r) (second not) ∙ none_behind r
+    by (inr not) b = ap (λ (o : Option Session). option_zip o q) (first not)
+
+-- where both are handed over
+zip_both : (r q : Option Session) (x y : Session) → r ≡ Some x → q ≡ Some y → Some (x, y) ≡ option_zip r q
+zip_both r q x y e f = rw (e, f) refl
 
 module _ {S D : Type 0} (meaning : S → Meaning) (policy : D → Policy) (c : ClientData) (s : ServerData) (suite : S) (decisions : D) (client server : Node S D)
     (stands : NodesStand meaning policy c s suite decisions client server) (a b : AgreedData) (is : ending_of client.endpoint ≡ Authenticated a) (other_is : ending_of server.endpoint ≡ Authenticated b) where
@@ -70,28 +74,23 @@ module _ {S D : Type 0} (meaning : S → Meaning) (policy : D → Policy) (c : C
       }
 
   -- what is handed over by both, of which the law of sessions says that it matches
-  pub handed : (one other : Session) (r q : Option Session) → r ≡ Some one → q ≡ Some other
+  pub handed : (r q : Option Session)
       → (x : Session) × (r ≡ Some x) × IsSession (meaning client.endpoint.suite) (policy client.endpoint.decisions) client.endpoint.role client.endpoint.party client_after.units client_after.answers a x × (client_after.rest ≡ [])
       → (y : Session) × (q ≡ Some y) × IsSession (meaning server.endpoint.suite) (policy server.endpoint.decisions) server.endpoint.role server.endpoint.party server_after.units server_after.answers b y × (server_after.rest ≡ [])
       → ((x y : Session) → AreUnderstood (meaning client.endpoint.suite) (policy client.endpoint.decisions) c s
       → IsSession (meaning client.endpoint.suite) (policy client.endpoint.decisions) client.endpoint.role client.endpoint.party nodes_joined.client_after.units nodes_joined.client_after.answers a x
       → IsSession (meaning server.endpoint.suite) (policy server.endpoint.decisions) server.endpoint.role server.endpoint.party nodes_joined.server_after.units nodes_joined.server_after.answers b y → AreCrosswise x y)
-      → HandOver (AreUnderstood (meaning suite) (policy decisions) c s) c s a b (Some (one, other))
+      → HandOver (AreUnderstood (meaning suite) (policy decisions) c s) c s a b (option_zip r q)
   unfolding client_after server_after nodes_joined
-  handed one other r q e f (x, rx, sx, _) (y, qy, sy, _) law =
-      let ex : x ≡ one = same x one (sym rx ∙ e) in
-      let ey : y ≡ other = same y other (sym qy ∙ f) in
-      record {
-        client_agreed = subst (λ (z : Session). agreed_of z.agreed ≡ a) ex sx.agreed_is;
-        server_agreed = subst (λ (z : Session). agreed_of z.agreed ≡ b) ey sy.agreed_is;
-        client_version = subst (λ (z : Session). z.own_version.items ≡ version_of c.side) ex (sx.own_version ∙ ap (λ (q : Party). q.version) stands.client_stands.is_party);
-        server_version = subst (λ (z : Session). z.own_version.items ≡ version_of s.side) ey (sy.own_version ∙ ap (λ (q : Party). q.version) stands.server_stands.is_party);
-        crosswise = λ u. subst (λ (z : Session). AreCrosswise z other) ex (subst (λ (z : Session). AreCrosswise x z) ey (law x y (understood u) sx sy));
-      }
+  handed r q (x, rx, sx, _) (y, qy, sy, _) law =
+      subst (λ (t : Option (Session × Session)). HandOver (AreUnderstood (meaning suite) (policy decisions) c s) c s a b t) (zip_both r q x y rx qy) (record {
+        client_agreed = sx.agreed_is;
+        server_agreed = sy.agreed_is;
+        client_version = sx.own_version ∙ ap (λ (q : Party). q.version) stands.client_stands.is_party;
+        server_version = sy.own_version ∙ ap (λ (q : Party). q.version) stands.server_stands.is_party;
+        crosswise = λ u. law x y (understood u) sx sy;
+      })
     where
-      same : (x y : Session) → Some x ≡ Some y → x ≡ y
-      same x y e = cc
-
       understood : AreUnderstood (meaning suite) (policy decisions) c s → AreUnderstood (meaning client.endpoint.suite) (policy client.endpoint.decisions) c s
       understood u =
           subst (λ (k : S). AreUnderstood (meaning k) (policy client.endpoint.decisions) c s) (sym stands.client_stands.is_suite)

@@ -1,3 +1,4 @@
+pub mod OwnedLemmas
 pub mod VerdictLemmas
 pub mod JudgeLemmas
 pub mod ProgressLemmas
@@ -42,6 +43,7 @@ pub mod VerdictSamples
 pub mod TurnLemmas
 pub mod NodeLemmas
 pub mod WorldCourseLemmas
+pub mod MoveLemmas
 pub mod OneWayLemmas
 pub mod SoFarLemmas
 pub mod JoinedLemmas

@@ -43,9 +43,9 @@ module _ {S D : Type 0} (meaning : S → Meaning) (policy : D → Policy) where
       → Receives meaning policy other_node.sent.items old new → BothOnCourse (meaning suite) (policy decisions) own their (half_of new) (half_of other_node)
   stays_on_course laws suite decisions lawful own their hears old new other_node on stands whole (ReceivesNone e) =
       subst (λ (n : Node S D). BothOnCourse (meaning suite) (policy decisions) own their (half_of n) (half_of other_node)) (sym e) on
-  stays_on_course laws suite decisions lawful own their hears old new other_node on stands whole (ReceivesSome f) =
+  stays_on_course laws suite decisions lawful own their hears old new other_node on stands whole (ReceivesSome n f) =
       delivered laws (meaning suite) (policy decisions) lawful own their hears (half_of old) (half_of new) (half_of other_node) on (λ failed. cc (failed, f.was_open))
-      (node_history own.role own.party suite decisions new other_node stands whole) (sent_on meaning policy other_node.sent.items old new (ReceivesSome f))
+      (node_history own.role own.party suite decisions new other_node stands whole) (sent_on meaning policy other_node.sent.items old new (ReceivesSome n f))
   stays_on_course laws suite decisions lawful own their hears old new other_node on stands whole (ReceivesInto n b) =
       delivered laws (meaning suite) (policy decisions) lawful own their hears (half_of old) (half_of new) (half_of other_node) on (λ failed. cc (failed, b.was_open))
       (node_history own.role own.party suite decisions new other_node stands whole) (sent_on meaning policy other_node.sent.items old new (ReceivesInto n b))

@@ -8,13 +8,13 @@ use Rattle.sshpacket.specs.Places.{IsPrefix}
 use Rattle.sshpacket.specs.Suite.{Meaning}
 use Rattle.sshcore.specs.declared.end.Fault.TheVariants as fault
 use Rattle.sshcore.specs.Ending.{Failed}
-use Rattle.sshcore.specs.Endpoints.{After, Made, ending_of}
+use Rattle.sshcore.specs.Endpoints.{After, ending_of}
 use Rattle.sshcore.specs.History.{BrokenOff}
 use Rattle.sshcore.specs.Party.{Party, Policy}
 use Rattle.sshworld.specs.declared.node.Node.{Node}
 use Rattle.sshworld.specs.Conversed.{SideBegins, SideReplies}
 use Rattle.sshworld.specs.Deliveries.{BreaksOff}
-use Rattle.sshworld.specs.Stands.{BrokenWith, FedWith, NodeStands, Receives, ReceivesInto, ReceivesNone, ReceivesSome, half_of}
+use Rattle.sshworld.specs.Stands.{BrokenWith, IsFed, IsFresh, NodeStands, Receives, ReceivesInto, ReceivesNone, ReceivesSome, half_of}
 
 -- the first bytes of a part of a list
 take_within : (xs : List ℕ) (n u : ℕ) → u ≤ n → take u (take n xs) ≡ take u xs
@@ -33,17 +33,17 @@ module _ {S D : Type 0} (meaning : S → Meaning) (policy : D → Policy) where
   -- what was sent stays
   pub sent_on : (sent : List ℕ) (old new : Node S D) → Receives meaning policy sent old new → IsPrefix old.sent.items new.sent.items
   sent_on sent old new (ReceivesNone e) = record { rest = []; whole_is = ap (λ (n : Node S D). n.sent.items) e ∙ sym (append-nil old.sent.items) }
-  sent_on sent old new (ReceivesSome f) = record { rest = f.fed.added; whole_is = f.fed.appended }
+  sent_on sent old new (ReceivesSome n f) = record { rest = f.fed.added; whole_is = f.fed.appended }
   sent_on sent old new (ReceivesInto n b) = record { rest = b.breaks.added; whole_is = b.breaks.appended }
 
   -- the node that was fed
-  fed_stands : (role : Role) (party : Party) (suite : S) (decisions : D) (sent : List ℕ) (old new : Node S D)
-      → NodeStands meaning policy role party suite decisions old sent → FedWith meaning policy sent old new → NodeStands meaning policy role party suite decisions new sent
-  fed_stands role party suite decisions sent old new s f =
+  fed_stands : (role : Role) (party : Party) (suite : S) (decisions : D) (sent : List ℕ) (old new : Node S D) (n : ℕ)
+      → NodeStands meaning policy role party suite decisions old sent → IsFed meaning policy sent n old new → NodeStands meaning policy role party suite decisions new sent
+  fed_stands role party suite decisions sent old new n s f =
       let had : ending_of old.endpoint ≢ Failed fault.Memory = λ h. cc (h, f.was_open) in
       let even : old.used ≡ old.moved = s.all_used f.was_open in
-      let heard : take old.used sent ++ take f.used (take f.count (drop old.moved sent)) ≡ take new.used sent =
-      taken_more sent old.used old.moved f.count f.used even f.used_within ∙ ap (λ (k : ℕ). take k sent) (sym f.used_on) in
+      let heard : take old.used sent ++ take f.used (take n (drop old.moved sent)) ≡ take new.used sent =
+      taken_more sent old.used old.moved n f.used even f.used_within ∙ ap (λ (k : ℕ). take k sent) (sym f.used_on) in
       record {
         is_role = f.fed.same.same_role ∙ s.is_role;
         is_party = f.fed.same.same_party ∙ s.is_party;
@@ -53,7 +53,7 @@ module _ {S D : Type 0} (meaning : S → Meaning) (policy : D → Policy) where
         moved_within = f.moved_within;
         all_used = λ o. f.used_on ∙ ap (λ (k : ℕ). old.moved + k) (f.all_used o) ∙ sym f.moved_on;
         after = λ m. subst (λ (h : List ℕ). After meaning policy new.endpoint h new.sent.items) heard
-            (subst (λ (s : List ℕ). After meaning policy new.endpoint (take old.used sent ++ take f.used (take f.count (drop old.moved sent))) s) (sym f.fed.appended)
+            (subst (λ (s : List ℕ). After meaning policy new.endpoint (take old.used sent ++ take f.used (take n (drop old.moved sent))) s) (sym f.fed.appended)
             (f.fed.follows (take old.used sent) old.sent.items (s.after had)));
         uncut = λ cut. s.uncut (f.fed.uncut (take old.used sent) old.sent.items (s.after had) cut);
       }
@@ -77,7 +77,7 @@ module _ {S D : Type 0} (meaning : S → Meaning) (policy : D → Policy) where
   pub receiver_stands : (role : Role) (party : Party) (suite : S) (decisions : D) (sent : List ℕ) (old new : Node S D)
       → NodeStands meaning policy role party suite decisions old sent → Receives meaning policy sent old new → NodeStands meaning policy role party suite decisions new sent
   receiver_stands role party suite decisions sent old new s (ReceivesNone e) = subst (λ (n : Node S D). NodeStands meaning policy role party suite decisions n sent) (sym e) s
-  receiver_stands role party suite decisions sent old new s (ReceivesSome f) = fed_stands role party suite decisions sent old new s f
+  receiver_stands role party suite decisions sent old new s (ReceivesSome n f) = fed_stands role party suite decisions sent old new n s f
   receiver_stands role party suite decisions sent old new s (ReceivesInto n b) = broken_stands role party suite decisions sent old new n s b
 
   -- So callers see it: what was said before stands in front, and all of it is whole packets.
@@ -142,22 +142,23 @@ module _ {S D : Type 0} (meaning : S → Meaning) (policy : D → Policy) where
     };
   }
 
-  -- A node of which the endpoint was just made stands, whatever the other has sent; and so it begins, as callers see it.
+  -- A node that has received nothing stands, whatever the other has sent; and so it begins, as callers see it.
   pub made_stands : (role : Role) (party : Party) (suite : S) (decisions : D) (node : Node S D) (sent : List ℕ)
-      → Made meaning policy role party suite decisions node.endpoint [] node.sent.items → node.moved ≡ 0 → node.used ≡ 0 → NodeStands meaning policy role party suite decisions node sent
-  made_stands role party suite decisions node sent made moved used = record {
-    is_role = made.is_role;
-    is_party = made.is_party;
-    is_suite = made.is_suite;
-    is_decisions = made.is_decisions;
-    used_within = omega arith;
-    moved_within = omega arith;
-    all_used = λ o. used ∙ sym moved;
-    after = λ m. subst (λ (k : ℕ). After meaning policy node.endpoint (take k sent) node.sent.items) (sym used)
-        (subst (λ (s : List ℕ). After meaning policy node.endpoint [] s) (sym made.appended) made.begins);
-    uncut = λ cut. cc (made.is_open, cut);
+      → IsFresh meaning policy role party suite decisions node → NodeStands meaning policy role party suite decisions node sent
+  made_stands role party suite decisions node sent fresh = record {
+    is_role = fresh.made.is_role;
+    is_party = fresh.made.is_party;
+    is_suite = fresh.made.is_suite;
+    is_decisions = fresh.made.is_decisions;
+    used_within = omega (arith, fresh.none_used);
+    moved_within = omega (arith, fresh.none_moved);
+    all_used = λ o. fresh.none_used ∙ sym fresh.none_moved;
+    after = λ m. subst (λ (k : ℕ). After meaning policy node.endpoint (take k sent) node.sent.items) (sym fresh.none_used)
+        (subst (λ (s : List ℕ). After meaning policy node.endpoint [] s) (sym fresh.made.appended) fresh.made.begins);
+    uncut = λ cut. cc (fresh.made.is_open, cut);
   }
 
   pub side_begins : (role : Role) (party : Party) (suite : S) (decisions : D) (node : Node S D)
-      → Made meaning policy role party suite decisions node.endpoint [] node.sent.items → node.moved ≡ 0 → node.used ≡ 0 → SideBegins meaning policy role party suite decisions (half_of node)
-  side_begins role party suite decisions node made moved used = record { none_moved = moved; none_used = used; is_open = made.is_open; endpoint = node.endpoint; made = made }
+      → IsFresh meaning policy role party suite decisions node → SideBegins meaning policy role party suite decisions (half_of node)
+  side_begins role party suite decisions node fresh =
+      record { none_moved = fresh.none_moved; none_used = fresh.none_used; is_open = fresh.made.is_open; endpoint = node.endpoint; made = fresh.made }

@@ -1,24 +1,27 @@
 -- A world stays on the course of its configs.
 
-use Rattle.std.proofs.Common.{◌≡◌, ◌≢◌, ℕ, suc, ◌+◌, ◌-◌, ◌≤◌, [], length, min, refl, sym, ap, subst, ◌∙◌, arith}
+use Rattle.std.proofs.Common.{◌≡◌, ◌≢◌, ℕ, suc, ◌+◌, ◌-◌, ◌≤◌, length, min, Result, Ok, refl, sym, ap, subst, ◌∙◌, arith}
+use Rattle.std.specs.Result.{IfOk}
+use Rattle.sshwire.specs.declared.fault.Memory.{Memory}
 use Rattle.sshneg.specs.declared.role.Role.TheVariants as role
 use Rattle.sshpacket.specs.Suite.{IsLawful, Meaning}
 use Rattle.sshcore.specs.declared.end.Fault.TheVariants as fault
 use Rattle.sshcore.specs.ConfigData.{ClientData, ServerData}
 use Rattle.sshcore.specs.ConfigRules.{IsClient, IsServer}
 use Rattle.sshcore.specs.Ending.{Authenticated, Closed, Ending, Failed, Open}
-use Rattle.sshcore.specs.Endpoints.{Made, ending_of}
+use Rattle.sshcore.specs.Endpoints.{ending_of}
 use Rattle.sshcore.specs.Party.{Policy, client_party, server_party}
 use Rattle.sshworld.specs.Offered.{most_requests}
 use Rattle.sshworld.specs.declared.node.Node.{Node}
 use Rattle.sshworld.specs.declared.side.Side.{Side}
 use Rattle.sshworld.specs.declared.side.Side.TheVariants.{Client, Server}
+use Rattle.sshworld.specs.Conversed.{IsNew}
 use Rattle.sshworld.specs.CourseHeard.{BothHear, client_partner, server_partner}
 use Rattle.sshworld.specs.Deliveries.{Delivered, TakesIn}
 use Rattle.sshworld.specs.Halves.{BothOnCourse, Partner}
 use Rattle.sshworld.specs.Laws.{Laws}
 use Rattle.sshworld.specs.Rounds.{UnitsHeard, after_rounds}
-use Rattle.sshworld.specs.Stands.{NodesStand, Receives, half_of, seen}
+use Rattle.sshworld.specs.Stands.{IsFresh, NodesStand, Receives, half_of, seen}
 use Rattle.sshworld.specs.Understood.{AreUnderstood}
 use Rattle.sshworld.specs.Wordings.{wording_of}
 use Rattle.sshworld.specs.WorldCourse.{AreUnderstoodIn, HearsAll, IsOnCourse, KeepsCourse, KeepsHeadline, WorldStands}
@@ -28,7 +31,8 @@ use Rattle.sshworld.proofs.CourseHeardLemmas.{course_heard, headline_of}
 use Rattle.sshworld.proofs.DeliveryLemmas.{StandAt, received, seen_at}
 use Rattle.sshworld.proofs.HalfLemmas.{begins}
 use Rattle.sshworld.proofs.NodeLemmas.{node_history, stays_on_course}
-use Rattle.sshworld.proofs.StandsLemmas.{made_stands}
+use Rattle.sshworld.proofs.OwnedLemmas.{there}
+use Rattle.sshworld.proofs.StandsLemmas.{made_stands, side_begins}
 use Rattle.sshworld.proofs.TurnLemmas.{HasTakenAll, client_turn, server_turn, settled}
 
 pub flip_course : (m : Meaning) (d : Policy) (own their : Partner) (half opposite : Half) → BothOnCourse m d own their half opposite → BothOnCourse m d their own opposite half
@@ -168,21 +172,48 @@ module _ {S D : Type 0} (meaning : S → Meaning) (policy : D → Policy) (clien
   WorldAt Server own their = WorldStands meaning policy client_config server_config suite decisions their own
 
   -- A new world stands.
-  pub made_world : Laws → (client server : Node S D) → IsClient client_config → IsServer server_config
-      → Made meaning policy role.Client (client_party client_config) suite decisions client.endpoint [] client.sent.items → client.moved ≡ 0 → client.used ≡ 0
-      → Made meaning policy role.Server (server_party server_config) suite decisions server.endpoint [] server.sent.items → server.moved ≡ 0 → server.used ≡ 0
+  made_world : Laws → (client server : Node S D) → IsClient client_config → IsServer server_config
+      → IsFresh meaning policy role.Client (client_party client_config) suite decisions client → IsFresh meaning policy role.Server (server_party server_config) suite decisions server
       → WorldStands meaning policy client_config server_config suite decisions client server
-  made_world laws client server is_client is_server made moved used other_made other_moved other_used =
+  made_world laws client server is_client is_server one other =
       let s : NodesStand meaning policy client_config server_config suite decisions client server = record {
-        client_stands = made_stands meaning policy role.Client (client_party client_config) suite decisions client server.sent.items made moved used;
-        server_stands = made_stands meaning policy role.Server (server_party server_config) suite decisions server client.sent.items other_made other_moved other_used;
+        client_stands = made_stands meaning policy role.Client (client_party client_config) suite decisions client server.sent.items one;
+        server_stands = made_stands meaning policy role.Server (server_party server_config) suite decisions server client.sent.items other;
       } in
       record {
         client_accepted = is_client;
         server_accepted = is_server;
         nodes = s;
-        on_course = made_on_course meaning policy client_config server_config suite decisions laws client server s used other_used s.client_stands.uncut s.server_stands.uncut;
+        on_course = made_on_course meaning policy client_config server_config suite decisions laws client server s one.none_used other.none_used s.client_stands.uncut s.server_stands.uncut;
       }
+
+  -- Nodes that were made of these configs, beside them.
+  module _ (laws : Laws) (client server : Node S D) (c : ClientData) (s : ServerData) (same : ◌≡◌ {A = ClientData × ServerData} (client_config, server_config) (c, s)) (is_client : IsClient c) (is_server : IsServer s)
+      (nodes : Result (Node S D × Node S D) Memory) (are : nodes ≡ Ok (client, server))
+      (one : IfOk nodes (λ two. IsFresh meaning policy role.Client (client_party c) suite decisions two.0))
+      (other : IfOk nodes (λ two. IsFresh meaning policy role.Server (server_party s) suite decisions two.1)) where
+    same_client : c ≡ client_config
+    same_client = sym (ap (λ (two : ClientData × ServerData). two.0) same)
+
+    same_server : s ≡ server_config
+    same_server = sym (ap (λ (two : ClientData × ServerData). two.1) same)
+
+    pub fresh_client : IsFresh meaning policy role.Client (client_party client_config) suite decisions client
+    fresh_client = subst (λ (d : ClientData). IsFresh meaning policy role.Client (client_party d) suite decisions client) same_client
+        (there nodes (λ two. IsFresh meaning policy role.Client (client_party c) suite decisions two.0) (client, server) are one)
+
+    pub fresh_server : IsFresh meaning policy role.Server (server_party server_config) suite decisions server
+    fresh_server = subst (λ (d : ServerData). IsFresh meaning policy role.Server (server_party d) suite decisions server) same_server
+        (there nodes (λ two. IsFresh meaning policy role.Server (server_party s) suite decisions two.1) (client, server) are other)
+
+    pub fresh_world : WorldStands meaning policy client_config server_config suite decisions client server
+    fresh_world = made_world laws client server (subst (λ (d : ClientData). IsClient d) same_client is_client) (subst (λ (d : ServerData). IsServer d) same_server is_server) fresh_client fresh_server
+
+    pub fresh_new : IsNew meaning policy (seen client_config server_config suite decisions client server)
+    fresh_new = record {
+      client = side_begins meaning policy role.Client (client_party client_config) suite decisions client fresh_client;
+      server = side_begins meaning policy role.Server (server_party server_config) suite decisions server fresh_server;
+    }
 
   -- It stands behind a delivery.
   pub received_world : Laws → IsLawful (meaning suite) → (to : Side) (own their next : Node S D) → WorldAt to own their → Receives meaning policy their.sent.items own next → WorldAt to next their

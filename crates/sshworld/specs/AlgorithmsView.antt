@@ -1,7 +1,9 @@
 -- The algorithms of a choice, without where their names lie in memory.
 
-use Rattle.std.specs.Prelude.{string_bytes}
+use Rattle.std.specs.Prelude.{ℕ, Bool, List, string_bytes}
 use Rattle.sshneg.specs.Fields.{Algorithms}
+use Rattle.sshcore.specs.declared.config_parts.Attempt.{Attempt}
+use Rattle.sshcore.specs.Ending.{AgreedData}
 use Rattle.sshworld.specs.declared.algorithms.AlgorithmNames.{AlgorithmNames}
 use Rattle.sshworld.specs.declared.algorithms.Copies.{Copies}
 
@@ -27,4 +29,14 @@ algorithms_copied copies = record {
   mac_server_to_client = string_bytes copies.mac.second;
   compression_client_to_server = string_bytes copies.compression.first;
   compression_server_to_client = string_bytes copies.compression.second;
+}
+
+-- what is agreed with these, once this attempt has succeeded
+abbrev pub agreed_with : AlgorithmNames → Bool → List ℕ → Attempt → AgreedData
+agreed_with names strict session attempt = record {
+  algorithms = algorithms_named names;
+  strict = strict;
+  session = session;
+  user = string_bytes attempt.user;
+  service = string_bytes attempt.service;
 }

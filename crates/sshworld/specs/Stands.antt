@@ -1,13 +1,13 @@
 -- How the nodes of a world stand.
 
-use Rattle.std.specs.Prelude.{◌≡◌, ◌≢◌, ◌≤◌, ◌+◌, ℕ, List, length, take, drop}
+use Rattle.std.specs.Prelude.{◌≡◌, ◌≢◌, ◌≤◌, ◌+◌, ℕ, List, [], length, take, drop}
 use Rattle.sshneg.specs.declared.role.Role.{Role}
 use Rattle.sshneg.specs.declared.role.Role.TheVariants as role
 use Rattle.sshpacket.specs.Suite.{Meaning}
 use Rattle.sshcore.specs.declared.end.Fault.TheVariants as fault
 use Rattle.sshcore.specs.ConfigData.{ClientData, ServerData}
 use Rattle.sshcore.specs.Ending.{Failed, Open}
-use Rattle.sshcore.specs.Endpoints.{After, Breaks, Fed, ending_of}
+use Rattle.sshcore.specs.Endpoints.{After, Breaks, Fed, Made, ending_of}
 use Rattle.sshcore.specs.Party.{Party, Policy, client_party, server_party}
 use Rattle.sshworld.specs.declared.node.Node.{Node}
 use Rattle.sshworld.specs.Worlds.{Half, WorldData}
@@ -41,16 +41,22 @@ module _ {S D : Type 0} (meaning : S → Meaning) (policy : D → Policy) where
     pub after : ending_of node.endpoint ≢ Failed fault.Memory → After meaning policy node.endpoint (take node.used their_sent) node.sent.items
     pub uncut : ending_of node.endpoint ≢ Failed fault.Cut
 
+  -- a node that has received nothing, and has sent its first output
+  pub record IsFresh (role : Role) (party : Party) (suite : S) (decisions : D) (node : Node S D) : Type 0 where
+    pub made : Made meaning policy role party suite decisions node.endpoint [] node.sent.items
+    pub none_moved : node.moved ≡ 0
+    pub none_used : node.used ≡ 0
+
   -- the two nodes of a world
   pub record NodesStand (client_config : ClientData) (server_config : ServerData) (suite : S) (decisions : D) (client server : Node S D) : Type 0 where
     pub client_stands : NodeStands role.Client (client_party client_config) suite decisions client server.sent.items
     pub server_stands : NodeStands role.Server (server_party server_config) suite decisions server client.sent.items
 
-  -- The next n of the other's bytes were moved to a node that was open, and its endpoint was fed with them.
-  pub record FedWith (their_sent : List ℕ) (old new : Node S D) : Type 0 where
-    pub count : ℕ
+  -- The next count of the other's bytes were moved to a node that was open, and its endpoint was fed with them: memory wasn't wanting.
+  pub record IsFed (their_sent : List ℕ) (count : ℕ) (old new : Node S D) : Type 0 where
     pub used : ℕ
     pub was_open : ending_of old.endpoint ≡ Open
+    pub had_memory : ending_of new.endpoint ≢ Failed fault.Memory
     pub moved_on : new.moved ≡ old.moved + count
     pub moved_within : new.moved ≤ length their_sent
     pub used_on : new.used ≡ old.moved + used
@@ -67,8 +73,13 @@ module _ {S D : Type 0} (meaning : S → Meaning) (policy : D → Policy) where
     pub same_used : new.used ≡ old.used
     pub breaks : Breaks meaning policy old.endpoint new.endpoint (take count (drop old.moved their_sent)) old.sent.items new.sent.items
 
-  -- what a delivery does to the node that receives
+  -- what a delivery of so many bytes does to the node that receives, where memory isn't wanting
+  pub data Takes (their_sent : List ℕ) (count : ℕ) (old new : Node S D) : Type 0 where
+    TakesNone : count ≡ 0 → new ≡ old → Takes their_sent count old new
+    TakesSome : count ≢ 0 → IsFed their_sent count old new → Takes their_sent count old new
+
+  -- what any delivery does to it
   pub data Receives (their_sent : List ℕ) (old new : Node S D) : Type 0 where
     ReceivesNone : new ≡ old → Receives their_sent old new
-    ReceivesSome : FedWith their_sent old new → Receives their_sent old new
+    ReceivesSome : (count : ℕ) → IsFed their_sent count old new → Receives their_sent old new
     ReceivesInto : (count : ℕ) → BrokenWith their_sent count old new → Receives their_sent old new

@@ -1,6 +1,6 @@
 -- What rounds bring to a world, as its private functions tell it: no clause of a public call names these.
 
-use Rattle.std.specs.Prelude.{◌≤◌, ◌+◌, ℕ, length, take}
+use Rattle.std.specs.Prelude.{◌≡◌, ◌≤◌, ◌+◌, ℕ, length, min, take}
 use Rattle.sshneg.specs.declared.role.Role.TheVariants as role
 use Rattle.sshpacket.specs.Suite.{Meaning}
 use Rattle.sshcore.specs.ConfigData.{ClientData, ServerData}
@@ -8,14 +8,16 @@ use Rattle.sshcore.specs.Party.{Policy, client_party, server_party}
 use Rattle.sshworld.specs.Offered.{most_requests}
 use Rattle.sshworld.specs.declared.side.Side.{Side}
 use Rattle.sshworld.specs.declared.side.Side.TheVariants.{Client, Server}
+use Rattle.sshworld.specs.Conversed.{EachReplies}
 use Rattle.sshworld.specs.Course.{Part}
+use Rattle.sshworld.specs.Deliveries.{Delivered}
 use Rattle.sshworld.specs.Follows.{part_of_client, part_of_server}
 use Rattle.sshworld.specs.Halves.{HasHistory}
 use Rattle.sshworld.specs.Rounds.{UnitsHeard, after_rounds, round_from, server_hears_all}
 use Rattle.sshworld.specs.Wording.{Wording}
 use Rattle.sshworld.specs.Wordings.{wording_of}
-use Rattle.sshworld.specs.WorldCourse.{AreUnderstoodIn, HearsAll}
-use Rattle.sshworld.specs.Worlds.{Complete, HadMemory, Half, WorldData}
+use Rattle.sshworld.specs.WorldCourse.{AreUnderstoodIn, HearsAll, IsOnCourse, KeepsCourse, KeepsHeadline}
+use Rattle.sshworld.specs.Worlds.{Complete, HadMemory, Half, IsSameSetup, WorldData, waiting_for}
 
 -- what both have heard when all that waits was moved to one side
 abbrev pub turn : Part → Part → Side → UnitsHeard → UnitsHeard
@@ -54,3 +56,18 @@ module _ {S D : Type 0} (meaning : S → Meaning) (policy : D → Policy) where
   abbrev pub HearsRound : WorldData S D → WorldData S D → Type 0
   HearsRound old new = HearsAll meaning policy old → HadMemory old → (heard : UnitsHeard) → HaveHeardIn meaning policy old heard
       → HaveHeardIn meaning policy new (round_from (part_of_client_in meaning policy old) (part_of_server_in meaning policy old) heard)
+
+  -- what is true behind a delivery, whether or not memory was wanting
+  pub record Keeps (old new : WorldData S D) : Type 0 where
+    pub setup : IsSameSetup old new
+    pub replies : EachReplies meaning policy new
+    pub course : KeepsCourse meaning policy new
+    pub headline : KeepsHeadline meaning policy new
+    pub was_on : IsOnCourse meaning policy old
+    pub on_course : IsOnCourse meaning policy new
+
+-- The lesser of count and what waits, which are n bytes, was moved to a side, and memory wasn't wanting.
+pub record Moves {S D : Type 0} (to : Side) (count n : ℕ) (old new : WorldData S D) : Type 0 where
+  pub counted : n ≡ min count (waiting_for to old)
+  pub delivered : Delivered to n old new
+  pub still : HadMemory old → HadMemory new

@@ -7,8 +7,9 @@ ghost use Rattle.sshmsg.specs.View.{offer_of};
 ghost use Rattle.sshneg.specs.Fields as fields;
 ghost use Rattle.sshcore.specs.Chosen.{AreAt, AreNamed, ArePlaced};
 ghost use Rattle.sshcore.specs.Ending.{agreed_of};
-ghost use Rattle.sshworld.specs.AlgorithmsView.{algorithms_copied, algorithms_named};
+ghost use Rattle.sshworld.specs.AlgorithmsView.{agreed_with, algorithms_copied, algorithms_named};
 
+use crate::owned::beside;
 use sshcore::{Agreed, Attempt};
 use sshmsg::KexInit;
 use sshneg::Chosen;
@@ -97,17 +98,13 @@ pub(crate) fn agreed(
     session: &[u8],
     attempt: &Attempt,
 ) -> Result<Agreed, Memory>
-    ensures { IfOk result (λ agreed. agreed_of agreed ≡ record {
-      algorithms = algorithms_named names.now;
-      strict = strict;
-      session = session.now;
-      user = string_bytes attempt.now.user;
-      service = string_bytes attempt.now.service;
-    }) }
+    ensures { IfOk result (λ agreed. agreed_of agreed ≡ agreed_with names.now strict session.now attempt.now) }
 {
     let copies = copies_of(alloc, names)?;
-    let asked = copy_pair(alloc, &attempt.user, &attempt.service)?;
-    let session = Vec::from_slice(alloc, session)?;
+    let asked = copy_pair(alloc, &attempt.user, &attempt.service);
+    let front = beside(copies, asked)?;
+    let session = copy_bytes(alloc, session);
+    let ((copies, asked), session) = beside(front, session)?;
     Ok(Agreed {
         kex: copies.exchange.first,
         host_key: copies.exchange.second,
@@ -128,23 +125,30 @@ pub(crate) fn agreed(
 fn copies_of(alloc: Global, names: &AlgorithmNames<'_>) -> Result<Copies, Memory>
     ensures { IfOk result (λ copies. algorithms_copied copies ≡ algorithms_named names.now) }
 {
+    let exchange = copy_pair(alloc, names.kex, names.host_key)?;
+    let encryption = copy_pair(
+        alloc,
+        names.encryption_client_to_server,
+        names.encryption_server_to_client,
+    );
+    let front = beside(exchange, encryption)?;
+    let mac = copy_pair(
+        alloc,
+        names.mac_client_to_server,
+        names.mac_server_to_client,
+    );
+    let front = beside(front, mac)?;
+    let compression = copy_pair(
+        alloc,
+        names.compression_client_to_server,
+        names.compression_server_to_client,
+    );
+    let (((exchange, encryption), mac), compression) = beside(front, compression)?;
     Ok(Copies {
-        exchange: copy_pair(alloc, names.kex, names.host_key)?,
-        encryption: copy_pair(
-            alloc,
-            names.encryption_client_to_server,
-            names.encryption_server_to_client,
-        )?,
-        mac: copy_pair(
-            alloc,
-            names.mac_client_to_server,
-            names.mac_server_to_client,
-        )?,
-        compression: copy_pair(
-            alloc,
-            names.compression_client_to_server,
-            names.compression_server_to_client,
-        )?,
+        exchange,
+        encryption,
+        mac,
+        compression,
     })
 }
 
@@ -157,4 +161,11 @@ fn copy_pair(alloc: Global, first: &str, second: &str) -> Result<Pair, Memory>
         first: String::from_str(alloc, first)?,
         second: String::from_str(alloc, second)?,
     })
+}
+
+/// The bytes, copied.
+fn copy_bytes(alloc: Global, bytes: &[u8]) -> Result<Vec<u8>, Memory>
+    ensures { IfOk result (λ copy. copy.items ≡ bytes.now) }
+{
+    Ok(Vec::from_slice(alloc, bytes)?)
 }

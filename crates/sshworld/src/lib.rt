@@ -12,6 +12,7 @@ mod judge;
 mod law;
 mod link_laws;
 mod node;
+mod owned;
 mod prediction;
 mod progress;
 mod session;

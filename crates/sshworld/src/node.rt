@@ -1,15 +1,16 @@
 //! One side of a world.
 
-ghost use Rattle.std.specs.Prelude.{◌≡◌, ◌≢◌, ◌≤◌, ◌+◌, [], IfOk, Ok, OnErr, OnOk, length, min};
+ghost use Rattle.std.specs.Prelude.{◌≡◌, ◌≢◌, ◌≤◌, ◌+◌, IfOk, Ok, OnErr, OnOk, length, min, take};
 ghost use Rattle.sshneg.specs.declared.role.Role.TheVariants as role;
 ghost use Rattle.sshcore.specs.declared.end.Fault.TheVariants as fault;
 ghost use Rattle.sshcore.specs.Ending.{Failed, Open};
-ghost use Rattle.sshcore.specs.Endpoints.{Made, ending_of};
+ghost use Rattle.sshcore.specs.Endpoints.{Breaks, Fed, ending_of};
 ghost use Rattle.sshcore.specs.Party.{client_party, server_party};
-ghost use Rattle.sshworld.specs.Stands.{BrokenWith, Receives};
+ghost use Rattle.sshworld.specs.Stands.{BrokenWith, IsFed, IsFresh, Takes};
 ghost use Rattle.sshworld.specs.Worlds.{waiting_at};
 
 use crate::drawn::{DrawnClient, DrawnServer};
+use crate::owned::beside;
 use sshcore::{Decisions, End, Endpoint};
 use sshpacket::Suite;
 use sshwire::Memory;
@@ -25,6 +26,22 @@ pub(crate) struct Node<'a, S: Suite, D: Decisions> {
     used: usize,
 }
 
+/// A client and a server of these configs that have received nothing.
+pub(crate) fn nodes<'a, S: Suite, D: Decisions>(
+    alloc: Global,
+    client: &DrawnClient<'a>,
+    server: &DrawnServer<'a>,
+    suite: &'a S,
+    decisions: &'a D,
+) -> Result<(Node<'a, S, D>, Node<'a, S, D>), Memory>
+    ensures client { IfOk result (λ two. IsFresh S.meaning D.policy role.Client (client_party client.now) suite.now decisions.now two.0) }
+    ensures server { IfOk result (λ two. IsFresh S.meaning D.policy role.Server (server_party server.now) suite.now decisions.now two.1) }
+{
+    let client = Node::client(alloc, client, suite, decisions)?;
+    let server = Node::server(alloc, server, suite, decisions);
+    beside(client, server)
+}
+
 impl<'a, S: Suite, D: Decisions> Node<'a, S, D> {
     /// A client that has received nothing. Answers `Memory` for want of memory, as the next one.
     pub(crate) fn client(
@@ -33,12 +50,11 @@ impl<'a, S: Suite, D: Decisions> Node<'a, S, D> {
         suite: &'a S,
         decisions: &'a D,
     ) -> Result<Node<'a, S, D>, Memory>
-        ensures made { IfOk result (λ n. Made S.meaning D.policy role.Client (client_party config.now) suite.now decisions.now n.endpoint [] n.sent.items) }
-        ensures none_moved { IfOk result (λ n. n.moved ≡ 0) }
-        ensures none_used { IfOk result (λ n. n.used ≡ 0) }
+        ensures { IfOk result (λ n. IsFresh S.meaning D.policy role.Client (client_party config.now) suite.now decisions.now n) }
     {
         let mut sent = Vec::new(alloc);
-        let endpoint = config.endpoint(alloc, suite, decisions, &mut sent)?;
+        let endpoint = config.endpoint(alloc, suite, decisions, &mut sent);
+        let (sent, endpoint) = beside(sent, endpoint)?;
         Ok(Node {
             endpoint,
             sent,
@@ -54,12 +70,11 @@ impl<'a, S: Suite, D: Decisions> Node<'a, S, D> {
         suite: &'a S,
         decisions: &'a D,
     ) -> Result<Node<'a, S, D>, Memory>
-        ensures made { IfOk result (λ n. Made S.meaning D.policy role.Server (server_party config.now) suite.now decisions.now n.endpoint [] n.sent.items) }
-        ensures none_moved { IfOk result (λ n. n.moved ≡ 0) }
-        ensures none_used { IfOk result (λ n. n.used ≡ 0) }
+        ensures { IfOk result (λ n. IsFresh S.meaning D.policy role.Server (server_party config.now) suite.now decisions.now n) }
     {
         let mut sent = Vec::new(alloc);
-        let endpoint = config.endpoint(alloc, suite, decisions, &mut sent)?;
+        let endpoint = config.endpoint(alloc, suite, decisions, &mut sent);
+        let (sent, endpoint) = beside(sent, endpoint)?;
         Ok(Node {
             endpoint,
             sent,
@@ -84,23 +99,46 @@ impl<'a, S: Suite, D: Decisions> Node<'a, S, D> {
     /// with them. Where none are received, nothing changes and no memory is taken.
     pub(crate) fn receive(&mut self, their_sent: &[u8], count: usize) -> Result<usize, Memory>
         requires { self.old.moved ≤ length their_sent.now }
-        ensures receives { Receives S.meaning D.policy their_sent.now self.old self.new }
+        ensures takes { IfOk result (λ n. Takes S.meaning D.policy their_sent.now n self.old self.new) }
         ensures count { IfOk result (λ n. n ≡ min count (waiting_at (ending_of self.old.endpoint) (length their_sent.now) self.old.moved)) }
-        ensures moved { IfOk result (λ n. self.new.moved ≡ self.old.moved + n) }
-        ensures by_none { IfOk result (λ n. n ≡ 0 → self.new ≡ self.old) }
         ensures broken { OnErr result (BrokenWith S.meaning D.policy their_sent.now (min count (waiting_at (ending_of self.old.endpoint) (length their_sent.now) self.old.moved)) self.old self.new) }
-        ensures still { OnOk result (ending_of self.old.endpoint ≢ Failed fault.Memory → ending_of self.new.endpoint ≢ Failed fault.Memory) }
-        ensures ended { ending_of self.old.endpoint ≢ Open → (result ≡ Ok 0) × (self.new ≡ self.old) }
     {
         let count = count.min(self.waiting(their_sent));
-        if count == 0 {
-            return Ok(0);
+        if count > 0 {
+            self.take_in(their_sent, count)?;
         }
-        let from = self.moved;
-        self.moved = from + count;
-        let piece = &their_sent[from..from + count];
-        let used = self.endpoint.feed(piece, &mut self.sent)?;
-        self.used = from + used;
         Ok(count)
     }
+
+    /// Receives so many bytes while it is open.
+    fn take_in(&mut self, their_sent: &[u8], count: usize) -> Result<(), Memory>
+        requires open { ending_of self.old.endpoint ≡ Open }
+        requires within { self.old.moved + count ≤ length their_sent.now }
+        ensures fed { OnOk result (IsFed S.meaning D.policy their_sent.now count self.old self.new) }
+        ensures broken { OnErr result (BrokenWith S.meaning D.policy their_sent.now count self.old self.new) }
+    {
+        let from = self.moved;
+        self.moved = from + count;
+        let used = feed(
+            &mut self.endpoint,
+            &their_sent[from..from + count],
+            &mut self.sent,
+        )?;
+        self.used = from + used;
+        Ok(())
+    }
+}
+
+/// Feeds an open endpoint.
+fn feed<S: Suite, D: Decisions>(
+    endpoint: &mut Endpoint<'_, S, D>,
+    piece: &[u8],
+    out: &mut Vec<u8>,
+) -> Result<usize, Memory>
+    ensures fed { IfOk result (λ used. Fed S.meaning D.policy endpoint.old endpoint.new (take used piece.now) out.old.items out.new.items) }
+    ensures used { IfOk result (λ used. (used ≤ length piece.now) × (ending_of endpoint.new ≡ Open → used ≡ length piece.now)) }
+    ensures memory { OnErr result ((ending_of endpoint.new ≡ Failed fault.Memory) × Breaks S.meaning D.policy endpoint.old endpoint.new piece.now out.old.items out.new.items) }
+    ensures kept { OnOk result (ending_of endpoint.new ≡ Failed fault.Memory → ending_of endpoint.old ≡ Failed fault.Memory) }
+{
+    endpoint.feed(piece, out)
 }

@@ -11,13 +11,14 @@ ghost use Rattle.sshcore.specs.Exchange.{secret_of};
 ghost use Rattle.sshcore.specs.Redrawn.{redrawn_client, redrawn_server};
 ghost use Rattle.sshworld.specs.Agreement.{agreed, host_key_of_server};
 ghost use Rattle.sshworld.specs.JudgedView.{how_of};
-ghost use Rattle.sshworld.specs.AlgorithmsView.{algorithms_named};
+ghost use Rattle.sshworld.specs.AlgorithmsView.{agreed_with, algorithms_named};
 ghost use Rattle.sshworld.specs.Outcome.{case_of_choice, case_of_how, outcome, table};
 ghost use Rattle.sshworld.specs.Verdicts.{verdict};
 
 use crate::algorithms::{AlgorithmNames, agreed, algorithms_at};
 use crate::drawn::{DrawnClient, DrawnServer, again};
 use crate::judge::{Judged, judge};
+use crate::owned::beside;
 use crate::session::session;
 use sshcore::{Attempt, ClientConfig, Decisions, Draws, End, Fault, HostKey, ServerConfig};
 use sshmsg::{
@@ -95,7 +96,9 @@ fn predict_drawn<S: Suite, D: Decisions>(
         × (ending ends.1 ≡ (outcome (S.meaning suite.now) (D.policy decisions.now) client.now server.now).server)) }
 {
     let of_client = client.kexinit()?;
-    predict_offered(alloc, client, server, suite, decisions, &of_client)
+    let ends = predict_offered(alloc, client, server, suite, decisions, &of_client);
+    drop(of_client);
+    ends
 }
 
 /// How both end, where the client's KEXINIT is this one.
@@ -112,9 +115,11 @@ fn predict_offered<S: Suite, D: Decisions>(
         × (ending ends.1 ≡ (outcome (S.meaning suite.now) (D.policy decisions.now) client.now server.now).server)) }
 {
     let of_server = server.kexinit()?;
-    predict_between(
+    let ends = predict_between(
         alloc, client, server, suite, decisions, of_client, &of_server,
-    )
+    );
+    drop(of_server);
+    ends
 }
 
 /// How both end, where these are their KEXINITs.
@@ -218,8 +223,23 @@ fn authenticated<S: Suite>(
 {
     let session = session(alloc, client, server, suite, names, host_key)?;
     let strict = client.side().strict && server.side().strict;
-    let of_client = agreed(alloc, names, strict, &session, attempt)?;
-    let of_server = agreed(alloc, names, strict, &session, attempt)?;
+    both_agreed(alloc, names, strict, &session, attempt)
+}
+
+/// How both end that have agreed on these.
+fn both_agreed(
+    alloc: Global,
+    names: &AlgorithmNames<'_>,
+    strict: bool,
+    session: &[u8],
+    attempt: &Attempt,
+) -> Result<(End, End), Memory>
+    ensures client { IfOk result (λ ends. ending ends.0 ≡ Authenticated (agreed_with names.now strict session.now attempt.now)) }
+    ensures server { IfOk result (λ ends. ending ends.1 ≡ Authenticated (agreed_with names.now strict session.now attempt.now)) }
+{
+    let of_client = agreed(alloc, names, strict, session, attempt)?;
+    let of_server = agreed(alloc, names, strict, session, attempt);
+    let (of_client, of_server) = beside(of_client, of_server)?;
     Ok((End::Authenticated(of_client), End::Authenticated(of_server)))
 }
 

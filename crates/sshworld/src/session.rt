@@ -4,7 +4,7 @@ ghost use Rattle.std.specs.Prelude.{◌≡◌, ◌≤◌, ◌<◌, ◌^◌, IfOk
 ghost use Rattle.sshwire.specs.declared.limits.TheConstants.{LINE_LIMIT, PAYLOAD_LIMIT};
 ghost use Rattle.sshwire.specs.Types.{IsName};
 ghost use Rattle.sshmsg.specs.Content as content;
-ghost use Rattle.sshmsg.specs.View.{offer_of};
+ghost use Rattle.sshmsg.specs.View.{content_of, offer_of};
 ghost use Rattle.sshmsg.specs.Written.{written_message};
 ghost use Rattle.sshneg.specs.Derivations.{exchange_text};
 ghost use Rattle.sshneg.specs.ExchangeView.{exchange_of};
@@ -195,7 +195,15 @@ fn payload(alloc: Global, kexinit: KexInit<'_>) -> Result<Vec<u8>, Memory>
     ensures { IfOk result (λ payload. payload.items ≡ written_message (content.KexInit (offer_of kexinit.entry))) }
 {
     let message = Message::KexInit(Box::new(alloc, kexinit)?);
+    written(alloc, &message)
+}
+
+/// The payload of a message.
+fn written(alloc: Global, message: &Message<'_>) -> Result<Vec<u8>, Memory>
+    requires { length (written_message (content_of message.now)) ≤ PAYLOAD_LIMIT }
+    ensures { IfOk result (λ payload. payload.items ≡ written_message (content_of message.now)) }
+{
     let mut payload = Vec::new(alloc);
-    write(&message, &mut payload)?;
+    write(message, &mut payload)?;
     Ok(payload)
 }

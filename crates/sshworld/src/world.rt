@@ -8,13 +8,14 @@ ghost use Rattle.sshworld.specs.Conversed.{EachReplies, IsNew};
 ghost use Rattle.sshworld.specs.Offered.{most_requests};
 ghost use Rattle.sshworld.specs.Deliveries.{Delivered, DoneAll, Refused, RefusedAll, Round, RoundInto, Rounds, RoundsInto, Runs, RunsInto};
 ghost use Rattle.sshworld.specs.Joined.{HandOver};
-ghost use Rattle.sshworld.specs.WorldCourse.{AreUnderstoodIn, HearsAll, IsOnCourse, KeepsCourse, KeepsHeadline};
-ghost use Rattle.sshworld.specs.WorldRounds.{HearsRound, HearsTurn, Settles};
+ghost use Rattle.sshworld.specs.WorldCourse.{AreUnderstoodIn, HearsAll, KeepsCourse, KeepsHeadline};
+ghost use Rattle.sshworld.specs.WorldRounds.{HearsRound, HearsTurn, Keeps, Moves, Settles};
 ghost use Rattle.sshworld.specs.Worlds.{Complete, HadMemory, IsSameSetup, half_at, waiting_for};
 
 use crate::drawn::{DrawnClient, DrawnServer};
 use crate::link_laws::{below_law, course_hearing_law};
-use crate::node::Node;
+use crate::node::{Node, nodes};
+use crate::owned::beside;
 use crate::session_laws::session_law;
 use crate::side::{Delivery, Side};
 use sshcore::{ClientConfig, Decisions, Draws, End, ServerConfig, Session};
@@ -114,9 +115,14 @@ impl<'a, S: Suite, D: Decisions> World<'a, S, D> {
         course_hearing_law();
         let client_config = DrawnClient::new(client, client_draws);
         let server_config = DrawnServer::new(server, server_draws);
+        let nodes = nodes(alloc, &client_config, &server_config, suite, decisions);
+        let ((client_config, server_config), (client, server)) = beside(
+            (client_config, server_config),
+            nodes,
+        )?;
         Ok(World {
-            client: Node::client(alloc, &client_config, suite, decisions)?,
-            server: Node::server(alloc, &server_config, suite, decisions)?,
+            client,
+            server,
             client_config,
             server_config,
             suite,
@@ -151,17 +157,10 @@ impl<'a, S: Suite, D: Decisions> World<'a, S, D> {
 
     /// Moves so many of the bytes that wait for a side to it, or all of them, and answers how many.
     fn move_bytes(&mut self, to: Side, count: usize) -> Result<usize, Memory>
-        ensures count { IfOk result (λ n. n ≡ min count (waiting_for to self.old)) }
-        ensures delivered { IfOk result (λ n. Delivered to n self.old self.new) }
+        ensures moves { IfOk result (λ n. Moves to count n self.old self.new) }
         ensures refused { OnErr result (Refused S.meaning D.policy to (min count (waiting_for to self.old)) self.old self.new) }
-        ensures still { OnOk result (HadMemory self.old → HadMemory self.new) }
         ensures ended { (half_at to self.old).end ≢ Open → (result ≡ Ok 0) × (self.new ≡ self.old) }
-        ensures setup { IsSameSetup self.old self.new }
-        ensures replies { EachReplies S.meaning D.policy self.new }
-        ensures course { KeepsCourse S.meaning D.policy self.new }
-        ensures headline { KeepsHeadline S.meaning D.policy self.new }
-        ensures was_on { IsOnCourse S.meaning D.policy self.old }
-        ensures on_course { IsOnCourse S.meaning D.policy self.new }
+        ensures keeps { Keeps S.meaning D.policy self.old self.new }
     {
         below_law();
         course_hearing_law();
@@ -196,10 +195,7 @@ impl<'a, S: Suite, D: Decisions> World<'a, S, D> {
         ensures done { OnOk result (DoneAll S.meaning D.policy to self.old self.new) }
         ensures refused { OnErr result (RefusedAll S.meaning D.policy to self.old self.new) }
         ensures still { OnOk result (HadMemory self.old → HadMemory self.new) }
-        ensures setup { IsSameSetup self.old self.new }
-        ensures replies { EachReplies S.meaning D.policy self.new }
-        ensures course { KeepsCourse S.meaning D.policy self.new }
-        ensures headline { KeepsHeadline S.meaning D.policy self.new }
+        ensures keeps { Keeps S.meaning D.policy self.old self.new }
         ensures turn { OnOk result (HearsTurn S.meaning D.policy to self.old self.new) }
     {
         below_law();
@@ -231,10 +227,7 @@ impl<'a, S: Suite, D: Decisions> World<'a, S, D> {
         ensures round { OnOk result (Round S.meaning D.policy self.old self.new) }
         ensures stopped { OnErr result (RoundInto S.meaning D.policy self.old self.new) }
         ensures still { OnOk result (HadMemory self.old → HadMemory self.new) }
-        ensures setup { IsSameSetup self.old self.new }
-        ensures replies { EachReplies S.meaning D.policy self.new }
-        ensures course { KeepsCourse S.meaning D.policy self.new }
-        ensures headline { KeepsHeadline S.meaning D.policy self.new }
+        ensures keeps { Keeps S.meaning D.policy self.old self.new }
         ensures hears { OnOk result (HearsRound S.meaning D.policy self.old self.new) }
     {
         self.move_all(Side::Server)?;
@@ -296,10 +289,9 @@ impl<'a, S: Suite, D: Decisions> World<'a, S, D> {
         ensures none { ((a b : AgreedData) → self.entry.client.end ≡ Authenticated a → self.entry.server.end ≢ Authenticated b) → result ≡ None }
     {
         session_law::<S, D>();
-        let client = self.client;
-        let server = self.server;
-        let of_client = client.endpoint.into_session()?;
-        let of_server = server.endpoint.into_session()?;
-        Some((of_client, of_server))
+        let World { client, server, .. } = self;
+        let of_client = client.endpoint.into_session();
+        let of_server = server.endpoint.into_session();
+        of_client.zip(of_server)
     }
 }

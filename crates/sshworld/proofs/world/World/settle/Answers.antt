@@ -11,7 +11,7 @@ loop-preserved g c =
     record {
       rounds = round_more g.S.Suite.meaning g.D.Decisions.policy c.loop.counter c.args.self.now c.loop.self c.round.new.self i.rounds e.round;
       still = λ m. e.still (i.still m);
-      setup = same_then c.args.self.now c.loop.self c.round.new.self i.setup e.setup;
+      setup = same_then c.args.self.now c.loop.self c.round.new.self i.setup e.keeps.setup;
       heard = heard_more g.S.Suite.meaning g.D.Decisions.policy c.args.self.now c.loop.self c.round.new.self c.loop.counter i.setup i.still i.heard e.hears;
     }
 
