@@ -1,6 +1,6 @@
 -- The attempts of a client's plan: which is made next, and that those that are left are accepted ones.
 
-use Rattle.std.proofs.Common.{◌≡◌, Bor, ℕ, suc, ◌+◌, ◌≤◌, Bool, true, false, cond, ltb, ◌-◌, ◌==◌, List, [], ◌∷◌, drop, take, length, map, Option, None, Some, inl, inr, refl, sym, ap, ◌∙◌, arith}
+use Rattle.std.proofs.Common.{◌≡◌, Bor, ℕ, suc, ◌+◌, ◌≤◌, Bool, true, false, cond, ltb, ◌-◌, ◌==◌, List, [], ◌∷◌, drop, take, length, map, Option, None, Some, inl, inr, refl, sym, ap, ◌∙◌, arith, if◌then◌else◌}
 use Rattle.std.specs.List.{AllByRecursion, position_or_len, slice_get}
 use Rattle.std.specs.Option.{option_copied}
 use Rattle.std.proofs.lemmas.Bool.{cases_Bool, ltb-false}
@@ -12,14 +12,14 @@ use Rattle.sshpacket.specs.Suite.{Meaning}
 use Rattle.sshcore.specs.declared.config_parts.Attempt as attempt_parts
 use Rattle.sshcore.specs.declared.end.Fault.TheVariants as fault
 use Rattle.sshmsg.specs.declared.numbers.TheConstants.{SSH_MSG_USERAUTH_PK_OK}
-use Rattle.sshcore.specs.Attempts.{confirmed_by, is_asked, request_of, success_by}
+use Rattle.sshcore.specs.Attempts.{attempt_reply, confirmed_by, is_asked, request_of, success_by}
 use Rattle.sshcore.specs.ConfigData.{Attempt, ByKey, ByNothing, ByPassword, Proving}
 use Rattle.sshcore.specs.ConfigRules.{IsAttempt}
 use Rattle.sshcore.specs.ConfigView.{attempt_of, proving_of}
 use Rattle.sshcore.specs.Ending.{fails, goes}
 use Rattle.sshcore.specs.Kept.{left_of}
 use Rattle.sshcore.specs.Known.{Known}
-use Rattle.sshcore.specs.Plan.{behind_query, first_made, next_behind, next_listed, proving_name, unasked}
+use Rattle.sshcore.specs.Plan.{behind_query, confirmed, first_made, next_behind, next_listed, proving_name, unasked}
 
 -- whether the method of an attempt is listed
 abbrev pub is_listed : List (List ℕ) → attempt_parts.Attempt → Bool
@@ -152,6 +152,19 @@ module _ (m : Meaning) (known : Known) (algorithm key : List ℕ) (b : Bool) (at
     this_asked none on = let made : goes (request_of m known.session (behind_query a) ∷ []) ≡ confirmed_by m known algorithm key (a ∷ later) = rw on refl in
         made ∙ ap (confirmed_by m known algorithm key) (sym e) ∙ rw none refl
 
+-- what is left once the query is confirmed, if it wasn't before
+pub left_confirmed : (b : Bool) (attempts : List Attempt) → left_of true attempts ≡ confirmed (left_of b attempts)
+left_confirmed b [] = elim (cases_Bool b) [
+  | inl is ↦ rw is refl
+  | inr not ↦ rw not refl
+]
+left_confirmed false (a ∷ later) = refl
+left_confirmed true (a ∷ later) = ap (λ (p : Proving). record a { proving = p } ∷ later) (twice a.proving) where
+  twice : (p : Proving) → unasked p ≡ unasked (unasked p)
+  twice ByNothing = refl
+  twice (ByPassword password) = refl
+  twice (ByKey name secret ask) = refl
+
 -- the attempt itself asks nothing
 pub unasked_off : (m : Meaning) (a : Attempt) (algorithm key : List ℕ) → is_asked m (behind_query a).proving algorithm key ≡ false
 unasked_off m a algorithm key = off a.proving where
@@ -166,3 +179,12 @@ asked_off m b a algorithm key e = rw e (unasked_off m a algorithm key)
 pub asked_other : (m : Meaning) (b : Bool) (a : Attempt) (algorithm key : List ℕ) → b ≡ false → is_asked m a.proving algorithm key ≡ false
     → is_asked m (first_made b a).proving algorithm key ≡ false
 asked_other m b a algorithm key e off = rw e off
+
+-- what an answer to a query comes to, by whether it is about the key that was asked about
+module _ (m : Meaning) (known : Known) (algorithm key : List ℕ) where
+  pub asked_so : (b : Bool) (attempts : List Attempt) (a : Attempt) (later : List Attempt) → attempts ≡ a ∷ later → b ≡ false → (asked : Bool) → asked ≡ is_asked m a.proving algorithm key
+      → (if asked then attempt_reply m known.session (confirmed (left_of b attempts)) else fails (fault.Unexpected SSH_MSG_USERAUTH_PK_OK)) ≡ confirmed_by m known algorithm key (left_of b attempts)
+  asked_so b attempts a later e none true on =
+      ap (λ (l : List Attempt). attempt_reply m known.session (confirmed l)) (left_some b attempts a later e ∙ ap (λ (c : Bool). first_made c a ∷ later) none)
+      ∙ this_asked m known algorithm key b attempts a later e none (sym on)
+  asked_so b attempts a later e none false off = other_asked m known algorithm key b attempts a later e (asked_other m b a algorithm key none (sym off))

@@ -1,25 +1,42 @@
 //! What both sides agreed on, once the user is authenticated.
 
-ghost use Rattle.std.specs.Prelude.{◌≡◌, IfOk, is_some, true};
+ghost use Rattle.std.specs.Prelude.{◌≡◌, IfOk, OnOk, is_some, true};
+ghost use Rattle.sshcore.specs.declared.table.Phase.TheVariants as phase;
 ghost use Rattle.sshcore.specs.Attempts.{agreed_by};
-ghost use Rattle.sshcore.specs.Ending.{agreed_of};
+ghost use Rattle.sshcore.specs.Brings.{heard_one};
+ghost use Rattle.sshcore.specs.Ending.{Authenticated, Open, ending};
 ghost use Rattle.sshcore.specs.Kept.{kept_of};
 
-use crate::end::Agreed;
+use crate::end::End;
+use crate::lent::put;
 use crate::state::State;
 use sshwire::Memory;
 
 impl State<'_> {
-    /// What is agreed once this user is authenticated for this service. The names and the session
-    /// identifier are copied.
-    pub(crate) fn agreed(&self, user: &str, service: &str) -> Result<Agreed, Memory>
-        requires { is_some self.now.algorithms ≡ true }
-        ensures { IfOk result (λ agreed. agreed_of agreed ≡ agreed_by (kept_of self.now).known user.now service.now) }
+    /// The user is authenticated for this service.
+    pub(crate) fn authenticate(&mut self, user: &str, service: &str) -> Result<(), Memory>
+        requires open { ending self.old.end ≡ Open }
+        requires at { self.old.phase ≡ phase.Auth }
+        ensures { OnOk result (kept_of self.new ≡ record (kept_of self.old) {
+          end = Authenticated (agreed_by (kept_of self.old).known user.now service.now);
+          known = heard_one (kept_of self.old).known;
+        }) }
     {
-        let algorithms = self.algorithms.as_ref().unwrap().copy(self.alloc)?;
+        let end = self.agreed_end(user, service);
+        self.first = false;
+        put(&mut self.end, end)
+    }
+
+    /// The end at which this user is authenticated for this service. The names and the session identifier
+    /// are copied.
+    fn agreed_end(&self, user: &str, service: &str) -> Result<End, Memory>
+        requires { is_some self.now.algorithms ≡ true }
+        ensures { IfOk result (λ end. ending end ≡ Authenticated (agreed_by (kept_of self.now).known user.now service.now)) }
+    {
         let session = Vec::from_slice(self.alloc, &self.session)?;
         let user = String::from_str(self.alloc, user)?;
         let service = String::from_str(self.alloc, service)?;
-        Ok(algorithms.agreed(self.strict, session, user, service))
+        let algorithms = self.algorithms.as_ref().unwrap().copy(self.alloc)?;
+        Ok(End::Authenticated(algorithms.agreed(self.strict, session, user, service)))
     }
 }

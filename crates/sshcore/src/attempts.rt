@@ -1,6 +1,6 @@
 //! Phase auth at a client: the attempts of its plan and what the server answers (RFC 4252).
 
-ghost use Rattle.std.specs.Prelude.{◌≡◌, ◌≢◌, ◌≤◌, [], true, false, Bool, IfOk, OnOk, length, map};
+ghost use Rattle.std.specs.Prelude.{◌≡◌, ◌≢◌, ◌≤◌, [], true, false, Bool, IfOk, OnOk, if◌then◌else◌, length, map};
 ghost use Rattle.sshwire.specs.Types.{IsName};
 ghost use Rattle.sshmsg.specs.Content as content;
 ghost use Rattle.sshmsg.specs.View.{method_of};
@@ -18,15 +18,15 @@ ghost use Rattle.sshcore.specs.ConfigParty.{party_of};
 ghost use Rattle.sshcore.specs.ConfigRules.{IsAttempt};
 ghost use Rattle.sshcore.specs.ConfigData.{ByKey};
 ghost use Rattle.sshcore.specs.ConfigView.{attempt_of, proving_of};
-ghost use Rattle.sshcore.specs.Ending.{Failed, Open, ending};
+ghost use Rattle.sshcore.specs.Ending.{Failed, Open, ending, fails};
 ghost use Rattle.sshcore.specs.Kept.{kept_of};
 ghost use Rattle.sshcore.specs.Made.{IsMade};
-ghost use Rattle.sshcore.specs.Plan.{behind_query, first_made, next_behind, next_listed, proving_name};
+ghost use Rattle.sshcore.specs.Plan.{confirmed, first_made, next_behind, next_listed, proving_name};
 
 use crate::config::Config;
 use crate::config_parts::{Attempt, Credential};
-use crate::end::{End, Fault};
-use crate::payloads::payload_of;
+use crate::end::Fault;
+use crate::payloads::payload_from;
 use crate::state::State;
 use sshmsg::{Message, Method, SSH_MSG_USERAUTH_PK_OK, SSH_MSG_USERAUTH_SUCCESS};
 use sshneg::signed_request;
@@ -112,18 +112,28 @@ impl State<'_> {
         }) }
         ensures kept { OnOk result (ending self.new.end ≢ Failed fault.Memory) }
     {
-        let unexpected = Fault::Unexpected(SSH_MSG_USERAUTH_PK_OK);
+        if !self.is_about(suite, algorithm, key)? {
+            let unexpected = Fault::Unexpected(SSH_MSG_USERAUTH_PK_OK);
+            return self.fail(config, suite, unexpected, said);
+        }
+        self.confirmed = true;
+        self.first = false;
+        self.make_attempt(config, suite, said)
+    }
+
+    /// Whether the query that waits for its answer is about this key.
+    fn is_about<S: Suite>(&self, suite: &S, algorithm: &[u8], key: &[u8]) -> Result<bool, Memory>
+        ensures { IfOk result (λ about.
+            (if about then attempt_reply (S.meaning suite.now) (kept_of self.now).known.session (confirmed (kept_of self.now).known.left) else fails (fault.Unexpected SSH_MSG_USERAUTH_PK_OK))
+            ≡ pk_ok_reply (S.meaning suite.now) (kept_of self.now).known algorithm.now key.now) }
+    {
         match self.left.first() {
-            None => self.fail(config, suite, unexpected, said),
+            None => Ok(false),
             Some(attempt) => {
-                if self.confirmed || !is_asked(self.alloc, suite, attempt, algorithm, key)? {
-                    return self.fail(config, suite, unexpected, said);
+                if self.confirmed {
+                    return Ok(false);
                 }
-                let request = itself_payload(self.alloc, suite, &self.session, attempt)?;
-                self.say(config, suite, &request, said)?;
-                self.confirmed = true;
-                self.first = false;
-                Ok(())
+                is_asked(self.alloc, suite, attempt, algorithm, key)
             }
         }
     }
@@ -150,12 +160,7 @@ impl State<'_> {
                 let fault = Fault::Unexpected(SSH_MSG_USERAUTH_SUCCESS);
                 self.fail(config, suite, fault, said)
             }
-            Some(attempt) => {
-                let agreed = self.agreed(&attempt.user, &attempt.service)?;
-                self.first = false;
-                self.end = End::Authenticated(agreed);
-                Ok(())
-            }
+            Some(attempt) => self.authenticate(&attempt.user, &attempt.service),
         }
     }
 }
@@ -190,40 +195,8 @@ fn is_listed(attempt: &Attempt, listed: &NameList) -> bool
     listed.contains(attempt.credential.method())
 }
 
-/// The payload of the request of an attempt (RFC 4252 section 5), in the session of this identifier; of
-/// one that asks its query (section 7).
-fn request_payload<S: Suite>(
-    alloc: Global,
-    suite: &S,
-    session: &[u8],
-    attempt: &Attempt,
-) -> Result<Vec<u8>, Memory>
-    requires attempt { IsAttempt (attempt_of attempt.now) }
-    requires session { length session.now ≤ DIGEST_LIMIT }
-    ensures { IfOk result (λ made. IsMade (request_of (S.meaning suite.now) session.now (attempt_of attempt.now)) made.items) }
-{
-    match &attempt.credential {
-        Credential::None => method_payload(alloc, attempt, Method::None),
-        Credential::Password(password) => method_payload(
-            alloc,
-            attempt,
-            Method::Password { password },
-        ),
-        Credential::PublicKey {
-            algorithm,
-            private_key,
-            ask,
-        } => {
-            if *ask {
-                query_payload(alloc, suite, attempt, algorithm, private_key)
-            } else {
-                signed_payload(alloc, suite, session, attempt, algorithm, private_key)
-            }
-        }
-    }
-}
-
-/// The payload of the request that an attempt makes next: itself, if its query was confirmed.
+/// The payload of the request that an attempt makes next (RFC 4252 section 5), in the session of this
+/// identifier: its query, if it asks one that wasn't confirmed (section 7), else itself.
 fn next_payload<S: Suite>(
     alloc: Global,
     suite: &S,
@@ -235,36 +208,22 @@ fn next_payload<S: Suite>(
     requires session { length session.now ≤ DIGEST_LIMIT }
     ensures { IfOk result (λ made. IsMade (request_of (S.meaning suite.now) session.now (first_made confirmed (attempt_of attempt.now))) made.items) }
 {
-    if confirmed {
-        itself_payload(alloc, suite, session, attempt)
-    } else {
-        request_payload(alloc, suite, session, attempt)
-    }
-}
-
-/// The payload of the request of an attempt whose query was answered by PK_OK: it asks no more.
-fn itself_payload<S: Suite>(
-    alloc: Global,
-    suite: &S,
-    session: &[u8],
-    attempt: &Attempt,
-) -> Result<Vec<u8>, Memory>
-    requires attempt { IsAttempt (attempt_of attempt.now) }
-    requires session { length session.now ≤ DIGEST_LIMIT }
-    ensures { IfOk result (λ made. IsMade (request_of (S.meaning suite.now) session.now (behind_query (attempt_of attempt.now))) made.items) }
-{
     match &attempt.credential {
         Credential::None => method_payload(alloc, attempt, Method::None),
-        Credential::Password(password) => method_payload(
-            alloc,
-            attempt,
-            Method::Password { password },
-        ),
+        Credential::Password(password) => {
+            method_payload(alloc, attempt, Method::Password { password })
+        }
         Credential::PublicKey {
             algorithm,
             private_key,
-            ..
-        } => signed_payload(alloc, suite, session, attempt, algorithm, private_key),
+            ask,
+        } => {
+            if *ask && !confirmed {
+                query_payload(alloc, suite, attempt, algorithm, private_key)
+            } else {
+                signed_payload(alloc, suite, session, attempt, algorithm, private_key)
+            }
+        }
     }
 }
 
@@ -359,5 +318,5 @@ fn method_payload(alloc: Global, attempt: &Attempt, method: Method<'_>) -> Resul
         service: attempt.service.as_bytes(),
         method,
     };
-    payload_of(alloc, &message)
+    payload_from(alloc, message)
 }

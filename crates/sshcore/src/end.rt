@@ -1,8 +1,10 @@
 //! How an endpoint ends.
 
-ghost use Rattle.std.specs.Prelude.{◌≡◌, ◌≢◌, None, Some};
+ghost use Rattle.std.specs.Prelude.{◌≡◌, ◌≢◌, ℕ, None, Some};
+ghost use Rattle.sshneg.specs.declared.choice.NoCommon.{NoCommon};
 ghost use Rattle.sshcore.specs.declared.end.Agreed.{Agreed};
 ghost use Rattle.sshcore.specs.declared.end.End.TheVariants as end;
+ghost use Rattle.sshcore.specs.declared.end.Fault.TheVariants as faults;
 ghost use Rattle.sshcore.specs.Printed.{fault_text};
 
 use sshneg::NoCommon;
@@ -51,23 +53,37 @@ impl fmt::Display for Fault {
 
     fn fmt<W: fmt::Write>(&self, f: &mut fmt::Formatter<W>) -> fmt::Result {
         match self {
-            Fault::Version => f.write_str("F1"),
-            Fault::Length => f.write_str("F2"),
-            Fault::Padding => f.write_str("F3"),
-            Fault::Mac => f.write_str("F4"),
             Fault::Malformed(number) => write!(f, "F5 {number}"),
             Fault::Unexpected(number) => write!(f, "F6 {number}"),
             Fault::Strict(number) => write!(f, "F7 {number}"),
             Fault::NoCommon(field) => write!(f, "F8 {field}"),
-            Fault::Exchange => f.write_str("F9"),
-            Fault::HostKey => f.write_str("F10"),
-            Fault::Signature => f.write_str("F11"),
-            Fault::Service => f.write_str("F12"),
-            Fault::TooManyTries => f.write_str("F13"),
-            Fault::NoMoreMethods => f.write_str("F14"),
-            Fault::Memory => f.write_str("F15"),
-            Fault::Cut => f.write_str("F16"),
+            _ => f.write_str(code_of(self)),
         }
+    }
+}
+
+/// The code of a failure, which is all that is printed of one without a number and a field.
+fn code_of(fault: &Fault) -> &'static str
+    ensures { ((n : ℕ) → fault.now ≢ faults.Malformed n) → ((n : ℕ) → fault.now ≢ faults.Unexpected n) → ((n : ℕ) → fault.now ≢ faults.Strict n)
+        → ((field : NoCommon) → fault.now ≢ faults.NoCommon field) → result.now ≡ fault_text fault.now }
+{
+    match fault {
+        Fault::Version => "F1",
+        Fault::Length => "F2",
+        Fault::Padding => "F3",
+        Fault::Mac => "F4",
+        Fault::Malformed(_) => "F5",
+        Fault::Unexpected(_) => "F6",
+        Fault::Strict(_) => "F7",
+        Fault::NoCommon(_) => "F8",
+        Fault::Exchange => "F9",
+        Fault::HostKey => "F10",
+        Fault::Signature => "F11",
+        Fault::Service => "F12",
+        Fault::TooManyTries => "F13",
+        Fault::NoMoreMethods => "F14",
+        Fault::Memory => "F15",
+        Fault::Cut => "F16",
     }
 }
 

@@ -23,6 +23,7 @@ ghost use Rattle.sshcore.specs.Kept.{kept_of};
 use crate::config::Config;
 use crate::decisions::Decisions;
 use crate::end::{End, Fault};
+use crate::lent::set;
 use crate::state::State;
 use sshneg::Role;
 use sshpacket::{Keys, PacketFault, PacketReader, PacketStep, Suite};
@@ -155,7 +156,7 @@ fn fail_line(state: &mut State<'_>, fault: WireFault) -> Result<(), Memory>
     match fault {
         WireFault::Memory => Err(Memory),
         _ => {
-            state.end = End::Failed(Fault::Version);
+            set(&mut state.end, End::Failed(Fault::Version));
             Ok(())
         }
     }

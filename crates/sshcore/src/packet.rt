@@ -24,6 +24,7 @@ use crate::config::Config;
 use crate::decisions::Decisions;
 use crate::end::{End, Fault};
 use crate::exchange::Reply;
+use crate::lent::set;
 use crate::state::State;
 use crate::table::{Line, Phase};
 use sshmsg::{
@@ -129,7 +130,7 @@ impl State<'_> {
         sshmsg::numbers_law();
         match message {
             Message::Disconnect { reason, .. } => {
-                self.end = End::Closed(*reason);
+                set(&mut self.end, End::Closed(*reason));
                 Ok(())
             }
             Message::KexInit(peer) => self.hear_kexinit(config, suite, payload, peer, said),

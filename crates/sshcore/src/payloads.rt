@@ -34,12 +34,20 @@ pub(crate) fn payload_of(alloc: Global, message: &Message<'_>) -> Result<Vec<u8>
     Ok(payload)
 }
 
+/// The same of a message that is given up: so a message is looked into for that here, once.
+pub(crate) fn payload_from(alloc: Global, message: Message<'_>) -> Result<Vec<u8>, Memory>
+    requires { length (written_message (content_of message)) ≤ PAYLOAD_LIMIT }
+    ensures { IfOk result (λ made. IsMade (written_message (content_of message.entry)) made.items) }
+{
+    payload_of(alloc, &message)
+}
+
 /// The payload of the KEXINIT of a config (RFC 4253 section 7.1).
 pub(crate) fn kexinit_payload(alloc: Global, config: &Config<'_>) -> Result<Vec<u8>, Memory>
     ensures { IfOk result (λ made. IsMade (own_kexinit (party_of config.now)) made.items) }
 {
     let kexinit = config.kexinit()?;
-    payload_of(alloc, &Message::KexInit(Box::new(alloc, kexinit)?))
+    payload_from(alloc, Message::KexInit(Box::new(alloc, kexinit)?))
 }
 
 /// The payload of a client's first message of an exchange by this method (RFC 4253 section 8, RFC 5656
@@ -65,15 +73,15 @@ fn share_payload(alloc: Global, form: ShareForm, share: &[u8]) -> Result<Vec<u8>
     sshwire::types_law();
     sshmsg::lengths_law();
     match form {
-        ShareForm::Mpint => payload_of(
+        ShareForm::Mpint => payload_from(
             alloc,
-            &Message::KexdhInit {
+            Message::KexdhInit {
                 e: Mpint::new(share).unwrap(),
             },
         ),
-        ShareForm::OctetString | ShareForm::Hybrid => payload_of(
+        ShareForm::OctetString | ShareForm::Hybrid => payload_from(
             alloc,
-            &Message::KexEcdhInit {
+            Message::KexEcdhInit {
                 client_share: share,
             },
         ),
@@ -96,17 +104,17 @@ pub(crate) fn reply_payload(
     sshwire::types_law();
     sshmsg::lengths_law();
     match form {
-        ShareForm::Mpint => payload_of(
+        ShareForm::Mpint => payload_from(
             alloc,
-            &Message::KexdhReply {
+            Message::KexdhReply {
                 host_key,
                 f: Mpint::new(share).unwrap(),
                 signature,
             },
         ),
-        ShareForm::OctetString | ShareForm::Hybrid => payload_of(
+        ShareForm::OctetString | ShareForm::Hybrid => payload_from(
             alloc,
-            &Message::KexEcdhReply {
+            Message::KexEcdhReply {
                 host_key,
                 server_share: share,
                 signature,

@@ -25,7 +25,7 @@ ghost use Rattle.sshcore.specs.Tries.{proof_in, signed_proof, tried_with};
 use crate::config::Config;
 use crate::config_kexinit::list_of;
 use crate::decisions::{Decisions, Proof};
-use crate::end::{End, Fault};
+use crate::end::Fault;
 use crate::session::UserKey;
 use crate::state::{ReachedMethods, State};
 use sshmsg::{Message, Method};
@@ -389,12 +389,20 @@ impl State<'_> {
         }) }
     {
         sshmsg::lengths_law();
-        let agreed = self.agreed(user, service)?;
-        self.say_message(config, suite, &Message::UserauthSuccess, said)?;
+        self.tell(config, suite, Message::UserauthSuccess, said)?;
+        self.authenticate(user, service)?;
+        self.count_request();
+        Ok(())
+    }
+
+    /// Counts a request.
+    fn count_request(&mut self)
+        requires counted { self.old.request ≤ TRIES_LIMIT }
+        requires more { ending self.old.end ≡ Open → self.old.request < TRIES_LIMIT }
+        ensures { kept_of self.new ≡ record (kept_of self.old) { known = one_request (kept_of self.old).known } }
+    {
         self.request += 1;
         self.first = false;
-        self.end = End::Authenticated(agreed);
-        Ok(())
     }
 
     /// Says FAILURE with the methods that may go on, and whether the request succeeded as one of several.
@@ -418,19 +426,12 @@ impl State<'_> {
         sshmsg::lengths_law();
         sshwire::names_law();
         let methods = list_of(self.alloc, config.methods())?;
-        let refused = self.say_message(
-            config,
-            suite,
-            &Message::UserauthFailure {
-                methods,
-                partial_success: partial,
-            },
-            said,
-        );
-        refused?;
-        self.request += 1;
-        self.first = false;
-        Ok(())
+        self.count_request();
+        let refusal = Message::UserauthFailure {
+            methods,
+            partial_success: partial,
+        };
+        self.tell(config, suite, refusal, said)
     }
 
     /// Says PK_OK.
@@ -455,19 +456,12 @@ impl State<'_> {
         }) }
     {
         sshmsg::lengths_law();
-        let confirmed = self.say_message(
-            config,
-            suite,
-            &Message::UserauthPkOk {
-                algorithm: algorithm.as_bytes(),
-                key,
-            },
-            said,
-        );
-        confirmed?;
-        self.request += 1;
-        self.first = false;
-        Ok(())
+        self.count_request();
+        let confirmation = Message::UserauthPkOk {
+            algorithm: algorithm.as_bytes(),
+            key,
+        };
+        self.tell(config, suite, confirmation, said)
     }
 }
 

@@ -13,7 +13,7 @@ ghost use Rattle.sshcore.specs.Work.{accept_reply, banner_by, service_reply};
 
 use crate::config::Config;
 use crate::end::Fault;
-use crate::payloads::{USERAUTH, payload_of};
+use crate::payloads::USERAUTH;
 use crate::state::State;
 use crate::table::Phase;
 use sshmsg::{Message, SSH_MSG_SERVICE_ACCEPT};
@@ -44,12 +44,11 @@ impl State<'_> {
             return self.fail(config, suite, Fault::Service, said);
         }
         sshmsg::lengths_law();
-        let accept = payload_of(self.alloc, &Message::ServiceAccept { service: USERAUTH })?;
-        self.say(config, suite, &accept, said)?;
-        self.say_banner(config, suite, said)?;
+        let accept = Message::ServiceAccept { service: USERAUTH };
+        self.tell(config, suite, accept, said)?;
         self.phase = Phase::Auth;
         self.first = false;
-        Ok(())
+        self.say_banner(config, suite, said)
     }
 
     /// Says a server's banner, if it has one.
@@ -69,15 +68,11 @@ impl State<'_> {
         match config.banner() {
             None => Ok(()),
             Some(text) => {
-                self.say_message(
-                    config,
-                    suite,
-                    &Message::UserauthBanner {
-                        text,
-                        language: b"",
-                    },
-                    said,
-                )
+                let banner = Message::UserauthBanner {
+                    text,
+                    language: b"",
+                };
+                self.tell(config, suite, banner, said)
             }
         }
     }

@@ -6,10 +6,10 @@ pub unwrap-requires : goal.unwrap-requires
 unwrap-requires c =
     taken c.types_law.ensures.canonical c.args.form c.args.share.now c.new.result c.in-Mpint.is (λ i. omega (arith, c.type_inv.share i)) c.requires c.new.ensures.err
 
-pub payload_of-requires : goal.payload_of-requires
-payload_of-requires c =
+pub payload_from-requires : goal.payload_from-requires
+payload_from-requires c =
     rw (number_is c.args.share.now c.unwrap.result c.new.result c.new.ensures.ok c.unwrap.ensures)
     (init_number c.lengths_law.ensures.written c.args.form c.args.share.now c.requires)
 
-pub payload_of-requires-in-OctetString : goal.payload_of-requires-in-OctetString
-payload_of-requires-in-OctetString c = init_octets c.lengths_law.ensures.written c.args.form c.args.share.now c.requires
+pub payload_from-requires-in-OctetString : goal.payload_from-requires-in-OctetString
+payload_from-requires-in-OctetString c = init_octets c.lengths_law.ensures.written c.args.form c.args.share.now c.requires

@@ -10,7 +10,7 @@ use Rattle.sshcore.specs.Ending.{Open, Reply, fails, goes}
 use Rattle.sshcore.specs.Kept.{kept_of}
 use Rattle.sshcore.specs.Party.{Party}
 use Rattle.sshcore.specs.Work.{banner_by, service_reply, userauth}
-use Rattle.sshcore.proofs.GivesLemmas.{gives_by, gives_moved, gives_one, gives_then}
+use Rattle.sshcore.proofs.GivesLemmas.{gives_by, gives_from, gives_then}
 use Rattle.sshcore.proofs.state.State.hear_service_request.Goals as goal
 
 -- the reply where the service isn't the one of authentication, and where it is
@@ -39,10 +39,8 @@ returns-then-ne-clause-gives g c = on_ok_weaker c.fail.result (λ given strict n
 
 pub returns-clause-gives : goal.returns-clause-gives
 unfolding written_message
-returns-clause-gives g c = λ strict next.
-    let banner = c.in_ok-say_banner.ensures.gives strict next in
+returns-clause-gives g c = on_ok_weaker c.say_banner.result (λ given strict next.
     gives_by _ _ strict next _ _ _ _ _ _ (accepts (party_of c.args.config.now) c.args.service.now c.if-ne.ensures)
-    (gives_moved _ _ strict next (kept_of c.args.self.now) (kept_of c.say_banner.new.self) _ _ _ _ _ Open Open refl refl banner.ends
-    (gives_then _ _ strict next _ _ _ _ _ _ (written_message (ServiceAccept userauth) ∷ []) (banner_by (party_of c.args.config.now).banner) Open Open
-    (gives_one _ _ strict next _ _ _ _ _ _ _ _ refl c.in_ok-accept.ensures c.deref.ensures.value c.requires.open c.in_ok-say.ensures.spells c.in_ok-say.ensures.counts)
-    banner))
+    (gives_then _ _ strict next (kept_of c.args.self.now) (kept_of c.tell.new.self) _ _ _ _ (written_message (ServiceAccept userauth) ∷ []) (banner_by (party_of c.args.config.now).banner) Open Open
+    (c.in_ok-tell.ensures.gives refl strict next)
+    (gives_from _ _ strict next _ (kept_of c.tell.new.self) _ _ _ _ refl (given strict next)))) c.say_banner.ensures.gives

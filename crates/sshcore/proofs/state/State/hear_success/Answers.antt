@@ -1,9 +1,9 @@
-use Rattle.std.proofs.Common.{◌≡◌, refl, sym, ap}
+use Rattle.std.proofs.Common.{◌≡◌, ◌∙◌, refl, sym, ap}
 use Rattle.std.proofs.lemmas.Result.{on_ok_weaker}
 use Rattle.sshcore.specs.Attempts.{agreed_by, success_by}
 use Rattle.sshcore.specs.ConfigView.{attempt_of}
-use Rattle.sshcore.specs.Ending.{Authenticated, agreed_of}
-use Rattle.sshcore.specs.Kept.{kept_of}
+use Rattle.sshcore.specs.Ending.{Authenticated}
+use Rattle.sshcore.specs.Kept.{Kept, kept_of}
 use Rattle.sshcore.proofs.AttemptLemmas.{first_none, first_some, left_none, left_success}
 use Rattle.sshcore.proofs.GivesLemmas.{gives_by, gives_nothing}
 use Rattle.sshcore.proofs.state.State.hear_success.Goals as goal
@@ -13,12 +13,12 @@ returns-in-None-clause-gives g c = on_ok_weaker c.fail.result (λ given strict n
     gives_by _ _ strict next _ _ _ _ _ _ (ap (success_by (kept_of c.args.self.now).known)
     (sym (left_none c.args.self.now.confirmed _ (first_none c.args.self.now.left.now c.first.result c.first.ensures.value c.in-None.is)))) (given strict next)) c.fail.ensures.gives
 
-pub returns-in_ok-agreed-in-Some-clause-gives : goal.returns-in_ok-agreed-in-Some-clause-gives
-returns-in_ok-agreed-in-Some-clause-gives g c = λ strict next.
+pub returns-in-Some-clause-gives : goal.returns-in-Some-clause-gives
+returns-in-Some-clause-gives g c =
     let known = (kept_of c.args.self.now).known in
     let made = attempt_of c.in-Some.attempt.now in
-    let agreed : agreed_of c.in_ok-agreed-in-Some.agreed ≡ agreed_by known made.user made.service =
-    rw (← c.deref.ensures, ← c.deref-in-Some.ensures) c.in_ok-agreed-in-Some.ensures in
+    on_ok_weaker c.authenticate.result (λ same strict next.
+    let agreed : agreed_by known c.deref.result.now c.deref-in-Some.result.now ≡ agreed_by known made.user made.service = rw (← c.deref.ensures, ← c.deref-in-Some.ensures) refl in
     gives_by _ _ strict next _ _ _ _ _ _ (left_success c.args.self.now.confirmed known _ _ _
     (first_some c.args.self.now.left.now c.first.result c.in-Some.attempt c.first.ensures.value c.in-Some.is))
-    (gives_nothing _ _ strict next _ _ _ _ (Authenticated (agreed_by known made.user made.service)) (ap Authenticated agreed) refl refl)
+    (gives_nothing _ _ strict next _ _ _ _ (Authenticated (agreed_by known made.user made.service)) (ap (λ (k : Kept). k.end) same ∙ ap Authenticated agreed) refl (ap (λ (k : Kept). k.sending) same))) c.authenticate.ensures

@@ -1,10 +1,10 @@
-use Rattle.std.proofs.Common.{◌≤◌, [], ◌∷◌, List, ℕ, arith, length, refl, ap, string_bytes, ◌∙◌}
+use Rattle.std.proofs.Common.{◌≤◌, [], ◌∷◌, List, ℕ, arith, length, refl, sym, ap, string_bytes, ◌∙◌}
+use Rattle.std.proofs.lemmas.Result.{on_ok_weaker}
 use Rattle.sshmsg.specs.Content.{UserauthFailure}
 use Rattle.sshmsg.specs.Written.{written_message}
 use Rattle.sshcore.specs.ConfigParty.{party_of}
-use Rattle.sshcore.specs.Ending.{Open}
 use Rattle.sshcore.specs.Kept.{Kept, kept_of}
-use Rattle.sshcore.proofs.GivesLemmas.{gives_as, gives_moved}
+use Rattle.sshcore.proofs.GivesLemmas.{gives_as, gives_from}
 use Rattle.sshcore.proofs.RequestLemmas.{few_texts}
 use Rattle.sshcore.proofs.state.State.refuse.Goals as goal
 
@@ -16,8 +16,8 @@ list_of-requires g c =
 
 pub returns-clause-gives : goal.returns-clause-gives
 unfolding written_message
-returns-clause-gives g c = λ strict next.
-    gives_moved _ _ strict next (kept_of c.args.self.now) (kept_of c.say_message-refused.new.self) _ _ _ _ _ Open _ refl refl (ap (λ (k : Kept). k.end) c.in_ok-refused.ensures.counts ∙ c.requires.open)
+returns-clause-gives g c = on_ok_weaker c.tell.result (λ given strict next.
+    gives_from _ _ strict next (kept_of c.count_request.new.self) (kept_of c.args.self.now) _ _ _ _ (sym (ap (λ (k : Kept). k.sending) c.count_request.ensures))
     (gives_as _ _ strict next _ _ _ _ (written_message (UserauthFailure c.in_ok-methods.methods c.args.partial) ∷ []) _ _
     (ap (λ (l : List (List ℕ)). written_message (UserauthFailure l c.args.partial) ∷ []) (c.in_ok-methods.ensures ∙ c.methods.ensures.methods))
-    (c.in_ok-refused.ensures.gives refl strict next))
+    (given refl strict next))) c.tell.ensures.gives

@@ -11,6 +11,6 @@ returns-in-None-clause-gives g c = λ strict next.
 
 pub returns-in-Some-clause-gives : goal.returns-in-Some-clause-gives
 unfolding written_message
-returns-in-Some-clause-gives g c = on_both c.say_message.result c.say_message.ensures.gives c.say_message.ensures.counts (λ gives k strict next.
+returns-in-Some-clause-gives g c = on_both c.tell.result c.tell.ensures.gives c.tell.ensures.counts (λ gives k strict next.
     gives_as _ _ strict next _ _ _ _ (written_message (UserauthBanner c.in-Some.text.now []) ∷ []) _ _ (ap banner_by c.in-Some.ensures.banner)
     (gives refl strict next))

@@ -1,12 +1,18 @@
-use Rattle.std.proofs.Common.{refl, ap}
+use Rattle.std.proofs.Common.{refl, ap, ◌∙◌}
 use Rattle.sshmsg.specs.Written.{written_message}
-use Rattle.sshcore.specs.Ending.{AgreedData, Authenticated, Open}
-use Rattle.sshcore.specs.Kept.{kept_of}
+use Rattle.sshcore.specs.Attempts.{agreed_by}
+use Rattle.sshcore.specs.Ending.{Authenticated, Open}
+use Rattle.sshcore.specs.Kept.{Kept, kept_of}
 use Rattle.sshcore.proofs.GivesLemmas.{gives_moved}
 use Rattle.sshcore.proofs.state.State.succeed.Goals as goal
 
 pub returns-clause-gives : goal.returns-clause-gives
 unfolding written_message
 returns-clause-gives g c = λ strict next.
-    gives_moved _ _ strict next (kept_of c.args.self.now) (kept_of c.say_message.new.self) _ _ _ _ _ Open _ refl refl (ap (λ (a : AgreedData). Authenticated a) c.in_ok-agreed.ensures)
-    (c.in_ok-say_message.ensures.gives refl strict next)
+    let told = c.in_ok-tell.ensures in
+    let ends = c.in_ok-authenticate.ensures in
+    let counted = c.count_request.ensures in
+    gives_moved _ _ strict next (kept_of c.args.self.now) (kept_of c.tell.new.self) _ _ _ _ _ Open _ refl
+    (ap (λ (k : Kept). k.sending) counted ∙ ap (λ (k : Kept). k.sending) ends)
+    (ap (λ (k : Kept). k.end) counted ∙ ap (λ (k : Kept). k.end) ends ∙ ap (λ (k : Kept). Authenticated (agreed_by k.known c.args.user.now c.args.service.now)) told.counts)
+    (told.gives refl strict next)

@@ -4,6 +4,7 @@ use Rattle.sshmsg.specs.Content.{Content}
 use Rattle.sshmsg.specs.Numbers.{number_of}
 use Rattle.sshmsg.specs.View.{content_of, offer_of}
 use Rattle.sshcore.specs.ConfigParty.{party_of, role_of}
+use Rattle.sshcore.specs.Ending.{ending}
 use Rattle.sshcore.specs.Kept.{kept_of}
 use Rattle.sshcore.proofs.WorksLemmas as works
 use Rattle.sshcore.proofs.WorksLemmas.{IsNone, has_place, on_four, on_three}
@@ -22,7 +23,7 @@ hear_service_request-requires-clause-at g c =
 pub returns-in-Disconnect-clause-works : goal.returns-in-Disconnect-clause-works
 returns-in-Disconnect-clause-works g c = λ _.
     let has = has_place c.messages_law.ensures.complete c.numbers_law.ensures.kind c.numbers_law.ensures.alike (role_of c.args.config.now) (kept_of c.args.self.now) c.args.payload.now (content_of c.args.message.now) c.requires.reads c.requires.spelled in
-    works.disconnect_works _ _ _ _ _ _ _ _ _ has c.in-Disconnect.reason c.in-Disconnect.description.now c.in-Disconnect.language.now (ap content_of c.in-Disconnect.is) refl refl
+    works.disconnect_works _ _ _ _ _ _ _ _ _ has c.in-Disconnect.reason c.in-Disconnect.description.now c.in-Disconnect.language.now (ap content_of c.in-Disconnect.is) (ap ending c.set.ensures) refl
 
 pub returns-in-KexInit-clause-works : goal.returns-in-KexInit-clause-works
 returns-in-KexInit-clause-works g c =
