@@ -13,6 +13,7 @@ ghost use Rattle.sshcore.specs.Kept.{kept_of};
 ghost use Rattle.sshcore.specs.Output.{with_packet};
 
 use crate::config::Config;
+use crate::payloads::payload_from;
 use crate::state::State;
 use sshmsg::Message;
 use sshpacket::Suite;
@@ -35,6 +36,7 @@ impl State<'_> {
             (goes (written_message (content_of message.entry) ∷ []))) }
         ensures counts { OnOk result (kept_of self.new ≡ record (kept_of self.old) { sending = with_packet (kept_of self.old).sending }) }
     {
-        self.say_message(config, suite, &message, said)
+        let payload = payload_from(self.alloc, message)?;
+        self.say(config, suite, &payload, said)
     }
 }

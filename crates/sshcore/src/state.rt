@@ -4,8 +4,6 @@ ghost use Rattle.std.specs.Prelude.{◌≡◌, ◌<◌, ◌≤◌, ◌++◌, ◌
 ghost use Rattle.std.specs.List.{AllByRecursion, AllByRecursion-prop};
 ghost use Rattle.sshwire.specs.declared.limits.TheConstants.{LINE_LIMIT, PAYLOAD_LIMIT};
 ghost use Rattle.sshmsg.specs.Content as content;
-ghost use Rattle.sshmsg.specs.Numbers.{kind};
-ghost use Rattle.sshmsg.specs.View.{content_of};
 ghost use Rattle.sshmsg.specs.Written.{written_message};
 ghost use Rattle.sshpacket.specs.declared.limits.TheConstants.{DIGEST_LIMIT, PACKET_LIMIT};
 ghost use Rattle.sshpacket.specs.KeyData.{KeyData};
@@ -21,7 +19,7 @@ use crate::algorithms::Algorithms;
 use crate::config::Config;
 use crate::config_parts::Attempt;
 use crate::end::{End, Fault};
-use crate::payloads::payload_of;
+use crate::payloads::{payload_from, payload_of};
 use crate::session::UserKey;
 use crate::table::Phase;
 use sshmsg::{
@@ -258,37 +256,11 @@ impl<'a> State<'a> {
         ensures stays { OnOk result (kept_of self.new ≡ record (kept_of self.old) { known = heard_one (kept_of self.old).known; sending = (kept_of self.new).sending }) }
     {
         sshmsg::lengths_law();
-        let told = self.say_message(
-            config,
-            suite,
-            &Message::Unimplemented {
-                sequence_number: packet,
-            },
-            said,
-        );
-        told?;
         self.first = false;
-        Ok(())
-    }
-
-    /// Says a message that fits a payload.
-    pub(crate) fn say_message<S: Suite>(
-        &mut self,
-        config: &Config<'_>,
-        suite: &S,
-        message: &Message<'_>,
-        said: &mut Vec<u8>,
-    ) -> Result<(), Memory>
-        requires open { ending self.old.end ≡ Open }
-        requires short { length (written_message (content_of message.now)) ≤ PAYLOAD_LIMIT }
-        // NEWKEYS alone would change keys.
-        ensures gives { OnOk result ((kind (written_message (content_of message.now)) == 21) ≡ false → (strict : Bool) (next : KeyData)
-            → Gives (S.meaning suite.now) (party_of config.now).seed strict next (kept_of self.old) (kept_of self.new) said.old.items said.new.items
-            (goes (written_message (content_of message.now) ∷ []))) }
-        ensures counts { OnOk result (kept_of self.new ≡ record (kept_of self.old) { sending = with_packet (kept_of self.old).sending }) }
-    {
-        let payload = payload_of(self.alloc, message)?;
-        self.say(config, suite, &payload, said)
+        let unknown = Message::Unimplemented {
+            sequence_number: packet,
+        };
+        self.tell(config, suite, unknown, said)
     }
 }
 
@@ -297,9 +269,9 @@ fn disconnect_payload(alloc: Global, reason: u32) -> Result<Vec<u8>, Memory>
     ensures { IfOk result (λ made. IsMade (written_message (content.Disconnect reason [] [])) made.items) }
 {
     sshmsg::lengths_law();
-    payload_of(
+    payload_from(
         alloc,
-        &Message::Disconnect {
+        Message::Disconnect {
             reason,
             description: b"",
             language: b"",

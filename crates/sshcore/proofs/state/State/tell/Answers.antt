@@ -1,5 +1,5 @@
 use Rattle.sshcore.proofs.GivesLemmas.{gives_one, on_both}
-use Rattle.sshcore.proofs.state.State.say_message.Goals as goal
+use Rattle.sshcore.proofs.state.State.tell.Goals as goal
 
 pub returns-clause-gives : goal.returns-clause-gives
 returns-clause-gives g c = on_both c.say.result c.say.ensures.spells c.say.ensures.counts (λ s k quiet strict next.
