@@ -1,3 +1,4 @@
+pub mod OwnedLemmas
 pub mod StreamLemmas
 pub mod ScenarioFieldLemmas
 pub mod StepLemmas

@@ -1,7 +1,6 @@
 -- A world of a scenario, whose ends understand each other.
 
-use Rattle.std.proofs.Common.{◌≡◌, ◌≢◌, ◌↔◌, ◌+◌, ℕ, List, Result, Ok, Err, sym}
-use Rattle.std.specs.Result.{IfOk}
+use Rattle.std.proofs.Common.{◌≡◌, ◌≢◌, ◌+◌, List, sym}
 use Rattle.sshpacket.specs.Suite.{Meaning}
 use Rattle.sshcore.specs.declared.end.Fault.TheVariants as fault
 use Rattle.sshcore.specs.ConfigData.{ClientData, ServerData}

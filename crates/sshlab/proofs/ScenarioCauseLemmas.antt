@@ -1,9 +1,9 @@
 -- Why a text is refused.
 
-use Rattle.std.proofs.Common.{◌≡◌, ℕ, List, subst}
+use Rattle.std.proofs.Common.{◌≡◌, ◌⊎◌, ℕ, List, inl, inr, subst}
 use Rattle.sshcore.specs.declared.config_fault.ConfigFault.{ConfigFault}
 use Rattle.sshcore.specs.ConfigData.{ClientData, ServerData}
-use Rattle.sshcore.specs.ConfigRules.{ClientRule, IsLeastBroken, ServerRule}
+use Rattle.sshcore.specs.ConfigRules.{ClientRule, IsClient, IsLeastBroken, ServerRule}
 use Rattle.sshlab.specs.declared.scenario.ScenarioFault.{ScenarioFault}
 use Rattle.sshlab.specs.declared.scenario.ScenarioFault.TheVariants as fault
 use Rattle.sshlab.specs.ScenarioFaults.{IsCause, IsClientRefusal, IsLineCause, IsServerRefusal}
@@ -31,3 +31,10 @@ module _ (ls : List (List ℕ)) (read : CanBeRead ls) where
   server_cause parts (fault.Server code) kept is cause =
       record { read = read; client = kept; server = subst (λ (server : ServerData). IsLeastBroken (λ rule. ServerRule rule server) code) is cause }
   server_cause parts fault.Memory kept is cause = tt
+
+  -- why both configs can't be had
+  pub either_cause : (client : ClientData) (server : ServerData) (told : ScenarioFault) → client ≡ client_of_lines (said ls) → server ≡ server_of_lines (said ls)
+      → IsClientRefusal client told ⊎ (IsClient client × IsServerRefusal server told) → IsCause ls told
+  either_cause client server told of_client of_server (inl cause) = client_cause client told of_client cause
+  either_cause client server told of_client of_server (inr (is, cause)) =
+      server_cause server told (λ (rule : ConfigFault). subst (λ (d : ClientData). ClientRule rule d) of_client (is.keeps rule)) of_server cause

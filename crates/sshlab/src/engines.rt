@@ -12,6 +12,7 @@ use crate::listing::Listing;
 use crate::recording::Recording;
 use crate::streams::{Sink, Source, write_all};
 use crate::tool_fault::ToolFault;
+use sshwire::Memory;
 use std::alloc::Global;
 
 /// Writes what the streams of a recording spell, up to the first NEWKEYS of each.
@@ -99,7 +100,14 @@ fn shown_of(alloc: Global, text: &[u8]) -> Result<String, ToolFault>
     ensures judges { Judges text.now result }
 {
     let recording = Recording::parse(alloc, text)?;
-    let listing = Listing::of(alloc, &recording)?;
+    listed(alloc, &recording)
+}
+
+/// What is shown of a recording.
+fn listed(alloc: Global, recording: &Recording) -> Result<String, ToolFault>
+    ensures { IfErr result (λ cause. cause ≡ fault.Memory) }
+{
+    let listing = Listing::of(alloc, recording)?;
     listing.to_string(alloc).map_err(|_| ToolFault::Memory)
 }
 
@@ -110,8 +118,14 @@ fn judged_of(alloc: Global, text: &[u8]) -> Result<Judgement, ToolFault>
     ensures judges { Judges text.now result }
 {
     let recording = Recording::parse(alloc, text)?;
-    let listing = Listing::of(alloc, &recording)?;
-    let findings = Findings::of(alloc, &listing)?;
+    judgement_of(alloc, &recording)
+}
+
+/// What is judged of a recording.
+fn judgement_of(alloc: Global, recording: &Recording) -> Result<Judgement, ToolFault>
+    ensures { IfErr result (λ cause. cause ≡ fault.Memory) }
+{
+    let findings = findings_of(alloc, recording)?;
     match findings.to_string(alloc) {
         Ok(text) => Ok(Judgement {
             text,
@@ -119,6 +133,12 @@ fn judged_of(alloc: Global, text: &[u8]) -> Result<Judgement, ToolFault>
         }),
         Err(_) => Err(ToolFault::Memory),
     }
+}
+
+/// What a recording shows.
+fn findings_of(alloc: Global, recording: &Recording) -> Result<Findings, Memory> {
+    let listing = Listing::of(alloc, recording)?;
+    Findings::of(alloc, &listing)
 }
 
 /// Writes a text.

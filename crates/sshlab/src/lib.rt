@@ -6,6 +6,7 @@ mod engines;
 mod findings;
 mod input;
 mod listing;
+mod owned;
 mod program;
 mod recorded_stream;
 mod recording;

@@ -2,6 +2,7 @@
 
 ghost use Rattle.std.specs.Prelude.{◌≤◌, IfOk, IfSome, length};
 
+use crate::owned::beside;
 use sshmsg::{MsgFault, SSH_MSG_KEXINIT, SSH_MSG_NEWKEYS, read};
 use sshpacket::{PacketFault, PacketReader, PacketStep};
 use sshsuites::LabSuite;
@@ -129,28 +130,65 @@ impl<'a> RecordedStream<'a> {
         let mut reader = LineReader::new(alloc, others);
         let step = reader.feed(bytes);
         let (judged, behind) = bytes.split_at(reader.taken());
-        let mut clear = ClearPackets::new(alloc);
+        RecordedStream::of_step(alloc, step, judged, behind, reader.buffered())
+    }
+
+    /// What stands in a stream whose lines ended so. Of its bytes some were judged as lines, and so many of these
+    /// are of a line that isn't all there; others stand behind them.
+    fn of_step(
+        alloc: Global,
+        step: Result<LineStep, WireFault>,
+        judged: &'a [u8],
+        behind: &[u8],
+        unfinished: usize,
+    ) -> Result<RecordedStream<'a>, Memory> {
         match step {
-            Ok(LineStep::Done { version, .. }) => Ok(RecordedStream {
-                lines: lines_before_last(alloc, judged)?,
-                version: Some(version),
-                end: clear.read(behind)?,
-                clear,
-            }),
-            Ok(LineStep::More) => Ok(RecordedStream {
-                lines: whole_lines(alloc, judged)?,
-                version: None,
-                end: StreamEnd::Partial(reader.buffered()),
-                clear,
-            }),
+            Ok(LineStep::Done { version, .. }) => {
+                RecordedStream::of_version(alloc, version, judged, behind)
+            }
+            Ok(LineStep::More) => {
+                let end = StreamEnd::Partial(unfinished);
+                RecordedStream::of_lines(alloc, whole_lines(alloc, judged), end)
+            }
             Err(WireFault::Memory) => Err(Memory),
-            Err(fault) => Ok(RecordedStream {
-                lines: lines_before_last(alloc, judged)?,
-                version: None,
-                end: StreamEnd::Refused(StreamFault::Line(fault)),
-                clear,
-            }),
+            Err(fault) => {
+                let end = StreamEnd::Refused(StreamFault::Line(fault));
+                RecordedStream::of_lines(alloc, lines_before_last(alloc, judged), end)
+            }
         }
+    }
+
+    /// A stream with a version line, which ends the judged bytes.
+    fn of_version(
+        alloc: Global,
+        version: VersionLine,
+        judged: &'a [u8],
+        behind: &[u8],
+    ) -> Result<RecordedStream<'a>, Memory> {
+        let lines = lines_before_last(alloc, judged);
+        let head = beside(version, lines)?;
+        let packets = ClearPackets::of(alloc, behind);
+        let ((version, lines), (clear, end)) = beside(head, packets)?;
+        Ok(RecordedStream {
+            lines,
+            version: Some(version),
+            clear,
+            end,
+        })
+    }
+
+    /// A stream of lines alone.
+    fn of_lines(
+        alloc: Global,
+        lines: Result<Vec<&'a [u8]>, Memory>,
+        end: StreamEnd,
+    ) -> Result<RecordedStream<'a>, Memory> {
+        Ok(RecordedStream {
+            lines: lines?,
+            version: None,
+            clear: ClearPackets::new(alloc),
+            end,
+        })
     }
 }
 
@@ -182,14 +220,18 @@ impl ClearPackets {
         }
     }
 
+    /// The packets of a stream up to its first NEWKEYS, and what stands behind them.
+    fn of(alloc: Global, bytes: &[u8]) -> Result<(ClearPackets, StreamEnd), Memory> {
+        let mut clear = ClearPackets::new(alloc);
+        let end = clear.read(bytes);
+        beside(clear, end)
+    }
+
     /// Reads the packets of a stream up to its first NEWKEYS, and answers what stands behind them.
     fn read(&mut self, bytes: &[u8]) -> Result<StreamEnd, Memory> {
         let mut reader = PacketReader::new(self.alloc);
-        match self.read_packets(&mut reader, bytes) {
-            Ok(end) => Ok(end),
-            Err(Stop::Refused(fault)) => Ok(StreamEnd::Refused(fault)),
-            Err(Stop::Memory) => Err(Memory),
-        }
+        let end = self.read_packets(&mut reader, bytes);
+        told(end)
     }
 
     fn read_packets(&mut self, reader: &mut PacketReader, bytes: &[u8]) -> Result<StreamEnd, Stop> {
@@ -235,12 +277,21 @@ impl ClearPackets {
     }
 }
 
+/// What stands behind packets, where they ended so.
+fn told(end: Result<StreamEnd, Stop>) -> Result<StreamEnd, Memory> {
+    match end {
+        Ok(end) => Ok(end),
+        Err(Stop::Refused(fault)) => Ok(StreamEnd::Refused(fault)),
+        Err(Stop::Memory) => Err(Memory),
+    }
+}
+
 /// The number of a payload's message, which may be one that isn't known here.
 fn number_of(alloc: Global, payload: &[u8]) -> Result<u8, Stop> {
-    match read(alloc, payload) {
-        Ok(_) => Ok(payload.first().copied().unwrap_or(0)),
-        Err(MsgFault::Unrecognised(number)) => Ok(number),
-        Err(MsgFault::Malformed(number)) => Err(Stop::Refused(StreamFault::Malformed(number))),
-        Err(MsgFault::Memory) => Err(Stop::Memory),
+    match read(alloc, payload).err() {
+        None => Ok(payload.first().copied().unwrap_or(0)),
+        Some(MsgFault::Unrecognised(number)) => Ok(number),
+        Some(MsgFault::Malformed(number)) => Err(Stop::Refused(StreamFault::Malformed(number))),
+        Some(MsgFault::Memory) => Err(Stop::Memory),
     }
 }

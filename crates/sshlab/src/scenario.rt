@@ -42,7 +42,7 @@
 //! | `deliver SIDE N` | at most N of the waiting bytes go to the side |
 //! | `settle N` | N rounds, at most 1000: all waiting bytes to the server, then all to the client |
 
-ghost use Rattle.std.specs.Prelude.{◌≡◌, ◌≤◌, IfErr, IfOk, OnOk, length};
+ghost use Rattle.std.specs.Prelude.{◌≡◌, ◌≤◌, ◌⊎◌, IfErr, IfOk, OnOk, length};
 ghost use Rattle.sshcore.specs.ConfigRules.{IsClient};
 ghost use Rattle.sshcore.specs.ConfigView.{client_data, server_data};
 ghost use Rattle.sshlab.specs.ScenarioDrafts.{drafted, no_lines};
@@ -52,6 +52,7 @@ ghost use Rattle.sshlab.specs.ScenarioText.{CanBeRead, said};
 ghost use Rattle.sshlab.specs.TextLines.{lines};
 ghost use Rattle.sshlab.specs.declared.scenario.TheConstants.{TEXT_LIMIT};
 
+use crate::owned::{beside, once};
 use crate::scenario_draft::{Draft, ScenarioParts};
 use crate::scenario_fields::LineFault;
 use crate::scenario_line::Step;
@@ -133,8 +134,8 @@ impl Scenario {
             decisions,
             steps,
         } = parts_of_text(alloc, text)?;
-        let client = client_config(alloc, client)?;
-        let server = server_config(alloc, server)?;
+        let configs = configs_of(alloc, client, server);
+        let ((decisions, steps), (client, server)) = beside((decisions, steps), configs)?;
         Ok(Scenario {
             client,
             server,
@@ -170,8 +171,9 @@ fn parts_of_text(alloc: Global, text: &[u8]) -> Result<ScenarioParts, ScenarioFa
     ensures refused { IfErr result (λ fault. IsLineCause (lines text.now) fault) }
 {
     let mut draft = Draft::new(alloc)?;
-    read_lines(&mut draft, text)?;
-    Ok(draft.finish())
+    let read = read_lines(&mut draft, text);
+    let whole = once(draft, read)?;
+    Ok(whole.finish())
 }
 
 /// Reads the lines of a text, which have an LF between them.
@@ -192,6 +194,22 @@ fn read_lines(draft: &mut Draft, text: &[u8]) -> Result<(), ScenarioFault>
         }
     }
     Ok(())
+}
+
+/// Both configs. The client's refusal is told before the server's.
+fn configs_of(
+    alloc: Global,
+    client: ClientParts,
+    server: ServerParts,
+) -> Result<(ClientConfig, ServerConfig), ScenarioFault>
+    ensures client { IfOk result (λ configs. configs.0 ≡ client_data client) }
+    ensures server { IfOk result (λ configs. configs.1 ≡ server_data server) }
+    ensures refused { IfErr result (λ fault. IsClientRefusal (client_data client) fault
+        ⊎ (IsClient (client_data client) × IsServerRefusal (server_data server) fault)) }
+{
+    let config = client_config(alloc, client);
+    let (server, client) = beside(server, config)?;
+    beside(client, server_config(alloc, server))
 }
 
 /// The client's config, whose refusal is the scenario's.

@@ -6,11 +6,13 @@ ghost use Rattle.sshcore.specs.ConfigView.{client_data, host_key_of, proving_of,
 ghost use Rattle.sshlab.specs.ScenarioDrafts.{after, after_line, allowing, no_lines};
 ghost use Rattle.sshlab.specs.ScenarioParts.{can_be_proved, some_or};
 ghost use Rattle.sshlab.specs.ScenarioText.{CanFollow};
-ghost use Rattle.sshlab.specs.ScenarioView.{saying_of};
+ghost use Rattle.sshlab.specs.ScenarioView.{saying_of, side_value_of};
+ghost use Rattle.sshlab.specs.Scenarios.{OfSide};
 ghost use Rattle.sshlab.specs.declared.scenario_fields.LineFault.TheVariants as fault;
 
+use crate::owned::{beside, put};
 use crate::scenario_fields::LineFault;
-use crate::scenario_line::{Statement, Step, statement_of};
+use crate::scenario_line::{SideSetting, Statement, Step, statement_of};
 use crate::scenario_settings::{Setting, set_client, set_server, set_side, setting_of};
 use sshcore::{ClientParts, Credential, HostKey, ServerParts};
 use sshsuites::{LabDecisions, lab_client_parts, lab_server_parts};
@@ -65,9 +67,11 @@ impl Draft {
     pub(crate) fn new(alloc: Global) -> Result<Draft, Memory>
         ensures { IfOk result (λ draft. draft ≡ no_lines) }
     {
+        let client = lab_client_parts(alloc)?;
+        let (client, server) = beside(client, lab_server_parts(alloc))?;
         Ok(Draft {
-            client: lab_client_parts(alloc)?,
-            server: lab_server_parts(alloc)?,
+            client,
+            server,
             host_keys: Vec::new(alloc),
             decisions: LabDecisions::new(alloc),
             steps: Vec::new(alloc),
@@ -111,21 +115,38 @@ impl Draft {
         ensures memory { OnErr result (self.new ≡ self.old) }
     {
         match statement {
-            Statement::Either(Side::Client, setting) => set_side(&mut self.client.side, setting),
-            Statement::Either(Side::Server, setting) => set_side(&mut self.server.side, setting),
-            Statement::Client(setting) => set_client(&mut self.client, setting),
-            Statement::Server(setting) => set_server(&mut self.server, setting),
-            Statement::Try(attempt) => self.client.plan.push(attempt)?,
-            Statement::HostKey(key) => self.host_keys.push(key)?,
-            Statement::Notice(line) => self.server.notice_lines.push(line)?,
-            Statement::Distrust(algorithm) => self.decisions.distrust(&algorithm)?,
-            Statement::Allow { user, credential } => {
-                allow(&mut self.decisions, &user, &credential)?;
+            Statement::Either(side, setting) => {
+                self.set(side, setting);
+                Ok(())
             }
-            Statement::Deny(number) => self.decisions.deny(number)?,
-            Statement::Step(step) => self.steps.push(step)?,
+            Statement::Client(setting) => {
+                set_client(&mut self.client, setting);
+                Ok(())
+            }
+            Statement::Server(setting) => {
+                set_server(&mut self.server, setting);
+                Ok(())
+            }
+            Statement::Try(attempt) => put(&mut self.client.plan, attempt),
+            Statement::HostKey(key) => put(&mut self.host_keys, key),
+            Statement::Notice(line) => put(&mut self.server.notice_lines, line),
+            Statement::Distrust(algorithm) => self.decisions.distrust(&algorithm),
+            Statement::Allow { user, credential } => {
+                allow(&mut self.decisions, &user, &credential)
+            }
+            Statement::Deny(number) => self.decisions.deny(number),
+            Statement::Step(step) => put(&mut self.steps, step),
         }
-        Ok(())
+    }
+
+    /// Puts a setting of both sides' kind in the place of what stood there.
+    fn set(&mut self, side: Side, setting: SideSetting)
+        ensures { self.new ≡ after self.old (OfSide side (side_value_of setting)) }
+    {
+        match side {
+            Side::Client => set_side(&mut self.client.side, setting),
+            Side::Server => set_side(&mut self.server.side, setting),
+        }
     }
 
     /// What was said, with the host keys of the lines in the place of the default, if there is one.

@@ -13,6 +13,7 @@ ghost use Rattle.sshsuites.specs.Lab.{lab};
 ghost use Rattle.sshsuites.specs.LabRules.{lab_policy};
 ghost use Rattle.sshlab.specs.Steps.{EndsSettling, StepDone, StepsLeadTo, StopsInStep, SettlesFor, StepsDone, StopsInSteps};
 
+use crate::owned::once;
 use crate::scenario::Scenario;
 use crate::scenario_line::Step;
 use sshcore::Decisions;
@@ -54,8 +55,8 @@ impl Scenario {
             &LabSuite,
             &self.decisions,
         )?;
-        do_steps(&mut world, &self.steps)?;
-        Ok(world)
+        let done = do_steps(&mut world, &self.steps);
+        once(world, done)
     }
 }
 

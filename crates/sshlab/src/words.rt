@@ -5,6 +5,7 @@ ghost use Rattle.std.specs.declared.alloc.Global.{Global};
 ghost use Rattle.sshlab.specs.Statuses.{IsAsked, IsFirstWord, IsNoToolFault};
 
 use crate::command_fault::CommandFault;
+use crate::owned::each;
 use crate::request::Request;
 use clap::error::ErrorKind;
 use clap::{Arg, ArgAction, ArgMatches, Command, Error};
@@ -54,15 +55,26 @@ fn found_in<'a>(words: &[String], matches: &ArgMatches<'a>) -> Result<Request<'a
     ensures fault { IfErr result IsNoToolFault }
 {
     match matches.subcommand() {
-        Some(("greet", greet)) if is_first(words, "greet") => greet_of(greet),
-        Some(("predict", predict)) if is_first(words, "predict") => Ok(Request::Predict {
-            session: predict.get_flag(SESSION_NAME),
+        Some((name, found)) if is_first(words, name) => asked_by(name, found),
+        _ => Err(CommandFault::Words),
+    }
+}
+
+/// What the words ask for whose first one is this.
+fn asked_by<'a>(name: &str, found: &ArgMatches<'a>) -> Result<Request<'a>, CommandFault>
+    ensures first { (words : List (String Global)) → IsFirstWord name.now words → IfOk result (λ found. IsAsked words found) }
+    ensures fault { IfErr result IsNoToolFault }
+{
+    match name {
+        "greet" => greet_of(found),
+        "predict" => Ok(Request::Predict {
+            session: found.get_flag(SESSION_NAME),
         }),
-        Some(("run", run)) if is_first(words, "run") => Ok(Request::Run {
-            session: run.get_flag(SESSION_NAME),
+        "run" => Ok(Request::Run {
+            session: found.get_flag(SESSION_NAME),
         }),
-        Some(("show", _)) if is_first(words, "show") => Ok(Request::Show),
-        Some(("check", _)) if is_first(words, "check") => Ok(Request::Check),
+        "show" => Ok(Request::Show),
+        "check" => Ok(Request::Check),
         _ => Err(CommandFault::Words),
     }
 }
@@ -108,13 +120,20 @@ fn command<'a>(alloc: Global) -> Result<Command<'a>, AllocError> {
         .disable_help_flag(true)
         .disable_version_flag(true)
         .subcommand_required(true);
-    let program = with_scenarios(alloc, with_greet(alloc, program)?)?;
-    with_recordings(alloc, program)
+    let program = with(Ok(program), of_greet(alloc));
+    let program = with(program, of_scenario(alloc, "predict"));
+    let program = with(program, of_scenario(alloc, "run"));
+    let program = with(program, of_recording(alloc, "show"));
+    with(program, of_recording(alloc, "check"))
 }
 
-/// The program's form with `greet`.
-fn with_greet<'a>(alloc: Global, program: Command<'a>) -> Result<Command<'a>, AllocError> {
-    program.subcommand(of_greet(alloc)?)
+/// The program's form with that of the words which begin so.
+fn with<'a>(
+    program: Result<Command<'a>, AllocError>,
+    form: Result<Command<'a>, AllocError>,
+) -> Result<Command<'a>, AllocError> {
+    let (program, form) = each(program, form)?;
+    program.subcommand(form)
 }
 
 /// The form of the words of `greet`: three, all required.
@@ -134,26 +153,9 @@ fn required<'a>(
     form.arg(Arg::new(alloc, name).required(true))
 }
 
-/// The program's form with `predict` and `run`.
-fn with_scenarios<'a>(alloc: Global, program: Command<'a>) -> Result<Command<'a>, AllocError> {
-    let program = with_scenario(alloc, program, "predict")?;
-    with_scenario(alloc, program, "run")
-}
-
-/// The program's form with one of these two.
-fn with_scenario<'a>(
-    alloc: Global,
-    program: Command<'a>,
-    name: &'a str,
-) -> Result<Command<'a>, AllocError> {
-    program.subcommand(of_scenario(alloc, name)?)
-}
-
-/// The program's form with `show` and `check`.
-fn with_recordings<'a>(alloc: Global, program: Command<'a>) -> Result<Command<'a>, AllocError> {
-    program
-        .subcommand(Command::new(alloc, "show").disable_help_flag(true))?
-        .subcommand(Command::new(alloc, "check").disable_help_flag(true))
+/// The form of the words that ask for something of a recording: this one alone.
+fn of_recording<'a>(alloc: Global, name: &'a str) -> Result<Command<'a>, AllocError> {
+    Ok(Command::new(alloc, name).disable_help_flag(true))
 }
 
 /// The form of the words that ask for something of a scenario: this one, and perhaps `--session`.

@@ -1,31 +1,44 @@
-use Rattle.std.proofs.Common.{◌∙◌, ap}
+use Rattle.std.proofs.Common.{◌≡◌, ◌∙◌, ap}
 use Rattle.std.proofs.lemmas.Result.{err_from_is_err_and}
-use Rattle.sshlab.specs.ScenarioDrafts.{Drafted}
+use Rattle.sshlab.specs.ScenarioDrafts.{Drafted, drafted}
+use Rattle.sshlab.specs.ScenarioFaults.{IsLineCause}
 use Rattle.sshlab.specs.ScenarioParts.{some_or}
 use Rattle.sshlab.specs.ScenarioText.{said}
 use Rattle.sshlab.specs.TextLines.{lines}
+use Rattle.sshlab.proofs.OwnedLemmas.{done_ok, told}
 use Rattle.sshlab.proofs.ScenarioPartLemmas.{client_drafted, rules_drafted, server_drafted, steps_drafted}
 use Rattle.sshlab.proofs.scenario.parts_of_text.Goals as goal
 
-pub returns-in_err-read_lines-clause-refused : goal.returns-in_err-read_lines-clause-refused
-returns-in_err-read_lines-clause-refused c =
-    let told = err_from_is_err_and c.from_residual-in_err-read_lines.result c.from_residual-in_err-read_lines.ensures.1 in
-    rw (told.1, told.2) c.in_err-read_lines.ensures.refused
+pub returns-in_err-whole-clause-refused : goal.returns-in_err-whole-clause-refused
+returns-in_err-whole-clause-refused c =
+    let gone = err_from_is_err_and c.from_residual-in_err-whole.result c.from_residual-in_err-whole.ensures.1 in
+    let read = c.read_lines-read in
+    rw (gone.1, gone.2) (told read.result (IsLineCause (lines c.args.text.now)) _ c.in_err-whole.ensures.fault read.ensures.refused)
+
+pub returns-clause-read : goal.returns-clause-read
+returns-clause-read c = done_ok c.read_lines-read.result tt c.in_ok-whole.ensures.done c.read_lines-read.ensures.read
 
 pub returns-clause-client : goal.returns-clause-client
 returns-clause-client c =
-    c.finish.ensures.client ∙ (ap (λ (d : Drafted). d.client) c.in_ok-read_lines.ensures.draft ∙ client_drafted (said (lines c.args.text.now)))
+    let is : c.in_ok-whole.whole ≡ drafted (said (lines c.args.text.now)) =
+    c.in_ok-whole.ensures.value ∙ done_ok c.read_lines-read.result tt c.in_ok-whole.ensures.done c.read_lines-read.ensures.draft in
+    c.finish.ensures.client ∙ (ap (λ (d : Drafted). d.client) is ∙ client_drafted (said (lines c.args.text.now)))
 
 pub returns-clause-server : goal.returns-clause-server
 returns-clause-server c =
+    let is : c.in_ok-whole.whole ≡ drafted (said (lines c.args.text.now)) =
+    c.in_ok-whole.ensures.value ∙ done_ok c.read_lines-read.result tt c.in_ok-whole.ensures.done c.read_lines-read.ensures.draft in
     c.finish.ensures.server
-    ∙ (ap (λ (d : Drafted). record d.server { host_keys = some_or d.server.host_keys d.host_keys }) c.in_ok-read_lines.ensures.draft
-    ∙ server_drafted (said (lines c.args.text.now)))
+    ∙ (ap (λ (d : Drafted). record d.server { host_keys = some_or d.server.host_keys d.host_keys }) is ∙ server_drafted (said (lines c.args.text.now)))
 
 pub returns-clause-decisions : goal.returns-clause-decisions
 returns-clause-decisions c =
-    c.finish.ensures.decisions ∙ (ap (λ (d : Drafted). d.rules) c.in_ok-read_lines.ensures.draft ∙ rules_drafted (said (lines c.args.text.now)))
+    let is : c.in_ok-whole.whole ≡ drafted (said (lines c.args.text.now)) =
+    c.in_ok-whole.ensures.value ∙ done_ok c.read_lines-read.result tt c.in_ok-whole.ensures.done c.read_lines-read.ensures.draft in
+    c.finish.ensures.decisions ∙ (ap (λ (d : Drafted). d.rules) is ∙ rules_drafted (said (lines c.args.text.now)))
 
 pub returns-clause-steps : goal.returns-clause-steps
 returns-clause-steps c =
-    c.finish.ensures.steps ∙ (ap (λ (d : Drafted). d.steps) c.in_ok-read_lines.ensures.draft ∙ steps_drafted (said (lines c.args.text.now)))
+    let is : c.in_ok-whole.whole ≡ drafted (said (lines c.args.text.now)) =
+    c.in_ok-whole.ensures.value ∙ done_ok c.read_lines-read.result tt c.in_ok-whole.ensures.done c.read_lines-read.ensures.draft in
+    c.finish.ensures.steps ∙ (ap (λ (d : Drafted). d.steps) is ∙ steps_drafted (said (lines c.args.text.now)))
