@@ -9,7 +9,7 @@ BRACED = re.compile(r"\{([^{}]*)\}")
 REPEATED = re.compile(r"(\d+)\*(.*)", re.S)
 SUM = re.compile(r"(\d+)([+-])(\d+)")
 SLICE = re.compile(r"([0-9a-f]*) (\d+)\.\.(\d+)")
-WAYS = {"stdin": ("folder", "unread"), "stdout": ("full",), "stderr": ("full",)}
+WAYS = {"stdin": ("folder", "unread", "closed", "terminal"), "stdout": ("full", "closed", "gone"), "stderr": ("full", "gone")}
 
 
 class Bad(Exception):
