@@ -85,10 +85,17 @@ fn connect(
     decisions: &LabDecisions,
 ) -> anyhow::Result<()> {
     let mut peer = Peer::new(rt, theirs, decisions)?;
-    let (client, behind) = authenticate(rt, config, decisions, &mut peer)?;
-    match peer.into_session() {
-        Some(server) => go_on(rt, client, server, &behind),
-        None => bail!("the server isn't authenticated"),
+    let client = authenticate(rt, config, decisions, &mut peer);
+    let ((client, behind), server) = both(client, peer.into_session())?;
+    go_on(rt, client, server, &behind)
+}
+
+/// Both sides, where both are authenticated.
+fn both<C: Drop, S: Drop>(client: anyhow::Result<C>, server: Option<S>) -> anyhow::Result<(C, S)> {
+    match (client, server) {
+        (Ok(client), Some(server)) => Ok((client, server)),
+        (Ok(_), None) => bail!("the server isn't authenticated"),
+        (Err(error), _) => Err(error),
     }
 }
 
@@ -101,8 +108,34 @@ fn authenticate(
 ) -> anyhow::Result<(Session, Vec<u8>)> {
     let alloc = rt.alloc();
     let draws = draw(rt)?;
-    let (mut out, mut behind) = (Vec::new(alloc), Vec::new(alloc));
-    let mut client = Endpoint::client_with(alloc, config, draws, &LabSuite, decisions, &mut out)?;
+    let mut out = Vec::new(alloc);
+    let client = Endpoint::client_with(alloc, config, draws, &LabSuite, decisions, &mut out)?;
+    hand_over(alloc, client, out, peer)
+}
+
+/// What a client hands over that has said these bytes so far.
+fn hand_over(
+    alloc: Global,
+    client: LabEndpoint<'_>,
+    out: Vec<u8>,
+    peer: &mut Peer<'_>,
+) -> anyhow::Result<(Session, Vec<u8>)> {
+    let (mut client, mut behind) = (client, Vec::new(alloc));
+    talk(&mut client, out, peer, &mut behind)?;
+    match client.into_session() {
+        Some(session) => Ok((session, behind)),
+        None => bail!("not authenticated"), // `client.end()` told why: F1 to F16, or closed
+    }
+}
+
+/// Gives the client what comes until it has ended.
+fn talk(
+    client: &mut LabEndpoint<'_>,
+    out: Vec<u8>,
+    peer: &mut Peer<'_>,
+    behind: &mut Vec<u8>,
+) -> anyhow::Result<()> {
+    let mut out = out;
     for _ in 0..u64::MAX {
         peer.send(&mut out)?; // yours: sends these bytes, and empties `out`
         if !matches!(client.end(), End::Open) {
@@ -115,18 +148,18 @@ fn authenticate(
         let used = client.feed(&piece, &mut out)?;
         behind.extend_from_slice(&piece[used..])?; // the first bytes of what follows
     }
-    match client.into_session() {
-        Some(session) => Ok((session, behind)),
-        None => bail!("not authenticated"), // `client.end()` told why: F1 to F16, or closed
-    }
+    Ok(())
 }
 
 /// Says what both sides agreed on, and lets them speak.
 fn go_on(rt: &HostRuntime, client: Session, server: Session, behind: &[u8]) -> anyhow::Result<()> {
-    tell(rt, &client, &server)?;
+    let told = tell(rt, &client, &server);
     let mut client = Side::new(rt.alloc(), "client", client);
     let mut server = Side::new(rt.alloc(), "server", server);
-    speak(rt, &mut client, &mut server, behind)
+    match told {
+        Ok(()) => speak(rt, &mut client, &mut server, behind),
+        Err(error) => Err(error),
+    }
 }
 
 /// Says what both sides agreed on.

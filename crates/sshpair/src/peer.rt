@@ -97,11 +97,17 @@ fn hear(
 ) -> anyhow::Result<bool> {
     match server {
         Some(server) => {
-            server.feed(bytes, waiting)?;
+            feed(server, bytes, waiting)?;
             Ok(!matches!(server.end(), End::Open))
         }
         None => Ok(false),
     }
+}
+
+/// Gives a server bytes.
+fn feed(server: &mut LabEndpoint<'_>, bytes: &[u8], waiting: &mut Vec<u8>) -> anyhow::Result<()> {
+    server.feed(bytes, waiting)?;
+    Ok(())
 }
 
 /// The session of a server that has ended, which is gone then.
