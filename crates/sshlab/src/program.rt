@@ -4,9 +4,6 @@ ghost use Rattle.std.specs.Prelude.{◌≡◌, ◌≢◌, ◌≤◌, ◌==◌, �
 ghost use Rattle.std.specs.Io.KnownBytes.{Appends, Keeps};
 ghost use Rattle.std.specs.IoError.{error_kind};
 ghost use Rattle.sshcore.specs.Ending.{ending};
-ghost use Rattle.sshsuites.specs.Lab.{lab};
-ghost use Rattle.sshsuites.specs.LabRules.{lab_policy};
-ghost use Rattle.sshworld.specs.Outcome.{outcome};
 ghost use Rattle.sshworld.specs.Worlds.{Complete};
 ghost use Rattle.sshlab.specs.Reports.{report_text};
 ghost use Rattle.sshlab.specs.Statuses.{AsksForInput, IsFirstWord, IsGreet, IsNoToolFault, status_of, words_status};
@@ -211,20 +208,11 @@ fn ends_of(alloc: Global, text: &[u8]) -> Result<(End, End), CommandFault>
     ensures fault { IfErr result IsNoToolFault }
 {
     match Scenario::parse(alloc, text) {
-        Ok(scenario) => ends_of_scenario(alloc, &scenario),
+        Ok(scenario) => match scenario.predict(alloc) {
+            Ok(ends) => Ok(ends),
+            Err(_) => Err(CommandFault::Memory),
+        },
         Err(fault) => Err(CommandFault::Scenario(fault)),
-    }
-}
-
-/// The ends of the sides of a scenario, the client's end first.
-fn ends_of_scenario(alloc: Global, scenario: &Scenario) -> Result<(End, End), CommandFault>
-    ensures client { IfOk result (λ ends. ending ends.0 ≡ (outcome lab (lab_policy scenario.now.decisions) scenario.now.client scenario.now.server).client) }
-    ensures server { IfOk result (λ ends. ending ends.1 ≡ (outcome lab (lab_policy scenario.now.decisions) scenario.now.client scenario.now.server).server) }
-    ensures fault { IfErr result IsNoToolFault }
-{
-    match scenario.predict(alloc) {
-        Ok(ends) => Ok(ends),
-        Err(_) => Err(CommandFault::Memory),
     }
 }
 
