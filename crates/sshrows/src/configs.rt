@@ -28,9 +28,7 @@ pub(crate) fn judge_config(
     let Some((line, rest)) = judged.split_first() else {
         return wrong(alloc, row, "row", "what comes of the config", "none");
     };
-    if line.text != "generous" {
-        nothing_behind(alloc, rest)?;
-    }
+    nothing_behind_verdict(alloc, line, rest)?;
     match role {
         "client" => {
             let parts = client_by(alloc, names, parts)?;
@@ -42,6 +40,14 @@ pub(crate) fn judge_config(
         }
         _ => same_text(alloc, row, "act", "client or server", role),
     }
+}
+
+/// No line stands behind what comes of a config, but behind `generous`.
+fn nothing_behind_verdict(alloc: Global, line: &Line<'_>, rest: &[Line<'_>]) -> Result<(), Stop> {
+    if line.text == "generous" {
+        return Ok(());
+    }
+    nothing_behind(alloc, rest)
 }
 
 /// Judges what comes of a client's parts.

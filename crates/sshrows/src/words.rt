@@ -1,11 +1,15 @@
 //! Lines, and the words that they are made of.
 
+use crate::stop::Told;
+
 /// A line of the input that says something.
 #[derive(Clone, Copy)]
 pub(crate) struct Line<'a> {
     /// Its number, from 1.
     pub(crate) number: u32,
     pub(crate) text: &'a str,
+    /// Where is told what a row fails by.
+    pub(crate) told: &'a Told,
 }
 
 impl<'a> Line<'a> {
