@@ -67,7 +67,7 @@ fn scenario_of(
     }
     match Scenario::parse(alloc, text) {
         Ok(scenario) => Ok(Ok(Box::new(alloc, scenario)?)),
-        Err(ScenarioFault::Memory) => Err(Stop::Memory),
+        Err(ScenarioFault::Memory) => Err(Stop::Refused),
         Err(fault) => Ok(Err(fault)),
     }
 }
@@ -118,11 +118,11 @@ fn begin<D: Decisions>(
     };
     match role {
         "client" => {
-            let subject = client_of(alloc, &scenario.client, asking, questions, piece_len)?;
+            let subject = client_of(alloc, line, &scenario.client, asking, questions, piece_len)?;
             talk(alloc, names, line, subject, lines)
         }
         "server" => {
-            let subject = server_of(alloc, &scenario.server, asking, questions, piece_len)?;
+            let subject = server_of(alloc, line, &scenario.server, asking, questions, piece_len)?;
             talk(alloc, names, line, subject, lines)
         }
         _ => same_text(alloc, line, "act", "client or server", role),

@@ -5,13 +5,15 @@ use crate::texts::{put_word, same_text};
 use crate::words::Line;
 use sshcore::{Decisions, Proof};
 use std::alloc::{AllocError, Global};
-use std::cell::RefCell;
+use std::cell::{Cell, RefCell};
 
 /// The questions since they were judged last, in their order.
 #[derive(Drop)]
 pub(crate) struct Questions {
     /// A blank and a word for each: `host_key`, or the number of a request.
     text: RefCell<String>,
+    /// Whether memory was wanting for one.
+    is_lost: Cell<bool>,
     alloc: Global,
 }
 
@@ -20,22 +22,30 @@ impl Questions {
     pub(crate) fn new(alloc: Global) -> Questions {
         Questions {
             text: RefCell::new(String::new(alloc)),
+            is_lost: Cell::new(false),
             alloc,
         }
     }
 
-    /// Keeps a question. One for which memory is wanting is left out, so its row fails.
-    fn keep(&self, word: &str) {
-        if let Ok(mut text) = self.text.try_borrow_mut() {
-            let _ = put_word(&mut text, word);
+    /// Keeps a question.
+    fn keep(&self, word: &str) -> Result<(), AllocError> {
+        match self.text.try_borrow_mut() {
+            Ok(mut text) => put_word(&mut text, word),
+            Err(_) => Ok(()),
         }
     }
 
     /// Keeps a question on the request with this number.
     fn keep_number(&self, request_number: u32) -> Result<(), AllocError> {
         let word = format!(in self.alloc; "{request_number}")?;
-        self.keep(&word);
-        Ok(())
+        self.keep(&word)
+    }
+
+    /// A question for which memory is wanting is lost, and its row isn't judged.
+    fn note(&self, kept: Result<(), AllocError>) {
+        if kept.is_err() {
+            self.is_lost.set(true);
+        }
     }
 
     /// All that were kept; none is kept behind it.
@@ -53,6 +63,9 @@ impl Questions {
         what: &'static str,
         wanted: &str,
     ) -> Result<(), Stop> {
+        if self.is_lost.get() {
+            return Err(Stop::Memory);
+        }
         let text = self.taken();
         let found = text.strip_prefix(' ').unwrap_or("nothing");
         same_text(self.alloc, line, what, wanted, found)
@@ -70,12 +83,13 @@ impl<D: Decisions> Decisions for Asking<'_, D> {
     ghost policy = { λ asking. D.policy asking.decisions.now };
 
     fn host_key(&self, algorithm: &str, blob: &[u8]) -> bool {
-        self.questions.keep("host_key");
+        self.questions.note(self.questions.keep("host_key"));
         self.decisions.host_key(algorithm, blob)
     }
 
     fn user(&self, request_number: u32, user: &str, service: &str, proof: &Proof<'_>) -> bool {
-        let _ = self.questions.keep_number(request_number);
+        self.questions
+            .note(self.questions.keep_number(request_number));
         self.decisions.user(request_number, user, service, proof)
     }
 }

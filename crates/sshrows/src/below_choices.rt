@@ -5,7 +5,7 @@ use crate::stop::Stop;
 use crate::terms::bytes_of;
 use crate::texts::{flag_of, same_text, wrong, yes_or_no};
 use crate::words::{Line, split_word};
-use sshmsg::{KexInit, Message, read};
+use sshmsg::{KexInit, Message, MsgFault, read};
 use sshneg::{Chosen, Role, choose, guess_right, strict_of};
 use sshsuites::LabSuite;
 use std::alloc::{AllocError, Global};
@@ -58,6 +58,7 @@ fn kexinit_of<'a>(
 ) -> Result<Box<KexInit<'a>>, Stop> {
     match read(alloc, payload) {
         Ok(Message::KexInit(kexinit)) => Ok(kexinit),
+        Err(MsgFault::Memory) => Err(Stop::Refused),
         _ => wrong(alloc, line, "choose", "a KEXINIT", "none"),
     }
 }

@@ -2,11 +2,12 @@
 
 use crate::below_texts::{code_of_wire, text_with};
 use crate::names::Names;
+use crate::refusals::stopped;
 use crate::stop::Stop;
 use crate::terms::{bytes_of, count_of};
 use crate::texts::{number_of, same_count, same_text, shows, wrong};
 use crate::words::{Line, split_word};
-use sshwire::{LineReader, LineStep};
+use sshwire::{LineReader, LineStep, WireFault};
 use std::alloc::Global;
 
 /// A reader of lines that is judged.
@@ -57,18 +58,37 @@ fn step(alloc: Global, names: &Names, line: &Line<'_>, hearer: &mut Hearer) -> R
     match word {
         "feed" => {
             let piece = bytes_of(alloc, names, line, rest)?;
-            let used = used_of(alloc, hearer, &piece)?;
+            let used = given(alloc, line, hearer, &piece)?;
             same_count(alloc, line, "used", piece.len(), used)
         }
         "part" => {
             let (count, terms) = split_word(rest);
             let piece = bytes_of(alloc, names, line, terms)?;
-            let used = used_of(alloc, hearer, &piece)?;
+            let used = given(alloc, line, hearer, &piece)?;
             same_count(alloc, line, "used", count_of(count), used)
         }
         "held" => shows(alloc, line, "held", rest, &hearer.reader.buffered()),
         "end" => same_text(alloc, line, "end", rest, &hearer.end),
         _ => wrong(alloc, line, "line", "a word of lines", word),
+    }
+}
+
+/// Gives the reader the bytes, and answers how many it used. Where it is refused memory it has to say so again.
+fn given(alloc: Global, line: &Line<'_>, hearer: &mut Hearer, piece: &[u8]) -> Result<usize, Stop> {
+    match used_of(alloc, hearer, piece) {
+        Ok(used) => Ok(used),
+        Err(stop) => Err(stopped(alloc, line, stop, answer_again(hearer))),
+    }
+}
+
+/// What the reader answers to a further byte.
+fn answer_again(hearer: &mut Hearer) -> &'static str {
+    if hearer.reader.is_done() {
+        return "V7, and it is done";
+    }
+    match hearer.reader.feed(&[0]) {
+        Err(WireFault::Memory) => "V7 for good",
+        _ => "V7, and another answer behind it",
     }
 }
 

@@ -3,6 +3,7 @@
 use crate::below_texts::code_of_message;
 use crate::below_told::text_of_message;
 use crate::names::Names;
+use crate::refusals::{refused, vector};
 use crate::stop::Stop;
 use crate::terms::bytes_of;
 use crate::texts::{BEFORE, same_text, stands_behind, wrong};
@@ -69,7 +70,7 @@ fn message_of<'a>(
 ) -> Result<Result<Box<Message<'a>>, MsgFault>, Stop> {
     match read_exchange(alloc, payload, form) {
         Ok(message) => Ok(Ok(Box::new(alloc, message)?)),
-        Err(MsgFault::Memory) => Err(Stop::Memory),
+        Err(MsgFault::Memory) => Err(Stop::Refused),
         Err(fault) => Ok(Err(fault)),
     }
 }
@@ -116,8 +117,10 @@ fn judge_written(
         return wrong(alloc, line, "written", "bytes", "too long");
     }
     let mut out = Vec::from_slice(alloc, BEFORE)?;
-    write(message, &mut out)?;
-    stands_behind(alloc, line, wanted, &out)
+    match write(message, &mut out) {
+        Ok(()) => stands_behind(alloc, line, wanted, &out),
+        Err(_) => Err(refused(alloc, line, vector(out.as_slice() == BEFORE))),
+    }
 }
 
 /// Each beginning that is shorter has to be refused, and the payload with a byte behind it.

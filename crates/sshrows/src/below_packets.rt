@@ -2,13 +2,16 @@
 
 use crate::below_texts::code_of_packet;
 use crate::names::Names;
+use crate::refusals::{stopped, vector};
 use crate::stop::Stop;
 use crate::terms::{bytes_of, count_of, put_string};
 use crate::texts::{
     BEFORE, flag_of, number_of, same_bytes, same_count, same_text, shows, stands_behind, wrong,
 };
 use crate::words::{Line, split_word};
-use sshpacket::{KeyParts, Keys, PacketReader, PacketStep, Suite, write_clear, write_sealed};
+use sshpacket::{
+    KeyParts, Keys, PacketFault, PacketReader, PacketStep, Suite, write_clear, write_sealed,
+};
 use sshwire::{PAYLOAD_LIMIT, as_name};
 use std::alloc::Global;
 
@@ -70,13 +73,13 @@ fn step<S: Suite>(
     match word {
         "feed" => {
             let piece = bytes_of(alloc, names, line, rest)?;
-            let used = used_of(suite, receiver, &piece)?;
+            let used = given(alloc, suite, line, receiver, &piece)?;
             same_count(alloc, line, "used", piece.len(), used)
         }
         "part" => {
             let (count, terms) = split_word(rest);
             let piece = bytes_of(alloc, names, line, terms)?;
-            let used = used_of(suite, receiver, &piece)?;
+            let used = given(alloc, suite, line, receiver, &piece)?;
             same_count(alloc, line, "used", count_of(count), used)
         }
         "keys" => use_keys(alloc, names, line, receiver, rest),
@@ -104,6 +107,28 @@ fn look(
         "held" => shows(alloc, line, "held", rest, &receiver.reader.buffered()),
         "end" => same_text(alloc, line, "end", rest, receiver.end),
         _ => wrong(alloc, line, "line", "a word of packets", word),
+    }
+}
+
+/// Gives the reader the bytes, and answers how many it used. Where it is refused memory it has to say so again.
+fn given<S: Suite>(
+    alloc: Global,
+    suite: &S,
+    line: &Line<'_>,
+    receiver: &mut Receiver,
+    piece: &[u8],
+) -> Result<usize, Stop> {
+    match used_of(suite, receiver, piece) {
+        Ok(used) => Ok(used),
+        Err(stop) => Err(stopped(alloc, line, stop, answer_again(suite, receiver))),
+    }
+}
+
+/// What the reader answers to a further byte.
+fn answer_again<S: Suite>(suite: &S, receiver: &mut Receiver) -> &'static str {
+    match receiver.reader.next(suite, &[0]) {
+        Err(PacketFault::Memory) => "P5 for good",
+        _ => "P5, and another answer behind it",
     }
 }
 
@@ -239,9 +264,13 @@ fn judge_packet<S: Suite>(
     words: &str,
 ) -> Result<(), Stop> {
     let mut out = Vec::from_slice(alloc, BEFORE)?;
-    let wanted = put_packet(alloc, names, suite, line, keys, words, &mut out)?;
-    let wanted = bytes_of(alloc, names, line, wanted)?;
-    stands_behind(alloc, line, &wanted, &out)
+    match put_packet(alloc, names, suite, line, keys, words, &mut out) {
+        Ok(wanted) => {
+            let wanted = bytes_of(alloc, names, line, wanted)?;
+            stands_behind(alloc, line, &wanted, &out)
+        }
+        Err(stop) => Err(stopped(alloc, line, stop, vector(out.as_slice() == BEFORE))),
+    }
 }
 
 /// Writes the packet of `NUMBER SEED PAYLOAD`, and answers what stands behind them.

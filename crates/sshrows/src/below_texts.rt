@@ -50,7 +50,7 @@ pub(crate) fn code_of_wire(fault: WireFault) -> Result<&'static str, Stop> {
         WireFault::Line => Ok("V4"),
         WireFault::TooLong => Ok("V5"),
         WireFault::TooManyLines => Ok("V6"),
-        WireFault::Memory => Err(Stop::Memory),
+        WireFault::Memory => Err(Stop::Refused),
     }
 }
 
@@ -59,7 +59,7 @@ pub(crate) fn code_of_message(alloc: Global, fault: MsgFault) -> Result<String, 
     let (code, number) = match fault {
         MsgFault::Unrecognised(number) => ("M1", number),
         MsgFault::Malformed(number) => ("M2", number),
-        MsgFault::Memory => return Err(Stop::Memory),
+        MsgFault::Memory => return Err(Stop::Refused),
     };
     Ok(format!(in alloc; "refused {code} {number}")?)
 }
@@ -71,6 +71,6 @@ pub(crate) fn code_of_packet(fault: PacketFault) -> Result<&'static str, Stop> {
         PacketFault::Padding => Ok("refused P2"),
         PacketFault::Empty => Ok("refused P3"),
         PacketFault::Mac => Ok("refused P4"),
-        PacketFault::Memory => Err(Stop::Memory),
+        PacketFault::Memory => Err(Stop::Refused),
     }
 }

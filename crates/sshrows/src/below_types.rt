@@ -2,6 +2,7 @@
 
 use crate::below_texts::{code_of_wire, put_names, text_with};
 use crate::names::Names;
+use crate::refusals::{stopped, vector};
 use crate::stop::Stop;
 use crate::terms::bytes_of;
 use crate::texts::{flag_of, number_of, same_bytes, same_text, wrong, yes_or_no};
@@ -24,12 +25,24 @@ pub(crate) fn judge_reading(alloc: Global, bytes: &[u8], lines: &[Line<'_>]) -> 
 /// Judges one call; one that is refused has to leave the reader as it was.
 fn judge_call(alloc: Global, reader: &mut Reader<'_>, line: &Line<'_>) -> Result<(), Stop> {
     let before = reader.rest();
-    let found = text_of_call(alloc, reader, line)?;
+    let found = match text_of_call(alloc, reader, line) {
+        Ok(found) => found,
+        Err(stop) => return Err(stopped(alloc, line, stop, standing(before == reader.rest()))),
+    };
     same_text(alloc, line, "read", line.text, &found)?;
     if line.text.starts_with("refused") {
         same_bytes(alloc, line, "rest", before, reader.rest())?;
     }
     Ok(())
+}
+
+/// How a reader stands behind a refused call.
+fn standing(is_unchanged: bool) -> &'static str {
+    if is_unchanged {
+        "V7, the reader as it was"
+    } else {
+        "V7, the reader changed"
+    }
 }
 
 /// Makes the call of the line, `CALL VALUE` or `refused CODE CALL`, and tells what came of it.
@@ -121,7 +134,10 @@ fn told_names(alloc: Global, found: Result<NameList, WireFault>) -> Result<Strin
 pub(crate) fn judge_putting(alloc: Global, names: &Names, lines: &[Line<'_>]) -> Result<(), Stop> {
     let mut out = Vec::new(alloc);
     for line in lines {
-        put(alloc, names, line, &mut out)?;
+        let before = out.len();
+        if let Err(stop) = put(alloc, names, line, &mut out) {
+            return Err(stopped(alloc, line, stop, vector(out.len() == before)));
+        }
     }
     Ok(())
 }
@@ -169,6 +185,7 @@ fn put_list(alloc: Global, line: &Line<'_>, body: &[u8], out: &mut Vec<u8>) -> R
     }
     match NameList::parse(alloc, body) {
         Ok(list) => Ok(list.write(out)?),
+        Err(WireFault::Memory) => Err(Stop::Refused),
         Err(_) => wrong(alloc, line, "name_list", "names", "none"),
     }
 }

@@ -85,7 +85,7 @@ fn client_config_of(
 ) -> Result<Result<Box<ClientConfig>, ConfigFault>, Stop> {
     match ClientConfig::new(alloc, Box::into_inner(parts)) {
         Ok(config) => Ok(Ok(Box::new(alloc, config)?)),
-        Err(ConfigFault::Memory) => Err(Stop::Memory),
+        Err(ConfigFault::Memory) => Err(Stop::Refused),
         Err(fault) => Ok(Err(fault)),
     }
 }
@@ -97,7 +97,7 @@ fn server_config_of(
 ) -> Result<Result<Box<ServerConfig>, ConfigFault>, Stop> {
     match ServerConfig::new(alloc, Box::into_inner(parts)) {
         Ok(config) => Ok(Ok(Box::new(alloc, config)?)),
-        Err(ConfigFault::Memory) => Err(Stop::Memory),
+        Err(ConfigFault::Memory) => Err(Stop::Refused),
         Err(fault) => Ok(Err(fault)),
     }
 }
@@ -144,7 +144,7 @@ fn accepted_client(
                 decisions: &Generous,
                 questions,
             };
-            let subject = client_of(alloc, config, asking, questions, piece_len)?;
+            let subject = client_of(alloc, line, config, asking, questions, piece_len)?;
             talk(alloc, names, line, subject, lines)
         }
         _ => wrong(alloc, line, "config", rest, "accepted"),

@@ -3,13 +3,16 @@
 use crate::asked::Questions;
 use crate::handed::judge_session;
 use crate::names::Names;
+use crate::refusals::{is_out_of_memory, refused_saying};
 use crate::stop::Stop;
 use crate::terms::{bytes_of, count_of};
 use crate::texts::{same_agreed, same_bytes, same_count, same_end, shows, wrong};
 use crate::words::{Line, split_word};
 use sshcore::{ClientConfig, Decisions, Endpoint, ServerConfig, Session};
 use sshsuites::LabSuite;
+use sshwire::Memory;
 use std::alloc::Global;
+use std::mem;
 
 /// An endpoint that is judged.
 #[derive(Drop)]
@@ -28,27 +31,33 @@ pub(crate) struct Subject<'a, D: Decisions> {
 /// A client of this config, over the lab suite.
 pub(crate) fn client_of<'a, D: Decisions>(
     alloc: Global,
+    line: &Line<'_>,
     config: &'a ClientConfig,
     decisions: &'a D,
     questions: &'a Questions,
     piece_len: usize,
 ) -> Result<Box<Subject<'a, D>>, Stop> {
     let mut out = Vec::new(alloc);
-    let endpoint = Endpoint::client(alloc, config, &LabSuite, decisions, &mut out)?;
-    subject_of(alloc, endpoint, questions, out, piece_len)
+    match Endpoint::client(alloc, config, &LabSuite, decisions, &mut out) {
+        Ok(endpoint) => subject_of(alloc, endpoint, questions, out, piece_len),
+        Err(_) => Err(refused_saying(line, "no endpoint", out)),
+    }
 }
 
 /// A server of this config, over the lab suite.
 pub(crate) fn server_of<'a, D: Decisions>(
     alloc: Global,
+    line: &Line<'_>,
     config: &'a ServerConfig,
     decisions: &'a D,
     questions: &'a Questions,
     piece_len: usize,
 ) -> Result<Box<Subject<'a, D>>, Stop> {
     let mut out = Vec::new(alloc);
-    let endpoint = Endpoint::server(alloc, config, &LabSuite, decisions, &mut out)?;
-    subject_of(alloc, endpoint, questions, out, piece_len)
+    match Endpoint::server(alloc, config, &LabSuite, decisions, &mut out) {
+        Ok(endpoint) => subject_of(alloc, endpoint, questions, out, piece_len),
+        Err(_) => Err(refused_saying(line, "no endpoint", out)),
+    }
 }
 
 /// The endpoint and what it said at its making.
@@ -204,14 +213,35 @@ fn feed<D: Decisions>(
     wanted: usize,
 ) -> Result<(), Stop> {
     talk.judged = false;
-    let found = used_of(talk, piece)?;
-    same_count(alloc, line, "used", wanted, found)
+    match used_of(talk, piece) {
+        Ok(found) => same_count(alloc, line, "used", wanted, found),
+        Err(_) => Err(refused_feed(alloc, line, talk)),
+    }
+}
+
+/// What stands behind a refused `feed`: how the endpoint is failed, and what it said up to there.
+fn refused_feed<D: Decisions>(alloc: Global, line: &Line<'_>, talk: &mut Subject<'_, D>) -> Stop {
+    let len = talk.out.len();
+    let stands = if is_failed_for_good(talk) && talk.out.len() == len {
+        "failed F15 for good"
+    } else {
+        "F15, and not for good"
+    };
+    refused_saying(line, stands, mem::replace(&mut talk.out, Vec::new(alloc)))
+}
+
+/// Whether it ended by want of memory, and neither a byte more nor the end of its input changes that.
+fn is_failed_for_good<D: Decisions>(talk: &mut Subject<'_, D>) -> bool {
+    let is_failed = is_out_of_memory(talk.endpoint.end());
+    let used = talk.endpoint.feed(&[0], &mut talk.out);
+    talk.endpoint.end_of_input();
+    is_failed && matches!(used, Ok(0)) && is_out_of_memory(talk.endpoint.end())
 }
 
 /// Gives the endpoint the bytes in pieces, up to one that it doesn't use whole, and answers how many it used.
-fn used_of<D: Decisions>(talk: &mut Subject<'_, D>, piece: &[u8]) -> Result<usize, Stop> {
+fn used_of<D: Decisions>(talk: &mut Subject<'_, D>, piece: &[u8]) -> Result<usize, Memory> {
     if piece.is_empty() {
-        return Ok(talk.endpoint.feed(piece, &mut talk.out)?);
+        return talk.endpoint.feed(piece, &mut talk.out);
     }
     let mut all = 0usize;
     for part in piece.chunks(talk.piece_len.max(1)) {

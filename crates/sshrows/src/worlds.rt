@@ -1,11 +1,13 @@
 //! Rows of worlds and of predictions.
 
+use crate::refusals::{is_out_of_memory, refused};
 use crate::stop::Stop;
 use crate::texts::{number_of, same_agreed, same_end, same_text, shows, wrong, yes_or_no};
 use crate::words::{Line, split_word};
 use sshcore::End;
 use sshlab::Scenario;
 use sshsuites::{LabDecisions, LabSuite};
+use sshwire::Memory;
 use sshworld::{Delivery, Side, World};
 use std::alloc::Global;
 
@@ -56,8 +58,16 @@ fn step(alloc: Global, line: &Line<'_>, world: &mut LabWorld<'_>) -> Result<(), 
     match word {
         "move" => deliver(alloc, line, world, rest),
         "run" => run(alloc, line, world, rest),
-        "rounds" => Ok(world.settle(number_of(alloc, line, rest)?)?),
-        "turns" => alternate(world, number_of(alloc, line, rest)?),
+        "rounds" => {
+            let times = number_of(alloc, line, rest)?;
+            let settled = world.settle(times);
+            moved_by(alloc, line, world, settled)
+        }
+        "turns" => {
+            let times = number_of(alloc, line, rest)?;
+            let alternated = alternate(world, times);
+            moved_by(alloc, line, world, alternated)
+        }
         "complete" => same_text(alloc, line, "complete", rest, yes_or_no(world.complete())),
         _ => judge_ends(alloc, line, world.ends()),
     }
@@ -77,16 +87,86 @@ fn deliver(
         "server" => Side::Server,
         _ => return wrong(alloc, line, "side", "client or server", side),
     };
-    let moved = world.deliver(to, number_of(alloc, line, count)?)?;
-    shows(alloc, line, "moved", wanted, &moved)
+    let count = number_of(alloc, line, count)?;
+    let was_open = is_open(ends_from(world, to).1);
+    match world.deliver(to, count) {
+        Ok(moved) => shows(alloc, line, "moved", wanted, &moved),
+        Err(_) => Err(refused_delivery(alloc, line, world, to, was_open)),
+    }
+}
+
+/// What stands behind a refused delivery to this side, whose other side was open or not.
+fn refused_delivery(
+    alloc: Global,
+    line: &Line<'_>,
+    world: &mut LabWorld<'_>,
+    to: Side,
+    was_open: bool,
+) -> Stop {
+    let (receiver, other) = ends_from(world, to);
+    let is_right = is_out_of_memory(receiver)
+        && !is_out_of_memory(other)
+        && is_open(other) == was_open
+        && stays_failed(world, to);
+    let stands = if is_right {
+        "the receiver failed F15 for good, the other as it was"
+    } else {
+        "another end than the receiver's F15"
+    };
+    refused(alloc, line, stands)
+}
+
+/// Whether the side stays failed by want of memory, whatever is delivered behind that.
+fn stays_failed(world: &mut LabWorld<'_>, side: Side) -> bool {
+    let _ = world.deliver(side, 1);
+    let _ = world.settle(2);
+    is_out_of_memory(ends_from(world, side).0)
+}
+
+/// The end of the side, and that of the other.
+fn ends_from<'a>(world: &'a LabWorld<'_>, side: Side) -> (&'a End, &'a End) {
+    let (client, server) = world.ends();
+    match side {
+        Side::Client => (client, server),
+        Side::Server => (server, client),
+    }
+}
+
+/// Whether the endpoint takes bytes.
+fn is_open(end: &End) -> bool {
+    matches!(end, End::Open)
+}
+
+/// What came of deliveries. Where one was refused memory, one side alone has to be failed by that, and stays so.
+fn moved_by(
+    alloc: Global,
+    line: &Line<'_>,
+    world: &mut LabWorld<'_>,
+    moved: Result<(), Memory>,
+) -> Result<(), Stop> {
+    if moved.is_ok() {
+        return Ok(());
+    }
+    let (client, server) = world.ends();
+    let is_right = match (is_out_of_memory(client), is_out_of_memory(server)) {
+        (true, false) => stays_failed(world, Side::Client),
+        (false, true) => stays_failed(world, Side::Server),
+        _ => false,
+    };
+    let stands = if is_right {
+        "one side failed F15 for good"
+    } else {
+        "not one side failed F15 for good"
+    };
+    Err(refused(alloc, line, stands))
 }
 
 /// `SIDE COUNT SIDE COUNT ..`: a schedule, done by one call.
 fn run(alloc: Global, line: &Line<'_>, world: &mut LabWorld<'_>, words: &str) -> Result<(), Stop> {
     let mut schedule = Vec::new(alloc);
     put_schedule(alloc, line, words, &mut schedule)?;
-    world.run(&schedule)?;
-    Ok(())
+    let moved = world.run(&schedule);
+    moved_by(alloc, line, world, moved)
 }
 
 /// Appends the deliveries that the words are.
@@ -111,7 +191,7 @@ fn put_schedule(
 }
 
 /// So many times, one byte to the server and one to the client.
-fn alternate(world: &mut LabWorld<'_>, times: u32) -> Result<(), Stop> {
+fn alternate(world: &mut LabWorld<'_>, times: u32) -> Result<(), Memory> {
     for _ in 0..times {
         world.deliver(Side::Server, 1)?;
         world.deliver(Side::Client, 1)?;

@@ -1,0 +1,43 @@
+//! What stands behind a judged call that was refused memory. It is told without memory.
+
+use crate::stop::{Refusal, Stop};
+use crate::words::Line;
+use sshcore::{End, Fault};
+use std::alloc::Global;
+
+/// A judged call was refused memory, and this stands behind it.
+pub(crate) fn refused(alloc: Global, line: &Line<'_>, stands: &'static str) -> Stop {
+    refused_saying(line, stands, Vec::new(alloc))
+}
+
+/// The same of an endpoint that has said this since it was judged last.
+pub(crate) fn refused_saying(line: &Line<'_>, stands: &'static str, said: Vec<u8>) -> Stop {
+    line.told.keep_refusal(Refusal {
+        number: line.number,
+        stands,
+        said,
+    });
+    Stop::Refused
+}
+
+/// Where a row was stopped because a judged call was refused memory, this stands behind it.
+pub(crate) fn stopped(alloc: Global, line: &Line<'_>, stop: Stop, stands: &'static str) -> Stop {
+    match stop {
+        Stop::Refused => refused(alloc, line, stands),
+        _ => stop,
+    }
+}
+
+/// How a vector stands behind a refused call that was to append to it.
+pub(crate) fn vector(is_unchanged: bool) -> &'static str {
+    if is_unchanged {
+        "the vector as it was"
+    } else {
+        "the vector changed"
+    }
+}
+
+/// Whether it ended by want of memory.
+pub(crate) fn is_out_of_memory(end: &End) -> bool {
+    matches!(end, End::Failed(Fault::Memory))
+}
