@@ -10,7 +10,7 @@ use std::{fmt, io};
 /// Why a row isn't checked or timed.
 #[derive(Clone, Copy)]
 pub(crate) enum Fault {
-    /// Other words than none, `time`, and `stream` with a number.
+    /// Other words than none, `time`, `stream` with a number, and `soak` with two.
     Words,
     /// A growth was refused.
     Memory,

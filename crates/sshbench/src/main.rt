@@ -2,17 +2,22 @@
 //!
 //! Without words it does each row's work once and checks the result; with the word `time` it does
 //! it many times and prints a table of ratios; with `stream N` it reads N MB of packets that are made
-//! piece by piece, and prints how long the reading took.
+//! piece by piece, and prints how long the reading took; with `soak N SEED` it runs N sessions of configs and
+//! schedules that the seed draws, and hears ten times as many streams that it changed.
 #![tactic(auto)]
 
 mod choices;
 mod digests;
+mod drawn;
+mod drawn_parts;
 mod fault;
+mod hostile;
 mod kexinit;
 mod lent;
 mod long;
 mod packets;
 mod row;
+mod soak;
 mod table;
 mod talk;
 mod work;
@@ -39,6 +44,7 @@ enum Job {
     Check,
     Time,
     Stream { megabytes: u32 },
+    Soak { count: u32, seed: u32 },
 }
 
 /// Does what the words ask for.
@@ -47,6 +53,7 @@ fn run(rt: &HostRuntime) -> Result<(), Fault> {
         Job::Check => check(rt),
         Job::Time => table::print(rt, &kexinit::payload(rt.alloc())?),
         Job::Stream { megabytes } => long::print(rt, megabytes),
+        Job::Soak { count, seed } => soak::print(rt, count, seed),
     }
 }
 
@@ -77,7 +84,11 @@ fn read_job(rt: &HostRuntime) -> Result<Job, Fault> {
         Some(word) => match word.as_str() {
             "time" => Job::Time,
             "stream" => Job::Stream {
-                megabytes: megabytes(words.next())?,
+                megabytes: number(words.next())?,
+            },
+            "soak" => Job::Soak {
+                count: number(words.next())?,
+                seed: number(words.next())?,
             },
             _ => return Err(Fault::Words),
         },
@@ -89,7 +100,7 @@ fn read_job(rt: &HostRuntime) -> Result<Job, Fault> {
 }
 
 /// The number that a word tells.
-fn megabytes(word: Option<String>) -> Result<u32, Fault> {
+fn number(word: Option<String>) -> Result<u32, Fault> {
     let Some(word) = word else {
         return Err(Fault::Words);
     };

@@ -129,15 +129,15 @@ impl Lab {
 /// What both sides said.
 #[derive(Drop)]
 pub(crate) struct Said {
-    client: Vec<u8>,
-    server: Vec<u8>,
+    pub(crate) client: Vec<u8>,
+    pub(crate) server: Vec<u8>,
 }
 
 /// An endpoint of the lab.
-type LabEndpoint<'a> = Endpoint<'a, LabSuite, LabDecisions>;
+pub(crate) type LabEndpoint<'a> = Endpoint<'a, LabSuite, LabDecisions>;
 
 /// The client at its making, and what it says then.
-fn client_in<'a>(
+pub(crate) fn client_in<'a>(
     alloc: Global,
     lab: &'a Lab,
     said: &mut Vec<u8>,
@@ -147,7 +147,7 @@ fn client_in<'a>(
 }
 
 /// The same of the server.
-fn server_in<'a>(
+pub(crate) fn server_in<'a>(
     alloc: Global,
     lab: &'a Lab,
     said: &mut Vec<u8>,

@@ -1,0 +1,182 @@
+//! Configs of the lab, and decisions, that are drawn.
+
+ghost use Rattle.std.specs.Prelude.{◌==◌, ◌&&◌, not};
+
+use crate::drawn::{below, byte, flag};
+use crate::fault::Fault;
+use rand_xoshiro::SplitMix64;
+use sshcore::{
+    Attempt, ClientConfig, Credential, Decisions, Proof, ServerConfig, ServerParts, SideParts,
+};
+use sshsuites::{lab_client_parts, lab_server_parts};
+use std::alloc::Global;
+
+/// Decisions that are drawn: whether the host key is trusted, and which requests are let in.
+#[derive(Drop)]
+pub(crate) struct Whims {
+    trusts: bool,
+    /// Whether requests are let in, but one.
+    lets_in: bool,
+    /// The number of the one request that isn't let in; 0 is none.
+    denied: u32,
+}
+
+impl Whims {
+    /// Of eight, one trusts no host key, and two let nobody in.
+    pub(crate) fn drawn(rng: &mut SplitMix64) -> Whims {
+        Whims {
+            trusts: below(rng, 8) != 0,
+            lets_in: below(rng, 8) > 1,
+            denied: below(rng, 4),
+        }
+    }
+}
+
+impl Decisions for Whims {
+    ghost policy = { λ whims. record { host_key = λ _ _. whims.trusts; user = λ number _ _ _. whims.lets_in && not (number == whims.denied) } };
+
+    fn host_key(&self, _algorithm: &str, _blob: &[u8]) -> bool {
+        self.trusts
+    }
+
+    fn user(&self, request_number: u32, _user: &str, _service: &str, _proof: &Proof<'_>) -> bool {
+        self.lets_in && request_number != self.denied
+    }
+}
+
+/// A client's config whose lists, flags and up to five attempts are drawn.
+pub(crate) fn client_of(alloc: Global, rng: &mut SplitMix64) -> Result<Box<ClientConfig>, Fault> {
+    let mut parts = Box::new(alloc, lab_client_parts(alloc)?)?;
+    draw_side(alloc, rng, &mut parts.side)?;
+    parts.guess = flag(rng);
+    draw_plan(alloc, rng, &mut parts.plan)?;
+    let config = ClientConfig::new(alloc, Box::into_inner(parts))?;
+    Ok(Box::new(alloc, config)?)
+}
+
+/// A server's config whose lists, flags, methods, tries and banner are drawn.
+pub(crate) fn server_of(alloc: Global, rng: &mut SplitMix64) -> Result<Box<ServerConfig>, Fault> {
+    let mut parts = Box::new(alloc, lab_server_parts(alloc)?)?;
+    draw_side(alloc, rng, &mut parts.side)?;
+    draw_server(alloc, rng, &mut parts)?;
+    let config = ServerConfig::new(alloc, Box::into_inner(parts))?;
+    Ok(Box::new(alloc, config)?)
+}
+
+/// Draws what both sides have.
+fn draw_side(alloc: Global, rng: &mut SplitMix64, side: &mut SideParts) -> Result<(), Fault> {
+    side.strict = flag(rng);
+    draw_list(alloc, rng, &mut side.kex_algorithms, "a", "b")?;
+    draw_list(
+        alloc,
+        rng,
+        &mut side.encryption_client_to_server,
+        "c",
+        "c16",
+    )?;
+    draw_list(
+        alloc,
+        rng,
+        &mut side.encryption_server_to_client,
+        "c",
+        "c16",
+    )?;
+    draw_list(alloc, rng, &mut side.mac_client_to_server, "m", "m2")?;
+    draw_list(alloc, rng, &mut side.mac_server_to_client, "m", "m2")?;
+    for byte_of_seed in side.exchange_random.iter_mut() {
+        *byte_of_seed = byte(rng);
+    }
+    Ok(())
+}
+
+/// Makes it a list of the first name and, of eight lists, in six of the second too, in either order.
+fn draw_list(
+    alloc: Global,
+    rng: &mut SplitMix64,
+    list: &mut Vec<String>,
+    first: &str,
+    second: &str,
+) -> Result<(), Fault> {
+    list.clear();
+    let drawn = below(rng, 8);
+    if drawn < 4 {
+        list.push(String::from_str(alloc, first)?)?;
+    }
+    if drawn > 0 {
+        list.push(String::from_str(alloc, second)?)?;
+    }
+    if drawn > 3 {
+        list.push(String::from_str(alloc, first)?)?;
+    }
+    Ok(())
+}
+
+/// Draws up to five attempts.
+fn draw_plan(alloc: Global, rng: &mut SplitMix64, plan: &mut Vec<Attempt>) -> Result<(), Fault> {
+    for _ in 0..below(rng, 6) {
+        plan.push(attempt_of(alloc, rng)?)?;
+    }
+    Ok(())
+}
+
+/// An attempt of one of two users for a service that, of sixteen, one doesn't have.
+fn attempt_of(alloc: Global, rng: &mut SplitMix64) -> Result<Attempt, Fault> {
+    let user = if below(rng, 4) == 0 { "bo" } else { "al" };
+    let service = if below(rng, 16) == 0 {
+        "odd"
+    } else {
+        "ssh-connection"
+    };
+    let user = String::from_str(alloc, user)?;
+    let service = String::from_str(alloc, service)?;
+    Ok(Attempt {
+        user,
+        service,
+        credential: credential_of(alloc, rng)?,
+    })
+}
+
+/// No proof, a password, or a key that is asked about or not.
+fn credential_of(alloc: Global, rng: &mut SplitMix64) -> Result<Credential, Fault> {
+    let secret = Vec::from_slice(alloc, &[byte(rng)])?;
+    match below(rng, 5) {
+        0 => Ok(Credential::None),
+        1 | 2 => Ok(Credential::Password(secret)),
+        _ => Ok(Credential::PublicKey {
+            algorithm: String::from_str(alloc, "h")?,
+            private_key: secret,
+            ask: flag(rng),
+        }),
+    }
+}
+
+/// Draws what a server alone has.
+fn draw_server(alloc: Global, rng: &mut SplitMix64, parts: &mut ServerParts) -> Result<(), Fault> {
+    draw_methods(alloc, rng, parts)?;
+    parts.tries = below(rng, 20).saturating_add(1);
+    if flag(rng) {
+        parts.banner = Some(Vec::from_slice(alloc, b"hello")?);
+    }
+    for _ in 0..below(rng, 3) {
+        parts
+            .notice_lines
+            .push(Vec::from_slice(alloc, b"a line before")?)?;
+    }
+    Ok(())
+}
+
+/// Draws the methods, and which of them are required.
+fn draw_methods(alloc: Global, rng: &mut SplitMix64, parts: &mut ServerParts) -> Result<(), Fault> {
+    parts.methods.clear();
+    parts.required.clear();
+    for method in ["password", "publickey"] {
+        if below(rng, 8) == 0 {
+            continue;
+        }
+        parts.methods.push(String::from_str(alloc, method)?)?;
+        if below(rng, 4) == 0 {
+            parts.required.push(String::from_str(alloc, method)?)?;
+        }
+    }
+    Ok(())
+}

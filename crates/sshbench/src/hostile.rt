@@ -1,0 +1,168 @@
+//! Streams of a whole session that are changed at random, each heard by a fresh endpoint, which may not be authenticated by it.
+
+use crate::drawn::{below, byte, flag};
+use crate::fault::{Fault, holds};
+use crate::talk::{Lab, LabEndpoint, Reach, WHOLE, client_in, server_in, talk};
+use rand_xoshiro::SplitMix64;
+use sshcore::End;
+use sshpacket::PACKET_LIMIT;
+use std::alloc::Global;
+
+/// The bytes of both version lines.
+const LINE_LEN: usize = 15;
+
+/// How many packets each side sends in clear.
+const CLEAR_PACKETS: usize = 3;
+
+/// What is changed in a stream, at a place.
+#[derive(Clone, Copy)]
+enum Change {
+    /// The byte there is another one.
+    Byte(u8),
+    /// So many bytes are cut out.
+    Cut(usize),
+    /// So many random bytes are put in.
+    Put(usize),
+    /// So many bytes from there on are put in at another place.
+    Again(usize),
+    /// The stream ends there.
+    End,
+}
+
+impl Change {
+    /// One of the five.
+    fn drawn(rng: &mut SplitMix64) -> Change {
+        let count = place_below(rng, 40).saturating_add(1);
+        match below(rng, 6) {
+            0 => Change::Cut(count),
+            1 => Change::Put(count),
+            2 => Change::Again(count),
+            3 => Change::End,
+            _ => Change::Byte(byte(rng)),
+        }
+    }
+}
+
+/// A place below the count.
+fn place_below(rng: &mut SplitMix64, count: usize) -> usize {
+    let count = u32::try_from(count).unwrap_or(u32::MAX);
+    usize::try_from(below(rng, count)).unwrap_or(0)
+}
+
+/// Hears so many changed streams, and answers how many were authenticated since what was changed means nothing.
+pub(crate) fn streams(alloc: Global, rng: &mut SplitMix64, count: u32) -> Result<u32, Fault> {
+    let lab = Lab::new(alloc, Reach::User)?;
+    let said = talk(alloc, &lab, WHOLE)?;
+    let mut unheard = 0u32;
+    for _ in 0..count {
+        let authenticated = if flag(rng) {
+            let endpoint = server_in(alloc, &lab, &mut Vec::new(alloc))?;
+            hear(alloc, rng, endpoint, &said.client)?
+        } else {
+            let endpoint = client_in(alloc, &lab, &mut Vec::new(alloc))?;
+            hear(alloc, rng, endpoint, &said.server)?
+        };
+        unheard = unheard.saturating_add(u32::from(authenticated));
+    }
+    Ok(unheard)
+}
+
+/// Has the endpoint hear the stream with one change, and answers whether it was authenticated: only where that means nothing.
+fn hear(
+    alloc: Global,
+    rng: &mut SplitMix64,
+    endpoint: Box<LabEndpoint<'_>>,
+    stream: &[u8],
+) -> Result<bool, Fault> {
+    let place = place_below(rng, stream.len().saturating_sub(1)).saturating_add(1);
+    let change = Change::drawn(rng);
+    let changed = changed_by(alloc, rng, stream, place, change)?;
+    let is_authenticated = ends_authenticated(alloc, rng, endpoint, &changed)?;
+    holds(!is_authenticated || means_nothing(stream, &changed, place, change))?;
+    Ok(is_authenticated)
+}
+
+/// Whether all that is heard is as it was: the stream itself comes first, or a byte of padding in clear is another one.
+fn means_nothing(stream: &[u8], changed: &[u8], place: usize, change: Change) -> bool {
+    let is_padding = matches!(change, Change::Byte(_)) && is_padding(stream, place);
+    is_padding || changed.starts_with(stream)
+}
+
+/// Whether the byte at the place is padding of a packet in clear.
+fn is_padding(stream: &[u8], place: usize) -> bool {
+    let mut begin = LINE_LEN;
+    for _ in 0..CLEAR_PACKETS {
+        let Some((length, rest)) = stream.get(begin..).unwrap_or(&[]).split_first_chunk::<4>()
+        else {
+            return false;
+        };
+        let len = usize::try_from(u32::from_be_bytes(*length)).unwrap_or(0);
+        let padding = usize::from(rest.first().copied().unwrap_or(0));
+        let end = begin.saturating_add(4).saturating_add(len);
+        if place < end {
+            return place >= end.saturating_sub(padding);
+        }
+        begin = end;
+    }
+    false
+}
+
+/// The stream with the change at the place.
+fn changed_by(
+    alloc: Global,
+    rng: &mut SplitMix64,
+    stream: &[u8],
+    place: usize,
+    change: Change,
+) -> Result<Vec<u8>, Fault> {
+    let (front, rest) = stream.split_at(place.min(stream.len()));
+    let mut changed = Vec::from_slice(alloc, front)?;
+    match change {
+        Change::Byte(byte) => {
+            changed.push(byte)?;
+            changed.extend_from_slice(rest.get(1..).unwrap_or(&[]))?;
+        }
+        Change::Cut(count) => changed.extend_from_slice(rest.get(count..).unwrap_or(&[]))?,
+        Change::Put(count) => {
+            put_random(rng, &mut changed, count)?;
+            changed.extend_from_slice(rest)?;
+        }
+        Change::Again(count) => {
+            let from = place_below(rng, stream.len());
+            let part = stream.get(from..).unwrap_or(&[]);
+            changed.extend_from_slice(part.get(..count).unwrap_or(part))?;
+            changed.extend_from_slice(rest)?;
+        }
+        Change::End => {}
+    }
+    Ok(changed)
+}
+
+/// Appends so many random bytes.
+fn put_random(rng: &mut SplitMix64, out: &mut Vec<u8>, count: usize) -> Result<(), Fault> {
+    for _ in 0..count {
+        out.push(byte(rng))?;
+    }
+    Ok(())
+}
+
+/// Gives the endpoint the stream in pieces that are drawn, and then the end of its input. It may never hold more than a packet.
+fn ends_authenticated(
+    alloc: Global,
+    rng: &mut SplitMix64,
+    endpoint: Box<LabEndpoint<'_>>,
+    stream: &[u8],
+) -> Result<bool, Fault> {
+    let mut endpoint = endpoint;
+    let mut out = Vec::new(alloc);
+    for piece in stream.chunks(place_below(rng, 100).max(1)) {
+        endpoint.feed(piece, &mut out)?;
+        holds(endpoint.buffered() <= PACKET_LIMIT)?;
+    }
+    endpoint.end_of_input();
+    match endpoint.end() {
+        End::Authenticated(_) => Ok(true),
+        End::Open => Err(Fault::Otherwise),
+        _ => Ok(false),
+    }
+}
