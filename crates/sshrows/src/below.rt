@@ -5,12 +5,14 @@ use crate::below_derivations::judge_derivations;
 use crate::below_lines::judge_hearing;
 use crate::below_messages::judge_message;
 use crate::below_packets::judge_packets;
+use crate::below_suites::judge_suite;
 use crate::below_types::{judge_parsing, judge_putting, judge_reading};
 use crate::names::Names;
 use crate::stop::Stop;
 use crate::terms::bytes_of;
 use crate::texts::wrong;
 use crate::words::Line;
+use sshsuite::DeployedSuite;
 use sshsuites::{KemSuite, LabSuite};
 use std::alloc::Global;
 
@@ -18,7 +20,15 @@ use std::alloc::Global;
 pub(crate) fn is_below(word: &str) -> bool {
     matches!(
         word,
-        "message" | "reads" | "puts" | "parses" | "lines" | "packets" | "choose" | "derive"
+        "message"
+            | "reads"
+            | "puts"
+            | "parses"
+            | "lines"
+            | "packets"
+            | "choose"
+            | "derive"
+            | "suite"
     )
 }
 
@@ -38,6 +48,7 @@ pub(crate) fn judge_below(
         "lines" => judge_hearing(alloc, names, line, terms, rest, piece_len),
         "packets" => packets(alloc, names, line, terms, rest, piece_len),
         "choose" => judge_choice(alloc, names, line, terms, rest),
+        "suite" => calls(alloc, names, line, terms, rest),
         "derive" => judge_derivations(alloc, names, rest),
         _ => types(alloc, names, line, word, terms, rest),
     }
@@ -74,6 +85,23 @@ fn packets(
     match suite {
         "lab" => judge_packets(alloc, names, &LabSuite, lines, piece_len),
         "second" => judge_packets(alloc, names, &KemSuite, lines, piece_len),
-        _ => wrong(alloc, line, "suite", "lab or second", suite),
+        "deployed" => judge_packets(alloc, names, &DeployedSuite, lines, piece_len),
+        _ => wrong(alloc, line, "suite", "lab, second or deployed", suite),
+    }
+}
+
+/// Judges calls of one of the suites.
+fn calls(
+    alloc: Global,
+    names: &Names,
+    line: &Line<'_>,
+    suite: &str,
+    lines: &[Line<'_>],
+) -> Result<(), Stop> {
+    match suite {
+        "lab" => judge_suite(alloc, names, &LabSuite, lines),
+        "second" => judge_suite(alloc, names, &KemSuite, lines),
+        "deployed" => judge_suite(alloc, names, &DeployedSuite, lines),
+        _ => wrong(alloc, line, "suite", "lab, second or deployed", suite),
     }
 }

@@ -193,7 +193,7 @@ fn use_keys(
 }
 
 /// The keys that five words are, and what stands behind them.
-fn keys_of<'a>(
+pub(crate) fn keys_of<'a>(
     alloc: Global,
     names: &Names,
     line: &Line<'_>,

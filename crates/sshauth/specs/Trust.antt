@@ -1,0 +1,29 @@
+-- Whom an endpoint of this program trusts.
+
+use Rattle.std.specs.Prelude.{ℕ, ◌&&◌, Bool, false, List, Option, None, Some, option_map, string_bytes}
+use Rattle.std.specs.List.{list_any}
+use Rattle.std.specs.Str.{bytes_eq}
+use Rattle.sshcore.specs.Party.{KeyProof, NoProof, PasswordProof, Policy, ProofData}
+use Rattle.sshauth.specs.declared.trust.Trust.{Trust}
+
+-- the blob is one of the keys
+abbrev pub is_trusted : Trust → List ℕ → Bool
+is_trusted trust blob = list_any (λ key. bytes_eq key.items blob) trust.keys.items
+
+-- there is a password, and it is this one
+abbrev pub is_own : Option (List ℕ) → List ℕ → Bool
+is_own None bytes = false
+is_own (Some own) bytes = bytes_eq own bytes
+
+-- the proof is the password or one of the keys
+abbrev pub proves : Trust → ProofData → Bool
+proves trust NoProof = false
+proves trust (PasswordProof password) = is_own (option_map (λ v. v.items) trust.password) password
+proves trust (KeyProof algorithm blob) = is_trusted trust blob
+
+-- a host key is trusted that is one of the keys; one user is let in, by the password or by one of the keys
+abbrev pub trust_policy : Trust → Policy
+trust_policy trust = record {
+  host_key = λ algorithm blob. is_trusted trust blob;
+  user = λ number user service proof. bytes_eq (string_bytes trust.user) user && proves trust proof;
+}

@@ -1,0 +1,279 @@
+//! One channel of a session, by messages made by hand, to show that the session goes on (RFC 4254).
+
+use crate::fault::Fault;
+use crate::link::Link;
+use crate::report::{say, say_number};
+use sshcore::Session;
+use sshwire::{Memory, Reader, WireFault, put_boolean, put_string, put_u32};
+use std::alloc::Global;
+use std::io::Write;
+
+/// The most bytes of a command.
+const COMMAND_LIMIT: usize = 1000;
+
+/// What a server says to whatever it is asked to do.
+const GREETING: &[u8] = b"authenticated by rezdolin\n";
+
+/// How many bytes the peer may send, and how many in one message.
+const WINDOW: u32 = 1 << 20;
+
+const PACKET: u32 = 32768;
+
+/// Numbers of messages (RFC 4250 section 4.1.2).
+const DISCONNECT: u8 = 1;
+
+const KEXINIT: u8 = 20;
+
+const GLOBAL_REQUEST: u8 = 80;
+
+const REQUEST_FAILURE: u8 = 82;
+
+const OPEN: u8 = 90;
+
+const CONFIRMATION: u8 = 91;
+
+const DATA: u8 = 94;
+
+const CHANNEL_EOF: u8 = 96;
+
+const CHANNEL_CLOSE: u8 = 97;
+
+const REQUEST: u8 = 98;
+
+const REQUEST_SUCCESS: u8 = 99;
+
+/// The reason of a DISCONNECT that ends a session as it is wished.
+const BY_APPLICATION: u32 = 11;
+
+/// A client's: asks for a command and tells what it prints; without one the session ends at once.
+pub(crate) fn ask(
+    rt: &HostRuntime,
+    session: Box<Session>,
+    behind: Vec<u8>,
+    command: Option<&str>,
+) -> Result<(), Fault> {
+    let Some(command) = command else {
+        return Ok(());
+    };
+    if command.len() > COMMAND_LIMIT {
+        return Err(Fault::Words);
+    }
+    let mut link = Link::new(rt, session, behind)?;
+    link.send(rt, &open(rt.alloc())?)?;
+    hear_server(rt, &mut link, command)
+}
+
+/// Hears what a server says until its channel is closed, or its input ends.
+fn hear_server(rt: &HostRuntime, link: &mut Link, command: &str) -> Result<(), Fault> {
+    for _ in 0..u64::MAX {
+        let Some(payload) = link.receive(rt)? else {
+            say(rt, "the input ended");
+            return Ok(());
+        };
+        if let Some(reply) = reply_to_server(rt, &payload, command)? {
+            link.send(rt, &reply)?;
+        }
+        if payload.first() == Some(&CHANNEL_CLOSE) {
+            return Ok(());
+        }
+    }
+    Ok(())
+}
+
+/// What a client says to a message of the server, if it says something.
+fn reply_to_server(
+    rt: &HostRuntime,
+    payload: &[u8],
+    command: &str,
+) -> Result<Option<Vec<u8>>, Fault> {
+    let Some((number, fields)) = payload.split_first() else {
+        return Ok(None);
+    };
+    let mut reader = Reader::new(fields);
+    match *number {
+        CONFIRMATION => {
+            reader.u32()?;
+            Ok(Some(exec(rt.alloc(), reader.u32()?, command)?))
+        }
+        DATA => {
+            reader.u32()?;
+            let _ = rt.stderr().write_all(reader.string()?);
+            Ok(None)
+        }
+        REQUEST => {
+            tell_status(rt, &mut reader)?;
+            Ok(None)
+        }
+        CHANNEL_CLOSE => Ok(Some(farewell(rt.alloc())?)),
+        _ => reply_besides(rt, *number, &mut reader),
+    }
+}
+
+/// What either side says to a message beside its channel: that a global request isn't done.
+fn reply_besides(
+    rt: &HostRuntime,
+    number: u8,
+    reader: &mut Reader<'_>,
+) -> Result<Option<Vec<u8>>, Fault> {
+    if number == KEXINIT {
+        say(rt, "the peer asks for new keys, which this program hasn't");
+        return Err(Fault::Session);
+    }
+    if number != GLOBAL_REQUEST {
+        return Ok(None);
+    }
+    reader.string()?;
+    if reader.boolean()? {
+        Ok(Some(Vec::from_slice(rt.alloc(), &[REQUEST_FAILURE])?))
+    } else {
+        Ok(None)
+    }
+}
+
+/// Tells the exit status of a request on a channel, if it has one.
+fn tell_status(rt: &HostRuntime, reader: &mut Reader<'_>) -> Result<(), Fault> {
+    reader.u32()?;
+    if reader.string()? == b"exit-status".as_slice() {
+        reader.boolean()?;
+        say_number(rt, "exit status", reader.u32()?);
+    }
+    Ok(())
+}
+
+/// A server's: takes one session, says a line to whatever it is asked to do, and closes.
+pub(crate) fn answer(
+    rt: &HostRuntime,
+    session: Box<Session>,
+    behind: Vec<u8>,
+) -> Result<(), Fault> {
+    let mut link = Link::new(rt, session, behind)?;
+    let mut theirs = 0;
+    for _ in 0..u64::MAX {
+        let Some(payload) = link.receive(rt)? else {
+            say(rt, "the input ended");
+            return Ok(());
+        };
+        if payload.first() == Some(&DISCONNECT) {
+            say(rt, "the peer has disconnected");
+            return Ok(());
+        }
+        hear_client(rt, &mut link, &payload, &mut theirs)?;
+    }
+    Ok(())
+}
+
+/// Answers one message of the client.
+fn hear_client(
+    rt: &HostRuntime,
+    link: &mut Link,
+    payload: &[u8],
+    theirs: &mut u32,
+) -> Result<(), Fault> {
+    let Some((number, fields)) = payload.split_first() else {
+        return Ok(());
+    };
+    let mut reader = Reader::new(fields);
+    match *number {
+        OPEN => {
+            reader.string()?;
+            *theirs = reader.u32()?;
+            link.send(rt, &confirmation(rt.alloc(), *theirs)?)
+        }
+        REQUEST => hear_request(rt, link, &mut reader, *theirs),
+        _ => match reply_besides(rt, *number, &mut reader)? {
+            Some(reply) => link.send(rt, &reply),
+            None => Ok(()),
+        },
+    }
+}
+
+/// Answers a request on the channel.
+fn hear_request(
+    rt: &HostRuntime,
+    link: &mut Link,
+    reader: &mut Reader<'_>,
+    theirs: u32,
+) -> Result<(), Fault> {
+    reader.u32()?;
+    let name = reader.string()?;
+    if reader.boolean()? {
+        link.send(rt, &of_channel(rt.alloc(), REQUEST_SUCCESS, theirs)?)?;
+    }
+    if name == b"exec".as_slice() || name == b"shell".as_slice() {
+        finish(rt, link, theirs)
+    } else {
+        Ok(())
+    }
+}
+
+/// Says a line, the exit status 0 and the end of the channel.
+fn finish(rt: &HostRuntime, link: &mut Link, theirs: u32) -> Result<(), Fault> {
+    let alloc = rt.alloc();
+    link.send(rt, &data(alloc, theirs)?)?;
+    link.send(rt, &status(alloc, theirs)?)?;
+    link.send(rt, &of_channel(alloc, CHANNEL_EOF, theirs)?)?;
+    link.send(rt, &of_channel(alloc, CHANNEL_CLOSE, theirs)?)
+}
+
+/// A message that has the number of the peer's channel, and whatever is put behind.
+fn of_channel(alloc: Global, number: u8, theirs: u32) -> Result<Vec<u8>, Memory> {
+    let mut payload = Vec::from_slice(alloc, &[number])?;
+    put_u32(&mut payload, theirs)?;
+    Ok(payload)
+}
+
+/// CHANNEL_OPEN of a session (RFC 4254 section 5.1): the own channel is 0.
+fn open(alloc: Global) -> Result<Vec<u8>, Memory> {
+    let mut payload = Vec::from_slice(alloc, &[OPEN])?;
+    put_string(&mut payload, b"session")?;
+    put_u32(&mut payload, 0)?;
+    put_u32(&mut payload, WINDOW)?;
+    put_u32(&mut payload, PACKET)?;
+    Ok(payload)
+}
+
+/// CHANNEL_OPEN_CONFIRMATION.
+fn confirmation(alloc: Global, theirs: u32) -> Result<Vec<u8>, Memory> {
+    let mut payload = of_channel(alloc, CONFIRMATION, theirs)?;
+    put_u32(&mut payload, 0)?;
+    put_u32(&mut payload, WINDOW)?;
+    put_u32(&mut payload, PACKET)?;
+    Ok(payload)
+}
+
+/// A request to execute a command (section 6.5).
+fn exec(alloc: Global, theirs: u32, command: &str) -> Result<Vec<u8>, Fault> {
+    if command.len() > COMMAND_LIMIT {
+        return Err(Fault::Words);
+    }
+    let mut payload = of_channel(alloc, REQUEST, theirs)?;
+    put_string(&mut payload, b"exec")?;
+    put_boolean(&mut payload, true)?;
+    put_string(&mut payload, command.as_bytes())?;
+    Ok(payload)
+}
+
+/// CHANNEL_DATA with the line that a server says.
+fn data(alloc: Global, theirs: u32) -> Result<Vec<u8>, Memory> {
+    let mut payload = of_channel(alloc, DATA, theirs)?;
+    put_string(&mut payload, GREETING)?;
+    Ok(payload)
+}
+
+/// The exit status 0 (section 6.10).
+fn status(alloc: Global, theirs: u32) -> Result<Vec<u8>, Memory> {
+    let mut payload = of_channel(alloc, REQUEST, theirs)?;
+    put_string(&mut payload, b"exit-status")?;
+    put_boolean(&mut payload, false)?;
+    put_u32(&mut payload, 0)?;
+    Ok(payload)
+}
+
+/// DISCONNECT by the application (RFC 4253 section 11.1).
+fn farewell(alloc: Global) -> Result<Vec<u8>, Memory> {
+    let mut payload = Vec::from_slice(alloc, &[DISCONNECT])?;
+    put_u32(&mut payload, BY_APPLICATION)?;
+    put_string(&mut payload, b"")?;
+    put_string(&mut payload, b"")?;
+    Ok(payload)
+}

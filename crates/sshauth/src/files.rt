@@ -1,0 +1,38 @@
+//! Files that the words name, read whole.
+
+use crate::fault::Fault;
+use std::fs;
+use std::io::ErrorKind;
+
+/// The bytes of the file that the option names.
+pub(crate) fn bytes_of(
+    rt: &HostRuntime,
+    option: &'static str,
+    path: &str,
+) -> Result<Vec<u8>, Fault> {
+    match fs::read(rt, path) {
+        Ok(bytes) => Ok(bytes),
+        Err(error) if error.kind() == ErrorKind::OutOfMemory => Err(Fault::Memory),
+        Err(_) => Err(Fault::File(option)),
+    }
+}
+
+/// The same of a file that is text.
+pub(crate) fn text_in<'a>(option: &'static str, bytes: &'a [u8]) -> Result<&'a str, Fault> {
+    match str::from_utf8(bytes) {
+        Ok(text) => Ok(text),
+        Err(_) => Err(Fault::Form(option)),
+    }
+}
+
+/// The first line of the file that the option names, without its end.
+pub(crate) fn first_line(
+    rt: &HostRuntime,
+    option: &'static str,
+    path: &str,
+) -> Result<Vec<u8>, Fault> {
+    let bytes = bytes_of(rt, option, path)?;
+    let line = bytes.split(|byte| *byte == b'\n').next().unwrap_or(&[]);
+    let line = line.strip_suffix(b"\r").unwrap_or(line);
+    Ok(Vec::from_slice(rt.alloc(), line)?)
+}

@@ -1,0 +1,234 @@
+//! What the configs are made of.
+
+use crate::authorized::{authorized_keys, known_hosts};
+use crate::fault::Fault;
+use crate::files::{bytes_of, first_line};
+use crate::identity::private_key;
+use crate::settings::Settings;
+use crate::trust::Trust;
+use sshcore::{
+    Attempt, ClientConfig, ClientParts, Credential, Draws, HostKey, ServerConfig, ServerParts,
+    SideParts,
+};
+use std::alloc::Global;
+use std::random::RandomSource;
+
+/// The one service (RFC 4254).
+const SERVICE: &str = "ssh-connection";
+
+/// The one cipher.
+const CIPHER: &str = "chacha20-poly1305@openssh.com";
+
+/// The algorithm of keys.
+const ALGORITHM: &str = "ssh-ed25519";
+
+/// A client's config.
+pub(crate) fn client_config(
+    rt: &HostRuntime,
+    settings: &Settings<'_>,
+) -> Result<Box<ClientConfig>, Fault> {
+    let parts = Box::new(rt.alloc(), client_parts(rt, settings)?)?;
+    let config = ClientConfig::new(rt.alloc(), Box::into_inner(parts))?;
+    Ok(Box::new(rt.alloc(), config)?)
+}
+
+/// A server's config.
+pub(crate) fn server_config(
+    rt: &HostRuntime,
+    settings: &Settings<'_>,
+) -> Result<Box<ServerConfig>, Fault> {
+    let parts = Box::new(rt.alloc(), server_parts(rt, settings)?)?;
+    let config = ServerConfig::new(rt.alloc(), Box::into_inner(parts))?;
+    Ok(Box::new(rt.alloc(), config)?)
+}
+
+/// Whom a client trusts: the hosts of its file.
+pub(crate) fn client_trust(rt: &HostRuntime, settings: &Settings<'_>) -> Result<Trust, Fault> {
+    let keys = match settings.known_hosts {
+        Some(path) => known_hosts(rt, "known-hosts", path, settings.host)?,
+        None => return Err(Fault::Words),
+    };
+    Ok(Trust {
+        keys,
+        user: String::from_str(rt.alloc(), settings.user)?,
+        password: None,
+    })
+}
+
+/// Whom a server trusts: the keys of its file, and the password.
+pub(crate) fn server_trust(rt: &HostRuntime, settings: &Settings<'_>) -> Result<Trust, Fault> {
+    let keys = match settings.authorized_keys {
+        Some(path) => authorized_keys(rt, "authorized-keys", path)?,
+        None => Vec::new(rt.alloc()),
+    };
+    let user = String::from_str(rt.alloc(), settings.user)?;
+    Ok(Trust {
+        keys,
+        user,
+        password: password_of(rt, settings)?,
+    })
+}
+
+/// The password, where a file has one.
+fn password_of(rt: &HostRuntime, settings: &Settings<'_>) -> Result<Option<Vec<u8>>, Fault> {
+    match settings.password_file {
+        Some(path) => Ok(Some(first_line(rt, "password-file", path)?)),
+        None => Ok(None),
+    }
+}
+
+/// A client's parts.
+fn client_parts(rt: &HostRuntime, settings: &Settings<'_>) -> Result<ClientParts, Fault> {
+    let alloc = rt.alloc();
+    let server_host_key_algorithms = names_of(alloc, ALGORITHM)?;
+    let plan = plan_of(rt, settings)?;
+    Ok(ClientParts {
+        side: side_of(alloc, settings)?,
+        server_host_key_algorithms,
+        guess: settings.guess,
+        plan,
+    })
+}
+
+/// A client's attempts: by its key, about which it asks first, and by its password; without both, by no proof.
+fn plan_of(rt: &HostRuntime, settings: &Settings<'_>) -> Result<Vec<Attempt>, Fault> {
+    let mut plan = Vec::new(rt.alloc());
+    if let Some(path) = settings.identity {
+        let private_key = private_key(rt, "identity", path)?;
+        let credential = by_key(rt.alloc(), private_key)?;
+        plan.push(attempt_of(rt.alloc(), settings, credential)?)?;
+    }
+    if let Some(password) = password_of(rt, settings)? {
+        plan.push(attempt_of(rt.alloc(), settings, Credential::Password(password))?)?;
+    }
+    if plan.is_empty() {
+        plan.push(attempt_of(rt.alloc(), settings, Credential::None)?)?;
+    }
+    Ok(plan)
+}
+
+/// A private key by which a client proves its user, after the server was asked about it.
+fn by_key(alloc: Global, private_key: Vec<u8>) -> Result<Credential, Fault> {
+    let algorithm = String::from_str(alloc, ALGORITHM)?;
+    Ok(Credential::PublicKey {
+        algorithm,
+        private_key,
+        ask: true,
+    })
+}
+
+/// An attempt by this credential.
+fn attempt_of(
+    alloc: Global,
+    settings: &Settings<'_>,
+    credential: Credential,
+) -> Result<Attempt, Fault> {
+    let user = String::from_str(alloc, settings.user)?;
+    let service = String::from_str(alloc, SERVICE)?;
+    Ok(Attempt {
+        user,
+        service,
+        credential,
+    })
+}
+
+/// A server's parts.
+fn server_parts(rt: &HostRuntime, settings: &Settings<'_>) -> Result<ServerParts, Fault> {
+    let alloc = rt.alloc();
+    let host_keys = host_keys_of(rt, settings)?;
+    let banner = banner_of(rt, settings)?;
+    let (services, methods) = (
+        names_of(alloc, SERVICE)?,
+        names_of(alloc, settings.methods)?,
+    );
+    let required = match settings.required {
+        Some(names) => names_of(alloc, names)?,
+        None => Vec::new(alloc),
+    };
+    Ok(ServerParts {
+        side: side_of(alloc, settings)?,
+        host_keys,
+        services,
+        methods,
+        required,
+        tries: settings.tries,
+        banner,
+        notice_lines: Vec::new(alloc),
+    })
+}
+
+/// A server's one host key.
+fn host_keys_of(rt: &HostRuntime, settings: &Settings<'_>) -> Result<Vec<HostKey>, Fault> {
+    let Some(path) = settings.host_key else {
+        return Err(Fault::Words);
+    };
+    let private_key = private_key(rt, "host-key", path)?;
+    let algorithm = String::from_str(rt.alloc(), ALGORITHM)?;
+    let mut keys = Vec::new(rt.alloc());
+    keys.push(HostKey {
+        algorithm,
+        private_key,
+    })?;
+    Ok(keys)
+}
+
+/// What a server sends as BANNER, where a file has it.
+fn banner_of(rt: &HostRuntime, settings: &Settings<'_>) -> Result<Option<Vec<u8>>, Fault> {
+    match settings.banner {
+        Some(path) => Ok(Some(bytes_of(rt, "banner", path)?)),
+        None => Ok(None),
+    }
+}
+
+/// What both sides have. Its own draws are zeros, since each connection has fresh ones.
+fn side_of(alloc: Global, settings: &Settings<'_>) -> Result<SideParts, Fault> {
+    let softwareversion = String::from_str(alloc, "rezdolin")?;
+    let kex_algorithms = names_of(alloc, settings.kex)?;
+    let encryption_client_to_server = names_of(alloc, CIPHER)?;
+    let encryption_server_to_client = names_of(alloc, CIPHER)?;
+    let mac_client_to_server = names_of(alloc, settings.mac)?;
+    let mac_server_to_client = names_of(alloc, settings.mac)?;
+    let cookie = Vec::from_slice(alloc, &[0; 16])?;
+    let exchange_random = Vec::from_slice(alloc, &[0; 32])?;
+    let padding_seed = Vec::from_slice(alloc, &[0; 32])?;
+    Ok(SideParts {
+        softwareversion,
+        comments: None,
+        kex_algorithms,
+        encryption_client_to_server,
+        encryption_server_to_client,
+        mac_client_to_server,
+        mac_server_to_client,
+        strict: settings.strict,
+        cookie,
+        exchange_random,
+        padding_seed,
+    })
+}
+
+/// The names between the commas.
+fn names_of(alloc: Global, text: &str) -> Result<Vec<String>, Fault> {
+    let mut names = Vec::new(alloc);
+    for name in text.split(',') {
+        names.push(String::from_str(alloc, name)?)?;
+    }
+    Ok(names)
+}
+
+/// Fresh draws for one connection, from the system's random source.
+pub(crate) fn draw(rt: &HostRuntime) -> Result<Draws, Fault> {
+    Ok(Draws {
+        cookie: random(rt)?,
+        exchange_random: random(rt)?,
+        padding_seed: random(rt)?,
+    })
+}
+
+/// Random bytes.
+pub(crate) fn random<const N: usize>(rt: &HostRuntime) -> Result<[u8; N], Fault> {
+    let mut bytes = [0; N];
+    match rt.fill_bytes(&mut bytes) {
+        Ok(()) => Ok(bytes),
+        Err(_) => Err(Fault::Random),
+    }
+}

@@ -1,0 +1,132 @@
+//! An endpoint over standard input and output.
+
+use crate::fault::Fault;
+use crate::parts::{client_config, client_trust, draw, server_config, server_trust};
+use crate::settings::Settings;
+use crate::trust::Trust;
+use crate::{channel, report};
+use sshcore::{ClientConfig, End, Endpoint, ServerConfig, Session};
+use sshsuite::DeployedSuite;
+use std::io::{Read, Write};
+
+/// How many bytes are read at once.
+pub(crate) const CHUNK: usize = 16384;
+
+/// An endpoint of this program.
+type SuiteEndpoint<'a> = Endpoint<'a, DeployedSuite, Trust>;
+
+/// A session, and the bytes that came behind the packet that ended the endpoint.
+type Handed = Option<(Box<Session>, Vec<u8>)>;
+
+/// A client, and what it asks for behind SUCCESS. Answers whether the user was authenticated.
+pub(crate) fn client(rt: &HostRuntime, settings: &Settings<'_>) -> Result<bool, Fault> {
+    let config = client_config(rt, settings)?;
+    let trust = client_trust(rt, settings)?;
+    match client_session(rt, &config, &trust)? {
+        Some((session, behind)) => {
+            channel::ask(rt, session, behind, settings.exec)?;
+            Ok(true)
+        }
+        None => Ok(false),
+    }
+}
+
+/// A server, and what it answers behind SUCCESS. Answers whether the user was authenticated.
+pub(crate) fn server(rt: &HostRuntime, settings: &Settings<'_>) -> Result<bool, Fault> {
+    let config = server_config(rt, settings)?;
+    let trust = server_trust(rt, settings)?;
+    match server_session(rt, &config, &trust)? {
+        Some((session, behind)) => {
+            channel::answer(rt, session, behind)?;
+            Ok(true)
+        }
+        None => Ok(false),
+    }
+}
+
+/// A client's session.
+fn client_session(rt: &HostRuntime, config: &ClientConfig, trust: &Trust) -> Result<Handed, Fault> {
+    let draws = draw(rt)?;
+    let mut out = Vec::new(rt.alloc());
+    let endpoint = Endpoint::client_with(
+        rt.alloc(),
+        config,
+        draws,
+        &DeployedSuite,
+        trust,
+        &mut out,
+    )?;
+    hand_over(rt, endpoint, out)
+}
+
+/// A server's session.
+fn server_session(rt: &HostRuntime, config: &ServerConfig, trust: &Trust) -> Result<Handed, Fault> {
+    let draws = draw(rt)?;
+    let mut out = Vec::new(rt.alloc());
+    let endpoint = Endpoint::server_with(
+        rt.alloc(),
+        config,
+        draws,
+        &DeployedSuite,
+        trust,
+        &mut out,
+    )?;
+    hand_over(rt, endpoint, out)
+}
+
+/// What an endpoint hands over that has said these bytes so far.
+fn hand_over(rt: &HostRuntime, endpoint: SuiteEndpoint<'_>, out: Vec<u8>) -> Result<Handed, Fault> {
+    let (mut endpoint, mut behind) = (endpoint, Vec::new(rt.alloc()));
+    carry(rt, &mut endpoint, out, &mut behind)?;
+    report::end(rt, endpoint.end());
+    match endpoint.into_session() {
+        Some(session) => {
+            report::authenticated(rt, &session);
+            Ok(Some((Box::new(rt.alloc(), session)?, behind)))
+        }
+        None => Ok(None),
+    }
+}
+
+/// Gives the endpoint what comes until it has ended.
+fn carry(
+    rt: &HostRuntime,
+    endpoint: &mut SuiteEndpoint<'_>,
+    out: Vec<u8>,
+    behind: &mut Vec<u8>,
+) -> Result<(), Fault> {
+    let mut out = out;
+    let mut chunk = [0u8; CHUNK];
+    for _ in 0..u64::MAX {
+        let sent = send(rt, &out);
+        out.clear();
+        if !matches!(endpoint.end(), End::Open) {
+            return Ok(()); // a peer that has gone hears no farewell
+        }
+        sent?;
+        let count = receive(rt, &mut chunk)?;
+        if count == 0 {
+            endpoint.end_of_input();
+        }
+        let piece = chunk.get(..count).unwrap_or(&[]);
+        let used = endpoint.feed(piece, &mut out)?;
+        behind.extend_from_slice(&piece[used..])?;
+    }
+    Ok(())
+}
+
+/// Writes the bytes.
+pub(crate) fn send(rt: &HostRuntime, bytes: &[u8]) -> Result<(), Fault> {
+    let mut output = rt.stdout();
+    match (output.write_all(bytes), output.flush()) {
+        (Ok(()), Ok(())) => Ok(()),
+        _ => Err(Fault::Write),
+    }
+}
+
+/// Reads bytes, and answers how many: none where the input has ended.
+pub(crate) fn receive(rt: &HostRuntime, chunk: &mut [u8; CHUNK]) -> Result<usize, Fault> {
+    rt.stdin()
+        .read(chunk.as_mut_slice())
+        .map_err(|_| Fault::Read)
+}

@@ -1,0 +1,133 @@
+//! The program's words, read with `clap`.
+
+use crate::fault::Fault;
+use crate::settings::{Role, Settings};
+use clap::error::ErrorKind;
+use clap::{Arg, ArgAction, ArgMatches, Command};
+use std::alloc::{AllocError, Global};
+
+/// The options that both sides have, each with a value.
+const COMMON: &[&str] = &["user", "password-file", "strict", "kex", "mac"];
+
+/// Those of a client besides.
+const CLIENT: &[&str] = &["identity", "known-hosts", "host", "guess", "exec"];
+
+/// Those of a server besides.
+const SERVER: &[&str] = &[
+    "host-key",
+    "authorized-keys",
+    "banner",
+    "methods",
+    "required",
+    "tries",
+];
+
+/// Methods of key exchange where no word names others: both names of one.
+const KEX: &str = "curve25519-sha256,curve25519-sha256@libssh.org";
+
+/// MACs that peers list: the cipher needs none, but each side has to choose one.
+const MAC: &str =
+    "hmac-sha2-256-etm@openssh.com,hmac-sha2-512-etm@openssh.com,hmac-sha2-256,hmac-sha2-512,hmac-sha1";
+
+/// The words by the form that they have.
+pub(crate) fn matches_of(alloc: Global, words: &[String]) -> Result<ArgMatches<'_>, Fault> {
+    match command(alloc)?.try_get_matches_from(words) {
+        Ok(matches) => Ok(matches),
+        Err(error) if error.kind() == ErrorKind::OutOfMemory => Err(Fault::Memory),
+        Err(_) => Err(Fault::Words),
+    }
+}
+
+/// The form of the words.
+fn command<'a>(alloc: Global) -> Result<Command<'a>, AllocError> {
+    let program = Command::new(alloc, "sshauth")
+        .no_binary_name(true)
+        .disable_help_subcommand(true)
+        .disable_help_flag(true)
+        .disable_version_flag(true)
+        .subcommand_required(true);
+    let program = program.subcommand(side_of(alloc, "client", CLIENT)?)?;
+    program.subcommand(side_of(alloc, "server", SERVER)?)
+}
+
+/// The form of the words of one side.
+fn side_of<'a>(alloc: Global, name: &'a str, own: &[&'a str]) -> Result<Command<'a>, AllocError> {
+    let side = Command::new(alloc, name).disable_help_flag(true);
+    let side = with_options(alloc, side, COMMON)?;
+    with_options(alloc, side, own)
+}
+
+/// The form with these options more, each with a value.
+fn with_options<'a>(
+    alloc: Global,
+    side: Command<'a>,
+    names: &[&'a str],
+) -> Result<Command<'a>, AllocError> {
+    let mut side = side;
+    for name in names {
+        let option = Arg::new(alloc, *name).long(*name).action(ArgAction::Set);
+        side = side.arg(option)?;
+    }
+    Ok(side)
+}
+
+/// What the words say.
+pub(crate) fn settings_of<'a>(matches: &ArgMatches<'a>) -> Result<Settings<'a>, Fault> {
+    match matches.subcommand() {
+        Some(("client", found)) => settings_in(Role::Client, found),
+        Some(("server", found)) => settings_in(Role::Server, found),
+        _ => Err(Fault::Words),
+    }
+}
+
+/// What the words of one side say.
+fn settings_in<'a>(role: Role, found: &ArgMatches<'a>) -> Result<Settings<'a>, Fault> {
+    let Some(user) = found.get_str("user") else {
+        return Err(Fault::Words);
+    };
+    Ok(Settings {
+        role,
+        user,
+        identity: own(role, Role::Client, found, "identity"),
+        password_file: found.get_str("password-file"),
+        known_hosts: own(role, Role::Client, found, "known-hosts"),
+        host: own(role, Role::Client, found, "host"),
+        host_key: own(role, Role::Server, found, "host-key"),
+        authorized_keys: own(role, Role::Server, found, "authorized-keys"),
+        banner: own(role, Role::Server, found, "banner"),
+        methods: own(role, Role::Server, found, "methods").unwrap_or("publickey,password"),
+        required: own(role, Role::Server, found, "required"),
+        tries: tries_of(own(role, Role::Server, found, "tries"))?,
+        strict: flag_of(found.get_str("strict"), true)?,
+        guess: flag_of(own(role, Role::Client, found, "guess"), false)?,
+        kex: found.get_str("kex").unwrap_or(KEX),
+        mac: found.get_str("mac").unwrap_or(MAC),
+        exec: own(role, Role::Client, found, "exec"),
+    })
+}
+
+/// The value of an option that this side alone has.
+fn own<'a>(role: Role, owner: Role, found: &ArgMatches<'a>, name: &'static str) -> Option<&'a str> {
+    match (role, owner) {
+        (Role::Client, Role::Client) | (Role::Server, Role::Server) => found.get_str(name),
+        _ => None,
+    }
+}
+
+/// How many requests a server grants: six where no word says it.
+fn tries_of(word: Option<&str>) -> Result<u32, Fault> {
+    match word {
+        None => Ok(6),
+        Some(word) => word.parse::<u32>().map_err(|_| Fault::Words),
+    }
+}
+
+/// `yes` or `no`, or what holds where no word says it.
+fn flag_of(word: Option<&str>, otherwise: bool) -> Result<bool, Fault> {
+    match word {
+        None => Ok(otherwise),
+        Some("yes") => Ok(true),
+        Some("no") => Ok(false),
+        Some(_) => Err(Fault::Words),
+    }
+}

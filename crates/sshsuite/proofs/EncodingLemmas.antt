@@ -1,0 +1,254 @@
+-- Limbs that are read of bytes have the number of these without their highest bit, and limbs are written as the bytes of their
+-- number modulo 2^255 - 19.
+
+use Rattle.std.proofs.Common.{◌≡◌, ℕ, ◌+◌, ◌*◌, ◌/◌, ◌%◌, ◌^◌, ◌<◌, ◌≤◌, ◌++◌, zero, suc, List, [], ◌∷◌, refl, sym, ap, ap₂, ◌∙◌, arith}
+use Rattle.std.proofs.lemmas.Nat.{or_comm, or_shifted}
+use Rattle.std.specs.Int.{w64, to_le_bytes}
+use Rattle.std.specs.Prelude.{bit_or, slice_index}
+use Rattle.sshwire.specs.Types.{IsBytes}
+use Rattle.sshsuite.specs.Bits.{bytes_of_words, number_of_32, word_at}
+use Rattle.sshsuite.specs.FieldElement.{add, add64, add128, canonical, carried, decode, encode, mul64, mul128, none, packed}
+use Rattle.sshsuite.proofs.FieldLemmas.{add_value}
+use Rattle.sshsuite.specs.FieldBytes.{bytes_of_number}
+use Rattle.sshsuite.specs.FieldValues.{AreBelow, field, value, weighed}
+
+-- the bits of two words beside each other
+pub or_high : (a k b : ℕ) → b < 2 ^ k → bit_or b (a * 2 ^ k) ≡ a * 2 ^ k + b
+or_high a k b h = or_comm b (a * 2 ^ k) ∙ or_shifted a k b h
+
+-- Bytes to limbs.
+limb1 : (x y : ℕ) → x < 2 ^ 64 → bit_or (x / 2 ^ 51) (y * 2 ^ 13 % 2 ^ 64) % 2 ^ 51 ≡ y % 2 ^ 38 * 2 ^ 13 + x / 2 ^ 51
+limb1 x y h =
+    let e : y * 2 ^ 13 % 2 ^ 64 ≡ y % 2 ^ 51 * 2 ^ 13 = omega arith in
+    ap (λ (n : ℕ). n % 2 ^ 51) (ap (bit_or (x / 2 ^ 51)) e ∙ or_high (y % 2 ^ 51) 13 (x / 2 ^ 51) (omega arith)) ∙ omega arith
+
+limb2 : (x y : ℕ) → x < 2 ^ 64 → bit_or (x / 2 ^ 38) (y * 2 ^ 26 % 2 ^ 64) % 2 ^ 51 ≡ y % 2 ^ 25 * 2 ^ 26 + x / 2 ^ 38
+limb2 x y h =
+    let e : y * 2 ^ 26 % 2 ^ 64 ≡ y % 2 ^ 38 * 2 ^ 26 = omega arith in
+    ap (λ (n : ℕ). n % 2 ^ 51) (ap (bit_or (x / 2 ^ 38)) e ∙ or_high (y % 2 ^ 38) 26 (x / 2 ^ 38) (omega arith)) ∙ omega arith
+
+limb3 : (x y : ℕ) → x < 2 ^ 64 → bit_or (x / 2 ^ 25) (y * 2 ^ 39 % 2 ^ 64) % 2 ^ 51 ≡ y % 2 ^ 12 * 2 ^ 39 + x / 2 ^ 25
+limb3 x y h =
+    let e : y * 2 ^ 39 % 2 ^ 64 ≡ y % 2 ^ 25 * 2 ^ 39 = omega arith in
+    ap (λ (n : ℕ). n % 2 ^ 51) (ap (bit_or (x / 2 ^ 25)) e ∙ or_high (y % 2 ^ 25) 39 (x / 2 ^ 25) (omega arith)) ∙ omega arith
+
+five_limbs : (w0 w1 w2 w3 l0 l1 l2 l3 l4 : ℕ) → w3 < 2 ^ 64 → l0 ≡ w0 % 2 ^ 51 → l1 ≡ w1 % 2 ^ 38 * 2 ^ 13 + w0 / 2 ^ 51 → l2 ≡ w2 % 2 ^ 25 * 2 ^ 26 + w1 / 2 ^ 38
+    → l3 ≡ w3 % 2 ^ 12 * 2 ^ 39 + w2 / 2 ^ 25 → l4 ≡ w3 / 2 ^ 12 % 2 ^ 51
+    → weighed l0 l1 l2 l3 l4 + 2 ^ 255 * (w3 / 2 ^ 63) ≡ w0 + 2 ^ 64 * w1 + 2 ^ 128 * w2 + 2 ^ 192 * w3
+five_limbs w0 w1 w2 w3 l0 l1 l2 l3 l4 h e0 e1 e2 e3 e4 = omega arith
+
+low : (x : ℕ) → x % 2 ^ 51 < 2 ^ 51
+low x = omega arith
+
+least_of : (x y q : ℕ) → x + 2 ^ 255 * q ≡ y → x < 2 ^ 255 → x ≡ y % 2 ^ 255
+least_of x y q e h = omega arith
+
+bounded : (l0 l1 l2 l3 l4 : ℕ) → l0 < 2 ^ 51 → l1 < 2 ^ 51 → l2 < 2 ^ 51 → l3 < 2 ^ 51 → l4 < 2 ^ 51 → weighed l0 l1 l2 l3 l4 < 2 ^ 255
+bounded l0 l1 l2 l3 l4 h0 h1 h2 h3 h4 = omega arith
+
+-- words of bytes are below 2^64
+pub record AreWords (bytes : List ℕ) : Type 0 where
+  pub w0 : word_at bytes 0 < 2 ^ 64
+  pub w1 : word_at bytes 8 < 2 ^ 64
+  pub w2 : word_at bytes 16 < 2 ^ 64
+  pub w3 : word_at bytes 24 < 2 ^ 64
+
+pub word_low : (bytes : List ℕ) (i : ℕ) → IsBytes bytes → word_at bytes i < 2 ^ 64
+unfolding word_at
+word_low bytes i h = omega (arith, h i, h (i + 1), h (i + 2), h (i + 3), h (i + 4), h (i + 5), h (i + 6), h (i + 7))
+
+pub are_words : (bytes : List ℕ) → IsBytes bytes → AreWords bytes
+are_words bytes h = record { w0 = word_low bytes 0 h; w1 = word_low bytes 8 h; w2 = word_low bytes 16 h; w3 = word_low bytes 24 h }
+
+pub decode_value : (bytes : List ℕ) → AreWords bytes → AreBelow (2 ^ 51) (decode bytes) × (value (decode bytes) ≡ number_of_32 bytes % 2 ^ 255)
+unfolding decode number_of_32
+decode_value bytes are =
+    let w0 : ℕ = word_at bytes 0 in
+    let w1 : ℕ = word_at bytes 8 in
+    let w2 : ℕ = word_at bytes 16 in
+    let w3 : ℕ = word_at bytes 24 in
+    let below : AreBelow (2 ^ 51) (decode bytes) = record { l0 = low w0; l1 = low _; l2 = low _; l3 = low _; l4 = low _ } in
+    let e = five_limbs w0 w1 w2 w3 (w0 % 2 ^ 51) (bit_or (w0 / 2 ^ 51) (w1 * 2 ^ 13 % 2 ^ 64) % 2 ^ 51) (bit_or (w1 / 2 ^ 38) (w2 * 2 ^ 26 % 2 ^ 64) % 2 ^ 51)
+    (bit_or (w2 / 2 ^ 25) (w3 * 2 ^ 39 % 2 ^ 64) % 2 ^ 51) (w3 / 2 ^ 12 % 2 ^ 51) are.w3 refl (limb1 w0 w1 are.w0) (limb2 w1 w2 are.w1) (limb3 w2 w3 are.w2) refl in
+    (below, least_of (value (decode bytes)) (w0 + 2 ^ 64 * w1 + 2 ^ 128 * w2 + 2 ^ 192 * w3) (w3 / 2 ^ 63) e (bounded _ _ _ _ _ below.l0 below.l1 below.l2 below.l3 below.l4))
+
+-- Limbs to bytes.
+word0 : (l0 l1 : ℕ) → l0 < 2 ^ 51 → bit_or l0 (l1 * 2 ^ 51 % 2 ^ 64) ≡ l1 % 2 ^ 13 * 2 ^ 51 + l0
+word0 l0 l1 h = let e : l1 * 2 ^ 51 % 2 ^ 64 ≡ l1 % 2 ^ 13 * 2 ^ 51 = omega arith in ap (bit_or l0) e ∙ or_high (l1 % 2 ^ 13) 51 l0 h
+
+word1 : (l1 l2 : ℕ) → l1 < 2 ^ 51 → bit_or (l1 / 2 ^ 13) (l2 * 2 ^ 38 % 2 ^ 64) ≡ l2 % 2 ^ 26 * 2 ^ 38 + l1 / 2 ^ 13
+word1 l1 l2 h = let e : l2 * 2 ^ 38 % 2 ^ 64 ≡ l2 % 2 ^ 26 * 2 ^ 38 = omega arith in ap (bit_or (l1 / 2 ^ 13)) e ∙ or_high (l2 % 2 ^ 26) 38 (l1 / 2 ^ 13) (omega arith)
+
+word2 : (l2 l3 : ℕ) → l2 < 2 ^ 51 → bit_or (l2 / 2 ^ 26) (l3 * 2 ^ 25 % 2 ^ 64) ≡ l3 % 2 ^ 39 * 2 ^ 25 + l2 / 2 ^ 26
+word2 l2 l3 h = let e : l3 * 2 ^ 25 % 2 ^ 64 ≡ l3 % 2 ^ 39 * 2 ^ 25 = omega arith in ap (bit_or (l2 / 2 ^ 26)) e ∙ or_high (l3 % 2 ^ 39) 25 (l2 / 2 ^ 26) (omega arith)
+
+word3 : (l3 l4 : ℕ) → l3 < 2 ^ 51 → bit_or (l3 / 2 ^ 39) (l4 * 2 ^ 12 % 2 ^ 64) ≡ l4 % 2 ^ 52 * 2 ^ 12 + l3 / 2 ^ 39
+word3 l3 l4 h = let e : l4 * 2 ^ 12 % 2 ^ 64 ≡ l4 % 2 ^ 52 * 2 ^ 12 = omega arith in ap (bit_or (l3 / 2 ^ 39)) e ∙ or_high (l4 % 2 ^ 52) 12 (l3 / 2 ^ 39) (omega arith)
+
+four_words : (l0 l1 l2 l3 l4 w0 w1 w2 w3 : ℕ) → l4 < 2 ^ 51 → w0 ≡ l1 % 2 ^ 13 * 2 ^ 51 + l0 → w1 ≡ l2 % 2 ^ 26 * 2 ^ 38 + l1 / 2 ^ 13
+    → w2 ≡ l3 % 2 ^ 39 * 2 ^ 25 + l2 / 2 ^ 26 → w3 ≡ l4 % 2 ^ 52 * 2 ^ 12 + l3 / 2 ^ 39
+    → w0 + 2 ^ 64 * w1 + 2 ^ 128 * w2 + 2 ^ 192 * w3 ≡ weighed l0 l1 l2 l3 l4
+four_words l0 l1 l2 l3 l4 w0 w1 w2 w3 h e0 e1 e2 e3 = omega arith
+
+same_words : (v w : List ℕ) → slice_index v 0 ≡ slice_index w 0 → slice_index v 1 ≡ slice_index w 1 → slice_index v 2 ≡ slice_index w 2
+    → slice_index v 3 ≡ slice_index w 3 → bytes_of_words v ≡ bytes_of_words w
+unfolding bytes_of_words
+same_words v w e0 e1 e2 e3 =
+    ap₂ ◌++◌ (ap (to_le_bytes w64) e0) (ap₂ ◌++◌ (ap (to_le_bytes w64) e1) (ap₂ ◌++◌ (ap (to_le_bytes w64) e2) (ap (to_le_bytes w64) e3)))
+
+words_of : (words : List ℕ) (n : ℕ) → slice_index words 0 < 2 ^ 64 → slice_index words 1 < 2 ^ 64 → slice_index words 2 < 2 ^ 64
+    → slice_index words 0 + 2 ^ 64 * slice_index words 1 + 2 ^ 128 * slice_index words 2 + 2 ^ 192 * slice_index words 3 ≡ n
+    → bytes_of_words words ≡ bytes_of_number n
+unfolding bytes_of_number
+words_of words n h0 h1 h2 is =
+    let e0 : slice_index words 0 ≡ n % 2 ^ 64 = omega arith in
+    let e1 : slice_index words 1 ≡ n / 2 ^ 64 % 2 ^ 64 = omega arith in
+    let e2 : slice_index words 2 ≡ n / 2 ^ 128 % 2 ^ 64 = omega arith in
+    let e3 : slice_index words 3 ≡ n / 2 ^ 192 = omega arith in
+    same_words words (n % 2 ^ 64 ∷ n / 2 ^ 64 % 2 ^ 64 ∷ n / 2 ^ 128 % 2 ^ 64 ∷ n / 2 ^ 192 ∷ []) e0 e1 e2 e3
+
+packed_value : (l : List ℕ) → AreBelow (2 ^ 51) l → bytes_of_words (packed l) ≡ bytes_of_number (value l)
+unfolding packed
+packed_value l h =
+    let l0 : ℕ = slice_index l 0 in
+    let l1 : ℕ = slice_index l 1 in
+    let l2 : ℕ = slice_index l 2 in
+    let l3 : ℕ = slice_index l 3 in
+    let l4 : ℕ = slice_index l 4 in
+    let e0 = word0 l0 l1 h.l0 in
+    let e1 = word1 l1 l2 h.l1 in
+    let e2 = word2 l2 l3 h.l2 in
+    let e3 = word3 l3 l4 h.l3 in
+    let b0 : slice_index (packed l) 0 < 2 ^ 64 = omega (arith, e0, h.l0) in
+    let b1 : slice_index (packed l) 1 < 2 ^ 64 = omega (arith, e1, h.l1) in
+    let b2 : slice_index (packed l) 2 < 2 ^ 64 = omega (arith, e2, h.l2) in
+    words_of (packed l) (value l) b0 b1 b2 (four_words l0 l1 l2 l3 l4 _ _ _ _ h.l4 e0 e1 e2 e3)
+
+-- One subtraction of the modulus.
+settled : (v r s over top : ℕ) → v + 19 ≡ r + 2 ^ 255 * over → r < 2 ^ 255 → v + 19 * over ≡ s + 2 ^ 255 * top → s < 2 ^ 255 → v < 2 * field → s ≡ v % field
+settled v r s zero top e h f k low = omega arith
+settled v r s (suc zero) top e h f k low = omega arith
+settled v r s (suc (suc over)) top e h f k low = absurd (omega arith)
+
+chain : (l0 l1 l2 l3 l4 first q0 q1 q2 q3 q4 r0 r1 r2 r3 r4 : ℕ) → l0 + first ≡ 2 ^ 51 * q0 + r0 → l1 + q0 ≡ 2 ^ 51 * q1 + r1 → l2 + q1 ≡ 2 ^ 51 * q2 + r2
+    → l3 + q2 ≡ 2 ^ 51 * q3 + r3 → l4 + q3 ≡ 2 ^ 51 * q4 + r4 → weighed l0 l1 l2 l3 l4 + first ≡ weighed r0 r1 r2 r3 r4 + 2 ^ 255 * q4
+chain l0 l1 l2 l3 l4 first q0 q1 q2 q3 q4 r0 r1 r2 r3 r4 e0 e1 e2 e3 e4 = omega arith
+
+added : (x y : ℕ) → x < 2 ^ 53 → y < 2 ^ 53 → add64 x y ≡ 2 ^ 51 * (add64 x y / 2 ^ 51) + add64 x y % 2 ^ 51
+added x y h k = omega arith
+
+sum64 : (x y : ℕ) → x < 2 ^ 53 → y < 2 ^ 53 → x + y ≡ 2 ^ 51 * (add64 x y / 2 ^ 51) + add64 x y % 2 ^ 51
+sum64 x y h k = omega arith
+
+over_low : (x y : ℕ) → x < 2 ^ 53 → y < 2 ^ 53 → add64 x y / 2 ^ 51 < 8
+over_low x y h k = omega arith
+
+-- limbs of a number below 2^255 + 2^204
+pub record AreTight (a : List ℕ) : Type 0 where
+  pub l0 : slice_index a 0 < 2 ^ 51
+  pub l1 : slice_index a 1 < 2 ^ 51
+  pub l2 : slice_index a 2 < 2 ^ 51
+  pub l3 : slice_index a 3 < 2 ^ 51
+  pub l4 : slice_index a 4 ≤ 2 ^ 51
+
+tight_value : (l0 l1 l2 l3 l4 : ℕ) → l0 < 2 ^ 51 → l1 < 2 ^ 51 → l2 < 2 ^ 51 → l3 < 2 ^ 51 → l4 ≤ 2 ^ 51 → weighed l0 l1 l2 l3 l4 < 2 * field
+tight_value l0 l1 l2 l3 l4 h0 h1 h2 h3 h4 = omega arith
+
+canonical_value : (l : List ℕ) → AreTight l → AreBelow (2 ^ 51) (canonical l) × (value (canonical l) ≡ value l % field)
+unfolding canonical
+canonical_value l h =
+    let l0 : ℕ = slice_index l 0 in
+    let l1 : ℕ = slice_index l 1 in
+    let l2 : ℕ = slice_index l 2 in
+    let l3 : ℕ = slice_index l 3 in
+    let l4 : ℕ = slice_index l 4 in
+    let k0 : l0 < 2 ^ 53 = omega (arith, h.l0) in
+    let k1 : l1 < 2 ^ 53 = omega (arith, h.l1) in
+    let k2 : l2 < 2 ^ 53 = omega (arith, h.l2) in
+    let k3 : l3 < 2 ^ 53 = omega (arith, h.l3) in
+    let k4 : l4 < 2 ^ 53 = omega (arith, h.l4) in
+    let o0 : ℕ = add64 l0 19 / 2 ^ 51 in
+    let p0 : o0 < 2 ^ 53 = omega (arith, over_low l0 19 k0 (omega arith)) in
+    let o1 : ℕ = add64 l1 o0 / 2 ^ 51 in
+    let p1 : o1 < 2 ^ 53 = omega (arith, over_low l1 o0 k1 p0) in
+    let o2 : ℕ = add64 l2 o1 / 2 ^ 51 in
+    let p2 : o2 < 2 ^ 53 = omega (arith, over_low l2 o1 k2 p1) in
+    let o3 : ℕ = add64 l3 o2 / 2 ^ 51 in
+    let p3 : o3 < 2 ^ 53 = omega (arith, over_low l3 o2 k3 p2) in
+    let over : ℕ = add64 l4 o3 / 2 ^ 51 in
+    let p4 : over < 8 = over_low l4 o3 k4 p3 in
+    let times : mul64 over 19 ≡ 19 * over = omega (arith, p4) in
+    let t0 : mul64 over 19 < 2 ^ 53 = omega (arith, times, p4) in
+    let m0 : ℕ = add64 l0 (mul64 over 19) in
+    let q0 : m0 / 2 ^ 51 < 2 ^ 53 = omega (arith, over_low l0 (mul64 over 19) k0 t0) in
+    let m1 : ℕ = add64 l1 (m0 / 2 ^ 51) in
+    let q1 : m1 / 2 ^ 51 < 2 ^ 53 = omega (arith, over_low l1 (m0 / 2 ^ 51) k1 q0) in
+    let m2 : ℕ = add64 l2 (m1 / 2 ^ 51) in
+    let q2 : m2 / 2 ^ 51 < 2 ^ 53 = omega (arith, over_low l2 (m1 / 2 ^ 51) k2 q1) in
+    let m3 : ℕ = add64 l3 (m2 / 2 ^ 51) in
+    let q3 : m3 / 2 ^ 51 < 2 ^ 53 = omega (arith, over_low l3 (m2 / 2 ^ 51) k3 q2) in
+    let m4 : ℕ = add64 l4 (m3 / 2 ^ 51) in
+    let first = chain l0 l1 l2 l3 l4 19 o0 o1 o2 o3 over (add64 l0 19 % 2 ^ 51) (add64 l1 o0 % 2 ^ 51) (add64 l2 o1 % 2 ^ 51) (add64 l3 o2 % 2 ^ 51) (add64 l4 o3 % 2 ^ 51)
+    (sum64 l0 19 k0 (omega arith)) (sum64 l1 o0 k1 p0) (sum64 l2 o1 k2 p1) (sum64 l3 o2 k3 p2) (sum64 l4 o3 k4 p3) in
+    let second = chain l0 l1 l2 l3 l4 (mul64 over 19) (m0 / 2 ^ 51) (m1 / 2 ^ 51) (m2 / 2 ^ 51) (m3 / 2 ^ 51) (m4 / 2 ^ 51)
+    (m0 % 2 ^ 51) (m1 % 2 ^ 51) (m2 % 2 ^ 51) (m3 % 2 ^ 51) (m4 % 2 ^ 51)
+    (sum64 l0 (mul64 over 19) k0 t0) (sum64 l1 (m0 / 2 ^ 51) k1 q0) (sum64 l2 (m1 / 2 ^ 51) k2 q1) (sum64 l3 (m2 / 2 ^ 51) k3 q2) (sum64 l4 (m3 / 2 ^ 51) k4 q3) in
+    let below : AreBelow (2 ^ 51) (canonical l) = record { l0 = low m0; l1 = low m1; l2 = low m2; l3 = low m3; l4 = low m4 } in (
+      below,
+      settled (value l) (weighed (add64 l0 19 % 2 ^ 51) (add64 l1 o0 % 2 ^ 51) (add64 l2 o1 % 2 ^ 51) (add64 l3 o2 % 2 ^ 51) (add64 l4 o3 % 2 ^ 51)) (value (canonical l)) over (m4 / 2 ^ 51)
+          first (bounded _ _ _ _ _ (low _) (low _) (low _) (low _) (low _)) (ap (λ (n : ℕ). value l + n) (sym times) ∙ second)
+          (bounded _ _ _ _ _ below.l0 below.l1 below.l2 below.l3 below.l4) (tight_value l0 l1 l2 l3 l4 h.l0 h.l1 h.l2 h.l3 h.l4),
+    )
+
+-- A sum with zero has tight limbs.
+add_tight : (a : List ℕ) → AreBelow (2 ^ 52) a → AreTight (add a none)
+unfolding add carried
+add_tight a h =
+    let c0 : ℕ = add128 (slice_index a 0) 0 in
+    let c1 : ℕ = add128 (slice_index a 1) 0 in
+    let c2 : ℕ = add128 (slice_index a 2) 0 in
+    let c3 : ℕ = add128 (slice_index a 3) 0 in
+    let c4 : ℕ = add128 (slice_index a 4) 0 in
+    let e1 : ℕ = add128 c1 (c0 / 2 ^ 51) in
+    let e2 : ℕ = add128 c2 (e1 / 2 ^ 51) in
+    let e3 : ℕ = add128 c3 (e2 / 2 ^ 51) in
+    let e4 : ℕ = add128 c4 (e3 / 2 ^ 51) in
+    let d0 : ℕ = add128 (c0 % 2 ^ 51) (mul128 (e4 / 2 ^ 51) 19) in
+    let d1 : ℕ = add128 (e1 % 2 ^ 51) (d0 / 2 ^ 51) in
+    let d2 : ℕ = add128 (e2 % 2 ^ 51) (d1 / 2 ^ 51) in
+    let d3 : ℕ = add128 (e3 % 2 ^ 51) (d2 / 2 ^ 51) in
+    let d4 : ℕ = add128 (e4 % 2 ^ 51) (d3 / 2 ^ 51) in
+    let b0 : c0 < 2 ^ 52 = omega (arith, h.l0) in
+    let b1 : e1 < 2 ^ 53 = small c1 (c0 / 2 ^ 51) (omega (arith, h.l1)) (omega (arith, b0)) in
+    let b2 : e2 < 2 ^ 53 = small c2 (e1 / 2 ^ 51) (omega (arith, h.l2)) (omega (arith, b1)) in
+    let b3 : e3 < 2 ^ 53 = small c3 (e2 / 2 ^ 51) (omega (arith, h.l3)) (omega (arith, b2)) in
+    let b4 : e4 < 2 ^ 53 = small c4 (e3 / 2 ^ 51) (omega (arith, h.l4)) (omega (arith, b3)) in
+    let m : mul128 (e4 / 2 ^ 51) 19 < 2 ^ 51 = omega (arith, b4) in
+    let y0 : d0 / 2 ^ 51 ≤ 1 = one_more (c0 % 2 ^ 51) (mul128 (e4 / 2 ^ 51) 19) (omega arith) m in
+    let y1 : d1 / 2 ^ 51 ≤ 1 = one_more (e1 % 2 ^ 51) (d0 / 2 ^ 51) (omega arith) (omega (arith, y0)) in
+    let y2 : d2 / 2 ^ 51 ≤ 1 = one_more (e2 % 2 ^ 51) (d1 / 2 ^ 51) (omega arith) (omega (arith, y1)) in
+    let y3 : d3 / 2 ^ 51 ≤ 1 = one_more (e3 % 2 ^ 51) (d2 / 2 ^ 51) (omega arith) (omega (arith, y2)) in
+    record { l0 = low d0; l1 = low d1; l2 = low d2; l3 = low d3; l4 = last (e4 % 2 ^ 51) (d3 / 2 ^ 51) (omega arith) y3 }
+  where
+    small : (x y : ℕ) → x < 2 ^ 52 → y ≤ 2 ^ 10 → add128 x y < 2 ^ 53
+    small x y h k = omega arith
+
+    one_more : (x y : ℕ) → x < 2 ^ 51 → y < 2 ^ 51 → add128 x y / 2 ^ 51 ≤ 1
+    one_more x y h k = omega arith
+
+    last : (x y : ℕ) → x < 2 ^ 51 → y ≤ 1 → add128 x y % 2 ^ 52 ≤ 2 ^ 51
+    last x y h k = omega arith
+
+none_below : AreBelow (2 ^ 52) none
+none_below = record { l0 = omega arith; l1 = omega arith; l2 = omega arith; l3 = omega arith; l4 = omega arith }
+
+pub encode_value : (a : List ℕ) → AreBelow (2 ^ 52) a → encode a ≡ bytes_of_number (value a % field)
+unfolding encode
+encode_value a h =
+    let once = add_value a none h none_below in
+    let twice = add_value (add a none) none once.0 none_below in
+    let out = canonical_value (add (add a none) none) (add_tight (add a none) once.0) in
+    packed_value (canonical (add (add a none) none)) out.0 ∙ ap bytes_of_number (out.1 ∙ (twice.1 ∙ (ap (λ (n : ℕ). n % field) (plain (value (add a none))) ∙ (once.1 ∙ ap (λ (n : ℕ). n % field) (plain (value a))))))
+  where
+    plain : (n : ℕ) → n + 0 ≡ n
+    plain n = omega arith

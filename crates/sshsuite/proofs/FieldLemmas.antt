@@ -1,0 +1,246 @@
+-- The arithmetic of limbs is that of the field, where each limb is below 2^52: nothing is lost, and the number of the limbs is
+-- what it is to be modulo 2^255 - 19.
+
+use Rattle.std.proofs.Common.{◌≡◌, ℕ, ◌+◌, ◌*◌, ◌/◌, ◌%◌, ◌^◌, ◌<◌, ◌≤◌, List, [], ◌∷◌, sym, ap, ◌∙◌, arith}
+use Rattle.std.proofs.Math.Nat.{mul-le-mul_left}
+use Rattle.std.specs.Prelude.{slice_index}
+use Rattle.sshsuite.specs.FieldElement.{add, add128, carried, dot, less, mul, mul64, mul128, sub}
+use Rattle.sshsuite.specs.FieldValues.{AreBelow, field, value, weighed}
+
+-- one pass of carries
+pass : (c0 c1 c2 c3 c4 q0 q1 q2 q3 q4 r0 r1 r2 r3 r4 : ℕ) → c0 ≡ 2 ^ 51 * q0 + r0 → c1 + q0 ≡ 2 ^ 51 * q1 + r1 → c2 + q1 ≡ 2 ^ 51 * q2 + r2
+    → c3 + q2 ≡ 2 ^ 51 * q3 + r3 → c4 + q3 ≡ 2 ^ 51 * q4 + r4
+    → weighed c0 c1 c2 c3 c4 ≡ weighed r0 r1 r2 r3 r4 + (field + 19) * q4
+pass c0 c1 c2 c3 c4 q0 q1 q2 q3 q4 r0 r1 r2 r3 r4 e0 e1 e2 e3 e4 = omega arith
+
+again : (c0 c1 c2 c3 c4 q0 q1 q2 q3 r0 r1 r2 r3 : ℕ) → c0 ≡ 2 ^ 51 * q0 + r0 → c1 + q0 ≡ 2 ^ 51 * q1 + r1 → c2 + q1 ≡ 2 ^ 51 * q2 + r2
+    → c3 + q2 ≡ 2 ^ 51 * q3 + r3
+    → weighed c0 c1 c2 c3 c4 ≡ weighed r0 r1 r2 r3 (c4 + q3)
+again c0 c1 c2 c3 c4 q0 q1 q2 q3 r0 r1 r2 r3 e0 e1 e2 e3 = omega arith
+
+-- a sum that is taken modulo 2^128 and isn't more
+pub whole : (x y : ℕ) → x < 2 ^ 127 → y < 2 ^ 127 → add128 x y ≡ x + y
+whole x y h k = omega arith
+
+low51 : (x : ℕ) → x % 2 ^ 51 < 2 ^ 52
+low51 x = omega arith
+
+low52 : (x : ℕ) → x % 2 ^ 52 < 2 ^ 52
+low52 x = omega arith
+
+parts : (x : ℕ) → x ≡ 2 ^ 51 * (x / 2 ^ 51) + x % 2 ^ 51
+parts x = omega arith
+
+multiple : (x y q : ℕ) → x ≡ y + field * q → x % field ≡ y % field
+multiple x y q e = omega arith
+
+together : (c0 c1 c2 c3 c4 r0 r1 r2 r3 r4 q d0 f0 f1 f2 f3 g last : ℕ) → weighed c0 c1 c2 c3 c4 ≡ weighed r0 r1 r2 r3 r4 + (field + 19) * q
+    → weighed d0 r1 r2 r3 r4 ≡ weighed f0 f1 f2 f3 g → d0 ≡ r0 + 19 * q → last ≡ g
+    → weighed c0 c1 c2 c3 c4 ≡ weighed f0 f1 f2 f3 last + field * q
+together c0 c1 c2 c3 c4 r0 r1 r2 r3 r4 q d0 f0 f1 f2 f3 g last e1 e2 e3 e4 = omega arith
+
+-- sums below 2^115 are carried into limbs below 2^52 of the same number
+module _ (c0 c1 c2 c3 c4 : ℕ) (h0 : c0 < 2 ^ 115) (h1 : c1 < 2 ^ 115) (h2 : c2 < 2 ^ 115) (h3 : c3 < 2 ^ 115) (h4 : c4 < 2 ^ 115) where
+  carried_value : AreBelow (2 ^ 52) (carried (c0 ∷ c1 ∷ c2 ∷ c3 ∷ c4 ∷ [])) × (value (carried (c0 ∷ c1 ∷ c2 ∷ c3 ∷ c4 ∷ [])) % field ≡ weighed c0 c1 c2 c3 c4 % field)
+  unfolding carried
+  carried_value =
+      let e1 : ℕ = add128 c1 (c0 / 2 ^ 51) in
+      let e2 : ℕ = add128 c2 (e1 / 2 ^ 51) in
+      let e3 : ℕ = add128 c3 (e2 / 2 ^ 51) in
+      let e4 : ℕ = add128 c4 (e3 / 2 ^ 51) in
+      let d0 : ℕ = add128 (c0 % 2 ^ 51) (mul128 (e4 / 2 ^ 51) 19) in
+      let d1 : ℕ = add128 (e1 % 2 ^ 51) (d0 / 2 ^ 51) in
+      let d2 : ℕ = add128 (e2 % 2 ^ 51) (d1 / 2 ^ 51) in
+      let d3 : ℕ = add128 (e3 % 2 ^ 51) (d2 / 2 ^ 51) in
+      let d4 : ℕ = add128 (e4 % 2 ^ 51) (d3 / 2 ^ 51) in
+      let w1 : e1 ≡ c1 + c0 / 2 ^ 51 = whole c1 (c0 / 2 ^ 51) (omega (arith, h1)) (omega (arith, h0)) in
+      let b1 : e1 < 2 ^ 116 = omega (arith, w1, h0, h1) in
+      let w2 : e2 ≡ c2 + e1 / 2 ^ 51 = whole c2 (e1 / 2 ^ 51) (omega (arith, h2)) (omega (arith, b1)) in
+      let b2 : e2 < 2 ^ 116 = omega (arith, w2, h2, b1) in
+      let w3 : e3 ≡ c3 + e2 / 2 ^ 51 = whole c3 (e2 / 2 ^ 51) (omega (arith, h3)) (omega (arith, b2)) in
+      let b3 : e3 < 2 ^ 116 = omega (arith, w3, h3, b2) in
+      let w4 : e4 ≡ c4 + e3 / 2 ^ 51 = whole c4 (e3 / 2 ^ 51) (omega (arith, h4)) (omega (arith, b3)) in
+      let b4 : e4 < 2 ^ 116 = omega (arith, w4, h4, b3) in
+      let m : mul128 (e4 / 2 ^ 51) 19 ≡ 19 * (e4 / 2 ^ 51) = omega (arith, b4) in
+      let n : 19 * (e4 / 2 ^ 51) < 2 ^ 70 = omega (arith, b4) in
+      let x0 : d0 ≡ c0 % 2 ^ 51 + 19 * (e4 / 2 ^ 51) = whole (c0 % 2 ^ 51) (mul128 (e4 / 2 ^ 51) 19) (omega arith) (omega (arith, m, n)) ∙ ap (λ (k : ℕ). c0 % 2 ^ 51 + k) m in
+      let y0 : d0 < 2 ^ 71 = omega (arith, x0, n) in
+      let x1 : d1 ≡ e1 % 2 ^ 51 + d0 / 2 ^ 51 = whole (e1 % 2 ^ 51) (d0 / 2 ^ 51) (omega arith) (omega (arith, y0)) in
+      let y1 : d1 < 2 ^ 52 = omega (arith, x1, y0) in
+      let x2 : d2 ≡ e2 % 2 ^ 51 + d1 / 2 ^ 51 = whole (e2 % 2 ^ 51) (d1 / 2 ^ 51) (omega arith) (omega (arith, y1)) in
+      let y2 : d2 < 2 ^ 52 = omega (arith, x2, y1) in
+      let x3 : d3 ≡ e3 % 2 ^ 51 + d2 / 2 ^ 51 = whole (e3 % 2 ^ 51) (d2 / 2 ^ 51) (omega arith) (omega (arith, y2)) in
+      let y3 : d3 < 2 ^ 52 = omega (arith, x3, y2) in
+      let x4 : d4 ≡ e4 % 2 ^ 51 + d3 / 2 ^ 51 = whole (e4 % 2 ^ 51) (d3 / 2 ^ 51) (omega arith) (omega (arith, y3)) in
+      let y4 : d4 < 2 ^ 52 = omega (arith, x4, y3) in
+      let last : d4 % 2 ^ 52 ≡ d4 = omega (arith, y4) in
+      let first_pass : weighed c0 c1 c2 c3 c4 ≡ weighed (c0 % 2 ^ 51) (e1 % 2 ^ 51) (e2 % 2 ^ 51) (e3 % 2 ^ 51) (e4 % 2 ^ 51) + (field + 19) * (e4 / 2 ^ 51)
+      = pass c0 c1 c2 c3 c4 (c0 / 2 ^ 51) (e1 / 2 ^ 51) (e2 / 2 ^ 51) (e3 / 2 ^ 51) (e4 / 2 ^ 51) (c0 % 2 ^ 51) (e1 % 2 ^ 51) (e2 % 2 ^ 51) (e3 % 2 ^ 51) (e4 % 2 ^ 51)
+      (parts c0) (sym w1 ∙ parts e1) (sym w2 ∙ parts e2) (sym w3 ∙ parts e3) (sym w4 ∙ parts e4) in
+      let second_pass : weighed d0 (e1 % 2 ^ 51) (e2 % 2 ^ 51) (e3 % 2 ^ 51) (e4 % 2 ^ 51)
+      ≡ weighed (d0 % 2 ^ 51) (d1 % 2 ^ 51) (d2 % 2 ^ 51) (d3 % 2 ^ 51) (e4 % 2 ^ 51 + d3 / 2 ^ 51)
+      = again d0 (e1 % 2 ^ 51) (e2 % 2 ^ 51) (e3 % 2 ^ 51) (e4 % 2 ^ 51) (d0 / 2 ^ 51) (d1 / 2 ^ 51) (d2 / 2 ^ 51) (d3 / 2 ^ 51)
+      (d0 % 2 ^ 51) (d1 % 2 ^ 51) (d2 % 2 ^ 51) (d3 % 2 ^ 51) (parts d0) (sym x1 ∙ parts d1) (sym x2 ∙ parts d2) (sym x3 ∙ parts d3) in
+      let all : weighed c0 c1 c2 c3 c4 ≡ weighed (d0 % 2 ^ 51) (d1 % 2 ^ 51) (d2 % 2 ^ 51) (d3 % 2 ^ 51) (d4 % 2 ^ 52) + field * (e4 / 2 ^ 51)
+      = together c0 c1 c2 c3 c4 (c0 % 2 ^ 51) (e1 % 2 ^ 51) (e2 % 2 ^ 51) (e3 % 2 ^ 51) (e4 % 2 ^ 51) (e4 / 2 ^ 51) d0
+      (d0 % 2 ^ 51) (d1 % 2 ^ 51) (d2 % 2 ^ 51) (d3 % 2 ^ 51) (e4 % 2 ^ 51 + d3 / 2 ^ 51) (d4 % 2 ^ 52) first_pass second_pass x0 (last ∙ x4) in (
+        record { l0 = low51 d0; l1 = low51 d1; l2 = low51 d2; l3 = low51 d3; l4 = low52 d4 },
+        sym (multiple (weighed c0 c1 c2 c3 c4) (weighed (d0 % 2 ^ 51) (d1 % 2 ^ 51) (d2 % 2 ^ 51) (d3 % 2 ^ 51) (d4 % 2 ^ 52)) (e4 / 2 ^ 51) all),
+      )
+
+below : (a b : ℕ) → a < 2 ^ 52 → b < 2 ^ 57 → a * b < 2 ^ 109
+below a b h k = let m : a * b ≤ a * 2 ^ 57 = mul-le-mul_left a (omega arith) in omega (arith, m)
+
+-- five products
+sums : (x0 x1 x2 x3 x4 : ℕ) → x0 < 2 ^ 109 → x1 < 2 ^ 109 → x2 < 2 ^ 109 → x3 < 2 ^ 109 → x4 < 2 ^ 109
+    → add128 (add128 (add128 (add128 (x0 % 2 ^ 128) (x1 % 2 ^ 128)) (x2 % 2 ^ 128)) (x3 % 2 ^ 128)) (x4 % 2 ^ 128) ≡ x0 + x1 + x2 + x3 + x4
+sums x0 x1 x2 x3 x4 h0 h1 h2 h3 h4 =
+    let s0 : x0 % 2 ^ 128 ≡ x0 = omega (arith, h0) in
+    let s1 : x1 % 2 ^ 128 ≡ x1 = omega (arith, h1) in
+    let s2 : x2 % 2 ^ 128 ≡ x2 = omega (arith, h2) in
+    let s3 : x3 % 2 ^ 128 ≡ x3 = omega (arith, h3) in
+    let s4 : x4 % 2 ^ 128 ≡ x4 = omega (arith, h4) in
+    let t1 : add128 (x0 % 2 ^ 128) (x1 % 2 ^ 128) ≡ x0 + x1 = whole (x0 % 2 ^ 128) (x1 % 2 ^ 128) (omega (arith, s0, h0)) (omega (arith, s1, h1)) ∙ omega (arith, s0, s1) in
+    let t2 : add128 (add128 (x0 % 2 ^ 128) (x1 % 2 ^ 128)) (x2 % 2 ^ 128) ≡ x0 + x1 + x2
+    = whole (add128 (x0 % 2 ^ 128) (x1 % 2 ^ 128)) (x2 % 2 ^ 128) (omega (arith, t1, h0, h1)) (omega (arith, s2, h2)) ∙ omega (arith, t1, s2) in
+    let t3 : add128 (add128 (add128 (x0 % 2 ^ 128) (x1 % 2 ^ 128)) (x2 % 2 ^ 128)) (x3 % 2 ^ 128) ≡ x0 + x1 + x2 + x3
+    = whole (add128 (add128 (x0 % 2 ^ 128) (x1 % 2 ^ 128)) (x2 % 2 ^ 128)) (x3 % 2 ^ 128) (omega (arith, t2, h0, h1, h2)) (omega (arith, s3, h3)) ∙ omega (arith, t2, s3) in
+    whole (add128 (add128 (add128 (x0 % 2 ^ 128) (x1 % 2 ^ 128)) (x2 % 2 ^ 128)) (x3 % 2 ^ 128)) (x4 % 2 ^ 128) (omega (arith, t3, h0, h1, h2, h3)) (omega (arith, s4, h4))
+    ∙ omega (arith, t3, s4)
+
+dot_value : (a b : List ℕ) → AreBelow (2 ^ 52) a → AreBelow (2 ^ 57) b
+    → (dot a b ≡ slice_index a 0 * slice_index b 0 + slice_index a 1 * slice_index b 1 + slice_index a 2 * slice_index b 2 + slice_index a 3 * slice_index b 3 + slice_index a 4 * slice_index b 4) × (dot a b < 2 ^ 115)
+unfolding dot
+dot_value a b h k =
+    let m0 : slice_index a 0 * slice_index b 0 < 2 ^ 109 = below (slice_index a 0) (slice_index b 0) h.l0 k.l0 in
+    let m1 : slice_index a 1 * slice_index b 1 < 2 ^ 109 = below (slice_index a 1) (slice_index b 1) h.l1 k.l1 in
+    let m2 : slice_index a 2 * slice_index b 2 < 2 ^ 109 = below (slice_index a 2) (slice_index b 2) h.l2 k.l2 in
+    let m3 : slice_index a 3 * slice_index b 3 < 2 ^ 109 = below (slice_index a 3) (slice_index b 3) h.l3 k.l3 in
+    let m4 : slice_index a 4 * slice_index b 4 < 2 ^ 109 = below (slice_index a 4) (slice_index b 4) h.l4 k.l4 in
+    let is = sums (slice_index a 0 * slice_index b 0) (slice_index a 1 * slice_index b 1) (slice_index a 2 * slice_index b 2)
+    (slice_index a 3 * slice_index b 3) (slice_index a 4 * slice_index b 4) m0 m1 m2 m3 m4 in
+    (is, omega (arith, is, m0, m1, m2, m3, m4))
+
+-- the product of two numbers by limbs
+expand : (a0 a1 a2 a3 a4 b0 b1 b2 b3 b4 c0 c1 c2 c3 c4 : ℕ)
+    → c0 ≡ a0 * b0 + 19 * (a1 * b4) + 19 * (a2 * b3) + 19 * (a3 * b2) + 19 * (a4 * b1)
+    → c1 ≡ a0 * b1 + a1 * b0 + 19 * (a2 * b4) + 19 * (a3 * b3) + 19 * (a4 * b2)
+    → c2 ≡ a0 * b2 + a1 * b1 + a2 * b0 + 19 * (a3 * b4) + 19 * (a4 * b3)
+    → c3 ≡ a0 * b3 + a1 * b2 + a2 * b1 + a3 * b0 + 19 * (a4 * b4)
+    → c4 ≡ a0 * b4 + a1 * b3 + a2 * b2 + a3 * b1 + a4 * b0
+    → weighed a0 a1 a2 a3 a4 * weighed b0 b1 b2 b3 b4 ≡ weighed c0 c1 c2 c3 c4 + field * weighed (a1 * b4 + a2 * b3 + a3 * b2 + a4 * b1) (a2 * b4 + a3 * b3 + a4 * b2) (a3 * b4 + a4 * b3) (a4 * b4) 0
+expand a0 a1 a2 a3 a4 b0 b1 b2 b3 b4 c0 c1 c2 c3 c4 e0 e1 e2 e3 e4 = omega arith
+
+pub mul_value : (a b : List ℕ) → AreBelow (2 ^ 52) a → AreBelow (2 ^ 52) b
+    → AreBelow (2 ^ 52) (mul a b) × (value (mul a b) % field ≡ value a * value b % field)
+unfolding mul
+mul_value a b h k =
+    let a0 : ℕ = slice_index a 0 in
+    let a1 : ℕ = slice_index a 1 in
+    let a2 : ℕ = slice_index a 2 in
+    let a3 : ℕ = slice_index a 3 in
+    let a4 : ℕ = slice_index a 4 in
+    let b0 : ℕ = slice_index b 0 in
+    let b1 : ℕ = slice_index b 1 in
+    let b2 : ℕ = slice_index b 2 in
+    let b3 : ℕ = slice_index b 3 in
+    let b4 : ℕ = slice_index b 4 in
+    let k0 : b0 < 2 ^ 57 = omega (arith, k.l0) in
+    let k1 : b1 < 2 ^ 57 = omega (arith, k.l1) in
+    let k2 : b2 < 2 ^ 57 = omega (arith, k.l2) in
+    let k3 : b3 < 2 ^ 57 = omega (arith, k.l3) in
+    let k4 : b4 < 2 ^ 57 = omega (arith, k.l4) in
+    let s1 : ℕ = mul64 b1 19 in
+    let w1 : s1 ≡ 19 * b1 = omega (arith, k.l1) in
+    let z1 : s1 < 2 ^ 57 = omega (arith, w1, k.l1) in
+    let s2 : ℕ = mul64 b2 19 in
+    let w2 : s2 ≡ 19 * b2 = omega (arith, k.l2) in
+    let z2 : s2 < 2 ^ 57 = omega (arith, w2, k.l2) in
+    let s3 : ℕ = mul64 b3 19 in
+    let w3 : s3 ≡ 19 * b3 = omega (arith, k.l3) in
+    let z3 : s3 < 2 ^ 57 = omega (arith, w3, k.l3) in
+    let s4 : ℕ = mul64 b4 19 in
+    let w4 : s4 ≡ 19 * b4 = omega (arith, k.l4) in
+    let z4 : s4 < 2 ^ 57 = omega (arith, w4, k.l4) in
+    let f0 = dot_value a (b0 ∷ s4 ∷ s3 ∷ s2 ∷ s1 ∷ []) h (record { l0 = k0; l1 = z4; l2 = z3; l3 = z2; l4 = z1 }) in
+    let f1 = dot_value a (b1 ∷ b0 ∷ s4 ∷ s3 ∷ s2 ∷ []) h (record { l0 = k1; l1 = k0; l2 = z4; l3 = z3; l4 = z2 }) in
+    let f2 = dot_value a (b2 ∷ b1 ∷ b0 ∷ s4 ∷ s3 ∷ []) h (record { l0 = k2; l1 = k1; l2 = k0; l3 = z4; l4 = z3 }) in
+    let f3 = dot_value a (b3 ∷ b2 ∷ b1 ∷ b0 ∷ s4 ∷ []) h (record { l0 = k3; l1 = k2; l2 = k1; l3 = k0; l4 = z4 }) in
+    let f4 = dot_value a (b4 ∷ b3 ∷ b2 ∷ b1 ∷ b0 ∷ []) h (record { l0 = k4; l1 = k3; l2 = k2; l3 = k1; l4 = k0 }) in
+    let p14 : a1 * s4 ≡ a1 * (19 * b4) = ap (λ (n : ℕ). a1 * n) w4 in
+    let p23 : a2 * s3 ≡ a2 * (19 * b3) = ap (λ (n : ℕ). a2 * n) w3 in
+    let p24 : a2 * s4 ≡ a2 * (19 * b4) = ap (λ (n : ℕ). a2 * n) w4 in
+    let p32 : a3 * s2 ≡ a3 * (19 * b2) = ap (λ (n : ℕ). a3 * n) w2 in
+    let p33 : a3 * s3 ≡ a3 * (19 * b3) = ap (λ (n : ℕ). a3 * n) w3 in
+    let p34 : a3 * s4 ≡ a3 * (19 * b4) = ap (λ (n : ℕ). a3 * n) w4 in
+    let p41 : a4 * s1 ≡ a4 * (19 * b1) = ap (λ (n : ℕ). a4 * n) w1 in
+    let p42 : a4 * s2 ≡ a4 * (19 * b2) = ap (λ (n : ℕ). a4 * n) w2 in
+    let p43 : a4 * s3 ≡ a4 * (19 * b3) = ap (λ (n : ℕ). a4 * n) w3 in
+    let p44 : a4 * s4 ≡ a4 * (19 * b4) = ap (λ (n : ℕ). a4 * n) w4 in
+    let c0 : ℕ = dot a (b0 ∷ s4 ∷ s3 ∷ s2 ∷ s1 ∷ []) in
+    let g0 : c0 ≡ a0 * b0 + 19 * (a1 * b4) + 19 * (a2 * b3) + 19 * (a3 * b2) + 19 * (a4 * b1) = omega (arith, f0.0, p14, p23, p32, p41) in
+    let c1 : ℕ = dot a (b1 ∷ b0 ∷ s4 ∷ s3 ∷ s2 ∷ []) in
+    let g1 : c1 ≡ a0 * b1 + a1 * b0 + 19 * (a2 * b4) + 19 * (a3 * b3) + 19 * (a4 * b2) = omega (arith, f1.0, p24, p33, p42) in
+    let c2 : ℕ = dot a (b2 ∷ b1 ∷ b0 ∷ s4 ∷ s3 ∷ []) in
+    let g2 : c2 ≡ a0 * b2 + a1 * b1 + a2 * b0 + 19 * (a3 * b4) + 19 * (a4 * b3) = omega (arith, f2.0, p34, p43) in
+    let c3 : ℕ = dot a (b3 ∷ b2 ∷ b1 ∷ b0 ∷ s4 ∷ []) in
+    let g3 : c3 ≡ a0 * b3 + a1 * b2 + a2 * b1 + a3 * b0 + 19 * (a4 * b4) = omega (arith, f3.0, p44) in
+    let c4 : ℕ = dot a (b4 ∷ b3 ∷ b2 ∷ b1 ∷ b0 ∷ []) in
+    let g4 : c4 ≡ a0 * b4 + a1 * b3 + a2 * b2 + a3 * b1 + a4 * b0 = omega (arith, f4.0) in
+    let out = carried_value c0 c1 c2 c3 c4 f0.1 f1.1 f2.1 f3.1 f4.1 in
+    let all = expand a0 a1 a2 a3 a4 b0 b1 b2 b3 b4 c0 c1 c2 c3 c4 g0 g1 g2 g3 g4 in
+    (out.0, out.1 ∙ sym (multiple (value a * value b) (weighed c0 c1 c2 c3 c4) (weighed (a1 * b4 + a2 * b3 + a3 * b2 + a4 * b1) (a2 * b4 + a3 * b3 + a4 * b2) (a3 * b4 + a4 * b3) (a4 * b4) 0) all))
+
+pub add_value : (a b : List ℕ) → AreBelow (2 ^ 52) a → AreBelow (2 ^ 52) b
+    → AreBelow (2 ^ 52) (add a b) × (value (add a b) % field ≡ (value a + value b) % field)
+unfolding add
+add_value a b h k =
+    let c0 : ℕ = add128 (slice_index a 0) (slice_index b 0) in
+    let w0 : c0 ≡ slice_index a 0 + slice_index b 0 = whole (slice_index a 0) (slice_index b 0) (omega (arith, h.l0)) (omega (arith, k.l0)) in
+    let m0 : c0 < 2 ^ 115 = omega (arith, w0, h.l0, k.l0) in
+    let c1 : ℕ = add128 (slice_index a 1) (slice_index b 1) in
+    let w1 : c1 ≡ slice_index a 1 + slice_index b 1 = whole (slice_index a 1) (slice_index b 1) (omega (arith, h.l1)) (omega (arith, k.l1)) in
+    let m1 : c1 < 2 ^ 115 = omega (arith, w1, h.l1, k.l1) in
+    let c2 : ℕ = add128 (slice_index a 2) (slice_index b 2) in
+    let w2 : c2 ≡ slice_index a 2 + slice_index b 2 = whole (slice_index a 2) (slice_index b 2) (omega (arith, h.l2)) (omega (arith, k.l2)) in
+    let m2 : c2 < 2 ^ 115 = omega (arith, w2, h.l2, k.l2) in
+    let c3 : ℕ = add128 (slice_index a 3) (slice_index b 3) in
+    let w3 : c3 ≡ slice_index a 3 + slice_index b 3 = whole (slice_index a 3) (slice_index b 3) (omega (arith, h.l3)) (omega (arith, k.l3)) in
+    let m3 : c3 < 2 ^ 115 = omega (arith, w3, h.l3, k.l3) in
+    let c4 : ℕ = add128 (slice_index a 4) (slice_index b 4) in
+    let w4 : c4 ≡ slice_index a 4 + slice_index b 4 = whole (slice_index a 4) (slice_index b 4) (omega (arith, h.l4)) (omega (arith, k.l4)) in
+    let m4 : c4 < 2 ^ 115 = omega (arith, w4, h.l4, k.l4) in
+    let out = carried_value c0 c1 c2 c3 c4 m0 m1 m2 m3 m4 in
+    let all : weighed c0 c1 c2 c3 c4 ≡ value a + value b = omega (arith, w0, w1, w2, w3, w4) in
+    (out.0, out.1 ∙ ap (λ (n : ℕ). n % field) all)
+
+-- a limb more than any, less a limb
+less_is : (spare a b : ℕ) → b ≤ spare → spare < 2 ^ 60 → a < 2 ^ 52 → (less spare a b + b ≡ spare + a) × (less spare a b < 2 ^ 115)
+unfolding less
+less_is spare a b h k l = (omega arith, omega arith)
+
+shifted : (x y b a : ℕ) → x % field ≡ y % field → y + b ≡ a + field * 4 → (x + b) % field ≡ a % field
+shifted x y b a e f = omega arith
+
+pub sub_value : (a b : List ℕ) → AreBelow (2 ^ 52) a → AreBelow (2 ^ 52) b
+    → AreBelow (2 ^ 52) (sub a b) × ((value (sub a b) + value b) % field ≡ value a % field)
+unfolding sub
+sub_value a b h k =
+    let c0 : ℕ = less 9007199254740916 (slice_index a 0) (slice_index b 0) in
+    let w0 = less_is 9007199254740916 (slice_index a 0) (slice_index b 0) (omega (arith, k.l0)) (omega arith) h.l0 in
+    let e0 : c0 + slice_index b 0 ≡ 9007199254740916 + slice_index a 0 = w0.0 in
+    let c1 : ℕ = less 9007199254740988 (slice_index a 1) (slice_index b 1) in
+    let w1 = less_is 9007199254740988 (slice_index a 1) (slice_index b 1) (omega (arith, k.l1)) (omega arith) h.l1 in
+    let e1 : c1 + slice_index b 1 ≡ 9007199254740988 + slice_index a 1 = w1.0 in
+    let c2 : ℕ = less 9007199254740988 (slice_index a 2) (slice_index b 2) in
+    let w2 = less_is 9007199254740988 (slice_index a 2) (slice_index b 2) (omega (arith, k.l2)) (omega arith) h.l2 in
+    let e2 : c2 + slice_index b 2 ≡ 9007199254740988 + slice_index a 2 = w2.0 in
+    let c3 : ℕ = less 9007199254740988 (slice_index a 3) (slice_index b 3) in
+    let w3 = less_is 9007199254740988 (slice_index a 3) (slice_index b 3) (omega (arith, k.l3)) (omega arith) h.l3 in
+    let e3 : c3 + slice_index b 3 ≡ 9007199254740988 + slice_index a 3 = w3.0 in
+    let c4 : ℕ = less 9007199254740988 (slice_index a 4) (slice_index b 4) in
+    let w4 = less_is 9007199254740988 (slice_index a 4) (slice_index b 4) (omega (arith, k.l4)) (omega arith) h.l4 in
+    let e4 : c4 + slice_index b 4 ≡ 9007199254740988 + slice_index a 4 = w4.0 in
+    let out = carried_value c0 c1 c2 c3 c4 w0.1 w1.1 w2.1 w3.1 w4.1 in
+    let all : weighed c0 c1 c2 c3 c4 + value b ≡ value a + field * 4 = omega (arith, e0, e1, e2, e3, e4) in
+    (out.0, shifted (value (sub a b)) (weighed c0 c1 c2 c3 c4) (value b) (value a) out.1 all)

@@ -1,0 +1,10 @@
+pub mod ConstantTimeLemmas
+pub mod FieldLemmas
+pub mod EncodingLemmas
+pub mod FieldNumberLemmas
+pub mod X25519Lemmas
+pub mod EdwardsLemmas
+pub mod DecodingLemmas
+pub mod Ed25519Lemmas
+pub mod PolyLemmas
+pub mod DeployedLemmas

@@ -1,0 +1,422 @@
+-- The code computes Poly1305 in numbers.
+
+use Rattle.std.proofs.Common.{◌≡◌, ℕ, zero, suc, ◌+◌, ◌-◌, ◌*◌, ◌/◌, ◌%◌, ◌^◌, ◌<◌, ◌≤◌, Bool, true, false, List, [], ◌∷◌, ◌++◌, length, refl, sym, ap, ap₂, ◌∙◌, arith, cond, eqb}
+use Rattle.std.proofs.Math.Nat.{mul-le-mul_left}
+use Rattle.std.proofs.lemmas.Nat.{and_le_r}
+use Rattle.std.specs.Int.{w128, to_le_bytes}
+use Rattle.std.specs.Int.Bits.{or_zero_r}
+use Rattle.std.specs.Prelude.{bit_and, bit_or, replicate, slice_index}
+use Rattle.sshwire.specs.ByteLaws.{bytes_append, bytes_cons, bytes_dropped, bytes_none, bytes_taken}
+use Rattle.sshwire.specs.Types.{IsBytes}
+use Rattle.sshsuite.specs.Bits.{word_at}
+use Rattle.sshsuite.specs.FieldElement.{add64, mul64}
+use Rattle.sshsuite.specs.Poly1305.{accumulated, add, block_at, block_limbs, canonical, carried, clamped_r, dot, limbs_of, mul, packed, s_of, sum_to, tag_of}
+use Rattle.sshsuite.proofs.EncodingLemmas.{or_high, word_low}
+use Rattle.sshsuite.specs.PolyNumbers.{accumulator, block_number, mac, modulus, number_of_16, r_number, s_number}
+
+-- the number of five limbs
+abbrev pub weighed : ℕ → ℕ → ℕ → ℕ → ℕ → ℕ
+weighed c0 c1 c2 c3 c4 = c0 + 67108864 * c1 + 4503599627370496 * c2 + 302231454903657293676544 * c3 + 20282409603651670423947251286016 * c4
+
+abbrev pub value : List ℕ → ℕ
+value a = weighed (slice_index a 0) (slice_index a 1) (slice_index a 2) (slice_index a 3) (slice_index a 4)
+
+-- each limb is below
+pub record AreBelow (n : ℕ) (a : List ℕ) : Type 0 where
+  pub l0 : slice_index a 0 < n
+  pub l1 : slice_index a 1 < n
+  pub l2 : slice_index a 2 < n
+  pub l3 : slice_index a 3 < n
+  pub l4 : slice_index a 4 < n
+
+-- Two words as limbs.
+third : (low high : ℕ) → low < 2 ^ 64 → bit_or (low / 2 ^ 52) (high * 2 ^ 12 % 2 ^ 64) % 2 ^ 26 ≡ high % 2 ^ 14 * 2 ^ 12 + low / 2 ^ 52
+third low high h =
+    let e : high * 2 ^ 12 % 2 ^ 64 ≡ high % 2 ^ 52 * 2 ^ 12 = omega arith in
+    ap (λ (n : ℕ). n % 2 ^ 26) (ap (bit_or (low / 2 ^ 52)) e ∙ or_high (high % 2 ^ 52) 12 (low / 2 ^ 52) (omega arith)) ∙ omega arith
+
+five : (low high l0 l1 l2 l3 l4 : ℕ) → l0 ≡ low % 2 ^ 26 → l1 ≡ low / 2 ^ 26 % 2 ^ 26 → l2 ≡ high % 2 ^ 14 * 2 ^ 12 + low / 2 ^ 52 → l3 ≡ high / 2 ^ 14 % 2 ^ 26
+    → l4 ≡ high / 2 ^ 40 → weighed l0 l1 l2 l3 l4 ≡ low + 2 ^ 64 * high
+five low high l0 l1 l2 l3 l4 e0 e1 e2 e3 e4 = omega arith
+
+five_above : (low high l0 l1 l2 l3 l4 : ℕ) → l0 ≡ low % 2 ^ 26 → l1 ≡ low / 2 ^ 26 % 2 ^ 26 → l2 ≡ high % 2 ^ 14 * 2 ^ 12 + low / 2 ^ 52 → l3 ≡ high / 2 ^ 14 % 2 ^ 26
+    → l4 ≡ 2 ^ 24 + high / 2 ^ 40 → weighed l0 l1 l2 l3 l4 ≡ low + 2 ^ 64 * high + 2 ^ 128
+five_above low high l0 l1 l2 l3 l4 e0 e1 e2 e3 e4 = omega arith
+
+low26 : (x : ℕ) → x % 2 ^ 26 < 2 ^ 26
+low26 x = omega arith
+
+or_none : (x : ℕ) → bit_or x 0 ≡ x
+or_none x = or_zero_r x
+
+plain_limbs : (low high : ℕ) → low < 2 ^ 64 → high < 2 ^ 64 → AreBelow (2 ^ 26) (limbs_of low high 0) × (value (limbs_of low high 0) ≡ low + 2 ^ 64 * high)
+unfolding limbs_of
+plain_limbs low high h k =
+    let top = or_none (high / 2 ^ 40) in (
+      record { l0 = low26 low; l1 = low26 (low / 2 ^ 26); l2 = low26 _; l3 = low26 (high / 2 ^ 14); l4 = omega (arith, top, k) },
+      five low high _ _ _ _ _ refl refl (third low high h) refl top,
+    )
+
+topped_limbs : (low high : ℕ) → low < 2 ^ 64 → high < 2 ^ 64
+    → AreBelow (2 ^ 26) (limbs_of low high (2 ^ 24)) × (value (limbs_of low high (2 ^ 24)) ≡ low + 2 ^ 64 * high + 2 ^ 128)
+unfolding limbs_of
+topped_limbs low high h k =
+    let top : bit_or (high / 2 ^ 40) (2 ^ 24) ≡ 2 ^ 24 + high / 2 ^ 40 = or_high 1 24 (high / 2 ^ 40) (omega arith) in (
+      record { l0 = low26 low; l1 = low26 (low / 2 ^ 26); l2 = low26 _; l3 = low26 (high / 2 ^ 14); l4 = omega (arith, top, k) },
+      five_above low high _ _ _ _ _ refl refl (third low high h) refl top,
+    )
+
+-- Carries.
+whole : (x y : ℕ) → x < 2 ^ 63 → y < 2 ^ 63 → add64 x y ≡ x + y
+whole x y h k = omega arith
+
+parts : (x : ℕ) → x ≡ 2 ^ 26 * (x / 2 ^ 26) + x % 2 ^ 26
+parts x = omega arith
+
+pass : (c0 c1 c2 c3 c4 q0 q1 q2 q3 q4 r0 r1 r2 r3 r4 d0 f1 : ℕ) → c0 ≡ 2 ^ 26 * q0 + r0 → c1 + q0 ≡ 2 ^ 26 * q1 + r1 → c2 + q1 ≡ 2 ^ 26 * q2 + r2
+    → c3 + q2 ≡ 2 ^ 26 * q3 + r3 → c4 + q3 ≡ 2 ^ 26 * q4 + r4 → d0 ≡ r0 + 5 * q4 → f1 ≡ r1 + d0 / 2 ^ 26
+    → weighed c0 c1 c2 c3 c4 ≡ weighed (d0 % 2 ^ 26) f1 r2 r3 r4 + modulus * q4
+pass c0 c1 c2 c3 c4 q0 q1 q2 q3 q4 r0 r1 r2 r3 r4 d0 f1 e0 e1 e2 e3 e4 e5 e6 = omega arith
+
+multiple : (x y q : ℕ) → x ≡ y + modulus * q → x % modulus ≡ y % modulus
+multiple x y q e = omega arith
+
+-- limbs behind carries: the second may be a little more than 2^26
+pub record AreCarried (n : ℕ) (a : List ℕ) : Type 0 where
+  pub l0 : slice_index a 0 < 2 ^ 26
+  pub l1 : slice_index a 1 ≤ n
+  pub l2 : slice_index a 2 < 2 ^ 26
+  pub l3 : slice_index a 3 < 2 ^ 26
+  pub l4 : slice_index a 4 < 2 ^ 26
+
+module _ (a : List ℕ) (h : AreBelow (2 ^ 61) a) where
+  carried_value : AreCarried (2 ^ 26 + 2 ^ 13) (carried a) × (value (carried a) % modulus ≡ value a % modulus)
+  unfolding carried
+  carried_value =
+      let c0 : ℕ = slice_index a 0 in
+      let e1 : ℕ = add64 (slice_index a 1) (c0 / 2 ^ 26) in
+      let e2 : ℕ = add64 (slice_index a 2) (e1 / 2 ^ 26) in
+      let e3 : ℕ = add64 (slice_index a 3) (e2 / 2 ^ 26) in
+      let e4 : ℕ = add64 (slice_index a 4) (e3 / 2 ^ 26) in
+      let d0 : ℕ = add64 (c0 % 2 ^ 26) (mul64 (e4 / 2 ^ 26) 5) in
+      let f1 : ℕ = add64 (e1 % 2 ^ 26) (d0 / 2 ^ 26) in
+      let w1 : e1 ≡ slice_index a 1 + c0 / 2 ^ 26 = whole (slice_index a 1) (c0 / 2 ^ 26) (omega (arith, h.l1)) (omega (arith, h.l0)) in
+      let b1 : e1 < 2 ^ 62 = omega (arith, w1, h.l0, h.l1) in
+      let w2 : e2 ≡ slice_index a 2 + e1 / 2 ^ 26 = whole (slice_index a 2) (e1 / 2 ^ 26) (omega (arith, h.l2)) (omega (arith, b1)) in
+      let b2 : e2 < 2 ^ 62 = omega (arith, w2, h.l2, b1) in
+      let w3 : e3 ≡ slice_index a 3 + e2 / 2 ^ 26 = whole (slice_index a 3) (e2 / 2 ^ 26) (omega (arith, h.l3)) (omega (arith, b2)) in
+      let b3 : e3 < 2 ^ 62 = omega (arith, w3, h.l3, b2) in
+      let w4 : e4 ≡ slice_index a 4 + e3 / 2 ^ 26 = whole (slice_index a 4) (e3 / 2 ^ 26) (omega (arith, h.l4)) (omega (arith, b3)) in
+      let b4 : e4 < 2 ^ 62 = omega (arith, w4, h.l4, b3) in
+      let m : mul64 (e4 / 2 ^ 26) 5 ≡ 5 * (e4 / 2 ^ 26) = omega (arith, b4) in
+      let n : 5 * (e4 / 2 ^ 26) < 2 ^ 39 - 2 ^ 26 = omega (arith, b4) in
+      let x0 : d0 ≡ c0 % 2 ^ 26 + 5 * (e4 / 2 ^ 26) = whole (c0 % 2 ^ 26) (mul64 (e4 / 2 ^ 26) 5) (omega arith) (omega (arith, m, n)) ∙ ap (λ (k : ℕ). c0 % 2 ^ 26 + k) m in
+      let y0 : d0 < 2 ^ 39 = omega (arith, x0, n) in
+      let x1 : f1 ≡ e1 % 2 ^ 26 + d0 / 2 ^ 26 = whole (e1 % 2 ^ 26) (d0 / 2 ^ 26) (omega arith) (omega (arith, y0)) in
+      let all = pass c0 (slice_index a 1) (slice_index a 2) (slice_index a 3) (slice_index a 4) (c0 / 2 ^ 26) (e1 / 2 ^ 26) (e2 / 2 ^ 26) (e3 / 2 ^ 26) (e4 / 2 ^ 26)
+      (c0 % 2 ^ 26) (e1 % 2 ^ 26) (e2 % 2 ^ 26) (e3 % 2 ^ 26) (e4 % 2 ^ 26) d0 f1
+      (parts c0) (sym w1 ∙ parts e1) (sym w2 ∙ parts e2) (sym w3 ∙ parts e3) (sym w4 ∙ parts e4) x0 x1 in (
+        record { l0 = low26 d0; l1 = omega (arith, x1, y0); l2 = low26 e2; l3 = low26 e3; l4 = low26 e4 },
+        sym (multiple (value a) (weighed (d0 % 2 ^ 26) f1 (e2 % 2 ^ 26) (e3 % 2 ^ 26) (e4 % 2 ^ 26)) (e4 / 2 ^ 26) all),
+      )
+
+-- Products.
+below : (a b : ℕ) → a < 2 ^ 28 → b < 2 ^ 29 → a * b < 2 ^ 57
+below a b h k = let m : a * b ≤ a * 2 ^ 29 = mul-le-mul_left a (omega arith) in omega (arith, m)
+
+-- five products
+sums : (x0 x1 x2 x3 x4 : ℕ) → x0 < 2 ^ 57 → x1 < 2 ^ 57 → x2 < 2 ^ 57 → x3 < 2 ^ 57 → x4 < 2 ^ 57
+    → add64 (add64 (add64 (add64 (x0 % 2 ^ 64) (x1 % 2 ^ 64)) (x2 % 2 ^ 64)) (x3 % 2 ^ 64)) (x4 % 2 ^ 64) ≡ x0 + x1 + x2 + x3 + x4
+sums x0 x1 x2 x3 x4 h0 h1 h2 h3 h4 =
+    let s0 : x0 % 2 ^ 64 ≡ x0 = omega (arith, h0) in
+    let s1 : x1 % 2 ^ 64 ≡ x1 = omega (arith, h1) in
+    let s2 : x2 % 2 ^ 64 ≡ x2 = omega (arith, h2) in
+    let s3 : x3 % 2 ^ 64 ≡ x3 = omega (arith, h3) in
+    let s4 : x4 % 2 ^ 64 ≡ x4 = omega (arith, h4) in
+    let t1 : add64 (x0 % 2 ^ 64) (x1 % 2 ^ 64) ≡ x0 + x1 = whole (x0 % 2 ^ 64) (x1 % 2 ^ 64) (omega (arith, s0, h0)) (omega (arith, s1, h1)) ∙ omega (arith, s0, s1) in
+    let t2 : add64 (add64 (x0 % 2 ^ 64) (x1 % 2 ^ 64)) (x2 % 2 ^ 64) ≡ x0 + x1 + x2
+    = whole (add64 (x0 % 2 ^ 64) (x1 % 2 ^ 64)) (x2 % 2 ^ 64) (omega (arith, t1, h0, h1)) (omega (arith, s2, h2)) ∙ omega (arith, t1, s2) in
+    let t3 : add64 (add64 (add64 (x0 % 2 ^ 64) (x1 % 2 ^ 64)) (x2 % 2 ^ 64)) (x3 % 2 ^ 64) ≡ x0 + x1 + x2 + x3
+    = whole (add64 (add64 (x0 % 2 ^ 64) (x1 % 2 ^ 64)) (x2 % 2 ^ 64)) (x3 % 2 ^ 64) (omega (arith, t2, h0, h1, h2)) (omega (arith, s3, h3)) ∙ omega (arith, t2, s3) in
+    whole (add64 (add64 (add64 (x0 % 2 ^ 64) (x1 % 2 ^ 64)) (x2 % 2 ^ 64)) (x3 % 2 ^ 64)) (x4 % 2 ^ 64) (omega (arith, t3, h0, h1, h2, h3)) (omega (arith, s4, h4))
+    ∙ omega (arith, t3, s4)
+
+dot_value : (a b : List ℕ) → AreBelow (2 ^ 28) a → AreBelow (2 ^ 29) b
+    → (dot a b ≡ slice_index a 0 * slice_index b 0 + slice_index a 1 * slice_index b 1 + slice_index a 2 * slice_index b 2 + slice_index a 3 * slice_index b 3 + slice_index a 4 * slice_index b 4) × (dot a b < 2 ^ 61)
+unfolding dot
+dot_value a b h k =
+    let m0 : slice_index a 0 * slice_index b 0 < 2 ^ 57 = below (slice_index a 0) (slice_index b 0) h.l0 k.l0 in
+    let m1 : slice_index a 1 * slice_index b 1 < 2 ^ 57 = below (slice_index a 1) (slice_index b 1) h.l1 k.l1 in
+    let m2 : slice_index a 2 * slice_index b 2 < 2 ^ 57 = below (slice_index a 2) (slice_index b 2) h.l2 k.l2 in
+    let m3 : slice_index a 3 * slice_index b 3 < 2 ^ 57 = below (slice_index a 3) (slice_index b 3) h.l3 k.l3 in
+    let m4 : slice_index a 4 * slice_index b 4 < 2 ^ 57 = below (slice_index a 4) (slice_index b 4) h.l4 k.l4 in
+    let is = sums (slice_index a 0 * slice_index b 0) (slice_index a 1 * slice_index b 1) (slice_index a 2 * slice_index b 2)
+    (slice_index a 3 * slice_index b 3) (slice_index a 4 * slice_index b 4) m0 m1 m2 m3 m4 in
+    (is, omega (arith, is, m0, m1, m2, m3, m4))
+
+-- the product of two numbers by limbs
+expand : (a0 a1 a2 a3 a4 b0 b1 b2 b3 b4 c0 c1 c2 c3 c4 : ℕ)
+    → c0 ≡ a0 * b0 + 5 * (a1 * b4) + 5 * (a2 * b3) + 5 * (a3 * b2) + 5 * (a4 * b1)
+    → c1 ≡ a0 * b1 + a1 * b0 + 5 * (a2 * b4) + 5 * (a3 * b3) + 5 * (a4 * b2)
+    → c2 ≡ a0 * b2 + a1 * b1 + a2 * b0 + 5 * (a3 * b4) + 5 * (a4 * b3)
+    → c3 ≡ a0 * b3 + a1 * b2 + a2 * b1 + a3 * b0 + 5 * (a4 * b4)
+    → c4 ≡ a0 * b4 + a1 * b3 + a2 * b2 + a3 * b1 + a4 * b0
+    → weighed a0 a1 a2 a3 a4 * weighed b0 b1 b2 b3 b4 ≡ weighed c0 c1 c2 c3 c4 + modulus * weighed (a1 * b4 + a2 * b3 + a3 * b2 + a4 * b1) (a2 * b4 + a3 * b3 + a4 * b2) (a3 * b4 + a4 * b3) (a4 * b4) 0
+expand a0 a1 a2 a3 a4 b0 b1 b2 b3 b4 c0 c1 c2 c3 c4 e0 e1 e2 e3 e4 = omega arith
+
+mul_value : (a b : List ℕ) → AreBelow (2 ^ 28) a → AreBelow (2 ^ 26) b
+    → AreCarried (2 ^ 26 + 2 ^ 13) (mul a b) × (value (mul a b) % modulus ≡ value a * value b % modulus)
+unfolding mul
+mul_value a b h k =
+    let a0 : ℕ = slice_index a 0 in
+    let a1 : ℕ = slice_index a 1 in
+    let a2 : ℕ = slice_index a 2 in
+    let a3 : ℕ = slice_index a 3 in
+    let a4 : ℕ = slice_index a 4 in
+    let b0 : ℕ = slice_index b 0 in
+    let b1 : ℕ = slice_index b 1 in
+    let b2 : ℕ = slice_index b 2 in
+    let b3 : ℕ = slice_index b 3 in
+    let b4 : ℕ = slice_index b 4 in
+    let k0 : b0 < 2 ^ 29 = omega (arith, k.l0) in
+    let k1 : b1 < 2 ^ 29 = omega (arith, k.l1) in
+    let k2 : b2 < 2 ^ 29 = omega (arith, k.l2) in
+    let k3 : b3 < 2 ^ 29 = omega (arith, k.l3) in
+    let k4 : b4 < 2 ^ 29 = omega (arith, k.l4) in
+    let s1 : ℕ = mul64 b1 5 in
+    let w1 : s1 ≡ 5 * b1 = omega (arith, k.l1) in
+    let z1 : s1 < 2 ^ 29 = omega (arith, w1, k.l1) in
+    let s2 : ℕ = mul64 b2 5 in
+    let w2 : s2 ≡ 5 * b2 = omega (arith, k.l2) in
+    let z2 : s2 < 2 ^ 29 = omega (arith, w2, k.l2) in
+    let s3 : ℕ = mul64 b3 5 in
+    let w3 : s3 ≡ 5 * b3 = omega (arith, k.l3) in
+    let z3 : s3 < 2 ^ 29 = omega (arith, w3, k.l3) in
+    let s4 : ℕ = mul64 b4 5 in
+    let w4 : s4 ≡ 5 * b4 = omega (arith, k.l4) in
+    let z4 : s4 < 2 ^ 29 = omega (arith, w4, k.l4) in
+    let f0 = dot_value a (b0 ∷ s4 ∷ s3 ∷ s2 ∷ s1 ∷ []) h (record { l0 = k0; l1 = z4; l2 = z3; l3 = z2; l4 = z1 }) in
+    let f1 = dot_value a (b1 ∷ b0 ∷ s4 ∷ s3 ∷ s2 ∷ []) h (record { l0 = k1; l1 = k0; l2 = z4; l3 = z3; l4 = z2 }) in
+    let f2 = dot_value a (b2 ∷ b1 ∷ b0 ∷ s4 ∷ s3 ∷ []) h (record { l0 = k2; l1 = k1; l2 = k0; l3 = z4; l4 = z3 }) in
+    let f3 = dot_value a (b3 ∷ b2 ∷ b1 ∷ b0 ∷ s4 ∷ []) h (record { l0 = k3; l1 = k2; l2 = k1; l3 = k0; l4 = z4 }) in
+    let f4 = dot_value a (b4 ∷ b3 ∷ b2 ∷ b1 ∷ b0 ∷ []) h (record { l0 = k4; l1 = k3; l2 = k2; l3 = k1; l4 = k0 }) in
+    let p14 : a1 * s4 ≡ a1 * (5 * b4) = ap (λ (n : ℕ). a1 * n) w4 in
+    let p23 : a2 * s3 ≡ a2 * (5 * b3) = ap (λ (n : ℕ). a2 * n) w3 in
+    let p24 : a2 * s4 ≡ a2 * (5 * b4) = ap (λ (n : ℕ). a2 * n) w4 in
+    let p32 : a3 * s2 ≡ a3 * (5 * b2) = ap (λ (n : ℕ). a3 * n) w2 in
+    let p33 : a3 * s3 ≡ a3 * (5 * b3) = ap (λ (n : ℕ). a3 * n) w3 in
+    let p34 : a3 * s4 ≡ a3 * (5 * b4) = ap (λ (n : ℕ). a3 * n) w4 in
+    let p41 : a4 * s1 ≡ a4 * (5 * b1) = ap (λ (n : ℕ). a4 * n) w1 in
+    let p42 : a4 * s2 ≡ a4 * (5 * b2) = ap (λ (n : ℕ). a4 * n) w2 in
+    let p43 : a4 * s3 ≡ a4 * (5 * b3) = ap (λ (n : ℕ). a4 * n) w3 in
+    let p44 : a4 * s4 ≡ a4 * (5 * b4) = ap (λ (n : ℕ). a4 * n) w4 in
+    let c0 : ℕ = dot a (b0 ∷ s4 ∷ s3 ∷ s2 ∷ s1 ∷ []) in
+    let g0 : c0 ≡ a0 * b0 + 5 * (a1 * b4) + 5 * (a2 * b3) + 5 * (a3 * b2) + 5 * (a4 * b1) = omega (arith, f0.0, p14, p23, p32, p41) in
+    let c1 : ℕ = dot a (b1 ∷ b0 ∷ s4 ∷ s3 ∷ s2 ∷ []) in
+    let g1 : c1 ≡ a0 * b1 + a1 * b0 + 5 * (a2 * b4) + 5 * (a3 * b3) + 5 * (a4 * b2) = omega (arith, f1.0, p24, p33, p42) in
+    let c2 : ℕ = dot a (b2 ∷ b1 ∷ b0 ∷ s4 ∷ s3 ∷ []) in
+    let g2 : c2 ≡ a0 * b2 + a1 * b1 + a2 * b0 + 5 * (a3 * b4) + 5 * (a4 * b3) = omega (arith, f2.0, p34, p43) in
+    let c3 : ℕ = dot a (b3 ∷ b2 ∷ b1 ∷ b0 ∷ s4 ∷ []) in
+    let g3 : c3 ≡ a0 * b3 + a1 * b2 + a2 * b1 + a3 * b0 + 5 * (a4 * b4) = omega (arith, f3.0, p44) in
+    let c4 : ℕ = dot a (b4 ∷ b3 ∷ b2 ∷ b1 ∷ b0 ∷ []) in
+    let g4 : c4 ≡ a0 * b4 + a1 * b3 + a2 * b2 + a3 * b1 + a4 * b0 = omega (arith, f4.0) in
+    let out = carried_value (c0 ∷ c1 ∷ c2 ∷ c3 ∷ c4 ∷ []) (record { l0 = f0.1; l1 = f1.1; l2 = f2.1; l3 = f3.1; l4 = f4.1 }) in
+    let all = expand a0 a1 a2 a3 a4 b0 b1 b2 b3 b4 c0 c1 c2 c3 c4 g0 g1 g2 g3 g4 in
+    (out.0, out.1 ∙ sym (multiple (value a * value b) (weighed c0 c1 c2 c3 c4) (weighed (a1 * b4 + a2 * b3 + a3 * b2 + a4 * b1) (a2 * b4 + a3 * b3 + a4 * b2) (a3 * b4 + a4 * b3) (a4 * b4) 0) all))
+
+-- The accumulator.
+sum_value : (a b : List ℕ) → AreCarried (2 ^ 26 + 2 ^ 13) a → AreBelow (2 ^ 26) b → AreBelow (2 ^ 28) (add a b) × (value (add a b) ≡ value a + value b)
+unfolding add
+sum_value a b h k =
+    let e0 : add64 (slice_index a 0) (slice_index b 0) ≡ slice_index a 0 + slice_index b 0 = whole _ _ (omega (arith, h.l0)) (omega (arith, k.l0)) in
+    let e1 : add64 (slice_index a 1) (slice_index b 1) ≡ slice_index a 1 + slice_index b 1 = whole _ _ (omega (arith, h.l1)) (omega (arith, k.l1)) in
+    let e2 : add64 (slice_index a 2) (slice_index b 2) ≡ slice_index a 2 + slice_index b 2 = whole _ _ (omega (arith, h.l2)) (omega (arith, k.l2)) in
+    let e3 : add64 (slice_index a 3) (slice_index b 3) ≡ slice_index a 3 + slice_index b 3 = whole _ _ (omega (arith, h.l3)) (omega (arith, k.l3)) in
+    let e4 : add64 (slice_index a 4) (slice_index b 4) ≡ slice_index a 4 + slice_index b 4 = whole _ _ (omega (arith, h.l4)) (omega (arith, k.l4)) in (
+      record { l0 = omega (arith, e0, h.l0, k.l0); l1 = omega (arith, e1, h.l1, k.l1); l2 = omega (arith, e2, h.l2, k.l2); l3 = omega (arith, e3, h.l3, k.l3); l4 = omega (arith, e4, h.l4, k.l4) },
+      omega (arith, e0, e1, e2, e3, e4),
+    )
+
+pub zero_bytes : (n : ℕ) → IsBytes (replicate n 0)
+zero_bytes zero = bytes_none
+zero_bytes (suc n) = bytes_cons 0 (replicate n 0) (omega arith) (zero_bytes n)
+
+behind : (block : List ℕ) → IsBytes block → IsBytes (block ++ 1 ∷ replicate (15 - length block) 0)
+behind block h = bytes_append block (1 ∷ replicate (15 - length block) 0) h (bytes_cons 1 (replicate (15 - length block) 0) (omega arith) (zero_bytes (15 - length block)))
+
+block_value : (block : List ℕ) → IsBytes block → AreBelow (2 ^ 26) (block_limbs block) × (value (block_limbs block) ≡ block_number block)
+unfolding block_limbs block_number number_of_16
+block_value block h =
+    both (eqb (length block) 16)
+    (topped_limbs (word_at block 0) (word_at block 8) (word_low block 0 h) (word_low block 8 h))
+    (plain_limbs (word_at (block ++ 1 ∷ replicate (15 - length block) 0) 0) (word_at (block ++ 1 ∷ replicate (15 - length block) 0) 8)
+    (word_low (block ++ 1 ∷ replicate (15 - length block) 0) 0 (behind block h)) (word_low (block ++ 1 ∷ replicate (15 - length block) 0) 8 (behind block h)))
+  where
+    both : (b : Bool) {x y : List ℕ} {m n : ℕ} → AreBelow (2 ^ 26) x × (value x ≡ m) → AreBelow (2 ^ 26) y × (value y ≡ n)
+        → AreBelow (2 ^ 26) (cond b x y) × (value (cond b x y) ≡ cond b m n)
+    both true h k = h
+    both false h k = k
+
+moved : (v m q b r : ℕ) → v ≡ modulus * q + m → (v + b) * r ≡ (m + b) * r + modulus * (q * r)
+moved v m q b r is = rw is (omega arith)
+
+parted : (v m : ℕ) → v % modulus ≡ m → v ≡ modulus * (v / modulus) + m
+parted v m is = omega arith
+
+accumulated_value : (sum factor block : List ℕ) (n r : ℕ) → AreCarried (2 ^ 26 + 2 ^ 13) sum → value sum % modulus ≡ n → AreBelow (2 ^ 26) factor → value factor ≡ r
+    → IsBytes block → AreCarried (2 ^ 26 + 2 ^ 13) (accumulated sum factor block) × (value (accumulated sum factor block) % modulus ≡ (n + block_number block) * r % modulus)
+unfolding accumulated
+accumulated_value sum factor block n r h is k own bytes =
+    let limbs = block_value block bytes in
+    let both = sum_value sum (block_limbs block) h limbs.0 in
+    let out = mul_value (add sum (block_limbs block)) factor both.0 k in (
+      out.0,
+      out.1 ∙ (ap (λ (x : ℕ). x % modulus) (ap₂ ◌*◌ (both.1 ∙ ap (λ (x : ℕ). value sum + x) limbs.1) own)
+          ∙ multiple ((value sum + block_number block) * r) ((n + block_number block) * r) (value sum / modulus * r)
+          (moved (value sum) n (value sum / modulus) (block_number block) r (parted (value sum) n is))),
+    )
+
+bytes_block : (input : List ℕ) (i : ℕ) → IsBytes input → IsBytes (block_at input i)
+unfolding block_at
+bytes_block input i h = bytes_taken _ _ (bytes_dropped (16 * i) input h)
+
+sum_to_value : (input factor : List ℕ) (r n : ℕ) → AreBelow (2 ^ 26) factor → value factor ≡ r → IsBytes input
+    → AreCarried (2 ^ 26 + 2 ^ 13) (sum_to input factor n) × (value (sum_to input factor n) % modulus ≡ accumulator input r n)
+unfolding sum_to accumulator
+sum_to_value input factor r zero k own h = (record { l0 = omega arith; l1 = omega arith; l2 = omega arith; l3 = omega arith; l4 = omega arith }, refl)
+sum_to_value input factor r (suc n) k own h =
+    let before = sum_to_value input factor r n k own h in
+    accumulated_value (sum_to input factor n) factor (block_at input n) (accumulator input r n) r before.0 before.1 k own (bytes_block input n h)
+
+r_value : (key : List ℕ) → AreBelow (2 ^ 26) (clamped_r key) × (value (clamped_r key) ≡ r_number key)
+unfolding clamped_r r_number
+r_value key =
+    plain_limbs (bit_and (word_at key 0) 0x0ffffffc0fffffff) (bit_and (word_at key 8) 0x0ffffffc0ffffffc)
+    (omega (arith, and_le_r (word_at key 0) 0x0ffffffc0fffffff)) (omega (arith, and_le_r (word_at key 8) 0x0ffffffc0ffffffc))
+
+-- The last subtraction.
+settled : (v r s over top : ℕ) → v + 5 ≡ r + 2 ^ 130 * over → r < 2 ^ 130 → v + 5 * over ≡ s + 2 ^ 130 * top → s < 2 ^ 130 → v < 2 * modulus → s ≡ v % modulus
+settled v r s zero top e h f k low = omega arith
+settled v r s (suc zero) top e h f k low = omega arith
+settled v r s (suc (suc over)) top e h f k low = absurd (omega arith)
+
+chain : (l0 l1 l2 l3 l4 first q0 q1 q2 q3 q4 r0 r1 r2 r3 r4 : ℕ) → l0 + first ≡ 2 ^ 26 * q0 + r0 → l1 + q0 ≡ 2 ^ 26 * q1 + r1 → l2 + q1 ≡ 2 ^ 26 * q2 + r2
+    → l3 + q2 ≡ 2 ^ 26 * q3 + r3 → l4 + q3 ≡ 2 ^ 26 * q4 + r4 → weighed l0 l1 l2 l3 l4 + first ≡ weighed r0 r1 r2 r3 r4 + 2 ^ 130 * q4
+chain l0 l1 l2 l3 l4 first q0 q1 q2 q3 q4 r0 r1 r2 r3 r4 e0 e1 e2 e3 e4 = omega arith
+
+sum64 : (x y : ℕ) → x < 2 ^ 28 → y < 2 ^ 28 → x + y ≡ 2 ^ 26 * (add64 x y / 2 ^ 26) + add64 x y % 2 ^ 26
+sum64 x y h k = omega arith
+
+over_low : (x y : ℕ) → x < 2 ^ 28 → y < 2 ^ 28 → add64 x y / 2 ^ 26 < 8
+over_low x y h k = omega arith
+
+bounded : (l0 l1 l2 l3 l4 : ℕ) → l0 < 2 ^ 26 → l1 < 2 ^ 26 → l2 < 2 ^ 26 → l3 < 2 ^ 26 → l4 < 2 ^ 26 → weighed l0 l1 l2 l3 l4 < 2 ^ 130
+bounded l0 l1 l2 l3 l4 h0 h1 h2 h3 h4 = omega arith
+
+carried_low : (l0 l1 l2 l3 l4 : ℕ) → l0 < 2 ^ 26 → l1 ≤ 2 ^ 26 + 2 ^ 13 → l2 < 2 ^ 26 → l3 < 2 ^ 26 → l4 < 2 ^ 26 → weighed l0 l1 l2 l3 l4 < 2 * modulus
+carried_low l0 l1 l2 l3 l4 h0 h1 h2 h3 h4 = omega arith
+
+canonical_value : (l : List ℕ) → AreCarried (2 ^ 26 + 2 ^ 13) l → AreBelow (2 ^ 26) (canonical l) × (value (canonical l) ≡ value l % modulus)
+unfolding canonical
+canonical_value l h =
+    let l0 : ℕ = slice_index l 0 in
+    let l1 : ℕ = slice_index l 1 in
+    let l2 : ℕ = slice_index l 2 in
+    let l3 : ℕ = slice_index l 3 in
+    let l4 : ℕ = slice_index l 4 in
+    let k0 : l0 < 2 ^ 28 = omega (arith, h.l0) in
+    let k1 : l1 < 2 ^ 28 = omega (arith, h.l1) in
+    let k2 : l2 < 2 ^ 28 = omega (arith, h.l2) in
+    let k3 : l3 < 2 ^ 28 = omega (arith, h.l3) in
+    let k4 : l4 < 2 ^ 28 = omega (arith, h.l4) in
+    let o0 : ℕ = add64 l0 5 / 2 ^ 26 in
+    let p0 : o0 < 2 ^ 28 = omega (arith, over_low l0 5 k0 (omega arith)) in
+    let o1 : ℕ = add64 l1 o0 / 2 ^ 26 in
+    let p1 : o1 < 2 ^ 28 = omega (arith, over_low l1 o0 k1 p0) in
+    let o2 : ℕ = add64 l2 o1 / 2 ^ 26 in
+    let p2 : o2 < 2 ^ 28 = omega (arith, over_low l2 o1 k2 p1) in
+    let o3 : ℕ = add64 l3 o2 / 2 ^ 26 in
+    let p3 : o3 < 2 ^ 28 = omega (arith, over_low l3 o2 k3 p2) in
+    let over : ℕ = add64 l4 o3 / 2 ^ 26 in
+    let p4 : over < 8 = over_low l4 o3 k4 p3 in
+    let times : mul64 over 5 ≡ 5 * over = omega (arith, p4) in
+    let t0 : mul64 over 5 < 2 ^ 28 = omega (arith, times, p4) in
+    let m0 : ℕ = add64 l0 (mul64 over 5) in
+    let q0 : m0 / 2 ^ 26 < 2 ^ 28 = omega (arith, over_low l0 (mul64 over 5) k0 t0) in
+    let m1 : ℕ = add64 l1 (m0 / 2 ^ 26) in
+    let q1 : m1 / 2 ^ 26 < 2 ^ 28 = omega (arith, over_low l1 (m0 / 2 ^ 26) k1 q0) in
+    let m2 : ℕ = add64 l2 (m1 / 2 ^ 26) in
+    let q2 : m2 / 2 ^ 26 < 2 ^ 28 = omega (arith, over_low l2 (m1 / 2 ^ 26) k2 q1) in
+    let m3 : ℕ = add64 l3 (m2 / 2 ^ 26) in
+    let q3 : m3 / 2 ^ 26 < 2 ^ 28 = omega (arith, over_low l3 (m2 / 2 ^ 26) k3 q2) in
+    let m4 : ℕ = add64 l4 (m3 / 2 ^ 26) in
+    let first = chain l0 l1 l2 l3 l4 5 o0 o1 o2 o3 over (add64 l0 5 % 2 ^ 26) (add64 l1 o0 % 2 ^ 26) (add64 l2 o1 % 2 ^ 26) (add64 l3 o2 % 2 ^ 26) (add64 l4 o3 % 2 ^ 26)
+    (sum64 l0 5 k0 (omega arith)) (sum64 l1 o0 k1 p0) (sum64 l2 o1 k2 p1) (sum64 l3 o2 k3 p2) (sum64 l4 o3 k4 p3) in
+    let second = chain l0 l1 l2 l3 l4 (mul64 over 5) (m0 / 2 ^ 26) (m1 / 2 ^ 26) (m2 / 2 ^ 26) (m3 / 2 ^ 26) (m4 / 2 ^ 26)
+    (m0 % 2 ^ 26) (m1 % 2 ^ 26) (m2 % 2 ^ 26) (m3 % 2 ^ 26) (m4 % 2 ^ 26)
+    (sum64 l0 (mul64 over 5) k0 t0) (sum64 l1 (m0 / 2 ^ 26) k1 q0) (sum64 l2 (m1 / 2 ^ 26) k2 q1) (sum64 l3 (m2 / 2 ^ 26) k3 q2) (sum64 l4 (m3 / 2 ^ 26) k4 q3) in
+    let below : AreBelow (2 ^ 26) (canonical l) = record { l0 = low26 m0; l1 = low26 m1; l2 = low26 m2; l3 = low26 m3; l4 = low26 m4 } in (
+      below,
+      settled (value l) (weighed (add64 l0 5 % 2 ^ 26) (add64 l1 o0 % 2 ^ 26) (add64 l2 o1 % 2 ^ 26) (add64 l3 o2 % 2 ^ 26) (add64 l4 o3 % 2 ^ 26)) (value (canonical l)) over (m4 / 2 ^ 26)
+          first (bounded _ _ _ _ _ (low26 _) (low26 _) (low26 _) (low26 _) (low26 _)) (ap (λ (n : ℕ). value l + n) (sym times) ∙ second)
+          (bounded _ _ _ _ _ below.l0 below.l1 below.l2 below.l3 below.l4) (carried_low l0 l1 l2 l3 l4 h.l0 h.l1 h.l2 h.l3 h.l4),
+    )
+
+-- Limbs to bytes.
+packed_value : (l : List ℕ) → AreBelow (2 ^ 26) l → packed l ≡ value l % 2 ^ 128
+unfolding packed
+packed_value l h =
+    let l0 : ℕ = slice_index l 0 in
+    let l1 : ℕ = slice_index l 1 in
+    let l2 : ℕ = slice_index l 2 in
+    let l3 : ℕ = slice_index l 3 in
+    let l4 : ℕ = slice_index l 4 in
+    let s1 : l1 * 2 ^ 26 % 2 ^ 128 ≡ l1 * 2 ^ 26 = omega (arith, h.l1) in
+    let s2 : l2 * 2 ^ 52 % 2 ^ 128 ≡ l2 * 2 ^ 52 = omega (arith, h.l2) in
+    let s3 : l3 * 2 ^ 78 % 2 ^ 128 ≡ l3 * 2 ^ 78 = omega (arith, h.l3) in
+    let s4 : l4 * 2 ^ 104 % 2 ^ 128 ≡ l4 % 2 ^ 24 * 2 ^ 104 = omega (arith, h.l4) in
+    let o1 : bit_or l0 (l1 * 2 ^ 26 % 2 ^ 128) ≡ l1 * 2 ^ 26 + l0 = ap (bit_or l0) s1 ∙ or_high l1 26 l0 h.l0 in
+    let o2 : bit_or (bit_or l0 (l1 * 2 ^ 26 % 2 ^ 128)) (l2 * 2 ^ 52 % 2 ^ 128) ≡ l2 * 2 ^ 52 + (l1 * 2 ^ 26 + l0)
+    = ap₂ bit_or o1 s2 ∙ or_high l2 52 (l1 * 2 ^ 26 + l0) (omega (arith, h.l0, h.l1)) in
+    let o3 : bit_or (bit_or (bit_or l0 (l1 * 2 ^ 26 % 2 ^ 128)) (l2 * 2 ^ 52 % 2 ^ 128)) (l3 * 2 ^ 78 % 2 ^ 128) ≡ l3 * 2 ^ 78 + (l2 * 2 ^ 52 + (l1 * 2 ^ 26 + l0))
+    = ap₂ bit_or o2 s3 ∙ or_high l3 78 (l2 * 2 ^ 52 + (l1 * 2 ^ 26 + l0)) (omega (arith, h.l0, h.l1, h.l2)) in
+    ap₂ bit_or o3 s4 ∙ (or_high (l4 % 2 ^ 24) 104 (l3 * 2 ^ 78 + (l2 * 2 ^ 52 + (l1 * 2 ^ 26 + l0))) (omega (arith, h.l0, h.l1, h.l2, h.l3))
+    ∙ least l0 l1 l2 l3 l4 h.l0 h.l1 h.l2 h.l3)
+  where
+    least : (l0 l1 l2 l3 l4 : ℕ) → l0 < 2 ^ 26 → l1 < 2 ^ 26 → l2 < 2 ^ 26 → l3 < 2 ^ 26
+        → l4 % 2 ^ 24 * 2 ^ 104 + (l3 * 2 ^ 78 + (l2 * 2 ^ 52 + (l1 * 2 ^ 26 + l0))) ≡ weighed l0 l1 l2 l3 l4 % 2 ^ 128
+    least l0 l1 l2 l3 l4 h0 h1 h2 h3 = omega arith
+
+s_value : (key : List ℕ) → IsBytes key → s_of key ≡ s_number key
+unfolding s_of s_number
+s_value key h =
+    let w2 : ℕ = word_at key 16 in
+    let w3 : ℕ = word_at key 24 in
+    let high : w3 * 2 ^ 64 % 2 ^ 128 ≡ w3 * 2 ^ 64 = omega (arith, word_low key 24 h) in
+    ap (bit_or w2) high ∙ (or_high w3 64 w2 (word_low key 16 h) ∙ turned w2 w3)
+  where
+    turned : (x y : ℕ) → y * 2 ^ 64 + x ≡ x + 2 ^ 64 * y
+    turned x y = omega arith
+
+below_of : (a : List ℕ) → AreCarried (2 ^ 26 + 2 ^ 13) a → AreBelow (2 ^ 61) a
+below_of a h = record { l0 = omega (arith, h.l0); l1 = omega (arith, h.l1); l2 = omega (arith, h.l2); l3 = omega (arith, h.l3); l4 = omega (arith, h.l4) }
+
+last_sum : (x y s : ℕ) → x ≡ y % 2 ^ 128 → (x + s) % 2 ^ 128 ≡ (y + s) % 2 ^ 128
+last_sum x y s is = omega arith
+
+own_remainder : (x n : ℕ) → x % modulus ≡ n → n ≡ x % modulus
+own_remainder x n is = sym is
+
+pub mac_is : (key input : List ℕ) → IsBytes key → IsBytes input → tag_of key input ≡ mac key input
+unfolding tag_of mac
+mac_is key input h k =
+    let n : ℕ = (length input + 15) / 16 in
+    let factor = r_value key in
+    let sum = sum_to_value input (clamped_r key) (r_number key) n factor.0 factor.1 k in
+    let once = carried_value (sum_to input (clamped_r key) n) (below_of _ sum.0) in
+    let twice = carried_value (carried (sum_to input (clamped_r key) n)) (below_of _ once.0) in
+    let out = canonical_value (carried (carried (sum_to input (clamped_r key) n))) twice.0 in
+    let number : value (canonical (carried (carried (sum_to input (clamped_r key) n)))) ≡ accumulator input (r_number key) n = out.1 ∙ (twice.1 ∙ (once.1 ∙ sum.1)) in
+    let low : packed (canonical (carried (carried (sum_to input (clamped_r key) n)))) ≡ accumulator input (r_number key) n % 2 ^ 128
+    = packed_value _ out.0 ∙ ap (λ (x : ℕ). x % 2 ^ 128) number in
+    ap (to_le_bytes w128) (last_sum _ (accumulator input (r_number key) n) (s_of key) low ∙ ap (λ (s : ℕ). (accumulator input (r_number key) n + s) % 2 ^ 128) (s_value key h))

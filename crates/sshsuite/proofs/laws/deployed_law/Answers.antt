@@ -1,0 +1,17 @@
+use Rattle.std.proofs.Common.{ap}
+use Rattle.sshsuite.specs.Deployed.{wrapped}
+use Rattle.sshsuite.proofs.DeployedLemmas.{share_is, shared_is}
+use Rattle.sshsuite.proofs.Ed25519Lemmas.{key_is, signed_is}
+use Rattle.sshsuite.proofs.laws.deployed_law.Goals as goal
+
+pub returns-clause-share : goal.returns-clause-share
+returns-clause-share c = λ kex random. share_is random
+
+pub returns-clause-shared : goal.returns-clause-shared
+returns-clause-shared c = shared_is
+
+pub returns-clause-key : goal.returns-clause-key
+returns-clause-key c = λ alg secret. ap wrapped (key_is secret)
+
+pub returns-clause-signature : goal.returns-clause-signature
+returns-clause-signature c = λ alg secret input. ap wrapped (signed_is secret input)

@@ -1,0 +1,77 @@
+-- What the suite answers.
+
+use Rattle.std.specs.Prelude.{ℕ, ◌==◌, ◌&&◌, ◌||◌, codes, false, nat_le, if◌then◌else◌, Bool, List, [], ◌∷◌, ◌++◌, length, drop, replicate, Option, None, Some, option_map}
+use Rattle.std.specs.Str.{bytes_eq}
+use Rattle.sha2.specs.Sha256.{sha256}
+use Rattle.sshwire.specs.Types.{string}
+use Rattle.sshpacket.specs.declared.suite.Need.TheVariants.{Encryption, Signature}
+use Rattle.sshwire.specs.declared.share_form.ShareForm.TheVariants.{OctetString}
+use Rattle.sshpacket.specs.Suite.{Meaning, ResponseData}
+use Rattle.sshsuite.specs.Curve25519.{base_point, x25519}
+use Rattle.sshsuite.specs.Sealing.{head, seal, unseal}
+use Rattle.sshsuite.specs.Ed25519.{is_signature, public_key, signature}
+use Rattle.sshsuite.specs.KeyStream.{stream}
+
+-- a name of curve25519-sha256
+unfoldable pub is_curve25519 : List ℕ → Bool
+is_curve25519 kex = bytes_eq kex (codes "curve25519-sha256") || bytes_eq kex (codes "curve25519-sha256@libssh.org")
+
+abbrev pub ed25519 : List ℕ
+ed25519 = codes "ssh-ed25519"
+
+unfoldable pub is_ed25519 : List ℕ → Bool
+is_ed25519 alg = bytes_eq alg ed25519
+
+-- the share of 32 random bytes
+unfoldable pub share : List ℕ → List ℕ
+share random = x25519 random base_point
+
+-- the shortest body of an mpint whose number these bytes are, the highest first
+abbrev pub mpint_body : List ℕ → List ℕ
+mpint_body [] = []
+mpint_body (b ∷ bytes) = if b == 0 then mpint_body bytes else (if nat_le 128 b then 0 ∷ b ∷ bytes else b ∷ bytes)
+
+-- the number that is shared, where it isn't zero
+unfoldable pub shared_number : List ℕ → Option (List ℕ)
+shared_number secret = if bytes_eq secret (replicate 32 0) then None else Some (mpint_body secret)
+
+-- what 32 random bytes and the peer's share make, by a method that is known
+unfoldable pub shared : List ℕ → List ℕ → List ℕ → Option (List ℕ)
+shared kex random peer = if is_curve25519 kex && (length peer == 32) then shared_number (x25519 random peer) else None
+
+abbrev pub response_with : List ℕ → List ℕ → ResponseData
+response_with own body = record { share = own; shared = body }
+
+-- the name of the algorithm and the bytes, each as a string
+unfoldable pub wrapped : List ℕ → List ℕ
+wrapped bytes = string ed25519 ++ string bytes
+
+unfoldable pub is_verified : List ℕ → List ℕ → List ℕ → Bool
+is_verified blob input found =
+    bytes_eq (wrapped (drop 19 blob)) blob && (bytes_eq (wrapped (drop 19 found)) found && is_signature (drop 19 blob) input (drop 19 found))
+
+unfoldable pub verify : List ℕ → List ℕ → List ℕ → List ℕ → Bool
+verify alg blob input found = if is_ed25519 alg && (length blob == 51) && (length found == 83) then is_verified blob input found else false
+
+-- the answers of the suite
+abbrev pub deployed : Meaning
+deployed = record {
+  need = λ kex. if is_curve25519 kex then Signature else Encryption;
+  can = λ alg. record { signature = is_ed25519 alg; encryption = false };
+  block = λ cipher. 8;
+  tag_len = λ cipher mac. 16;
+  counts_length = λ cipher mac. false;
+  key_lens = λ cipher mac. record { iv = 0; enc = 64; mac = 0 };
+  seal = λ keys seq packet. seal keys.enc seq packet;
+  head = λ keys seq first. head keys.enc seq first;
+  unseal = λ keys seq sealed. unseal keys.enc seq sealed;
+  padding = λ seed seq len. stream (sha256 seed) seq 0 len;
+  share_form = λ kex. OctetString;
+  share = λ kex random. share random;
+  shared = λ kex random peer. shared kex random peer;
+  respond = λ kex random peer. option_map (response_with (share random)) (shared kex random peer);
+  digest = λ kex input. sha256 input;
+  blob = λ alg secret. wrapped (public_key secret);
+  sign = λ alg secret input. wrapped (signature secret input);
+  verify = λ alg blob input found. verify alg blob input found;
+}

@@ -1,0 +1,183 @@
+-- The suite has the laws of one end.
+
+use Rattle.std.proofs.Common.{◌≡◌, ℕ, ◌+◌, ◌<◌, ◌≤◌, Bool, true, false, List, [], ◌∷◌, ◌++◌, length, refl, sym, ap, ap₂, ◌∙◌, arith, cond, leb, eqb, inl, inr}
+use Rattle.std.proofs.lemmas.Bool.{cond_both, eqb-false, leb-false, leb-true}
+use Rattle.std.proofs.lemmas.List.{length-append, length-set}
+use Rattle.std.specs.Int.{w64, to_le_bytes}
+use Rattle.std.specs.Prelude.{◌&&◌, Option, None, Some, option_map, replicate, slice_index}
+use Rattle.std.specs.Str.{bytes_eq}
+use Rattle.sha2.proofs.Facts256.{length-sha256}
+use Rattle.sha2.specs.Sha256.{sha256}
+use Rattle.sshwire.specs.ByteLaws.{bytes_append, bytes_cons, bytes_dropped, bytes_none}
+use Rattle.sshwire.specs.Types.{IsBytes, string}
+use Rattle.sshpacket.specs.Suite.{IsLawful, IsNumberBody, IsPositiveBody, ResponseData}
+use Rattle.sshpacket.specs.declared.limits.TheConstants.{SHARE_LIMIT}
+use Rattle.sshsuite.specs.Bits.{bytes_of_words}
+use Rattle.sshsuite.specs.Curve25519.{affine, base_point, x25519}
+use Rattle.sshsuite.specs.Edwards25519.{with_sign, encode_point}
+use Rattle.sshsuite.specs.declared.edwards25519.Point.{Point}
+use Rattle.sshsuite.specs.FieldElement.{encode}
+use Rattle.sshsuite.specs.Deployed.{deployed, ed25519, is_curve25519, mpint_body, response_with, share, shared, shared_number, wrapped}
+use Rattle.sshsuite.specs.Scalar.{bytes_of_halves, encode_scalar}
+use Rattle.sshsuite.specs.SealingLaws.{bytes_seal, guard_none, head_of_seal, seal_length, some_of_packet, unseal_of_seal, unsealed}
+use Rattle.sshsuite.specs.Ed25519.{public_key, signature}
+use Rattle.sshsuite.specs.KeyStream.{bytes_low, bytes_stream, length_stream}
+
+cond_some : {A : Type 0} (b : Bool) (o : Option A) (y : A) → cond b o None ≡ Some y → o ≡ Some y
+cond_some true o y e = e
+cond_some false o y e = cc
+
+short_by : (xs ys : List ℕ) → xs ≡ ys → length xs ≤ SHARE_LIMIT → length ys ≤ SHARE_LIMIT
+short_by xs ys e h = rw e at h
+
+bytes_by : (xs ys : List ℕ) → xs ≡ ys → IsBytes xs → IsBytes ys
+bytes_by xs ys e h = rw e at h
+
+number_by : (xs ys : List ℕ) → xs ≡ ys → IsNumberBody xs → IsNumberBody ys
+number_by xs ys e h = rw e at h
+
+-- 32 bytes.
+length_bytes_of : (words : List ℕ) → length (bytes_of_words words) ≡ 32
+unfolding bytes_of_words
+length_bytes_of words = refl
+
+bytes_bytes_of : (words : List ℕ) → IsBytes (bytes_of_words words)
+unfolding bytes_of_words
+bytes_bytes_of words =
+    let w0 : List ℕ = to_le_bytes w64 (slice_index words 0) in
+    let w1 : List ℕ = to_le_bytes w64 (slice_index words 1) in
+    let w2 : List ℕ = to_le_bytes w64 (slice_index words 2) in
+    let w3 : List ℕ = to_le_bytes w64 (slice_index words 3) in
+    bytes_append (w0 ++ w1 ++ w2) w3
+    (bytes_append (w0 ++ w1) w2 (bytes_append w0 w1 (bytes_low 0 8 (slice_index words 0)) (bytes_low 0 8 (slice_index words 1))) (bytes_low 0 8 (slice_index words 2)))
+    (bytes_low 0 8 (slice_index words 3))
+
+length_encode : (a : List ℕ) → length (encode a) ≡ 32
+unfolding encode
+length_encode a = length_bytes_of _
+
+bytes_encode : (a : List ℕ) → IsBytes (encode a)
+unfolding encode
+bytes_encode a = bytes_bytes_of _
+
+length_x25519 : (scalar point : List ℕ) → length (x25519 scalar point) ≡ 32
+unfolding x25519 affine
+length_x25519 scalar point = length_encode _
+
+bytes_x25519 : (scalar point : List ℕ) → IsBytes (x25519 scalar point)
+unfolding x25519 affine
+bytes_x25519 scalar point = bytes_encode _
+
+-- Shares.
+share_short : (random : List ℕ) → length (share random) ≤ SHARE_LIMIT
+unfolding share
+share_short random = let long = length_x25519 random base_point in omega (arith, long)
+
+share_bytes : (random : List ℕ) → IsBytes (share random)
+unfolding share
+share_bytes random = bytes_x25519 random base_point
+
+-- The shared number.
+low_positive : (b : ℕ) (bytes : List ℕ) → (b ≡ 0 → ⊥) → b < 128 → length bytes ≤ 31 → IsPositiveBody (b ∷ bytes)
+low_positive b bytes some h short = record { some = omega arith; sign = h; shortest = λ e. absurd (some e); short = omega arith }
+
+high_positive : (b : ℕ) (bytes : List ℕ) → 128 ≤ b → length bytes ≤ 31 → IsPositiveBody (0 ∷ b ∷ bytes)
+high_positive b bytes h short = record { some = omega arith; sign = omega arith; shortest = λ e. (omega arith, h); short = omega arith }
+
+body_number : (bytes : List ℕ) → length bytes ≤ 32 → IsNumberBody (mpint_body bytes)
+body_number [] short = inl refl
+body_number (b ∷ bytes) short =
+    cond_both (eqb b 0) (mpint_body bytes) (cond (leb 128 b) (0 ∷ b ∷ bytes) (b ∷ bytes)) (λ (xs : List ℕ). IsNumberBody xs)
+    (λ _. body_number bytes (omega arith))
+    (λ e. inr (cond_both (leb 128 b) (0 ∷ b ∷ bytes) (b ∷ bytes) (λ (xs : List ℕ). IsPositiveBody xs)
+    (λ h. high_positive b bytes (leb-true 128 b h) (omega arith))
+    (λ h. low_positive b bytes (eqb-false b 0 e) (leb-false 128 b h) (omega arith))))
+
+body_bytes : (bytes : List ℕ) → IsBytes bytes → IsBytes (mpint_body bytes)
+body_bytes [] h = bytes_none
+body_bytes (b ∷ bytes) h =
+    cond_both (eqb b 0) (mpint_body bytes) (cond (leb 128 b) (0 ∷ b ∷ bytes) (b ∷ bytes)) (λ (xs : List ℕ). IsBytes xs)
+    (λ _. body_bytes bytes (bytes_dropped 1 (b ∷ bytes) h))
+    (λ _. cond_both (leb 128 b) (0 ∷ b ∷ bytes) (b ∷ bytes) (λ (xs : List ℕ). IsBytes xs)
+    (λ _. bytes_cons 0 (b ∷ bytes) (omega arith) h)
+    (λ _. h))
+
+shared_number_given : (secret body : List ℕ) → shared_number secret ≡ Some body → mpint_body secret ≡ body
+unfolding shared_number
+shared_number_given secret body e =
+    let inner = (guard_none (bytes_eq secret (replicate 32 0)) (Some (mpint_body secret)) body e).1 in cc
+
+shared_given : (kex random peer body : List ℕ) → shared kex random peer ≡ Some body → mpint_body (x25519 random peer) ≡ body
+unfolding shared
+shared_given kex random peer body e =
+    shared_number_given (x25519 random peer) body (cond_some (is_curve25519 kex && eqb (length peer) 32) (shared_number (x25519 random peer)) body e)
+
+shared_fits : (kex random peer body : List ℕ) → shared kex random peer ≡ Some body → IsNumberBody body
+shared_fits kex random peer body e =
+    let long = length_x25519 random peer in
+    number_by (mpint_body (x25519 random peer)) body (shared_given kex random peer body e) (body_number (x25519 random peer) (omega (arith, long)))
+
+shared_bytes : (kex random peer body : List ℕ) → shared kex random peer ≡ Some body → IsBytes body
+shared_bytes kex random peer body e =
+    bytes_by (mpint_body (x25519 random peer)) body (shared_given kex random peer body e) (body_bytes (x25519 random peer) (bytes_x25519 random peer))
+
+some_response : (r other : ResponseData) → ◌≡◌ {A = Option ResponseData} (Some r) (Some other) → r ≡ other
+some_response r other e = cc
+
+response_parts : (own : List ℕ) (o : Option (List ℕ)) (r : ResponseData) → option_map (response_with own) o ≡ Some r
+    → (own ≡ r.share) × (o ≡ Some r.shared)
+response_parts own None r e = cc
+response_parts own (Some body) r e =
+    let is : response_with own body ≡ r = some_response (response_with own body) r e in
+    (ap (λ (x : ResponseData). x.share) is, ap (λ (x : ResponseData). Some x.shared) is)
+
+-- Host keys.
+length_point : (p : Point) → length (encode_point p) ≡ 32
+unfolding encode_point with_sign
+length_point p = length-set _ 31 _ ∙ length_encode _
+
+length_key : (secret : List ℕ) → length (public_key secret) ≡ 32
+unfolding public_key
+length_key secret = length_point _
+
+length_scalar : (n : ℕ) → length (encode_scalar n) ≡ 32
+unfolding encode_scalar bytes_of_halves
+length_scalar n = refl
+
+length_signature : (secret input : List ℕ) → length (signature secret input) ≡ 64
+unfolding signature
+length_signature secret input = length-append _ _ ∙ ap₂ ◌+◌ (length_point _) (length_scalar _)
+
+length_wrapped : (bytes : List ℕ) → length (wrapped bytes) ≡ 19 + length bytes
+unfolding wrapped
+length_wrapped bytes = let both = length-append (string ed25519) (string bytes) in omega (arith, both)
+
+pub deployed_lawful : IsLawful deployed
+deployed_lawful = record {
+  seal_length = λ keys seq payload clear h p. seal_length keys.enc seq clear (some_of_packet _ _ _ payload clear p.1);
+  head_of_seal = λ keys seq payload clear h p. head_of_seal keys.enc seq clear (some_of_packet _ _ _ payload clear p.1);
+  unseal_of_seal = λ keys seq payload clear h p. unseal_of_seal keys.enc seq clear (some_of_packet _ _ _ payload clear p.1);
+  unsealed = λ keys seq sealed clear h bytes long e. unsealed keys.enc seq sealed clear bytes long e;
+  share_fits = λ kex a h. share_short a;
+  shared_fits = λ kex a peer body h e. shared_fits kex a peer body e;
+  response_fits = λ kex a peer r h e. let parts = response_parts (share a) (shared kex a peer) r e in
+      (short_by (share a) r.share parts.0 (share_short a), shared_fits kex a peer r.shared parts.1);
+  block_low = λ cipher. omega arith;
+  block_high = λ cipher. omega arith;
+  tag_high = λ cipher mac. omega arith;
+  iv_high = λ cipher mac. omega arith;
+  enc_high = λ cipher mac. omega arith;
+  mac_high = λ cipher mac. omega arith;
+  padding_length = λ seed seq len. length_stream (sha256 seed) seq 0 len;
+  digest_low = λ kex input. omega (arith, length-sha256 input);
+  digest_high = λ kex input. omega (arith, length-sha256 input);
+  digest_even = λ kex input other. length-sha256 input ∙ sym (length-sha256 other);
+  blob_high = λ alg secret name. let long = length_wrapped (public_key secret) in let key = length_key secret in omega (arith, long, key);
+  sign_high = λ alg secret input name. let long = length_wrapped (signature secret input) in let own = length_signature secret input in omega (arith, long, own);
+  seal_bytes = λ keys seq clear h. bytes_seal keys.enc seq clear h;
+  padding_bytes = λ seed seq len. bytes_stream (sha256 seed) seq 0 len;
+  share_bytes = λ kex a h. share_bytes a;
+  shared_bytes = λ kex a peer body h k e. shared_bytes kex a peer body e;
+  response_bytes = λ kex a peer r h k e. let parts = response_parts (share a) (shared kex a peer) r e in
+      (bytes_by (share a) r.share parts.0 (share_bytes a), shared_bytes kex a peer r.shared parts.1);
+}

@@ -1,0 +1,122 @@
+-- Points of edwards25519 in extended coordinates, in the order of the steps of RFC 8032 section 5.1.
+
+use Rattle.std.proofs.Common.{◌≡◌, add-one, refl}
+use Rattle.std.specs.Prelude.{ℕ, zero, suc, ◌+◌, ◌-◌, ◌*◌, ◌/◌, ◌%◌, ◌^◌, ◌==◌, ◌&&◌, nat_lt, Bool, List, [], ◌∷◌, slice_index, slice_set, if◌then◌else◌, Option, None, Some, replicate}
+use Rattle.std.specs.Str.{bytes_eq}
+use Rattle.sshsuite.specs.Bits.{bit_at, number_of_32}
+use Rattle.sshsuite.specs.FieldElement.{add, decode, encode, inverse, mul, none, one, root_power, sub}
+use Rattle.sshsuite.specs.declared.edwards25519.Point.{Point}
+
+abbrev pub d : List ℕ
+d = 929955233495203 ∷ 466365720129213 ∷ 1662059464998953 ∷ 2033849074728123 ∷ 1442794654840575 ∷ []
+
+abbrev pub twice_d : List ℕ
+twice_d = 1859910466990425 ∷ 932731440258426 ∷ 1072319116312658 ∷ 1815898335770999 ∷ 633789495995903 ∷ []
+
+-- a square root of -1
+abbrev pub root : List ℕ
+root = 1718705420411056 ∷ 234908883556509 ∷ 2233514472574048 ∷ 2117202627021982 ∷ 765476049583133 ∷ []
+
+abbrev pub neutral : Point
+neutral = record { x = none; y = one; z = one; t = none }
+
+-- the base point
+abbrev pub base_point : Point
+base_point = record {
+  x = 1738742601995546 ∷ 1146398526822698 ∷ 2070867633025821 ∷ 562264141797630 ∷ 587772402128613 ∷ [];
+  y = 1801439850948184 ∷ 1351079888211148 ∷ 450359962737049 ∷ 900719925474099 ∷ 1801439850948198 ∷ [];
+  z = one;
+  t = 1841354044333475 ∷ 16398895984059 ∷ 755974180946558 ∷ 900171276175154 ∷ 1821297809914039 ∷ [];
+}
+
+unfoldable pub point_of_factors : List ℕ → List ℕ → List ℕ → List ℕ → Point
+point_of_factors e f g h = record { x = mul e f; y = mul g h; z = mul f g; t = mul e h }
+
+unfoldable pub add_points : Point → Point → Point
+add_points p q =
+    let a = mul (sub p.y p.x) (sub q.y q.x) in
+    let b = mul (add p.y p.x) (add q.y q.x) in
+    let c = mul (mul p.t twice_d) q.t in
+    let zz = mul p.z q.z in
+    let dd = add zz zz in
+    point_of_factors (sub b a) (sub dd c) (add dd c) (add b a)
+
+unfoldable pub double : Point → Point
+double p =
+    let a = mul p.x p.x in
+    let b = mul p.y p.y in
+    let zz = mul p.z p.z in
+    let c = add zz zz in
+    let h = add a b in
+    let s = add p.x p.y in
+    let e = sub h (mul s s) in
+    let g = sub a b in
+    point_of_factors e (add c g) g h
+
+unfoldable pub negate : Point → Point
+negate p = record { x = sub none p.x; y = p.y; z = p.z; t = sub none p.t }
+
+-- twice the first, and the second where the bit is 1
+unfoldable pub double_and_add : Point → Point → ℕ → Point
+double_and_add sum p bit = let twice = double sum in if bit == 1 then add_points twice p else twice
+
+-- the multiply of the point by the first bits of the number, the highest first
+unfoldable pub multiply_to : List ℕ → Point → ℕ → Point
+multiply_to bytes p zero = neutral
+multiply_to bytes p (suc n) = double_and_add (multiply_to bytes p n) p (bit_at bytes (255 - n))
+
+unfoldable pub multiply : List ℕ → Point → Point
+multiply bytes p = multiply_to bytes p 256
+
+-- y, with the lowest bit of x as the highest
+unfoldable pub with_sign : List ℕ → List ℕ → List ℕ
+with_sign x y = slice_set y 31 (slice_index y 31 % 128 + slice_index x 0 % 2 * 128)
+
+unfoldable pub encode_point : Point → List ℕ
+encode_point p = let through_z = inverse p.z in with_sign (encode (mul p.x through_z)) (encode (mul p.y through_z))
+
+-- a square root of the one through the other, where it is this one or this one times the root of -1
+unfoldable pub root_by : List ℕ → List ℕ → List ℕ → Option (List ℕ)
+root_by u v x =
+    let found = encode (mul v (mul x x)) in
+    if bytes_eq found (encode u) then Some x
+    else if bytes_eq found (encode (sub none u)) then Some (mul x root)
+    else None
+
+unfoldable pub square_root_of_ratio : List ℕ → List ℕ → Option (List ℕ)
+square_root_of_ratio u v =
+    let cube = mul (mul v v) v in
+    let seventh = mul (mul cube cube) v in
+    root_by u v (mul (mul u cube) (root_power (mul u seventh)))
+
+-- the point with this x or its opposite, whose lowest bit is this, and this y
+unfoldable pub point_with : List ℕ → List ℕ → ℕ → Option Point
+point_with x y odd =
+    let own = encode x in
+    if odd == 1 && bytes_eq own (replicate 32 0) then None
+    else (let x = if slice_index own 0 % 2 == odd then x else sub none x in Some (record { x = x; y = y; z = one; t = mul x y }))
+
+unfoldable pub point_from : Option (List ℕ) → List ℕ → ℕ → Option Point
+point_from None y odd = None
+point_from (Some x) y odd = point_with x y odd
+
+-- y, which is what 32 bytes are without their highest bit, is below 2^255 - 19
+unfoldable pub is_canonical : List ℕ → Bool
+is_canonical bytes = nat_lt (number_of_32 bytes % 2 ^ 255) (2 ^ 255 - 19)
+
+-- the point of 32 bytes
+unfoldable pub decode_point : List ℕ → Option Point
+decode_point bytes =
+    let y = decode bytes in
+    let yy = mul y y in
+    if is_canonical bytes then point_from (square_root_of_ratio (sub yy one) (add (mul d yy) one)) y (slice_index bytes 31 / 128)
+    else None
+
+-- steps of the loop
+pub multiply_none : (bytes : List ℕ) (p : Point) → multiply_to bytes p 0 ≡ neutral
+unfolding multiply_to
+multiply_none bytes p = refl
+
+pub multiply_more : (bytes : List ℕ) (p : Point) (n : ℕ) → multiply_to bytes p (n + 1) ≡ double_and_add (multiply_to bytes p n) p (bit_at bytes (255 - n))
+unfolding multiply_to
+multiply_more bytes p n = rw (add-one n) refl

@@ -1,0 +1,85 @@
+-- Points of edwards25519 as numbers modulo 2^255 - 19, as RFC 8032 section 5.1 tells of them.
+
+use Rattle.std.proofs.Common.{ℕ, zero, suc, ◌-◌, List}
+use Rattle.std.specs.Prelude.{◌==◌, if◌then◌else◌}
+use Rattle.sshsuite.specs.Bits.{bit_at}
+use Rattle.sshsuite.specs.Edwards25519.{with_sign}
+use Rattle.sshsuite.specs.declared.edwards25519.Point.{Point}
+use Rattle.sshsuite.specs.FieldBytes.{bytes_of_number}
+use Rattle.sshsuite.specs.FieldNumbers.{HasNumber, minus, plus, reciprocal, times}
+
+-- extended homogeneous coordinates: the point (x / z, y / z), and t is x y / z
+pub record Coordinates : Type 0 where
+  pub x : ℕ
+  pub y : ℕ
+  pub z : ℕ
+  pub t : ℕ
+
+-- d, of which 121666 d is -121665
+abbrev pub d_number : ℕ
+d_number = 37095705934669439343138083508754565189542113879843219016388785533085940283555
+
+abbrev pub twice_d_number : ℕ
+twice_d_number = 16295367250680780974490674513165176452449235426866156013048779062215315747161
+
+-- the neutral element
+abbrev pub neutral_numbers : Coordinates
+neutral_numbers = record { x = 0; y = 1; z = 1; t = 0 }
+
+-- the base point B
+abbrev pub base_numbers : Coordinates
+base_numbers = record {
+  x = 15112221349535400772501151409588531511454012693041857206046113283949847762202;
+  y = 46316835694926478169428394003475163141307993866256225615783033603165251855960;
+  z = 1;
+  t = 46827403850823179245072216630277197565144205554125654976674165829533817101731;
+}
+
+unfoldable pub of_factors : ℕ → ℕ → ℕ → ℕ → Coordinates
+of_factors e f g h = record { x = times e f; y = times g h; z = times f g; t = times e h }
+
+-- the sum of two points (section 5.1.4)
+unfoldable pub added : Coordinates → Coordinates → Coordinates
+added p q =
+    let a = times (minus p.y p.x) (minus q.y q.x) in
+    let b = times (plus p.y p.x) (plus q.y q.x) in
+    let c = times (times p.t twice_d_number) q.t in
+    let zz = times p.z q.z in
+    let d = plus zz zz in
+    of_factors (minus b a) (minus d c) (plus d c) (plus b a)
+
+-- twice a point (section 5.1.4)
+unfoldable pub doubled : Coordinates → Coordinates
+doubled p =
+    let a = times p.x p.x in
+    let b = times p.y p.y in
+    let zz = times p.z p.z in
+    let c = plus zz zz in
+    let h = plus a b in
+    let e = minus h (times (plus p.x p.y) (plus p.x p.y)) in
+    let g = minus a b in
+    of_factors e (plus c g) g h
+
+unfoldable pub opposite : Coordinates → Coordinates
+opposite p = record { x = minus 0 p.x; y = p.y; z = p.z; t = minus 0 p.t }
+
+-- the first bits of 32 bytes, the highest first, times the point
+unfoldable pub multiple_to : List ℕ → Coordinates → ℕ → Coordinates
+multiple_to bytes p zero = neutral_numbers
+multiple_to bytes p (suc n) =
+    if bit_at bytes (255 - n) == 1 then added (doubled (multiple_to bytes p n)) p else doubled (multiple_to bytes p n)
+
+-- the number of 32 bytes, the lowest first, times the point
+unfoldable pub multiple : List ℕ → Coordinates → Coordinates
+multiple bytes p = multiple_to bytes p 256
+
+-- the 32 bytes of a point: y, and the lowest bit of x as the highest (section 5.1.2)
+unfoldable pub bytes_of_point : Coordinates → List ℕ
+bytes_of_point p = with_sign (bytes_of_number (times p.x (reciprocal p.z))) (bytes_of_number (times p.y (reciprocal p.z)))
+
+-- the limbs are those of the coordinates
+pub record HasCoordinates (p : Point) (n : Coordinates) : Type 0 where
+  pub x : HasNumber p.x n.x
+  pub y : HasNumber p.y n.y
+  pub z : HasNumber p.z n.z
+  pub t : HasNumber p.t n.t

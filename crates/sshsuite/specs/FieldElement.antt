@@ -1,0 +1,160 @@
+-- The field of 2^255 - 19 elements, by limbs, as the code has it: sums of two limbs' products are taken modulo 2^128, and
+-- products of a limb and a small number modulo 2^64.
+
+use Rattle.std.proofs.Common.{◌≡◌, add-one, refl}
+use Rattle.std.specs.Prelude.{ℕ, zero, suc, ◌+◌, ◌-◌, ◌*◌, ◌/◌, ◌%◌, ◌^◌, List, [], ◌∷◌, slice_index, bit_or}
+use Rattle.sshsuite.specs.Bits.{bytes_of_words, word_at}
+
+abbrev pub add64 : ℕ → ℕ → ℕ
+add64 x y = (x + y) % 2 ^ 64
+
+abbrev pub mul64 : ℕ → ℕ → ℕ
+mul64 x y = x * y % 2 ^ 64
+
+abbrev pub add128 : ℕ → ℕ → ℕ
+add128 x y = (x + y) % 2 ^ 128
+
+abbrev pub mul128 : ℕ → ℕ → ℕ
+mul128 x y = x * y % 2 ^ 128
+
+-- the sum of the products at each place
+unfoldable pub dot : List ℕ → List ℕ → ℕ
+dot a b =
+    add128 (add128 (add128 (add128 (mul128 (slice_index a 0) (slice_index b 0)) (mul128 (slice_index a 1) (slice_index b 1)))
+    (mul128 (slice_index a 2) (slice_index b 2))) (mul128 (slice_index a 3) (slice_index b 3))) (mul128 (slice_index a 4) (slice_index b 4))
+
+-- the limbs of five sums
+unfoldable pub carried : List ℕ → List ℕ
+carried sums =
+    let c0 = slice_index sums 0 in
+    let c1 = add128 (slice_index sums 1) (c0 / 2 ^ 51) in
+    let c2 = add128 (slice_index sums 2) (c1 / 2 ^ 51) in
+    let c3 = add128 (slice_index sums 3) (c2 / 2 ^ 51) in
+    let c4 = add128 (slice_index sums 4) (c3 / 2 ^ 51) in
+    let d0 = add128 (c0 % 2 ^ 51) (mul128 (c4 / 2 ^ 51) 19) in
+    let d1 = add128 (c1 % 2 ^ 51) (d0 / 2 ^ 51) in
+    let d2 = add128 (c2 % 2 ^ 51) (d1 / 2 ^ 51) in
+    let d3 = add128 (c3 % 2 ^ 51) (d2 / 2 ^ 51) in
+    let d4 = add128 (c4 % 2 ^ 51) (d3 / 2 ^ 51) in
+    d0 % 2 ^ 51 ∷ d1 % 2 ^ 51 ∷ d2 % 2 ^ 51 ∷ d3 % 2 ^ 51 ∷ d4 % 2 ^ 52 ∷ []
+
+unfoldable pub add : List ℕ → List ℕ → List ℕ
+add a b =
+    carried (add128 (slice_index a 0) (slice_index b 0) ∷ add128 (slice_index a 1) (slice_index b 1) ∷ add128 (slice_index a 2) (slice_index b 2)
+    ∷ add128 (slice_index a 3) (slice_index b 3) ∷ add128 (slice_index a 4) (slice_index b 4) ∷ [])
+
+-- a limb more than any, less a limb
+unfoldable pub less : ℕ → ℕ → ℕ → ℕ
+less spare a b = (spare + a + 2 ^ 128 - b) % 2 ^ 128
+
+unfoldable pub sub : List ℕ → List ℕ → List ℕ
+sub a b =
+    carried (less 9007199254740916 (slice_index a 0) (slice_index b 0) ∷ less 9007199254740988 (slice_index a 1) (slice_index b 1)
+    ∷ less 9007199254740988 (slice_index a 2) (slice_index b 2) ∷ less 9007199254740988 (slice_index a 3) (slice_index b 3)
+    ∷ less 9007199254740988 (slice_index a 4) (slice_index b 4) ∷ [])
+
+-- what goes beyond the fifth limb counts nineteen times at the lowest
+unfoldable pub mul : List ℕ → List ℕ → List ℕ
+mul a b =
+    let b0 = slice_index b 0 in
+    let b1 = slice_index b 1 in
+    let b2 = slice_index b 2 in
+    let b3 = slice_index b 3 in
+    let b4 = slice_index b 4 in
+    let s1 = mul64 b1 19 in
+    let s2 = mul64 b2 19 in
+    let s3 = mul64 b3 19 in
+    let s4 = mul64 b4 19 in
+    carried (dot a (b0 ∷ s4 ∷ s3 ∷ s2 ∷ s1 ∷ []) ∷ dot a (b1 ∷ b0 ∷ s4 ∷ s3 ∷ s2 ∷ []) ∷ dot a (b2 ∷ b1 ∷ b0 ∷ s4 ∷ s3 ∷ [])
+    ∷ dot a (b3 ∷ b2 ∷ b1 ∷ b0 ∷ s4 ∷ []) ∷ dot a (b4 ∷ b3 ∷ b2 ∷ b1 ∷ b0 ∷ []) ∷ [])
+
+-- squared so many times
+unfoldable pub squares : List ℕ → ℕ → List ℕ
+squares a zero = a
+squares a (suc n) = mul (squares a n) (squares a n)
+
+-- the power eleven
+unfoldable pub eleventh : List ℕ → List ℕ
+eleventh a = let two = mul a a in mul (mul (squares two 2) a) two
+
+-- the power 2^50 - 1
+unfoldable pub to_50 : List ℕ → List ℕ
+to_50 a =
+    let two = mul a a in
+    let nine = mul (squares two 2) a in
+    let eleven = mul nine two in
+    let to_5 = mul (mul eleven eleven) nine in
+    let to_10 = mul (squares to_5 5) to_5 in
+    let to_20 = mul (squares to_10 10) to_10 in
+    let to_40 = mul (squares to_20 20) to_20 in
+    mul (squares to_40 10) to_10
+
+-- the power 2^250 - 1
+unfoldable pub to_250 : List ℕ → List ℕ
+to_250 a =
+    let to_100 = mul (squares (to_50 a) 50) (to_50 a) in
+    let to_200 = mul (squares to_100 100) to_100 in
+    mul (squares to_200 50) (to_50 a)
+
+-- the power 2^255 - 21: one through the element
+unfoldable pub inverse : List ℕ → List ℕ
+inverse a = mul (squares (to_250 a) 5) (eleventh a)
+
+-- the power 2^252 - 3
+unfoldable pub root_power : List ℕ → List ℕ
+root_power a = mul (squares (to_250 a) 2) a
+
+-- the element of 32 bytes
+unfoldable pub decode : List ℕ → List ℕ
+decode bytes =
+    let w0 = word_at bytes 0 in
+    let w1 = word_at bytes 8 in
+    let w2 = word_at bytes 16 in
+    let w3 = word_at bytes 24 in
+    w0 % 2 ^ 51 ∷ bit_or (w0 / 2 ^ 51) (w1 * 2 ^ 13 % 2 ^ 64) % 2 ^ 51 ∷ bit_or (w1 / 2 ^ 38) (w2 * 2 ^ 26 % 2 ^ 64) % 2 ^ 51
+    ∷ bit_or (w2 / 2 ^ 25) (w3 * 2 ^ 39 % 2 ^ 64) % 2 ^ 51 ∷ w3 / 2 ^ 12 % 2 ^ 51 ∷ []
+
+-- the limbs less the field's size where they are more
+unfoldable pub canonical : List ℕ → List ℕ
+canonical a =
+    let a0 = slice_index a 0 in
+    let a1 = slice_index a 1 in
+    let a2 = slice_index a 2 in
+    let a3 = slice_index a 3 in
+    let a4 = slice_index a 4 in
+    let o0 = add64 a0 19 / 2 ^ 51 in
+    let o1 = add64 a1 o0 / 2 ^ 51 in
+    let o2 = add64 a2 o1 / 2 ^ 51 in
+    let o3 = add64 a3 o2 / 2 ^ 51 in
+    let over = add64 a4 o3 / 2 ^ 51 in
+    let l0 = add64 a0 (mul64 over 19) in
+    let l1 = add64 a1 (l0 / 2 ^ 51) in
+    let l2 = add64 a2 (l1 / 2 ^ 51) in
+    let l3 = add64 a3 (l2 / 2 ^ 51) in
+    let l4 = add64 a4 (l3 / 2 ^ 51) in
+    l0 % 2 ^ 51 ∷ l1 % 2 ^ 51 ∷ l2 % 2 ^ 51 ∷ l3 % 2 ^ 51 ∷ l4 % 2 ^ 51 ∷ []
+
+-- four words of five limbs
+unfoldable pub packed : List ℕ → List ℕ
+packed l =
+    bit_or (slice_index l 0) (slice_index l 1 * 2 ^ 51 % 2 ^ 64) ∷ bit_or (slice_index l 1 / 2 ^ 13) (slice_index l 2 * 2 ^ 38 % 2 ^ 64)
+    ∷ bit_or (slice_index l 2 / 2 ^ 26) (slice_index l 3 * 2 ^ 25 % 2 ^ 64) ∷ bit_or (slice_index l 3 / 2 ^ 39) (slice_index l 4 * 2 ^ 12 % 2 ^ 64) ∷ []
+
+abbrev pub none : List ℕ
+none = 0 ∷ 0 ∷ 0 ∷ 0 ∷ 0 ∷ []
+
+abbrev pub one : List ℕ
+one = 1 ∷ 0 ∷ 0 ∷ 0 ∷ 0 ∷ []
+
+-- the 32 bytes of an element below the field's size
+unfoldable pub encode : List ℕ → List ℕ
+encode a = bytes_of_words (packed (canonical (add (add a none) none)))
+
+-- steps of the loop
+pub squares_none : (a : List ℕ) → squares a 0 ≡ a
+unfolding squares
+squares_none a = refl
+
+pub squares_more : (a : List ℕ) (n : ℕ) → squares a (n + 1) ≡ mul (squares a n) (squares a n)
+unfolding squares
+squares_more a n = rw (add-one n) refl

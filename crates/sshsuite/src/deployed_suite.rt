@@ -1,0 +1,268 @@
+//! Algorithms that are deployed, as a suite.
+
+ghost use Rattle.std.specs.Prelude.{◌≡◌, ◌<◌, ◌≤◌, ◌^◌, IfOk, drop, length, option_map};
+ghost use Rattle.sshsuite.specs.Deployed.{deployed, is_curve25519, is_ed25519, is_verified, mpint_body, share, shared, shared_number, verify, wrapped};
+ghost use Rattle.sshsuite.specs.DeployedLaws.{deployed_lawful};
+
+use crate::chacha20::stream;
+use crate::constant_time::is_equal;
+use crate::curve25519::{BASE_POINT, x25519};
+use crate::ed25519::{is_signature, public_key, signature};
+use crate::mpint::mpint_body;
+use crate::sealing;
+use sha2::{Digest, Sha256};
+use sshpacket::{Capability, KeyLens, Keys, Need, Response, ShareForm, Suite};
+use sshwire::{Memory, put_string};
+use std::alloc::Global;
+
+/// The name of the algorithm of host keys and users' keys (RFC 8709 section 4).
+const ED25519: &str = "ssh-ed25519";
+
+/// A suite of algorithms that are deployed: the key exchange curve25519-sha256 (RFC 8731), also under the
+/// name curve25519-sha256@libssh.org, keys of ssh-ed25519 (RFC 8709), and the cipher
+/// chacha20-poly1305@openssh.com (OpenSSH PROTOCOL.chacha20poly1305).
+///
+/// A private key is the 32 bytes of RFC 8032 section 5.1.5; other bytes are hashed to one as these are. Of
+/// other names:
+///
+/// - A key exchange method that it doesn't know needs a host key that encrypts, and a host key algorithm that
+///   it doesn't know can neither sign nor encrypt: so no choice comes to one. A share of such a method is
+///   refused.
+/// - A signature of an algorithm that it doesn't know is never good.
+/// - Every cipher is chacha20-poly1305@openssh.com, and every MAC is left out.
+///
+/// What it computes is proved to be the RFCs' ([`deployed_law`](crate::deployed_law)), down to numbers; SHA-256,
+/// SHA-512 and ChaCha20 are the kit's. That two ends agree, and that a signature is verified by its own key,
+/// isn't proved.
+///
+/// No branch and no index depends on a secret, as the code is written; no contract promises it of what a
+/// compiler makes. What time does tell is how many zeros a shared number begins with, since it goes as an
+/// mpint into the exchange hash (RFC 8731 section 3.1). Nothing is wiped.
+#[derive(Clone, Copy, Debug)]
+pub struct DeployedSuite;
+
+impl Suite for DeployedSuite {
+    ghost meaning = { λ _. deployed };
+
+    fn need(&self, kex: &str) -> Need {
+        if is_curve25519(kex) {
+            Need::Signature
+        } else {
+            Need::Encryption
+        }
+    }
+
+    fn can(&self, host_key: &str) -> Capability {
+        Capability {
+            signature: is_ed25519(host_key),
+            encryption: false,
+        }
+    }
+
+    fn block(&self, _cipher: &str) -> u8 {
+        8
+    }
+
+    fn tag_len(&self, _cipher: &str, _mac: &str) -> u8 {
+        sealing::TAG_LEN as u8
+    }
+
+    fn counts_length(&self, _cipher: &str, _mac: &str) -> bool {
+        false
+    }
+
+    fn key_lens(&self, _cipher: &str, _mac: &str) -> KeyLens {
+        KeyLens {
+            iv: 0,
+            enc: 64,
+            mac: 0,
+        }
+    }
+
+    fn seal(&self, alloc: Global, keys: &Keys, seq: u32, packet: &[u8]) -> Result<Vec<u8>, Memory> {
+        sealing::seal(alloc, keys.enc(), seq, packet)
+    }
+
+    fn head(&self, keys: &Keys, seq: u32, first: [u8; 4]) -> u32 {
+        sealing::head(keys.enc(), seq, first)
+    }
+
+    fn unseal(
+        &self,
+        alloc: Global,
+        keys: &Keys,
+        seq: u32,
+        sealed: &[u8],
+    ) -> Result<Option<Vec<u8>>, Memory> {
+        sealing::unseal(alloc, keys.enc(), seq, sealed)
+    }
+
+    fn padding(&self, alloc: Global, seed: &[u8], seq: u32, len: u8) -> Result<Vec<u8>, Memory> {
+        stream(alloc, Sha256::digest(seed), seq, 0, usize::from(len))
+    }
+
+    fn share_form(&self, _kex: &str) -> ShareForm {
+        ShareForm::OctetString
+    }
+
+    fn public(&self, alloc: Global, _kex: &str, random: &[u8]) -> Result<Vec<u8>, Memory> {
+        Ok(Vec::from_slice(alloc, &share(random))?)
+    }
+
+    fn shared(
+        &self,
+        alloc: Global,
+        kex: &str,
+        random: &[u8],
+        peer: &[u8],
+    ) -> Result<Option<Vec<u8>>, Memory> {
+        shared(alloc, kex, random, peer)
+    }
+
+    fn respond(
+        &self,
+        alloc: Global,
+        kex: &str,
+        random: &[u8],
+        peer: &[u8],
+    ) -> Result<Option<Response>, Memory> {
+        let Some(shared) = shared(alloc, kex, random, peer)? else {
+            return Ok(None);
+        };
+        let share = Vec::from_slice(alloc, &share(random))?;
+        Ok(Some(Response { share, shared }))
+    }
+
+    fn digest(&self, alloc: Global, _kex: &str, input: &[u8]) -> Result<Vec<u8>, Memory> {
+        Ok(Vec::from_slice(alloc, &Sha256::digest(input))?)
+    }
+
+    fn blob(&self, alloc: Global, _alg: &str, secret: &[u8]) -> Result<Vec<u8>, Memory> {
+        wrapped(alloc, &public_key(secret))
+    }
+
+    fn sign(
+        &self,
+        alloc: Global,
+        _alg: &str,
+        secret: &[u8],
+        input: &[u8],
+    ) -> Result<Vec<u8>, Memory> {
+        wrapped(alloc, &signature(alloc, secret, input)?)
+    }
+
+    fn verify(
+        &self,
+        alloc: Global,
+        alg: &str,
+        blob: &[u8],
+        input: &[u8],
+        found: &[u8],
+    ) -> Result<bool, Memory> {
+        verify(alloc, alg, blob, input, found)
+    }
+
+    ghost lawful = { λ _. deployed_lawful };
+}
+
+/// Whether this is a name of curve25519-sha256: that of RFC 8731, or the one that was in use before it.
+#[tactic(auto, unfolding(crate::specs::Deployed::is_curve25519))]
+fn is_curve25519(kex: &str) -> bool
+    ensures { result ≡ is_curve25519 kex.now }
+{
+    kex == "curve25519-sha256" || kex == "curve25519-sha256@libssh.org"
+}
+
+/// Whether this is the name of ssh-ed25519.
+#[tactic(auto, unfolding(crate::specs::Deployed::is_ed25519))]
+fn is_ed25519(alg: &str) -> bool
+    ensures { result ≡ is_ed25519 alg.now }
+{
+    alg == ED25519
+}
+
+/// The random bytes as a scalar.
+fn scalar_of(random: &[u8]) -> [u8; 32]
+    requires { length random.now ≡ 32 }
+    ensures { result ≡ random.now }
+{
+    let mut scalar = [0; 32];
+    scalar.copy_from_slice(random);
+    scalar
+}
+
+/// The share of these random bytes (RFC 7748 section 6.1).
+#[tactic(auto, unfolding(crate::specs::Deployed::share))]
+fn share(random: &[u8]) -> [u8; 32]
+    requires { length random.now ≡ 32 }
+    ensures { result ≡ share random.now }
+{
+    x25519(scalar_of(random), &BASE_POINT)
+}
+
+/// The shared number as the body of an mpint; none where the method isn't known, the peer's share isn't 32
+/// bytes, or gives zero.
+#[tactic(auto, unfolding(crate::specs::Deployed::shared))]
+fn shared(alloc: Global, kex: &str, random: &[u8], peer: &[u8]) -> Result<Option<Vec<u8>>, Memory>
+    requires { length random.now ≡ 32 }
+    ensures { IfOk result (λ o. option_map (λ v. v.items) o ≡ shared kex.now random.now peer.now) }
+{
+    if is_curve25519(kex) && peer.len() == 32 {
+        shared_number(alloc, x25519(scalar_of(random), peer))
+    } else {
+        Ok(None)
+    }
+}
+
+/// The number that is shared, where it isn't zero, which is what comes of each share of small order (RFC
+/// 7748 section 6.1, RFC 8731 section 3).
+#[tactic(auto, unfolding(crate::specs::Deployed::shared_number))]
+fn shared_number(alloc: Global, secret: [u8; 32]) -> Result<Option<Vec<u8>>, Memory>
+    ensures { IfOk result (λ o. option_map (λ v. v.items) o ≡ shared_number secret) }
+{
+    if is_equal(&secret, &[0; 32]) {
+        return Ok(None);
+    }
+    let body = mpint_body(alloc, &secret)?;
+    Ok(Some(body))
+}
+
+/// The name of the algorithm and the bytes, each as a string: a public key or a signature (RFC 8709
+/// sections 4 and 6).
+#[tactic(auto, unfolding(crate::specs::Deployed::wrapped))]
+fn wrapped(alloc: Global, bytes: &[u8]) -> Result<Vec<u8>, Memory>
+    requires { length bytes.now < 2 ^ 32 }
+    ensures { IfOk result (λ v. v.items ≡ wrapped bytes.now) }
+{
+    let mut out = Vec::new(alloc);
+    put_string(&mut out, ED25519.as_bytes())?;
+    put_string(&mut out, bytes)?;
+    Ok(out)
+}
+
+/// Whether a blob and a signature of the right lengths are what they are to be.
+#[tactic(auto, unfolding(crate::specs::Deployed::is_verified))]
+fn is_verified(alloc: Global, blob: &[u8], input: &[u8], found: &[u8]) -> Result<bool, Memory>
+    requires blob { length blob.now ≡ 51 }
+    requires found { length found.now ≡ 83 }
+    ensures { IfOk result (λ b. b ≡ is_verified blob.now input.now found.now) }
+{
+    let (_, key) = blob.split_at(19);
+    let (_, own) = found.split_at(19);
+    let is_blob = wrapped(alloc, key)?.as_slice() == blob;
+    let is_found = wrapped(alloc, own)?.as_slice() == found;
+    let is_signed = is_signature(key, input, own);
+    Ok(is_blob && (is_found && is_signed))
+}
+
+/// Whether the signature is that of the input by the key of this blob, both of ssh-ed25519.
+#[tactic(auto, unfolding(crate::specs::Deployed::verify))]
+fn verify(alloc: Global, alg: &str, blob: &[u8], input: &[u8], found: &[u8]) -> Result<bool, Memory>
+    ensures { IfOk result (λ b. b ≡ verify alg.now blob.now input.now found.now) }
+{
+    if is_ed25519(alg) && blob.len() == 51 && found.len() == 83 {
+        is_verified(alloc, blob, input, found)
+    } else {
+        Ok(false)
+    }
+}

@@ -1,0 +1,104 @@
+//! Ed25519 (RFC 8032 section 5.1).
+
+ghost use Rattle.std.specs.Prelude.{◌≡◌, IfOk, Some, drop, length, take};
+ghost use Rattle.sha2.specs.Sha512.{sha512};
+ghost use Rattle.sshsuite.specs.Ed25519.{hash_of, is_signature, prefix_of, public_key, secret_scalar, signature, verifies};
+
+use crate::bits::{first_half, second_half};
+use crate::curve25519::clamped;
+use crate::edwards25519::{
+    BASE_POINT, Point, add_points, decode_point, encode_point, multiply, negate,
+};
+use crate::scalar::{encode_scalar, is_reduced, scalar_from, times_plus};
+use sha2::{Digest, Sha512};
+use sshwire::Memory;
+use std::alloc::Global;
+
+/// SHA-512 of the private key, in whose halves are the secret scalar and the prefix (RFC 8032 section
+/// 5.1.5).
+fn expanded(private_key: &[u8]) -> [u8; 64]
+    ensures { result ≡ sha512 private_key.now }
+{
+    Sha512::digest(private_key)
+}
+
+/// The secret scalar of a private key, as 32 bytes.
+#[tactic(auto, unfolding(crate::specs::Ed25519::secret_scalar))]
+fn secret_scalar(private_key: &[u8]) -> [u8; 32]
+    ensures { result ≡ secret_scalar private_key.now }
+{
+    clamped(first_half(&expanded(private_key)))
+}
+
+/// What a private key's nonces are made of.
+#[tactic(auto, unfolding(crate::specs::Ed25519::prefix_of))]
+fn prefix_of(private_key: &[u8]) -> [u8; 32]
+    ensures { result ≡ prefix_of private_key.now }
+{
+    second_half(&expanded(private_key))
+}
+
+/// The public key of a private key (RFC 8032 section 5.1.5).
+#[tactic(auto, unfolding(crate::specs::Ed25519::public_key))]
+pub(crate) fn public_key(private_key: &[u8]) -> [u8; 32]
+    ensures { result ≡ public_key private_key.now }
+{
+    encode_point(multiply(&secret_scalar(private_key), BASE_POINT))
+}
+
+/// SHA-512 of three parts.
+#[tactic(auto, unfolding(crate::specs::Ed25519::hash_of))]
+fn hash_of(first: &[u8], second: &[u8], third: &[u8]) -> [u8; 64]
+    ensures { result ≡ hash_of first.now second.now third.now }
+{
+    let mut hasher = Sha512::new();
+    hasher.update(first);
+    hasher.update(second);
+    hasher.update(third);
+    hasher.finalize()
+}
+
+/// The signature of the input, of 64 bytes (RFC 8032 section 5.1.6).
+#[tactic(auto, unfolding(crate::specs::Ed25519::signature))]
+pub(crate) fn signature(alloc: Global, private_key: &[u8], input: &[u8]) -> Result<Vec<u8>, Memory>
+    ensures value { IfOk result (λ v. v.items ≡ signature private_key.now input.now) }
+    ensures long { IfOk result (λ v. length v.items ≡ 64) }
+{
+    let nonce = scalar_from(&hash_of(&prefix_of(private_key), input, &[]));
+    let point = encode_point(multiply(&encode_scalar(nonce), BASE_POINT));
+    let challenge = scalar_from(&hash_of(&point, &public_key(private_key), input));
+    let answer = encode_scalar(times_plus(&secret_scalar(private_key), challenge, nonce));
+    let mut signature = Vec::from_slice(alloc, &point)?;
+    signature.extend_from_slice(&answer)?;
+    Ok(signature)
+}
+
+/// Whether the signature is that of the input by this public key (RFC 8032 section 5.1.7): not where the
+/// key is no point's, or where s isn't below L.
+#[tactic(auto, unfolding(crate::specs::Ed25519::is_signature, crate::specs::Ed25519::verifies))]
+pub(crate) fn is_signature(key: &[u8], input: &[u8], signature: &[u8]) -> bool
+    requires key { length key.now ≡ 32 }
+    requires signature { length signature.now ≡ 64 }
+    ensures { result ≡ is_signature key.now input.now signature.now }
+{
+    let (point, answer) = signature.split_at(32);
+    match decode_point(key) {
+        Some(p) => verifies(p, key, input, point, answer),
+        None => false,
+    }
+}
+
+/// Whether the two halves of a signature, R and s, are those of the input by the key of this point: s B is
+/// R and k times the point.
+#[tactic(auto, unfolding(crate::specs::Ed25519::verifies))]
+fn verifies(p: Point, key: &[u8], input: &[u8], point: &[u8], answer: &[u8]) -> bool
+    requires { length answer.now ≡ 32 }
+    ensures { result ≡ verifies (Some p) key.now input.now point.now answer.now }
+{
+    let challenge = encode_scalar(scalar_from(&hash_of(point, key, input)));
+    let sum = add_points(
+        multiply(answer, BASE_POINT),
+        multiply(&challenge, negate(p)),
+    );
+    is_reduced(answer) && encode_point(sum).as_slice() == point
+}

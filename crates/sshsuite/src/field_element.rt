@@ -1,0 +1,284 @@
+//! The field of 2^255 - 19 elements (RFC 7748 section 4.1), in five limbs of 51 bits, the lowest first.
+//!
+//! A limb is below 2^52, and may be a little above 2^51. What sums and products would lose above 128 bits is
+//! lost, but by that bound nothing is ([`field_law`](crate::field_law)).
+
+ghost use Rattle.std.specs.Prelude.{◌≡◌, ◌<◌, ◌+◌, ◌*◌, ◌%◌, ◌^◌, ◌==◌, if◌then◌else◌, length};
+ghost use Rattle.sshsuite.specs.FieldElement.{add, add128, canonical, carried, decode, dot, eleventh, encode, inverse, less, mul, mul128, packed, root_power, squares, sub, to_250, to_50};
+
+use crate::bits::{bytes_of_words, word_at};
+use crate::constant_time::select;
+
+/// An element, by limbs.
+pub(crate) type Element = [u64; 5];
+
+pub(crate) const ZERO: Element = [0, 0, 0, 0, 0];
+
+pub(crate) const ONE: Element = [1, 0, 0, 0, 0];
+
+/// What a limb is counted in: 2^51.
+const RADIX: u64 = 0x8000000000000;
+
+/// The same, for sums.
+const WIDE_RADIX: u128 = 0x8000000000000;
+
+/// The product of two limbs.
+#[inline(always)]
+fn product(a: u64, b: u64) -> u128
+    ensures { result ≡ mul128 a b }
+{
+    u128::from(a).wrapping_mul(u128::from(b))
+}
+
+/// The sum of the products at each place.
+#[inline(always)]
+#[tactic(auto, unfolding(crate::specs::FieldElement::dot))]
+fn dot(a: Element, b: Element) -> u128
+    ensures { result ≡ dot a b }
+{
+    let [a0, a1, a2, a3, a4] = a;
+    let [b0, b1, b2, b3, b4] = b;
+    product(a0, b0)
+        .wrapping_add(product(a1, b1))
+        .wrapping_add(product(a2, b2))
+        .wrapping_add(product(a3, b3))
+        .wrapping_add(product(a4, b4))
+}
+
+/// The limbs of five sums.
+#[inline(always)]
+#[tactic(auto, unfolding(crate::specs::FieldElement::carried))]
+fn carried(sums: [u128; 5]) -> Element
+    ensures { result ≡ carried sums }
+{
+    let [c0, c1, c2, c3, c4] = sums;
+    let c1 = c1.wrapping_add(c0 / WIDE_RADIX);
+    let c2 = c2.wrapping_add(c1 / WIDE_RADIX);
+    let c3 = c3.wrapping_add(c2 / WIDE_RADIX);
+    let c4 = c4.wrapping_add(c3 / WIDE_RADIX);
+    let d0 = (c0 % WIDE_RADIX).wrapping_add((c4 / WIDE_RADIX).wrapping_mul(19));
+    let d1 = (c1 % WIDE_RADIX).wrapping_add(d0 / WIDE_RADIX);
+    let d2 = (c2 % WIDE_RADIX).wrapping_add(d1 / WIDE_RADIX);
+    let d3 = (c3 % WIDE_RADIX).wrapping_add(d2 / WIDE_RADIX);
+    let d4 = (c4 % WIDE_RADIX).wrapping_add(d3 / WIDE_RADIX);
+    [
+        (d0 % WIDE_RADIX) as u64,
+        (d1 % WIDE_RADIX) as u64,
+        (d2 % WIDE_RADIX) as u64,
+        (d3 % WIDE_RADIX) as u64,
+        (d4 % 0x10000000000000) as u64,
+    ]
+}
+
+/// The sum of two limbs.
+#[inline(always)]
+fn wide_sum(a: u64, b: u64) -> u128
+    ensures { result ≡ add128 a b }
+{
+    u128::from(a).wrapping_add(u128::from(b))
+}
+
+/// The sum of two elements.
+#[tactic(auto, unfolding(crate::specs::FieldElement::add))]
+pub(crate) fn add(a: Element, b: Element) -> Element
+    ensures { result ≡ add a b }
+{
+    let [a0, a1, a2, a3, a4] = a;
+    let [b0, b1, b2, b3, b4] = b;
+    carried([
+        wide_sum(a0, b0),
+        wide_sum(a1, b1),
+        wide_sum(a2, b2),
+        wide_sum(a3, b3),
+        wide_sum(a4, b4),
+    ])
+}
+
+/// A limb more than any, less a limb.
+#[inline(always)]
+#[tactic(auto, unfolding(crate::specs::FieldElement::less))]
+fn less(spare: u64, a: u64, b: u64) -> u128
+    ensures { result ≡ less spare a b }
+{
+    (u128::from(spare) + u128::from(a)).wrapping_sub(u128::from(b))
+}
+
+/// The difference of two elements. Four times the field's size is added first, by limbs, each more than any limb.
+#[tactic(auto, unfolding(crate::specs::FieldElement::sub))]
+pub(crate) fn sub(a: Element, b: Element) -> Element
+    ensures { result ≡ sub a b }
+{
+    let [a0, a1, a2, a3, a4] = a;
+    let [b0, b1, b2, b3, b4] = b;
+    carried([
+        less(9007199254740916, a0, b0),
+        less(9007199254740988, a1, b1),
+        less(9007199254740988, a2, b2),
+        less(9007199254740988, a3, b3),
+        less(9007199254740988, a4, b4),
+    ])
+}
+
+/// The product of two elements. What goes beyond the fifth limb counts nineteen times at the lowest.
+#[tactic(auto, unfolding(crate::specs::FieldElement::mul))]
+pub(crate) fn mul(a: Element, b: Element) -> Element
+    ensures { result ≡ mul a b }
+{
+    let [b0, b1, b2, b3, b4] = b;
+    let (s1, s2) = (b1.wrapping_mul(19), b2.wrapping_mul(19));
+    let (s3, s4) = (b3.wrapping_mul(19), b4.wrapping_mul(19));
+    carried([
+        dot(a, [b0, s4, s3, s2, s1]),
+        dot(a, [b1, b0, s4, s3, s2]),
+        dot(a, [b2, b1, b0, s4, s3]),
+        dot(a, [b3, b2, b1, b0, s4]),
+        dot(a, [b4, b3, b2, b1, b0]),
+    ])
+}
+
+/// The product of an element and itself.
+pub(crate) fn square(a: Element) -> Element
+    ensures { result ≡ mul a a }
+{
+    mul(a, a)
+}
+
+/// Squared so many times.
+#[tactic(auto, using(crate::specs::FieldElement::squares_none, crate::specs::FieldElement::squares_more))]
+fn squares(a: Element, times: u32) -> Element
+    ensures { result ≡ squares a times }
+{
+    let mut power = a;
+    for _i in 0..times {
+        let next = square(power);
+        power = next;
+    }
+    power
+}
+
+/// The power eleven.
+#[tactic(auto, unfolding(crate::specs::FieldElement::eleventh))]
+fn eleventh(a: Element) -> Element
+    ensures { result ≡ eleventh a }
+{
+    let two = square(a);
+    let nine = mul(squares(two, 2), a);
+    mul(nine, two)
+}
+
+/// The power 2^50 - 1.
+#[tactic(auto, unfolding(crate::specs::FieldElement::to_50))]
+fn to_50(a: Element) -> Element
+    ensures { result ≡ to_50 a }
+{
+    let two = square(a);
+    let nine = mul(squares(two, 2), a);
+    let eleven = mul(nine, two);
+    let to_5 = mul(square(eleven), nine);
+    let to_10 = mul(squares(to_5, 5), to_5);
+    let to_20 = mul(squares(to_10, 10), to_10);
+    let to_40 = mul(squares(to_20, 20), to_20);
+    mul(squares(to_40, 10), to_10)
+}
+
+/// The power 2^250 - 1.
+#[tactic(auto, unfolding(crate::specs::FieldElement::to_250))]
+fn to_250(a: Element) -> Element
+    ensures { result ≡ to_250 a }
+{
+    let to_50 = to_50(a);
+    let to_100 = mul(squares(to_50, 50), to_50);
+    let to_200 = mul(squares(to_100, 100), to_100);
+    mul(squares(to_200, 50), to_50)
+}
+
+/// The power 2^255 - 21: one through the element, and zero of zero.
+#[tactic(auto, unfolding(crate::specs::FieldElement::inverse))]
+pub(crate) fn inverse(a: Element) -> Element
+    ensures { result ≡ inverse a }
+{
+    mul(squares(to_250(a), 5), eleventh(a))
+}
+
+/// The power 2^252 - 3 (RFC 8032 section 5.1.3).
+#[tactic(auto, unfolding(crate::specs::FieldElement::root_power))]
+pub(crate) fn root_power(a: Element) -> Element
+    ensures { result ≡ root_power a }
+{
+    mul(squares(to_250(a), 2), a)
+}
+
+/// The element of 32 bytes, of which the highest bit is left out (RFC 7748 section 5).
+#[tactic(auto, unfolding(crate::specs::FieldElement::decode))]
+pub(crate) fn decode(bytes: &[u8]) -> Element
+    requires { length bytes.now ≡ 32 }
+    ensures { result ≡ decode bytes.now }
+{
+    let (w0, w1) = (word_at(bytes, 0), word_at(bytes, 8));
+    let (w2, w3) = (word_at(bytes, 16), word_at(bytes, 24));
+    [
+        w0 % RADIX,
+        ((w0 >> 51) | (w1 << 13)) % RADIX,
+        ((w1 >> 38) | (w2 << 26)) % RADIX,
+        ((w2 >> 25) | (w3 << 39)) % RADIX,
+        (w3 >> 12) % RADIX,
+    ]
+}
+
+/// The limbs less the field's size where they are more.
+#[tactic(auto, unfolding(crate::specs::FieldElement::canonical))]
+fn canonical(a: Element) -> Element
+    ensures { result ≡ canonical a }
+{
+    let [a0, a1, a2, a3, a4] = a;
+    let over = a0.wrapping_add(19) / RADIX;
+    let over = a1.wrapping_add(over) / RADIX;
+    let over = a2.wrapping_add(over) / RADIX;
+    let over = a3.wrapping_add(over) / RADIX;
+    let over = a4.wrapping_add(over) / RADIX;
+    let l0 = a0.wrapping_add(over.wrapping_mul(19));
+    let l1 = a1.wrapping_add(l0 / RADIX);
+    let l2 = a2.wrapping_add(l1 / RADIX);
+    let l3 = a3.wrapping_add(l2 / RADIX);
+    let l4 = a4.wrapping_add(l3 / RADIX);
+    [l0 % RADIX, l1 % RADIX, l2 % RADIX, l3 % RADIX, l4 % RADIX]
+}
+
+/// Four words of five limbs.
+#[tactic(auto, unfolding(crate::specs::FieldElement::packed))]
+fn packed(l: Element) -> [u64; 4]
+    ensures { result ≡ packed l }
+{
+    let [l0, l1, l2, l3, l4] = l;
+    [
+        l0 | (l1 << 51),
+        (l1 >> 13) | (l2 << 38),
+        (l2 >> 26) | (l3 << 25),
+        (l3 >> 39) | (l4 << 12),
+    ]
+}
+
+/// The 32 bytes of an element's number below 2^255 - 19, the lowest first.
+#[tactic(auto, unfolding(crate::specs::FieldElement::encode))]
+pub(crate) fn encode(a: Element) -> [u8; 32]
+    ensures { result ≡ encode a }
+{
+    bytes_of_words(packed(canonical(add(add(a, ZERO), ZERO))))
+}
+
+/// The second element where the bit is 1, else the first.
+#[inline(always)]
+pub(crate) fn select_element(a: Element, b: Element, bit: u64) -> Element
+    requires { bit < 2 }
+    ensures { result ≡ (if bit == 1 then b else a) }
+{
+    let [a0, a1, a2, a3, a4] = a;
+    let [b0, b1, b2, b3, b4] = b;
+    [
+        select(a0, b0, bit),
+        select(a1, b1, bit),
+        select(a2, b2, bit),
+        select(a3, b3, bit),
+        select(a4, b4, bit),
+    ]
+}

@@ -1,0 +1,75 @@
+//! What the calls compute, in the RFCs' own words: theorems on their meanings, each of which is the code
+//! written again. No function of the crate calls them.
+
+ghost use Rattle.std.specs.Prelude.{◌≡◌, ◌<◌, ◌+◌, ◌*◌, ◌%◌, ◌^◌, List, ℕ};
+ghost use Rattle.sshwire.specs.Types.{IsBytes};
+ghost use Rattle.sshsuite.specs.Bits.{number_of_32};
+ghost use Rattle.sshsuite.specs.Curve25519.{clamped, x25519};
+ghost use Rattle.sshsuite.specs.DecodingNumbers.{AreAlike, point_in};
+ghost use Rattle.sshsuite.specs.Deployed.{deployed, wrapped};
+ghost use Rattle.sshsuite.specs.DeployedNumbers.{share_bytes, shared_body};
+ghost use Rattle.sshsuite.specs.Ed25519.{is_signature, public_key, signature};
+ghost use Rattle.sshsuite.specs.Ed25519Numbers.{is_signed, key_of, signed};
+ghost use Rattle.sshsuite.specs.Edwards25519.{base_point, decode_point, encode_point, multiply};
+ghost use Rattle.sshsuite.specs.EdwardsNumbers.{Coordinates, HasCoordinates, base_numbers, bytes_of_point, multiple};
+ghost use Rattle.sshsuite.specs.FieldBytes.{bytes_of_number};
+ghost use Rattle.sshsuite.specs.FieldElement.{add, decode, encode, mul, sub};
+ghost use Rattle.sshsuite.specs.FieldValues.{AreBelow, field, value};
+ghost use Rattle.sshsuite.specs.Poly1305.{tag_of};
+ghost use Rattle.sshsuite.specs.PolyNumbers.{mac};
+ghost use Rattle.sshsuite.specs.X25519Numbers.{x25519_number};
+ghost use Rattle.sshsuite.specs.declared.edwards25519.Point.{Point};
+
+/// The law of elements whose limbs are below 2^52: sums, differences and products have such limbs too,
+/// and are those modulo 2^255 - 19; limbs that are read of 32 bytes have the number of these without their
+/// highest bit, and limbs are written as the bytes of their number modulo 2^255 - 19.
+pub fn field_law()
+    ensures sum { (a b : List ℕ) → AreBelow (2 ^ 52) a → AreBelow (2 ^ 52) b
+        → AreBelow (2 ^ 52) (add a b) × (value (add a b) % field ≡ (value a + value b) % field) }
+    ensures difference { (a b : List ℕ) → AreBelow (2 ^ 52) a → AreBelow (2 ^ 52) b
+        → AreBelow (2 ^ 52) (sub a b) × ((value (sub a b) + value b) % field ≡ value a % field) }
+    ensures product { (a b : List ℕ) → AreBelow (2 ^ 52) a → AreBelow (2 ^ 52) b
+        → AreBelow (2 ^ 52) (mul a b) × (value (mul a b) % field ≡ value a * value b % field) }
+    ensures decoded { (bytes : List ℕ) → IsBytes bytes
+        → AreBelow (2 ^ 51) (decode bytes) × (value (decode bytes) ≡ number_of_32 bytes % 2 ^ 255) }
+    ensures encoded { (a : List ℕ) → AreBelow (2 ^ 52) a → encode a ≡ bytes_of_number (value a % field) }
+{}
+
+/// The law of X25519: its 32 bytes are those of the number that RFC 7748 section 5 tells, in numbers modulo 2^255 -
+/// 19, of the clamped scalar and of the number of the point's bytes without their highest bit.
+pub fn x25519_law()
+    ensures { (scalar point : List ℕ) → IsBytes point
+        → x25519 scalar point ≡ bytes_of_number (x25519_number (clamped scalar) (number_of_32 point % 2 ^ 255 % field)) }
+{}
+
+/// The law of points: by limbs as in numbers modulo 2^255 - 19 a number times a point is what RFC 8032 section
+/// 5.1.4 tells, and so are its bytes (section 5.1.2) and the point that is read of bytes (section 5.1.3).
+pub fn point_law()
+    ensures base { HasCoordinates base_point base_numbers }
+    ensures multiplied { (bytes : List ℕ) (p : Point) (n : Coordinates) → HasCoordinates p n
+        → HasCoordinates (multiply bytes p) (multiple bytes n) }
+    ensures encoded { (p : Point) (n : Coordinates) → HasCoordinates p n → encode_point p ≡ bytes_of_point n }
+    ensures decoded { (bytes : List ℕ) → IsBytes bytes → AreAlike (decode_point bytes) (point_in bytes) }
+{}
+
+/// The law of Ed25519: public keys (`key`) and signatures (`signed`) are those of RFC 8032 section 5.1, in
+/// numbers modulo 2^255 - 19 and modulo L, and so is which signatures are good (`verified`).
+pub fn ed25519_law()
+    ensures key { (private_key : List ℕ) → public_key private_key ≡ key_of private_key }
+    ensures signed { (private_key input : List ℕ) → signature private_key input ≡ signed private_key input }
+    ensures verified { (key input found : List ℕ) → IsBytes key → is_signature key input found ≡ is_signed key input found }
+{}
+
+/// The law of Poly1305: a tag is that of RFC 8439 section 2.5, in numbers modulo 2^130 - 5.
+pub fn poly1305_law()
+    ensures { (key input : List ℕ) → IsBytes key → IsBytes input → tag_of key input ≡ mac key input }
+{}
+
+/// The law of the suite: its shares and what both sides share are those of RFC 8731 (`share`, `shared`), its
+/// public keys and signatures those of RFC 8709 (`key`, `signature`), in numbers modulo 2^255 - 19.
+pub fn deployed_law()
+    ensures share { (kex random : List ℕ) → deployed.share kex random ≡ share_bytes random }
+    ensures shared { (kex random peer : List ℕ) → IsBytes peer → deployed.shared kex random peer ≡ shared_body kex random peer }
+    ensures key { (alg secret : List ℕ) → deployed.blob alg secret ≡ wrapped (key_of secret) }
+    ensures signature { (alg secret input : List ℕ) → deployed.sign alg secret input ≡ wrapped (signed secret input) }
+{}

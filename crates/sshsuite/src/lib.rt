@@ -1,0 +1,20 @@
+//! Algorithms that are deployed, as a suite: curve25519-sha256, ssh-ed25519 and
+//! chacha20-poly1305@openssh.com.
+#![tactic(auto)]
+
+mod bits;
+mod chacha20;
+mod constant_time;
+mod curve25519;
+mod deployed_suite;
+mod ed25519;
+mod edwards25519;
+mod field_element;
+mod laws;
+mod mpint;
+mod poly1305;
+mod scalar;
+mod sealing;
+
+pub use deployed_suite::DeployedSuite;
+pub use laws::{deployed_law, ed25519_law, field_law, point_law, poly1305_law, x25519_law};
