@@ -23,10 +23,10 @@ def is_shortest(body):
     return not (body[:1] == b"\x00" and body[1:2] < b"\x80" or body[:1] == b"\xff" and body[1:2] >= b"\x80")
 
 
-def fields_of(payload):
+def fields_of(payload, forms=FORMS):
     """The fields of a message, or None where it is malformed."""
     rest, out = payload[1:], []
-    for kind in FORMS[payload[0]]:
+    for kind in forms[payload[0]]:
         size = {"b": 1, "c": 16, "u": 4, "*": len(rest)}.get(kind)
         if size is None:
             size, rest = int.from_bytes(rest[:4], "big") if len(rest) > 3 else len(rest) + 1, rest[4:]
@@ -46,12 +46,15 @@ def lists_of(fields):
 
 class Hearer:
     """One of the lab's ends: a client with the attempt `none`, or a server that grants it. It hears a stream up to its end, or as far
-    as that goes."""
+    as that goes. What is the lab suite's own is a method each, for another suite."""
+
+    FORMS, TAG, INIT, BLOB = FORMS, 32, INIT, BLOB
+    half = Half
 
     def __init__(self, role, willing, stream):
         self.role, self.willing, self.stream, self.strict, self.phase = role, willing, stream, False, "kexinit"
-        self.own, self.number, self.keys, self.used, self.asked, self.end = Half(role), 0, None, 0, [], "open"
-        self.own.said, self.offer = LINE, kexinit(role, strict=willing)
+        self.own, self.number, self.keys, self.used, self.asked, self.end = self.half(role), 0, None, 0, [], "open"
+        self.own.said, self.offer = LINE, self.offer_of(role, willing)
         self.own.say(self.offer)
         try:
             self.hear_line()
@@ -80,23 +83,39 @@ class Hearer:
                     raise Ends("failed F1", None)
         raise Ends("open", None)
 
+    @staticmethod
+    def offer_of(role, willing):
+        return kexinit(role, strict=willing)
+
+    def is_length(self, n):
+        """Whether a packet may have this length."""
+        return n >= 12 and not (4 + n) % 8
+
+    def length_in(self, first):
+        """packet_length in the first four bytes of a packet that is sealed."""
+        return xor(first, blocks(self.keys.enc + self.keys.iv, self.number, 4))
+
+    def unsealed(self, whole):
+        """The packet in clear, or none where its tag is wrong."""
+        clear = xor(whole[:-32], blocks(self.keys.enc + self.keys.iv, self.number, len(whole) - 32))
+        return clear if whole[-32:] == sha(self.keys.mac_key, u32(self.number), clear) else None
+
     def hear_packet(self):
         """One packet (RFC 4253 section 6), and what comes of it; none where it isn't whole."""
-        place, tag = self.used, 32 if self.keys else 0
-        size = len(self.stream)
-        if size < place + 4:
+        place, tag = self.used, self.TAG if self.keys else 0
+        first = self.stream[place:place + 4]
+        if len(first) < 4:
             return False
-        mask = blocks(self.keys.enc + self.keys.iv, self.number, size) if self.keys else bytes(size)
-        n = int.from_bytes(xor(self.stream[place:place + 4], mask), "big")
+        n = int.from_bytes(self.length_in(first) if self.keys else first, "big")
         whole = self.stream[place:place + 4 + n + tag]
-        if n < 12 or (4 + n) % 8 or 4 + n + tag > 35000:
+        if not (self.is_length(n) if self.keys else Hearer.is_length(self, n)) or 4 + n + tag > 35000:
             self.used += 4
             raise Ends("failed F2", 2)
         if len(whole) < 4 + n + tag:
             return False
         self.used += len(whole)
-        clear = xor(whole[:4 + n], mask)
-        if self.keys and whole[4 + n:] != sha(self.keys.mac_key, u32(self.number), clear):
+        clear = self.unsealed(whole) if self.keys else whole
+        if clear is None:
             raise Ends("failed F4", 5)
         if clear[4] < 4 or clear[4] >= n - 1:
             raise Ends("failed F3", 2)
@@ -113,7 +132,7 @@ class Hearer:
         if word == "unknown":
             self.own.say(unimplemented(self.number - 1))
             return
-        fields = fields_of(payload)
+        fields = fields_of(payload, self.FORMS)
         if fields is None:
             raise Ends("failed F5 %d" % number, 2)
         if word == "closes":
@@ -133,31 +152,52 @@ class Hearer:
         # so no packet is dropped as that of a wrong guess
         assert fields[11] == b"\x00" or guess(*pair) == "guess yes"
         if self.role == CLIENT:
-            self.own.say(INIT)
+            self.own.say(self.INIT)
+
+    @staticmethod
+    def share(random):
+        return share(random)
+
+    @staticmethod
+    def shared(random, theirs):
+        """What both sides share, or none where the share is refused."""
+        return shared(random, theirs) if len(theirs) == 33 and theirs[0] == 1 else None
+
+    @staticmethod
+    def reply(h):
+        return reply(h)
+
+    @staticmethod
+    def is_signed(key, h, signature):
+        return signature == sha(string(key), string(h))
+
+    @staticmethod
+    def keys_of(sender, k, h):
+        return keys_of(sender, k, h)
 
     def exchange(self, e, f, key):
         """The shared number and the exchange hash (RFC 4253 section 8)."""
         random, theirs = (RANDOM[CLIENT], f) if self.role == CLIENT else (RANDOM[SERVER], e)
-        if len(theirs) != 33 or theirs[0] != 1:
+        k, order = self.shared(random, theirs), 1 if self.role == CLIENT else -1
+        if k is None:
             raise Ends("failed F9", 3)
-        k, order = shared(random, theirs), 1 if self.role == CLIENT else -1
         parts = [LINE[:-2], self.version][::order] + [self.offer, self.theirs][::order] + [key, e, f, k]
         return k, sha(*(string(x) for x in parts))
 
     def switch(self, k, h):
         """Says NEWKEYS, and keeps the keys for what is heard behind the other's."""
-        self.own.switch(keys_of(self.role, k, h), self.strict)
-        self.coming, self.phase = keys_of(other(self.role), k, h), "newkeys"
+        self.own.switch(self.keys_of(self.role, k, h), self.strict)
+        self.coming, self.phase = self.keys_of(other(self.role), k, h), "newkeys"
 
     def hear_init(self, _, fields):
-        k, h = self.exchange(fields[0], share(RANDOM[SERVER]), BLOB)
-        self.own.say(reply(h))
+        k, h = self.exchange(fields[0], self.share(RANDOM[SERVER]), self.BLOB)
+        self.own.say(self.reply(h))
         self.switch(k, h)
 
     def hear_reply(self, _, fields):
         self.asked.append("host_key")
-        k, h = self.exchange(share(RANDOM[CLIENT]), fields[1], fields[0])
-        if fields[2] != sha(string(fields[0]), string(h)):
+        k, h = self.exchange(self.share(RANDOM[CLIENT]), fields[1], fields[0])
+        if not self.is_signed(fields[0], h, fields[2]):
             raise Ends("failed F11", 3)
         self.switch(k, h)
         self.own.say(service(5, "ssh-userauth"))

@@ -23,6 +23,7 @@ COUNTS = {(SERVER, "strict"): (88, 737, 12, 1094, 437, 7, 16, 102, 7, 0, 44, 200
 
 class Session:
     """A whole session as one role hears it: each unit, what is said for it, and what that asks."""
+    hearer = Hearer
 
     def __init__(self, file, role, name, course):
         t, self.role, self.course, self.name = course.t, role, course, name
@@ -78,7 +79,7 @@ def rows(file):
 
 def judged(file, name, session, terms_, data):
     """A row of a stream that is heard as far as it goes. Where the end is open, the input ends behind it."""
-    ear = Hearer(session.role, session.is_willing, data)
+    ear = session.hearer(session.role, session.is_willing, data)
     if ear.end == LET_IN:
         assert ear.own.said == session.says
     heard = feed(*terms_) if ear.used + ear.held == len(data) else part(ear.used, *terms_)

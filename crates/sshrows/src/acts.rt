@@ -10,6 +10,9 @@ use crate::words::Line;
 use crate::worlds::{judge_prediction, judge_world};
 use sshcore::{Decisions, Proof};
 use sshlab::{Scenario, ScenarioFault, TEXT_LIMIT};
+use sshpacket::Suite;
+use sshsuite::DeployedSuite;
+use sshsuites::LabSuite;
 use std::alloc::Global;
 
 /// Decisions that say yes to whatever they are asked.
@@ -88,11 +91,28 @@ fn act_by(
             names,
             line,
             scenario,
-            &scenario.decisions,
+            (&LabSuite, &scenario.decisions),
             rest,
             piece_len,
         ),
-        "generous" => begin(alloc, names, line, scenario, &Generous, rest, piece_len),
+        "generous" => begin(
+            alloc,
+            names,
+            line,
+            scenario,
+            (&LabSuite, &Generous),
+            rest,
+            piece_len,
+        ),
+        "deployed" => begin(
+            alloc,
+            names,
+            line,
+            scenario,
+            (&DeployedSuite, &scenario.decisions),
+            rest,
+            piece_len,
+        ),
         "world" => judge_world(alloc, scenario, rest),
         "predict" => judge_prediction(alloc, scenario, rest),
         "accepted" => nothing_behind(alloc, rest),
@@ -100,13 +120,13 @@ fn act_by(
     }
 }
 
-/// Begins an endpoint of the scenario, and judges it by these lines.
-fn begin<D: Decisions>(
+/// Begins an endpoint of the scenario, over the suite and by these decisions, and judges it by these lines.
+fn begin<S: Suite, D: Decisions>(
     alloc: Global,
     names: &Names,
     line: &Line<'_>,
     scenario: &Scenario,
-    decisions: &D,
+    (suite, decisions): (&S, &D),
     lines: &[Line<'_>],
     piece_len: usize,
 ) -> Result<(), Stop> {
@@ -118,11 +138,27 @@ fn begin<D: Decisions>(
     };
     match role {
         "client" => {
-            let subject = client_of(alloc, line, &scenario.client, asking, questions, piece_len)?;
+            let subject = client_of(
+                alloc,
+                line,
+                &scenario.client,
+                suite,
+                asking,
+                questions,
+                piece_len,
+            )?;
             talk(alloc, names, line, subject, lines)
         }
         "server" => {
-            let subject = server_of(alloc, line, &scenario.server, asking, questions, piece_len)?;
+            let subject = server_of(
+                alloc,
+                line,
+                &scenario.server,
+                suite,
+                asking,
+                questions,
+                piece_len,
+            )?;
             talk(alloc, names, line, subject, lines)
         }
         _ => same_text(alloc, line, "act", "client or server", role),

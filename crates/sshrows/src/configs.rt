@@ -11,6 +11,7 @@ use crate::texts::{nothing_behind, same_bytes, same_text, shows, wrong};
 use crate::words::{Line, split_word};
 use sshcore::{ClientConfig, ClientParts, ConfigFault, ServerConfig, ServerParts};
 use sshmsg::{KexInit, Message, write};
+use sshsuites::LabSuite;
 use std::alloc::Global;
 
 /// Judges a config of a client or a server: lines that change its parts, and behind them what comes of it.
@@ -144,7 +145,7 @@ fn accepted_client(
                 decisions: &Generous,
                 questions,
             };
-            let subject = client_of(alloc, line, config, asking, questions, piece_len)?;
+            let subject = client_of(alloc, line, config, &LabSuite, asking, questions, piece_len)?;
             talk(alloc, names, line, subject, lines)
         }
         _ => wrong(alloc, line, "config", rest, "accepted"),

@@ -9,15 +9,15 @@ use crate::terms::{bytes_of, count_of};
 use crate::texts::{same_agreed, same_bytes, same_count, same_end, shows, wrong};
 use crate::words::{Line, split_word};
 use sshcore::{ClientConfig, Decisions, Endpoint, ServerConfig, Session};
-use sshsuites::LabSuite;
+use sshpacket::Suite;
 use sshwire::Memory;
 use std::alloc::Global;
 use std::mem;
 
 /// An endpoint that is judged.
 #[derive(Drop)]
-pub(crate) struct Subject<'a, D: Decisions> {
-    endpoint: Endpoint<'a, LabSuite, D>,
+pub(crate) struct Subject<'a, S: Suite, D: Decisions> {
+    endpoint: Endpoint<'a, S, D>,
     /// What its decisions were asked since that was last judged.
     questions: &'a Questions,
     /// What it has said since that was last judged.
@@ -28,46 +28,48 @@ pub(crate) struct Subject<'a, D: Decisions> {
     judged: bool,
 }
 
-/// A client of this config, over the lab suite.
-pub(crate) fn client_of<'a, D: Decisions>(
+/// A client of this config.
+pub(crate) fn client_of<'a, S: Suite, D: Decisions>(
     alloc: Global,
     line: &Line<'_>,
     config: &'a ClientConfig,
+    suite: &'a S,
     decisions: &'a D,
     questions: &'a Questions,
     piece_len: usize,
-) -> Result<Box<Subject<'a, D>>, Stop> {
+) -> Result<Box<Subject<'a, S, D>>, Stop> {
     let mut out = Vec::new(alloc);
-    match Endpoint::client(alloc, config, &LabSuite, decisions, &mut out) {
+    match Endpoint::client(alloc, config, suite, decisions, &mut out) {
         Ok(endpoint) => subject_of(alloc, endpoint, questions, out, piece_len),
         Err(_) => Err(refused_saying(line, "no endpoint", out)),
     }
 }
 
-/// A server of this config, over the lab suite.
-pub(crate) fn server_of<'a, D: Decisions>(
+/// A server of this config.
+pub(crate) fn server_of<'a, S: Suite, D: Decisions>(
     alloc: Global,
     line: &Line<'_>,
     config: &'a ServerConfig,
+    suite: &'a S,
     decisions: &'a D,
     questions: &'a Questions,
     piece_len: usize,
-) -> Result<Box<Subject<'a, D>>, Stop> {
+) -> Result<Box<Subject<'a, S, D>>, Stop> {
     let mut out = Vec::new(alloc);
-    match Endpoint::server(alloc, config, &LabSuite, decisions, &mut out) {
+    match Endpoint::server(alloc, config, suite, decisions, &mut out) {
         Ok(endpoint) => subject_of(alloc, endpoint, questions, out, piece_len),
         Err(_) => Err(refused_saying(line, "no endpoint", out)),
     }
 }
 
 /// The endpoint and what it said at its making.
-fn subject_of<'a, D: Decisions>(
+fn subject_of<'a, S: Suite, D: Decisions>(
     alloc: Global,
-    endpoint: Endpoint<'a, LabSuite, D>,
+    endpoint: Endpoint<'a, S, D>,
     questions: &'a Questions,
     out: Vec<u8>,
     piece_len: usize,
-) -> Result<Box<Subject<'a, D>>, Stop> {
+) -> Result<Box<Subject<'a, S, D>>, Stop> {
     Ok(Box::new(
         alloc,
         Subject {
@@ -81,11 +83,11 @@ fn subject_of<'a, D: Decisions>(
 }
 
 /// Judges an endpoint by lines, and what it hands over by those from the first of a session on.
-pub(crate) fn talk<D: Decisions>(
+pub(crate) fn talk<S: Suite, D: Decisions>(
     alloc: Global,
     names: &Names,
     row: &Line<'_>,
-    subject: Box<Subject<'_, D>>,
+    subject: Box<Subject<'_, S, D>>,
     lines: &[Line<'_>],
 ) -> Result<(), Stop> {
     let mut subject = subject;
@@ -111,17 +113,17 @@ fn place_of_session(lines: &[Line<'_>]) -> usize {
 }
 
 /// What the endpoint hands over.
-fn session_of<D: Decisions>(subject: Box<Subject<'_, D>>) -> Option<Session> {
+fn session_of<S: Suite, D: Decisions>(subject: Box<Subject<'_, S, D>>) -> Option<Session> {
     let Subject { endpoint, .. } = Box::into_inner(subject);
     endpoint.into_session()
 }
 
 /// Judges an endpoint by lines, all that it said and asked, and its end.
-fn talk_on<D: Decisions>(
+fn talk_on<S: Suite, D: Decisions>(
     alloc: Global,
     names: &Names,
     row: &Line<'_>,
-    subject: &mut Subject<'_, D>,
+    subject: &mut Subject<'_, S, D>,
     lines: &[Line<'_>],
 ) -> Result<(), Stop> {
     for line in lines {
@@ -131,7 +133,11 @@ fn talk_on<D: Decisions>(
 }
 
 /// All that was said and asked has to be judged, and the end.
-fn finish<D: Decisions>(alloc: Global, row: &Line<'_>, talk: &Subject<'_, D>) -> Result<(), Stop> {
+fn finish<S: Suite, D: Decisions>(
+    alloc: Global,
+    row: &Line<'_>,
+    talk: &Subject<'_, S, D>,
+) -> Result<(), Stop> {
     same_bytes(alloc, row, "said and not judged", &[], &talk.out)?;
     talk.questions.same(row, "asked and not judged", "nothing")?;
     if talk.judged {
@@ -142,11 +148,11 @@ fn finish<D: Decisions>(alloc: Global, row: &Line<'_>, talk: &Subject<'_, D>) ->
 }
 
 /// Judges one line.
-fn step<D: Decisions>(
+fn step<S: Suite, D: Decisions>(
     alloc: Global,
     names: &Names,
     line: &Line<'_>,
-    talk: &mut Subject<'_, D>,
+    talk: &mut Subject<'_, S, D>,
 ) -> Result<(), Stop> {
     let (word, rest) = line.head();
     match word {
@@ -173,10 +179,10 @@ fn step<D: Decisions>(
 }
 
 /// These bytes have to be what was said since that was last judged.
-fn hears<D: Decisions>(
+fn hears<S: Suite, D: Decisions>(
     alloc: Global,
     line: &Line<'_>,
-    talk: &mut Subject<'_, D>,
+    talk: &mut Subject<'_, S, D>,
     wanted: &[u8],
 ) -> Result<(), Stop> {
     same_bytes(alloc, line, "said", wanted, &talk.out)?;
@@ -185,10 +191,10 @@ fn hears<D: Decisions>(
 }
 
 /// Judges how the endpoint stands.
-fn look<D: Decisions>(
+fn look<S: Suite, D: Decisions>(
     alloc: Global,
     line: &Line<'_>,
-    talk: &mut Subject<'_, D>,
+    talk: &mut Subject<'_, S, D>,
     word: &str,
     rest: &str,
 ) -> Result<(), Stop> {
@@ -205,10 +211,10 @@ fn look<D: Decisions>(
 }
 
 /// Gives the endpoint the bytes, of which it has to use so many.
-fn feed<D: Decisions>(
+fn feed<S: Suite, D: Decisions>(
     alloc: Global,
     line: &Line<'_>,
-    talk: &mut Subject<'_, D>,
+    talk: &mut Subject<'_, S, D>,
     piece: &[u8],
     wanted: usize,
 ) -> Result<(), Stop> {
@@ -220,7 +226,11 @@ fn feed<D: Decisions>(
 }
 
 /// What stands behind a refused `feed`: how the endpoint is failed, and what it said up to there.
-fn refused_feed<D: Decisions>(alloc: Global, line: &Line<'_>, talk: &mut Subject<'_, D>) -> Stop {
+fn refused_feed<S: Suite, D: Decisions>(
+    alloc: Global,
+    line: &Line<'_>,
+    talk: &mut Subject<'_, S, D>,
+) -> Stop {
     let len = talk.out.len();
     let stands = if is_failed_for_good(talk) && talk.out.len() == len {
         "failed F15 for good"
@@ -231,7 +241,7 @@ fn refused_feed<D: Decisions>(alloc: Global, line: &Line<'_>, talk: &mut Subject
 }
 
 /// Whether it ended by want of memory, and neither a byte more nor the end of its input changes that.
-fn is_failed_for_good<D: Decisions>(talk: &mut Subject<'_, D>) -> bool {
+fn is_failed_for_good<S: Suite, D: Decisions>(talk: &mut Subject<'_, S, D>) -> bool {
     let is_failed = is_out_of_memory(talk.endpoint.end());
     let used = talk.endpoint.feed(&[0], &mut talk.out);
     talk.endpoint.end_of_input();
@@ -239,7 +249,10 @@ fn is_failed_for_good<D: Decisions>(talk: &mut Subject<'_, D>) -> bool {
 }
 
 /// Gives the endpoint the bytes in pieces, up to one that it doesn't use whole, and answers how many it used.
-fn used_of<D: Decisions>(talk: &mut Subject<'_, D>, piece: &[u8]) -> Result<usize, Memory> {
+fn used_of<S: Suite, D: Decisions>(
+    talk: &mut Subject<'_, S, D>,
+    piece: &[u8],
+) -> Result<usize, Memory> {
     if piece.is_empty() {
         return talk.endpoint.feed(piece, &mut talk.out);
     }

@@ -1,0 +1,163 @@
+"""Hostile use of a session over the algorithms that are deployed: packets put in before NEWKEYS, the input that ends behind each byte,
+each cut into two pieces, and bits flipped: each bit behind NEWKEYS, and one of each byte before. hearer.py works out what has to come of
+it, with the suite of deployed.py."""
+import functools
+
+from lab import *
+import deployed
+from auth import LET_IN
+from hearer import FORMS, Hearer
+from hostile import Session, cuts, flipped, injected, truncated
+
+CIPHER = "chacha20-poly1305@openssh.com"
+HOST = bytes(range(32))
+KEY = deployed.wrapped(deployed.key_of(HOST))
+share_of = functools.lru_cache(maxsize=None)(deployed.public)
+SHARE = {role: share_of(RANDOM[role]) for role in (CLIENT, SERVER)}
+shared_of = functools.lru_cache(maxsize=None)(deployed.shared)
+signature_by = functools.lru_cache(maxsize=None)(deployed.signature_of)
+
+
+def offer(role, strict=True):
+    return kexinit(role, (deployed.METHOD,), (deployed.ALGORITHM,), strict=strict, cs=CIPHER, sc=CIPHER)
+
+
+def packet_of(payload, seq, seed, keys):
+    """The packet of a payload, whose padding is the least: packet_length counts in clear, and not where it is sealed."""
+    counted, p = 0 if keys else 4, 4
+    while (counted + 1 + len(payload) + p) % 8 or counted + 1 + len(payload) + p < (16 if counted else 8):
+        p += 1
+    clear = u32(1 + len(payload) + p) + bytes([p]) + payload + deployed.chacha20(sha(seed), seq, 0, p)
+    return deployed.seal(keys, seq, clear) if keys else clear
+
+
+class DeployedHalf(Half):
+    """What one side writes."""
+
+    def say(self, payload):
+        p = packet_of(payload, self.seq, SEED[self.role], self.keys)
+        self.seq += 1
+        self.said += p
+        return p
+
+
+class DeployedHearer(Hearer):
+    """An end over the deployed algorithms."""
+
+    FORMS = {**FORMS, 30: "s", 31: "sss"}
+    TAG, INIT, BLOB = 16, b"\x1e" + string(SHARE[CLIENT]), KEY
+    half = DeployedHalf
+
+    @staticmethod
+    def offer_of(role, willing):
+        return offer(role, willing)
+
+    def is_length(self, n):
+        return n >= 8 and not n % 8
+
+    def length_in(self, first):
+        return xor(first, deployed.chacha20(self.keys[32:], self.number, 0, 4))
+
+    def unsealed(self, whole):
+        covered, tag = whole[:-16], whole[-16:]
+        if tag != deployed.poly1305(deployed.chacha20(self.keys[:32], self.number, 0, 32), covered):
+            return None
+        return self.length_in(covered[:4]) + xor(covered[4:], deployed.chacha20(self.keys[:32], self.number, 1, len(covered) - 4))
+
+    @staticmethod
+    def share(random):
+        return share_of(random)
+
+    @staticmethod
+    def shared(random, theirs):
+        return shared_of(random, theirs)
+
+    @staticmethod
+    def reply(h):
+        return b"\x1f" + string(KEY) + string(SHARE[SERVER]) + string(deployed.wrapped(signature_by(HOST, h)))
+
+    @staticmethod
+    def is_signed(key, h, signature):
+        """A changed key, hash or signature isn't good: whether another is would need another signature to be found."""
+        return key == KEY and signature == deployed.wrapped(signature_by(HOST, h))
+
+    @staticmethod
+    def keys_of(sender, k, h):
+        return derived(k, h, b"C" if sender == CLIENT else b"D", h, 64)
+
+
+class DeployedTalk:
+    """Both sides up to the accepted service."""
+
+    def __init__(self):
+        self.strict, c, s = True, DeployedHalf(CLIENT), DeployedHalf(SERVER)
+        self.c, self.s = c, s
+        self.ci, self.si = offer(CLIENT), offer(SERVER)
+        c.said = s.said = LINE
+        c.say(self.ci)
+        s.say(self.si)
+        self.c_first, self.s_first = c.said, s.said
+        k = deployed.shared(RANDOM[CLIENT], SHARE[SERVER])
+        self.hash = sha(*(string(x) for x in (LINE[:-2], LINE[:-2], self.ci, self.si, KEY, SHARE[CLIENT], SHARE[SERVER], k)))
+        self.c_init, self.s_reply = c.say(DeployedHearer.INIT), s.say(DeployedHearer.reply(self.hash))
+        self.s_newkeys = s.switch(DeployedHearer.keys_of(SERVER, k, self.hash), True)
+        self.c_newkeys = c.switch(DeployedHearer.keys_of(CLIENT, k, self.hash), True)
+        self.c_service, self.s_accept = c.say(service(5, "ssh-userauth")), s.say(service(6, "ssh-userauth"))
+
+
+class DeployedCourse:
+    """The simplest session: a user without a proof, who is let in."""
+
+    def __init__(self):
+        t = self.t = DeployedTalk()
+        names = [("client", "hostkey " + deployed.ALGORITHM), ("server", "hostkey %s %s" % (deployed.ALGORITHM, HOST.hex()))]
+        for side in ("client", "server"):
+            names += [(side, "kex " + deployed.METHOD), (side, "cipher_cs " + CIPHER), (side, "cipher_sc " + CIPHER)]
+        self.lines = ["%s %s" % pair for pair in names] + ["client try al ssh-connection none", "allow al none"]
+        self.requests, self.answers, self.asked = [t.c.say(by_none())], [t.s.say(SUCCESS)], [[1]]
+
+    def agreed(self):
+        return "agreed %s %s %s %s m m none none yes %s" % (deployed.METHOD, deployed.ALGORITHM, CIPHER, CIPHER, self.t.hash.hex())
+
+
+class DeployedSession(Session):
+    """The session as one role hears it."""
+    hearer = DeployedHearer
+
+    def __init__(self, file, role, course):
+        super().__init__(file, role, "deployed", course)
+        self.begin = self.begin[:-1] + ["deployed " + role]
+        ear = DeployedHearer(role, True, self.heard)
+        assert (ear.own.said, ear.end) == (self.says, LET_IN)
+
+
+def rows(file):
+    course = DeployedCourse()
+    for role in (SERVER, CLIENT):
+        s = DeployedSession(file, role, course)
+        injected(file, s)
+        all_fronts(file, s)
+        cuts(file, s)
+        flips(file, s)
+
+
+def all_fronts(file, s):
+    """The input ends behind each byte up to where truncated of hostile.py begins, and from there on."""
+    for count in range(sum(len(unit) for unit, _, _ in s.turns[:4 if s.role == SERVER else 3]) + 1):
+        ear = DeployedHearer(s.role, True, s.heard[:count])
+        file.row("%s %s, the input ends behind %d" % (s.role, s.name, count), s.begin, "feed %s:0:%d" % (s.hears, count),
+                 s.said(ear.own.said), asked(*ear.asked) if ear.asked else [], "held %d" % ear.held, "end open", "cut", "end failed F16")
+    truncated(file, s)
+
+
+def flips(file, s):
+    """Nothing but a length that the stream doesn't reach leaves the side open behind NEWKEYS; before, padding alone means nothing."""
+    sealed, nothing, at = sum(len(unit) for unit, _, _ in s.turns[:3]), set(), len(LINE)
+    while at < sealed:
+        end = at + 4 + int.from_bytes(s.heard[at:at + 4], "big")
+        nothing, at = nothing | set(range(end - s.heard[at + 4], end)), end
+    for place in range(len(s.heard)):
+        for bit in range(8) if place >= sealed else [place % 8]:
+            end = flipped(file, s, "%s %s, bit %d of byte %d" % (s.role, s.name, bit, place), s.heard, place, bit)
+            assert (end == LET_IN) == (place in nothing)
+            assert place < sealed or end in ("failed F2", "failed F4", "open")
