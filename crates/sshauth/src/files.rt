@@ -25,7 +25,8 @@ pub(crate) fn text_in<'a>(option: &'static str, bytes: &'a [u8]) -> Result<&'a s
     }
 }
 
-/// The first line of the file that the option names, without its end.
+/// The first line of the file that the option names, without its end: an empty one is refused, since it would be a password
+/// that anyone has.
 pub(crate) fn first_line(
     rt: &HostRuntime,
     option: &'static str,
@@ -34,5 +35,8 @@ pub(crate) fn first_line(
     let bytes = bytes_of(rt, option, path)?;
     let line = bytes.split(|byte| *byte == b'\n').next().unwrap_or(&[]);
     let line = line.strip_suffix(b"\r").unwrap_or(line);
+    if line.is_empty() {
+        return Err(Fault::Form(option));
+    }
     Ok(Vec::from_slice(rt.alloc(), line)?)
 }

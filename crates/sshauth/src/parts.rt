@@ -42,12 +42,12 @@ pub(crate) fn server_config(
     Ok(Box::new(rt.alloc(), config)?)
 }
 
-/// Whom a client trusts: the hosts of its file.
+/// Whom a client trusts: the host of this name in its file.
 pub(crate) fn client_trust(rt: &HostRuntime, settings: &Settings<'_>) -> Result<Trust, Fault> {
-    let keys = match settings.known_hosts {
-        Some(path) => known_hosts(rt, "known-hosts", path, settings.host)?,
-        None => return Err(Fault::Words),
+    let (Some(path), Some(host)) = (settings.known_hosts, settings.host) else {
+        return Err(Fault::Words);
     };
+    let keys = known_hosts(rt, "known-hosts", path, host)?;
     Ok(Trust {
         keys,
         user: String::from_str(rt.alloc(), settings.user)?,
