@@ -1,37 +1,16 @@
 //! The acts of rows.
 
-use crate::asked::{Asking, Questions};
-use crate::configs::judge_config;
-use crate::endpoints::{client_of, server_of, talk};
-use crate::names::Names;
-use crate::stop::Stop;
-use crate::texts::{nothing_behind, same_text, shows, wrong};
-use crate::words::Line;
 use crate::worlds::{judge_prediction, judge_world};
-use sshcore::{Decisions, Proof};
+use sshcore::Decisions;
 use sshlab::{Scenario, ScenarioFault, TEXT_LIMIT};
 use sshpacket::Suite;
+use sshrows_acts::{
+    Generous, Line, Names, Stop, judge_client, judge_config, judge_server, nothing_behind,
+    same_text, shows, wrong,
+};
 use sshsuite::DeployedSuite;
 use sshsuites::LabSuite;
 use std::alloc::Global;
-
-/// Decisions that say yes to whatever they are asked.
-#[derive(Drop)]
-pub(crate) struct Generous;
-
-impl Decisions for Generous {
-    ghost use Rattle.std.specs.Prelude.{true};
-
-    ghost policy = { λ _. record { host_key = λ _ _. true; user = λ _ _ _ _. true } };
-
-    fn host_key(&self, _algorithm: &str, _blob: &[u8]) -> bool {
-        true
-    }
-
-    fn user(&self, _request_number: u32, _user: &str, _service: &str, _proof: &Proof<'_>) -> bool {
-        true
-    }
-}
 
 /// Judges the lines from the act on, in pieces of at most so many bytes.
 pub(crate) fn act(
@@ -126,41 +105,15 @@ fn begin<S: Suite, D: Decisions>(
     names: &Names,
     line: &Line<'_>,
     scenario: &Scenario,
-    (suite, decisions): (&S, &D),
+    by: (&S, &D),
     lines: &[Line<'_>],
     piece_len: usize,
 ) -> Result<(), Stop> {
     let (_, role) = line.head();
-    let questions = &Questions::new(alloc);
-    let asking = &Asking {
-        decisions,
-        questions,
-    };
+    let (client, server) = (&scenario.client, &scenario.server);
     match role {
-        "client" => {
-            let subject = client_of(
-                alloc,
-                line,
-                &scenario.client,
-                suite,
-                asking,
-                questions,
-                piece_len,
-            )?;
-            talk(alloc, names, line, subject, lines)
-        }
-        "server" => {
-            let subject = server_of(
-                alloc,
-                line,
-                &scenario.server,
-                suite,
-                asking,
-                questions,
-                piece_len,
-            )?;
-            talk(alloc, names, line, subject, lines)
-        }
+        "client" => judge_client(alloc, names, line, client, by, lines, piece_len),
+        "server" => judge_server(alloc, names, line, server, by, lines, piece_len),
         _ => same_text(alloc, line, "act", "client or server", role),
     }
 }

@@ -1,11 +1,11 @@
 //! Rows of worlds and of predictions.
 
-use crate::refusals::{is_out_of_memory, refused};
-use crate::stop::Stop;
-use crate::texts::{number_of, same_agreed, same_end, same_text, shows, wrong, yes_or_no};
-use crate::words::{Line, split_word};
 use sshcore::End;
 use sshlab::Scenario;
+use sshrows_acts::{
+    Line, Stop, is_out_of_memory, number_of, refused, same_agreed, same_end, same_text, shows,
+    split_word, wrong, yes_or_no,
+};
 use sshsuites::{LabDecisions, LabSuite};
 use sshwire::Memory;
 use sshworld::{Delivery, Side, World};

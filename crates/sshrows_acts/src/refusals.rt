@@ -6,7 +6,7 @@ use sshcore::{End, Fault};
 use std::alloc::Global;
 
 /// A judged call was refused memory, and this stands behind it.
-pub(crate) fn refused(alloc: Global, line: &Line<'_>, stands: &'static str) -> Stop {
+pub fn refused(alloc: Global, line: &Line<'_>, stands: &'static str) -> Stop {
     refused_saying(line, stands, Vec::new(alloc))
 }
 
@@ -38,6 +38,6 @@ pub(crate) fn vector(is_unchanged: bool) -> &'static str {
 }
 
 /// Whether it ended by want of memory.
-pub(crate) fn is_out_of_memory(end: &End) -> bool {
+pub fn is_out_of_memory(end: &End) -> bool {
     matches!(end, End::Failed(Fault::Memory))
 }

@@ -1,8 +1,7 @@
 //! Rows of configs whose parts are made one by one.
 
-use crate::acts::Generous;
-use crate::asked::{Asking, Questions};
-use crate::endpoints::{client_of, talk};
+use crate::endpoints;
+use crate::generous::Generous;
 use crate::names::Names;
 use crate::parts::{client_by, server_by};
 use crate::stop::Stop;
@@ -15,7 +14,7 @@ use sshsuites::LabSuite;
 use std::alloc::Global;
 
 /// Judges a config of a client or a server: lines that change its parts, and behind them what comes of it.
-pub(crate) fn judge_config(
+pub fn judge_config(
     alloc: Global,
     names: &Names,
     row: &Line<'_>,
@@ -140,13 +139,8 @@ fn accepted_client(
             judge_kexinit(alloc, names, line, rest, &found)
         }
         "generous" => {
-            let questions = &Questions::new(alloc);
-            let asking = &Asking {
-                decisions: &Generous,
-                questions,
-            };
-            let subject = client_of(alloc, line, config, &LabSuite, asking, questions, piece_len)?;
-            talk(alloc, names, line, subject, lines)
+            let by = (&LabSuite, &Generous);
+            endpoints::judge_client(alloc, names, line, config, by, lines, piece_len)
         }
         _ => wrong(alloc, line, "config", rest, "accepted"),
     }

@@ -1,6 +1,6 @@
 //! Rows of one endpoint.
 
-use crate::asked::Questions;
+use crate::asked::{Asking, Questions};
 use crate::handed::judge_session;
 use crate::names::Names;
 use crate::refusals::{is_out_of_memory, refused_saying};
@@ -16,7 +16,7 @@ use std::mem;
 
 /// An endpoint that is judged.
 #[derive(Drop)]
-pub(crate) struct Subject<'a, S: Suite, D: Decisions> {
+struct Subject<'a, S: Suite, D: Decisions> {
     endpoint: Endpoint<'a, S, D>,
     /// What its decisions were asked since that was last judged.
     questions: &'a Questions,
@@ -28,8 +28,47 @@ pub(crate) struct Subject<'a, S: Suite, D: Decisions> {
     judged: bool,
 }
 
+/// Judges a client of this config by lines, over the suite and by these decisions, whose questions are kept.
+/// It is given pieces of at most so many bytes.
+pub fn judge_client<S: Suite, D: Decisions>(
+    alloc: Global,
+    names: &Names,
+    row: &Line<'_>,
+    config: &ClientConfig,
+    (suite, decisions): (&S, &D),
+    lines: &[Line<'_>],
+    piece_len: usize,
+) -> Result<(), Stop> {
+    let questions = &Questions::new(alloc);
+    let asking = &Asking {
+        decisions,
+        questions,
+    };
+    let subject = client_of(alloc, row, config, suite, asking, questions, piece_len)?;
+    talk(alloc, names, row, subject, lines)
+}
+
+/// Judges a server of this config in the same way.
+pub fn judge_server<S: Suite, D: Decisions>(
+    alloc: Global,
+    names: &Names,
+    row: &Line<'_>,
+    config: &ServerConfig,
+    (suite, decisions): (&S, &D),
+    lines: &[Line<'_>],
+    piece_len: usize,
+) -> Result<(), Stop> {
+    let questions = &Questions::new(alloc);
+    let asking = &Asking {
+        decisions,
+        questions,
+    };
+    let subject = server_of(alloc, row, config, suite, asking, questions, piece_len)?;
+    talk(alloc, names, row, subject, lines)
+}
+
 /// A client of this config.
-pub(crate) fn client_of<'a, S: Suite, D: Decisions>(
+fn client_of<'a, S: Suite, D: Decisions>(
     alloc: Global,
     line: &Line<'_>,
     config: &'a ClientConfig,
@@ -46,7 +85,7 @@ pub(crate) fn client_of<'a, S: Suite, D: Decisions>(
 }
 
 /// A server of this config.
-pub(crate) fn server_of<'a, S: Suite, D: Decisions>(
+fn server_of<'a, S: Suite, D: Decisions>(
     alloc: Global,
     line: &Line<'_>,
     config: &'a ServerConfig,
@@ -83,7 +122,7 @@ fn subject_of<'a, S: Suite, D: Decisions>(
 }
 
 /// Judges an endpoint by lines, and what it hands over by those from the first of a session on.
-pub(crate) fn talk<S: Suite, D: Decisions>(
+fn talk<S: Suite, D: Decisions>(
     alloc: Global,
     names: &Names,
     row: &Line<'_>,

@@ -17,7 +17,7 @@ use sshsuites::{KemSuite, LabSuite};
 use std::alloc::Global;
 
 /// Whether the word begins an act below the endpoint.
-pub(crate) fn is_below(word: &str) -> bool {
+pub fn is_below(word: &str) -> bool {
     matches!(
         word,
         "message"
@@ -33,7 +33,7 @@ pub(crate) fn is_below(word: &str) -> bool {
 }
 
 /// Judges the lines from the act on, in pieces of at most so many bytes.
-pub(crate) fn judge_below(
+pub fn judge_below(
     alloc: Global,
     names: &Names,
     lines: &[Line<'_>],
