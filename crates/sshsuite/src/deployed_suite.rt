@@ -37,7 +37,8 @@ const ED25519: &str = "ssh-ed25519";
 ///
 /// No branch and no index depends on a secret, as the code is written; no contract promises it of what a
 /// compiler makes. What time does tell is how many zeros a shared number begins with, since it goes as an
-/// mpint into the exchange hash (RFC 8731 section 3.1). Nothing is wiped.
+/// mpint into the exchange hash (RFC 8731 section 3.1). How long a verification takes tells of its arguments, which
+/// are all public. Nothing is wiped.
 #[derive(Clone, Copy, Debug)]
 pub struct DeployedSuite;
 

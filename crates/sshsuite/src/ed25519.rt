@@ -7,7 +7,7 @@ ghost use Rattle.sshsuite.specs.Ed25519.{hash_of, is_signature, prefix_of, publi
 use crate::bits::{first_half, second_half};
 use crate::curve25519::clamped;
 use crate::edwards25519::{
-    BASE_POINT, Point, add_points, decode_point, encode_point, multiply, negate,
+    BASE_POINT, Point, add_points, decode_point, encode_point, multiply, multiply_public, negate,
 };
 use crate::scalar::{encode_scalar, is_reduced, scalar_from, times_plus};
 use sha2::{Digest, Sha512};
@@ -89,7 +89,7 @@ pub(crate) fn is_signature(key: &[u8], input: &[u8], signature: &[u8]) -> bool
 }
 
 /// Whether the two halves of a signature, R and s, are those of the input by the key of this point: s B is
-/// R and k times the point.
+/// R and k times the point. All of it is public.
 #[tactic(auto, unfolding(crate::specs::Ed25519::verifies))]
 fn verifies(p: Point, key: &[u8], input: &[u8], point: &[u8], answer: &[u8]) -> bool
     requires { length answer.now ≡ 32 }
@@ -97,8 +97,8 @@ fn verifies(p: Point, key: &[u8], input: &[u8], point: &[u8], answer: &[u8]) -> 
 {
     let challenge = encode_scalar(scalar_from(&hash_of(point, key, input)));
     let sum = add_points(
-        multiply(answer, BASE_POINT),
-        multiply(&challenge, negate(p)),
+        multiply_public(answer, BASE_POINT),
+        multiply_public(&challenge, negate(p)),
     );
     is_reduced(answer) && encode_point(sum).as_slice() == point
 }
