@@ -149,7 +149,10 @@ impl Suite for DeployedSuite {
         secret: &[u8],
         input: &[u8],
     ) -> Result<Vec<u8>, Memory> {
-        wrapped(alloc, &signature(alloc, secret, input)?)
+        wrapped(
+            alloc,
+            &signature(alloc, secret, &public_key(secret), input)?,
+        )
     }
 
     fn verify(
@@ -231,7 +234,7 @@ fn shared_number(alloc: Global, secret: [u8; 32]) -> Result<Option<Vec<u8>>, Mem
 /// The name of the algorithm and the bytes, each as a string: a public key or a signature (RFC 8709
 /// sections 4 and 6).
 #[tactic(auto, unfolding(crate::specs::Deployed::wrapped))]
-fn wrapped(alloc: Global, bytes: &[u8]) -> Result<Vec<u8>, Memory>
+pub(crate) fn wrapped(alloc: Global, bytes: &[u8]) -> Result<Vec<u8>, Memory>
     requires { length bytes.now < 2 ^ 32 }
     ensures { IfOk result (λ v. v.items ≡ wrapped bytes.now) }
 {

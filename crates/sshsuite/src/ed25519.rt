@@ -58,15 +58,22 @@ fn hash_of(first: &[u8], second: &[u8], third: &[u8]) -> [u8; 64]
     hasher.finalize()
 }
 
-/// The signature of the input, of 64 bytes (RFC 8032 section 5.1.6).
+/// The signature of the input, of 64 bytes (RFC 8032 section 5.1.6), by a private key and its public key: by another
+/// one the private key would come to light.
 #[tactic(auto, unfolding(crate::specs::Ed25519::signature))]
-pub(crate) fn signature(alloc: Global, private_key: &[u8], input: &[u8]) -> Result<Vec<u8>, Memory>
+pub(crate) fn signature(
+    alloc: Global,
+    private_key: &[u8],
+    key: &[u8],
+    input: &[u8],
+) -> Result<Vec<u8>, Memory>
+    requires { key.now ≡ public_key private_key.now }
     ensures value { IfOk result (λ v. v.items ≡ signature private_key.now input.now) }
     ensures long { IfOk result (λ v. length v.items ≡ 64) }
 {
     let nonce = scalar_from(&hash_of(&prefix_of(private_key), input, &[]));
     let point = encode_point(multiply(&encode_scalar(nonce), BASE_POINT));
-    let challenge = scalar_from(&hash_of(&point, &public_key(private_key), input));
+    let challenge = scalar_from(&hash_of(&point, key, input));
     let answer = encode_scalar(times_plus(&secret_scalar(private_key), challenge, nonce));
     let mut signature = Vec::from_slice(alloc, &point)?;
     signature.extend_from_slice(&answer)?;
