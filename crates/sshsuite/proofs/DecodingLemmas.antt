@@ -9,10 +9,10 @@ use Rattle.std.specs.Prelude.{◌&&◌, Option, None, Some, replicate, slice_ind
 use Rattle.std.specs.Str.{bytes_eq}
 use Rattle.sshsuite.specs.Bits.{bytes_of_words, number_of_32, word_at}
 use Rattle.sshsuite.specs.Edwards25519.{d, decode_point, is_canonical, point_from, point_with, root, root_by, square_root_of_ratio}
-use Rattle.sshsuite.specs.FieldElement.{decode, encode, mul, none, sub}
+use Rattle.sshsuite.specs.FieldElement.{decode, encode, mul, none, squared, sub}
 use Rattle.sshsuite.specs.declared.edwards25519.Point.{Point}
 use Rattle.sshsuite.proofs.EncodingLemmas.{AreWords}
-use Rattle.sshsuite.proofs.FieldNumberLemmas.{add_number, decode_number, encode_number, mul_number, none_number, one_number, root_power_number, sub_number}
+use Rattle.sshsuite.proofs.FieldNumberLemmas.{add_number, decode_number, encode_number, mul_number, none_number, one_number, root_power_number, square_number, sub_number}
 use Rattle.sshsuite.specs.DecodingNumbers.{AreAlike, point_in, root_number, root_of, root_of_quotient, with_root, with_x}
 use Rattle.sshsuite.specs.EdwardsNumbers.{Coordinates, d_number}
 use Rattle.sshsuite.specs.FieldBytes.{bytes_of_number}
@@ -107,21 +107,21 @@ d_is = record { below = record { l0 = omega arith; l1 = omega arith; l2 = omega 
 root_by_is : (u v x : List ℕ) (m n k : ℕ) → HasNumber u m → HasNumber v n → HasNumber x k → AreRoots (root_by u v x) (root_of m n k)
 unfolding root_by root_of
 root_by_is u v x m n k hu hv hx =
-    let found = mul_number v (mul x x) n (times k k) hv (mul_number x x k k hx hx) in
-    root_choice (bytes_eq (encode (mul v (mul x x))) (encode u)) (eqb (times n (times k k)) m)
-    (Some x) (cond (bytes_eq (encode (mul v (mul x x))) (encode (sub none u))) (Some (mul x root)) None)
+    let found = mul_number v (squared x) n (times k k) hv (square_number x k hx) in
+    root_choice (bytes_eq (encode (mul v (squared x))) (encode u)) (eqb (times n (times k k)) m)
+    (Some x) (cond (bytes_eq (encode (mul v (squared x))) (encode (sub none u))) (Some (mul x root)) None)
     (Some k) (cond (eqb (times n (times k k)) (minus 0 m)) (Some (times k root_number)) None)
-    (same_element (mul v (mul x x)) u (times n (times k k)) m found hu) hx
-    (root_choice (bytes_eq (encode (mul v (mul x x))) (encode (sub none u))) (eqb (times n (times k k)) (minus 0 m))
+    (same_element (mul v (squared x)) u (times n (times k k)) m found hu) hx
+    (root_choice (bytes_eq (encode (mul v (squared x))) (encode (sub none u))) (eqb (times n (times k k)) (minus 0 m))
     (Some (mul x root)) None (Some (times k root_number)) None
-    (same_element (mul v (mul x x)) (sub none u) (times n (times k k)) (minus 0 m) found (sub_number none u 0 m none_number hu))
+    (same_element (mul v (squared x)) (sub none u) (times n (times k k)) (minus 0 m) found (sub_number none u 0 m none_number hu))
     (mul_number x root k root_number hx root_is) tt)
 
 quotient_is : (u v : List ℕ) (m n : ℕ) → HasNumber u m → HasNumber v n → AreRoots (square_root_of_ratio u v) (root_of_quotient m n)
 unfolding square_root_of_ratio root_of_quotient
 quotient_is u v m n hu hv =
-    let cube = mul_number _ _ _ _ (mul_number v v n n hv hv) hv in
-    let seventh = mul_number _ _ _ _ (mul_number _ _ _ _ cube cube) hv in
+    let cube = mul_number _ _ _ _ (square_number v n hv) hv in
+    let seventh = mul_number _ _ _ _ (square_number _ _ cube) hv in
     root_by_is u v _ m n _ hu hv (mul_number _ _ _ _ (mul_number _ _ _ _ hu cube) (root_power_number _ _ (mul_number _ _ _ _ hu seventh)))
 
 with_x_is : (x y : List ℕ) (m n odd : ℕ) → HasNumber x m → HasNumber y n → AreAlike (point_with x y odd) (with_x m n odd)
@@ -147,7 +147,7 @@ point_in_is bytes are =
     let n : ℕ = number_of_32 bytes % 2 ^ 255 in
     point_if (ltb n field) _ _ (λ e.
     let y : HasNumber (decode bytes) n = least (decode bytes) n (ltb-true n field e) (decode_number bytes are) in
-    let yy = mul_number (decode bytes) (decode bytes) n n y y in
+    let yy = square_number (decode bytes) n y in
     with_root_is _ _ (decode bytes) n (slice_index bytes 31 / 128)
     (quotient_is _ _ _ _ (sub_number _ _ _ _ yy one_number) (add_number _ _ _ _ (mul_number _ _ _ _ d_is yy) one_number)) y)
   where

@@ -5,7 +5,7 @@ use Rattle.sshsuite.specs.Bits.{bit_at}
 use Rattle.sshsuite.specs.Edwards25519.{add_points, base_point, double, double_and_add, encode_point, multiply, multiply_to, negate, neutral, point_of_factors, twice_d, with_sign}
 use Rattle.sshsuite.specs.FieldElement.{none}
 use Rattle.sshsuite.specs.declared.edwards25519.Point.{Point}
-use Rattle.sshsuite.proofs.FieldNumberLemmas.{add_number, encode_number, inverse_number, mul_number, none_number, one_number, sub_number}
+use Rattle.sshsuite.proofs.FieldNumberLemmas.{add_number, encode_number, inverse_number, mul_number, none_number, one_number, square_number, sub_number}
 use Rattle.sshsuite.specs.EdwardsNumbers.{Coordinates, HasCoordinates, added, base_numbers, bytes_of_point, doubled, multiple, multiple_to, neutral_numbers, of_factors, opposite, twice_d_number}
 use Rattle.sshsuite.specs.FieldNumbers.{HasNumber}
 
@@ -42,13 +42,13 @@ sum_is p q m n h k =
 double_is : (p : Point) (m : Coordinates) → HasCoordinates p m → HasCoordinates (double p) (doubled m)
 unfolding double doubled
 double_is p m h =
-    let a = mul_number p.x p.x m.x m.x h.x h.x in
-    let b = mul_number p.y p.y m.y m.y h.y h.y in
-    let zz = mul_number p.z p.z m.z m.z h.z h.z in
+    let a = square_number p.x m.x h.x in
+    let b = square_number p.y m.y h.y in
+    let zz = square_number p.z m.z h.z in
     let c = add_number _ _ _ _ zz zz in
     let hh = add_number _ _ _ _ a b in
     let s = add_number p.x p.y m.x m.y h.x h.y in
-    let e = sub_number _ _ _ _ hh (mul_number _ _ _ _ s s) in
+    let e = sub_number _ _ _ _ hh (square_number _ _ s) in
     let g = sub_number _ _ _ _ a b in
     factors_are _ _ _ _ _ _ _ _ e (add_number _ _ _ _ c g) g hh
 

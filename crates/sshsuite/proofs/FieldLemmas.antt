@@ -1,10 +1,10 @@
 -- The arithmetic of limbs is that of the field, where each limb is below 2^52: nothing is lost, and the number of the limbs is
 -- what it is to be modulo 2^255 - 19.
 
-use Rattle.std.proofs.Common.{◌≡◌, ℕ, ◌+◌, ◌*◌, ◌/◌, ◌%◌, ◌^◌, ◌<◌, ◌≤◌, List, [], ◌∷◌, sym, ap, ◌∙◌, arith}
+use Rattle.std.proofs.Common.{◌≡◌, ℕ, ◌+◌, ◌*◌, ◌/◌, ◌%◌, ◌^◌, ◌<◌, ◌≤◌, List, [], ◌∷◌, sym, ap, ap₂, ◌∙◌, arith}
 use Rattle.std.proofs.Math.Nat.{mul-le-mul_left}
 use Rattle.std.specs.Prelude.{slice_index}
-use Rattle.sshsuite.specs.FieldElement.{add, add128, carried, dot, less, mul, mul64, mul128, sub}
+use Rattle.sshsuite.specs.FieldElement.{add, add128, carried, dot, less, mul, mul64, mul128, scaled, squared, sub, three}
 use Rattle.sshsuite.specs.FieldValues.{AreBelow, field, value, weighed}
 
 -- one pass of carries
@@ -190,6 +190,110 @@ mul_value a b h k =
     let out = carried_value c0 c1 c2 c3 c4 f0.1 f1.1 f2.1 f3.1 f4.1 in
     let all = expand a0 a1 a2 a3 a4 b0 b1 b2 b3 b4 c0 c1 c2 c3 c4 g0 g1 g2 g3 g4 in
     (out.0, out.1 ∙ sym (multiple (value a * value b) (weighed c0 c1 c2 c3 c4) (weighed (a1 * b4 + a2 * b3 + a3 * b2 + a4 * b1) (a2 * b4 + a3 * b3 + a4 * b2) (a3 * b4 + a4 * b3) (a4 * b4) 0) all))
+
+factors : (a b : ℕ) → a < 2 ^ 53 → b < 2 ^ 58 → a * b < 2 ^ 111
+factors a b h k = let m : a * b ≤ a * 2 ^ 58 = mul-le-mul_left a (omega arith) in omega (arith, m)
+
+-- three products
+three_value : (x0 y0 x1 y1 x2 y2 : ℕ) → x0 < 2 ^ 53 → y0 < 2 ^ 58 → x1 < 2 ^ 53 → y1 < 2 ^ 58 → x2 < 2 ^ 53 → y2 < 2 ^ 58
+    → (three x0 y0 x1 y1 x2 y2 ≡ x0 * y0 + x1 * y1 + x2 * y2) × (three x0 y0 x1 y1 x2 y2 < 2 ^ 115)
+unfolding three
+three_value x0 y0 x1 y1 x2 y2 h0 k0 h1 k1 h2 k2 =
+    let m0 : x0 * y0 < 2 ^ 111 = factors x0 y0 h0 k0 in
+    let m1 : x1 * y1 < 2 ^ 111 = factors x1 y1 h1 k1 in
+    let m2 : x2 * y2 < 2 ^ 111 = factors x2 y2 h2 k2 in
+    let is = small (x0 * y0) (x1 * y1) (x2 * y2) m0 m1 m2 in
+    (is, omega (arith, is, m0, m1, m2))
+  where
+    small : (x y z : ℕ) → x < 2 ^ 111 → y < 2 ^ 111 → z < 2 ^ 111 → add128 (add128 (x % 2 ^ 128) (y % 2 ^ 128)) (z % 2 ^ 128) ≡ x + y + z
+    small x y z h k l = omega arith
+
+pub square_value : (a : List ℕ) → AreBelow (2 ^ 52) a
+    → AreBelow (2 ^ 52) (squared a) × (value (squared a) % field ≡ value a * value a % field)
+unfolding squared
+square_value a h =
+    let a0 : ℕ = slice_index a 0 in
+    let a1 : ℕ = slice_index a 1 in
+    let a2 : ℕ = slice_index a 2 in
+    let a3 : ℕ = slice_index a 3 in
+    let a4 : ℕ = slice_index a 4 in
+    let h0 : a0 < 2 ^ 53 = omega (arith, h.l0) in
+    let h1 : a1 < 2 ^ 53 = omega (arith, h.l1) in
+    let h2 : a2 < 2 ^ 53 = omega (arith, h.l2) in
+    let h3 : a3 < 2 ^ 53 = omega (arith, h.l3) in
+    let h4 : a4 < 2 ^ 53 = omega (arith, h.l4) in
+    let k0 : a0 < 2 ^ 58 = omega (arith, h.l0) in
+    let k1 : a1 < 2 ^ 58 = omega (arith, h.l1) in
+    let k2 : a2 < 2 ^ 58 = omega (arith, h.l2) in
+    let k3 : a3 < 2 ^ 58 = omega (arith, h.l3) in
+    let k4 : a4 < 2 ^ 58 = omega (arith, h.l4) in
+    let t0 : ℕ = mul64 a0 2 in
+    let u0 : t0 ≡ 2 * a0 = omega (arith, h.l0) in
+    let d0 : t0 < 2 ^ 53 = omega (arith, u0, h.l0) in
+    let t1 : ℕ = mul64 a1 2 in
+    let u1 : t1 ≡ 2 * a1 = omega (arith, h.l1) in
+    let d1 : t1 < 2 ^ 53 = omega (arith, u1, h.l1) in
+    let t2 : ℕ = mul64 a2 2 in
+    let u2 : t2 ≡ 2 * a2 = omega (arith, h.l2) in
+    let d2 : t2 < 2 ^ 53 = omega (arith, u2, h.l2) in
+    let s3 : ℕ = mul64 a3 19 in
+    let w3 : s3 ≡ 19 * a3 = omega (arith, h.l3) in
+    let z3 : s3 < 2 ^ 58 = omega (arith, w3, h.l3) in
+    let s4 : ℕ = mul64 a4 19 in
+    let w4 : s4 ≡ 19 * a4 = omega (arith, h.l4) in
+    let z4 : s4 < 2 ^ 58 = omega (arith, w4, h.l4) in
+    let r4 : ℕ = mul64 a4 38 in
+    let v4 : r4 ≡ 38 * a4 = omega (arith, h.l4) in
+    let y4 : r4 < 2 ^ 58 = omega (arith, v4, h.l4) in
+    let f0 = three_value a0 a0 a1 r4 t2 s3 h0 k0 h1 y4 d2 z3 in
+    let f1 = three_value t0 a1 a2 r4 a3 s3 d0 k1 h2 y4 h3 z3 in
+    let f2 = three_value t0 a2 a1 a1 a3 r4 d0 k2 h1 k1 h3 y4 in
+    let f3 = three_value t0 a3 t1 a2 a4 s4 d0 k3 d1 k2 h4 z4 in
+    let f4 = three_value t0 a4 t1 a3 a2 a2 d0 k4 d1 k3 h2 k2 in
+    let p01 : t0 * a1 ≡ 2 * a0 * a1 = ap (λ (n : ℕ). n * a1) u0 in
+    let p02 : t0 * a2 ≡ 2 * a0 * a2 = ap (λ (n : ℕ). n * a2) u0 in
+    let p03 : t0 * a3 ≡ 2 * a0 * a3 = ap (λ (n : ℕ). n * a3) u0 in
+    let p04 : t0 * a4 ≡ 2 * a0 * a4 = ap (λ (n : ℕ). n * a4) u0 in
+    let p12 : t1 * a2 ≡ 2 * a1 * a2 = ap (λ (n : ℕ). n * a2) u1 in
+    let p13 : t1 * a3 ≡ 2 * a1 * a3 = ap (λ (n : ℕ). n * a3) u1 in
+    let p14 : a1 * r4 ≡ a1 * (38 * a4) = ap (λ (n : ℕ). a1 * n) v4 in
+    let p23 : t2 * s3 ≡ 2 * a2 * (19 * a3) = ap₂ ◌*◌ u2 w3 in
+    let p24 : a2 * r4 ≡ a2 * (38 * a4) = ap (λ (n : ℕ). a2 * n) v4 in
+    let p33 : a3 * s3 ≡ a3 * (19 * a3) = ap (λ (n : ℕ). a3 * n) w3 in
+    let p34 : a3 * r4 ≡ a3 * (38 * a4) = ap (λ (n : ℕ). a3 * n) v4 in
+    let p44 : a4 * s4 ≡ a4 * (19 * a4) = ap (λ (n : ℕ). a4 * n) w4 in
+    let c0 : ℕ = three a0 a0 a1 r4 t2 s3 in
+    let g0 : c0 ≡ a0 * a0 + 19 * (a1 * a4) + 19 * (a2 * a3) + 19 * (a3 * a2) + 19 * (a4 * a1) = omega (arith, f0.0, p14, p23) in
+    let c1 : ℕ = three t0 a1 a2 r4 a3 s3 in
+    let g1 : c1 ≡ a0 * a1 + a1 * a0 + 19 * (a2 * a4) + 19 * (a3 * a3) + 19 * (a4 * a2) = omega (arith, f1.0, p01, p24, p33) in
+    let c2 : ℕ = three t0 a2 a1 a1 a3 r4 in
+    let g2 : c2 ≡ a0 * a2 + a1 * a1 + a2 * a0 + 19 * (a3 * a4) + 19 * (a4 * a3) = omega (arith, f2.0, p02, p34) in
+    let c3 : ℕ = three t0 a3 t1 a2 a4 s4 in
+    let g3 : c3 ≡ a0 * a3 + a1 * a2 + a2 * a1 + a3 * a0 + 19 * (a4 * a4) = omega (arith, f3.0, p03, p12, p44) in
+    let c4 : ℕ = three t0 a4 t1 a3 a2 a2 in
+    let g4 : c4 ≡ a0 * a4 + a1 * a3 + a2 * a2 + a3 * a1 + a4 * a0 = omega (arith, f4.0, p04, p13) in
+    let out = carried_value c0 c1 c2 c3 c4 f0.1 f1.1 f2.1 f3.1 f4.1 in
+    let all = expand a0 a1 a2 a3 a4 a0 a1 a2 a3 a4 c0 c1 c2 c3 c4 g0 g1 g2 g3 g4 in
+    (out.0, out.1 ∙ sym (multiple (value a * value a) (weighed c0 c1 c2 c3 c4) (weighed (a1 * a4 + a2 * a3 + a3 * a2 + a4 * a1) (a2 * a4 + a3 * a3 + a4 * a2) (a3 * a4 + a4 * a3) (a4 * a4) 0) all))
+
+limb_times : (x n : ℕ) → x < 2 ^ 52 → n < 2 ^ 32 → (mul128 x n ≡ x * n) × (mul128 x n < 2 ^ 115)
+limb_times x n h k = let m : x * n < 2 ^ 111 = factors x n (omega arith) (omega arith) in (omega (arith, m), omega (arith, m))
+
+spread : (a0 a1 a2 a3 a4 n c0 c1 c2 c3 c4 : ℕ) → c0 ≡ a0 * n → c1 ≡ a1 * n → c2 ≡ a2 * n → c3 ≡ a3 * n → c4 ≡ a4 * n
+    → weighed c0 c1 c2 c3 c4 ≡ n * weighed a0 a1 a2 a3 a4
+spread a0 a1 a2 a3 a4 n c0 c1 c2 c3 c4 e0 e1 e2 e3 e4 = omega arith
+
+pub scaled_value : (a : List ℕ) (n : ℕ) → AreBelow (2 ^ 52) a → n < 2 ^ 32
+    → AreBelow (2 ^ 52) (scaled a n) × (value (scaled a n) % field ≡ n * value a % field)
+unfolding scaled
+scaled_value a n h k =
+    let w0 = limb_times (slice_index a 0) n h.l0 k in
+    let w1 = limb_times (slice_index a 1) n h.l1 k in
+    let w2 = limb_times (slice_index a 2) n h.l2 k in
+    let w3 = limb_times (slice_index a 3) n h.l3 k in
+    let w4 = limb_times (slice_index a 4) n h.l4 k in
+    let out = carried_value _ _ _ _ _ w0.1 w1.1 w2.1 w3.1 w4.1 in
+    (out.0, out.1 ∙ ap (λ (m : ℕ). m % field) (spread _ _ _ _ _ n _ _ _ _ _ w0.0 w1.0 w2.0 w3.0 w4.0))
 
 pub add_value : (a b : List ℕ) → AreBelow (2 ^ 52) a → AreBelow (2 ^ 52) b
     → AreBelow (2 ^ 52) (add a b) × (value (add a b) % field ≡ (value a + value b) % field)

@@ -1,12 +1,12 @@
 -- Elements compute with numbers modulo 2^255 - 19.
 
-use Rattle.std.proofs.Common.{◌≡◌, ℕ, zero, suc, ◌+◌, ◌-◌, ◌*◌, ◌/◌, ◌%◌, ◌^◌, List, refl, sym, ap, ◌∙◌, arith}
+use Rattle.std.proofs.Common.{◌≡◌, ℕ, zero, suc, ◌+◌, ◌-◌, ◌*◌, ◌/◌, ◌%◌, ◌^◌, ◌<◌, List, refl, sym, ap, ◌∙◌, arith}
 use Rattle.std.proofs.Math.Nat.{pow-suc, pow-zero}
 use Rattle.std.proofs.lemmas.Nat.{pow-add}
 use Rattle.sshsuite.specs.Bits.{number_of_32}
-use Rattle.sshsuite.specs.FieldElement.{add, decode, eleventh, encode, inverse, mul, none, one, root_power, squares, sub, to_50, to_250}
+use Rattle.sshsuite.specs.FieldElement.{add, decode, eleventh, encode, inverse, mul, none, one, root_power, scaled, squared, squares, sub, to_50, to_250}
 use Rattle.sshsuite.proofs.EncodingLemmas.{AreWords, decode_value, encode_value}
-use Rattle.sshsuite.proofs.FieldLemmas.{add_value, mul_value, sub_value}
+use Rattle.sshsuite.proofs.FieldLemmas.{add_value, mul_value, scaled_value, square_value, sub_value}
 use Rattle.sshsuite.specs.FieldBytes.{bytes_of_number}
 use Rattle.sshsuite.specs.FieldNumbers.{HasNumber, minus, plus, power, reciprocal, times}
 use Rattle.sshsuite.specs.FieldValues.{AreBelow, field, value}
@@ -48,6 +48,18 @@ mul_number a b m n h k =
     let out = mul_value a b h.below k.below in
     record { below = out.0; number = out.1 ∙ products (value a) (value b) m n h.number k.number }
 
+pub square_number : (a : List ℕ) (m : ℕ) → HasNumber a m → HasNumber (squared a) (times m m)
+unfolding times
+square_number a m h =
+    let out = square_value a h.below in
+    record { below = out.0; number = out.1 ∙ products (value a) (value a) m m h.number h.number }
+
+pub scaled_number : (a : List ℕ) (n m : ℕ) → n < 2 ^ 32 → HasNumber a m → HasNumber (scaled a n) (times n m)
+unfolding times
+scaled_number a n m low h =
+    let out = scaled_value a n h.below low in
+    record { below = out.0; number = out.1 ∙ products n (value a) n m (omega (arith, low)) h.number }
+
 -- Powers.
 number_by : (a : List ℕ) (m n : ℕ) → m ≡ n → HasNumber a m → HasNumber a n
 number_by a m n e h = record { below = h.below; number = h.number ∙ e }
@@ -61,46 +73,48 @@ power_sum x d e n is =
 mul_power : (a b : List ℕ) (x d e n : ℕ) → HasNumber a (power x d) → HasNumber b (power x e) → d + e ≡ n → HasNumber (mul a b) (power x n)
 mul_power a b x d e n h k is = number_by (mul a b) (times (power x d) (power x e)) (power x n) (power_sum x d e n is) (mul_number a b (power x d) (power x e) h k)
 
+square_power : (a : List ℕ) (x e n : ℕ) → HasNumber a (power x e) → e + e ≡ n → HasNumber (squared a) (power x n)
+square_power a x e n h is = number_by (squared a) (times (power x e) (power x e)) (power x n) (power_sum x e e n is) (square_number a (power x e) h)
+
 squares_power : (a : List ℕ) (x e k : ℕ) → HasNumber a (power x e) → HasNumber (squares a k) (power x (e * 2 ^ k))
 unfolding squares
 squares_power a x e zero h = number_by a (power x e) (power x (e * 2 ^ 0)) (ap (power x) (omega arith)) h
 squares_power a x e (suc k) h =
-    let half = squares_power a x e k h in
-    mul_power (squares a k) (squares a k) x (e * 2 ^ k) (e * 2 ^ k) (e * 2 ^ suc k) half half (doubled e (2 ^ k) (2 ^ suc k) (omega arith))
+    square_power (squares a k) x (e * 2 ^ k) (e * 2 ^ suc k) (squares_power a x e k h) (doubled e (2 ^ k) (2 ^ suc k) (omega arith))
   where
     doubled : (e p q : ℕ) → q ≡ 2 * p → e * p + e * p ≡ e * q
     doubled e p q is = rw is (omega arith)
 
-squared : (a : List ℕ) (x e n k : ℕ) → HasNumber a (power x e) → e * 2 ^ k ≡ n → HasNumber (squares a k) (power x n)
-squared a x e n k h is = number_by (squares a k) (power x (e * 2 ^ k)) (power x n) (ap (power x) is) (squares_power a x e k h)
+raised : (a : List ℕ) (x e n k : ℕ) → HasNumber a (power x e) → e * 2 ^ k ≡ n → HasNumber (squares a k) (power x n)
+raised a x e n k h is = number_by (squares a k) (power x (e * 2 ^ k)) (power x n) (ap (power x) is) (squares_power a x e k h)
 
 eleventh_power : (a : List ℕ) (x : ℕ) → HasNumber a (power x 1) → HasNumber (eleventh a) (power x 11)
 unfolding eleventh
 eleventh_power a x h =
-    let two = mul_power a a x 1 1 2 h h refl in
-    let eight = squared (mul a a) x 2 8 2 two refl in
-    let nine = mul_power (squares (mul a a) 2) a x 8 1 9 eight h refl in
-    mul_power (mul (squares (mul a a) 2) a) (mul a a) x 9 2 11 nine two refl
+    let two = square_power a x 1 2 h refl in
+    let eight = raised (squared a) x 2 8 2 two refl in
+    let nine = mul_power (squares (squared a) 2) a x 8 1 9 eight h refl in
+    mul_power (mul (squares (squared a) 2) a) (squared a) x 9 2 11 nine two refl
 
 to_50_power : (a : List ℕ) (x : ℕ) → HasNumber a (power x 1) → HasNumber (to_50 a) (power x 1125899906842623)
 unfolding to_50
 to_50_power a x h =
-    let a2 : List ℕ = mul a a in
+    let a2 : List ℕ = squared a in
     let a9 : List ℕ = mul (squares a2 2) a in
     let a11 : List ℕ = mul a9 a2 in
-    let a31 : List ℕ = mul (mul a11 a11) a9 in
+    let a31 : List ℕ = mul (squared a11) a9 in
     let to_10 : List ℕ = mul (squares a31 5) a31 in
     let to_20 : List ℕ = mul (squares to_10 10) to_10 in
     let to_40 : List ℕ = mul (squares to_20 20) to_20 in
-    let h2 = mul_power a a x 1 1 2 h h refl in
-    let h9 = mul_power (squares a2 2) a x 8 1 9 (squared a2 x 2 8 2 h2 refl) h refl in
+    let h2 = square_power a x 1 2 h refl in
+    let h9 = mul_power (squares a2 2) a x 8 1 9 (raised a2 x 2 8 2 h2 refl) h refl in
     let h11 = mul_power a9 a2 x 9 2 11 h9 h2 refl in
-    let h22 = mul_power a11 a11 x 11 11 22 h11 h11 refl in
-    let h31 = mul_power (mul a11 a11) a9 x 22 9 31 h22 h9 refl in
-    let h10 = mul_power (squares a31 5) a31 x 992 31 1023 (squared a31 x 31 992 5 h31 refl) h31 refl in
-    let h20 = mul_power (squares to_10 10) to_10 x 1047552 1023 1048575 (squared to_10 x 1023 1047552 10 h10 refl) h10 refl in
-    let h40 = mul_power (squares to_20 20) to_20 x 1099510579200 1048575 1099511627775 (squared to_20 x 1048575 1099510579200 20 h20 refl) h20 refl in
-    mul_power (squares to_40 10) to_10 x 1125899906841600 1023 1125899906842623 (squared to_40 x 1099511627775 1125899906841600 10 h40 refl) h10 refl
+    let h22 = square_power a11 x 11 22 h11 refl in
+    let h31 = mul_power (squared a11) a9 x 22 9 31 h22 h9 refl in
+    let h10 = mul_power (squares a31 5) a31 x 992 31 1023 (raised a31 x 31 992 5 h31 refl) h31 refl in
+    let h20 = mul_power (squares to_10 10) to_10 x 1047552 1023 1048575 (raised to_10 x 1023 1047552 10 h10 refl) h10 refl in
+    let h40 = mul_power (squares to_20 20) to_20 x 1099510579200 1048575 1099511627775 (raised to_20 x 1048575 1099510579200 20 h20 refl) h20 refl in
+    mul_power (squares to_40 10) to_10 x 1125899906841600 1023 1125899906842623 (raised to_40 x 1099511627775 1125899906841600 10 h40 refl) h10 refl
 
 to_250_power : (a : List ℕ) (x : ℕ) → HasNumber a (power x 1)
     → HasNumber (to_250 a) (power x 1809251394333065553493296640760748560207343510400633813116524750123642650623)
@@ -110,9 +124,9 @@ to_250_power a x h =
     let c : List ℕ = mul (squares b 50) b in
     let d : List ℕ = mul (squares c 100) c in
     let hb = to_50_power a x h in
-    let hc = mul_power (squares b 50) b x 1267650600228228275596796362752 1125899906842623 1267650600228229401496703205375 (squared b x 1125899906842623 1267650600228228275596796362752 50 hb refl) hb refl in
-    let hd = mul_power (squares c 100) c x 1606938044258990275541962092339894951921974764381296132096000 1267650600228229401496703205375 1606938044258990275541962092341162602522202993782792835301375 (squared c x 1267650600228229401496703205375 1606938044258990275541962092339894951921974764381296132096000 100 hc refl) hc refl in
-    mul_power (squares d 50) b x 1809251394333065553493296640760748560207343510400633813116523624223735808000 1125899906842623 1809251394333065553493296640760748560207343510400633813116524750123642650623 (squared d x 1606938044258990275541962092341162602522202993782792835301375 1809251394333065553493296640760748560207343510400633813116523624223735808000 50 hd refl) hb refl
+    let hc = mul_power (squares b 50) b x 1267650600228228275596796362752 1125899906842623 1267650600228229401496703205375 (raised b x 1125899906842623 1267650600228228275596796362752 50 hb refl) hb refl in
+    let hd = mul_power (squares c 100) c x 1606938044258990275541962092339894951921974764381296132096000 1267650600228229401496703205375 1606938044258990275541962092341162602522202993782792835301375 (raised c x 1267650600228229401496703205375 1606938044258990275541962092339894951921974764381296132096000 100 hc refl) hc refl in
+    mul_power (squares d 50) b x 1809251394333065553493296640760748560207343510400633813116523624223735808000 1125899906842623 1809251394333065553493296640760748560207343510400633813116524750123642650623 (raised d x 1606938044258990275541962092341162602522202993782792835301375 1809251394333065553493296640760748560207343510400633813116523624223735808000 50 hd refl) hb refl
 
 first_power : (x y : ℕ) → y % field ≡ x → x ≡ power x 1
 unfolding power
@@ -130,7 +144,7 @@ inverse_number a x h =
     let one : HasNumber a (power x 1) = number_by a x (power x 1) (first_power x (value a) h.number) h in
     mul_power (squares (to_250 a) 5) (eleventh a) x 57896044618658097711785492504343953926634992332820282019728792003956564819936 11
     57896044618658097711785492504343953926634992332820282019728792003956564819947
-    (squared (to_250 a) x 1809251394333065553493296640760748560207343510400633813116524750123642650623 57896044618658097711785492504343953926634992332820282019728792003956564819936 5 (to_250_power a x one) refl)
+    (raised (to_250 a) x 1809251394333065553493296640760748560207343510400633813116524750123642650623 57896044618658097711785492504343953926634992332820282019728792003956564819936 5 (to_250_power a x one) refl)
     (eleventh_power a x one) refl
 
 wider : (a : List ℕ) → AreBelow (2 ^ 51) a → AreBelow (2 ^ 52) a
@@ -157,5 +171,5 @@ root_power_number a x h =
     let one : HasNumber a (power x 1) = number_by a x (power x 1) (first_power x (value a) h.number) h in
     mul_power (squares (to_250 a) 2) a x 7237005577332262213973186563042994240829374041602535252466099000494570602492 1
     7237005577332262213973186563042994240829374041602535252466099000494570602493
-    (squared (to_250 a) x 1809251394333065553493296640760748560207343510400633813116524750123642650623 7237005577332262213973186563042994240829374041602535252466099000494570602492 2 (to_250_power a x one) refl)
+    (raised (to_250 a) x 1809251394333065553493296640760748560207343510400633813116524750123642650623 7237005577332262213973186563042994240829374041602535252466099000494570602492 2 (to_250_power a x one) refl)
     one refl

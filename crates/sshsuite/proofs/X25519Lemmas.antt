@@ -1,12 +1,12 @@
 -- The code computes X25519 on numbers.
 
-use Rattle.std.proofs.Common.{◌≡◌, ℕ, zero, suc, ◌-◌, ◌%◌, ◌^◌, Bool, true, false, List, refl, arith, cond, eqb}
+use Rattle.std.proofs.Common.{◌≡◌, ℕ, zero, suc, ◌-◌, ◌%◌, ◌^◌, Bool, true, false, List, arith, cond, eqb}
 use Rattle.sshsuite.specs.Bits.{bit_at, number_of_32}
-use Rattle.sshsuite.specs.Curve25519.{a24, affine, clamped, ladder, ladder_bit, ladder_start, ladder_step, swapped, x25519}
+use Rattle.sshsuite.specs.Curve25519.{affine, clamped, ladder, ladder_bit, ladder_start, ladder_step, swapped, x25519}
 use Rattle.sshsuite.specs.FieldElement.{decode}
 use Rattle.sshsuite.specs.declared.curve25519.LadderState.{LadderState}
 use Rattle.sshsuite.proofs.EncodingLemmas.{AreWords}
-use Rattle.sshsuite.proofs.FieldNumberLemmas.{add_number, decode_number, encode_number, inverse_number, mul_number, none_number, one_number, sub_number}
+use Rattle.sshsuite.proofs.FieldNumberLemmas.{add_number, decode_number, encode_number, inverse_number, mul_number, none_number, one_number, scaled_number, square_number, sub_number}
 use Rattle.sshsuite.specs.FieldBytes.{bytes_of_number}
 use Rattle.sshsuite.specs.FieldNumbers.{HasNumber}
 use Rattle.sshsuite.specs.FieldValues.{field}
@@ -19,16 +19,13 @@ pub record HasNumbers (s : LadderState) (t : Ladder) : Type 0 where
   pub x3 : HasNumber s.x3 t.x3
   pub z3 : HasNumber s.z3 t.z3
 
-a24_number : HasNumber a24 121665
-a24_number = record { below = record { l0 = omega arith; l1 = omega arith; l2 = omega arith; l3 = omega arith; l4 = omega arith }; number = refl }
-
 step_numbers : (s : LadderState) (t : Ladder) (x1 : List ℕ) (u : ℕ) → HasNumbers s t → HasNumber x1 u → HasNumbers (ladder_step s x1) (step t u)
 unfolding ladder_step step
 step_numbers s t x1 u h k =
     let a = add_number s.x2 s.z2 t.x2 t.z2 h.x2 h.z2 in
     let b = sub_number s.x2 s.z2 t.x2 t.z2 h.x2 h.z2 in
-    let aa = mul_number _ _ _ _ a a in
-    let bb = mul_number _ _ _ _ b b in
+    let aa = square_number _ _ a in
+    let bb = square_number _ _ b in
     let e = sub_number _ _ _ _ aa bb in
     let da = mul_number _ _ _ _ (sub_number s.x3 s.z3 t.x3 t.z3 h.x3 h.z3) a in
     let cb = mul_number _ _ _ _ (add_number s.x3 s.z3 t.x3 t.z3 h.x3 h.z3) b in
@@ -36,9 +33,9 @@ step_numbers s t x1 u h k =
     let difference = sub_number _ _ _ _ da cb in
     record {
       x2 = mul_number _ _ _ _ aa bb;
-      z2 = mul_number _ _ _ _ e (add_number _ _ _ _ aa (mul_number _ _ _ _ a24_number e));
-      x3 = mul_number _ _ _ _ sum sum;
-      z3 = mul_number _ _ _ _ k (mul_number _ _ _ _ difference difference);
+      z2 = mul_number _ _ _ _ e (add_number _ _ _ _ aa (scaled_number _ _ _ (omega arith) e));
+      x3 = square_number _ _ sum;
+      z3 = mul_number _ _ _ _ k (square_number _ _ difference);
     }
 
 swapped_numbers : (s : LadderState) (t : Ladder) → HasNumbers s t → HasNumbers (swapped s) (exchanged t)

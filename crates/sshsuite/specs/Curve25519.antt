@@ -1,9 +1,9 @@
 -- The function X25519 (RFC 7748 section 5), in the order of its steps.
 
 use Rattle.std.proofs.Common.{◌≡◌, add-one, refl}
-use Rattle.std.specs.Prelude.{ℕ, zero, suc, ◌+◌, ◌-◌, ◌%◌, ◌==◌, List, [], ◌∷◌, slice_index, slice_set, if◌then◌else◌, replicate}
+use Rattle.std.specs.Prelude.{ℕ, zero, suc, ◌+◌, ◌-◌, ◌%◌, ◌==◌, List, ◌∷◌, slice_index, slice_set, if◌then◌else◌, replicate}
 use Rattle.sshsuite.specs.Bits.{bit_at}
-use Rattle.sshsuite.specs.FieldElement.{add, decode, encode, inverse, mul, none, one, sub}
+use Rattle.sshsuite.specs.FieldElement.{add, decode, encode, inverse, mul, none, one, scaled, squared, sub}
 use Rattle.sshsuite.specs.declared.curve25519.LadderState.{LadderState}
 
 -- the two points in the other order
@@ -11,24 +11,24 @@ abbrev pub swapped : LadderState → LadderState
 swapped r = record { x2 = r.x3; z2 = r.z3; x3 = r.x2; z3 = r.z2 }
 
 -- (486662 - 2) / 4
-abbrev pub a24 : List ℕ
-a24 = 121665 ∷ 0 ∷ 0 ∷ 0 ∷ 0 ∷ []
+abbrev pub a24 : ℕ
+a24 = 121665
 
 -- the first point doubled, and the sum of both, whose difference has this coordinate
 unfoldable pub ladder_step : LadderState → List ℕ → LadderState
 ladder_step r x1 =
     let a = add r.x2 r.z2 in
     let b = sub r.x2 r.z2 in
-    let aa = mul a a in
-    let bb = mul b b in
+    let aa = squared a in
+    let bb = squared b in
     let e = sub aa bb in
     let da = mul (sub r.x3 r.z3) a in
     let cb = mul (add r.x3 r.z3) b in
     record {
       x2 = mul aa bb;
-      z2 = mul e (add aa (mul a24 e));
-      x3 = mul (add da cb) (add da cb);
-      z3 = mul x1 (mul (sub da cb) (sub da cb));
+      z2 = mul e (add aa (scaled e a24));
+      x3 = squared (add da cb);
+      z3 = mul x1 (squared (sub da cb));
     }
 
 -- one bit of the ladder: a step on the points, in the other order where the bit is 1

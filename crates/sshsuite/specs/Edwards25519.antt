@@ -4,7 +4,7 @@ use Rattle.std.proofs.Common.{◌≡◌, add-one, refl}
 use Rattle.std.specs.Prelude.{ℕ, zero, suc, ◌+◌, ◌-◌, ◌*◌, ◌/◌, ◌%◌, ◌^◌, ◌==◌, ◌&&◌, nat_lt, Bool, List, [], ◌∷◌, slice_index, slice_set, if◌then◌else◌, Option, None, Some, replicate}
 use Rattle.std.specs.Str.{bytes_eq}
 use Rattle.sshsuite.specs.Bits.{bit_at, number_of_32}
-use Rattle.sshsuite.specs.FieldElement.{add, decode, encode, inverse, mul, none, one, root_power, sub}
+use Rattle.sshsuite.specs.FieldElement.{add, decode, encode, inverse, mul, none, one, root_power, squared, sub}
 use Rattle.sshsuite.specs.declared.edwards25519.Point.{Point}
 
 abbrev pub d : List ℕ
@@ -43,13 +43,12 @@ add_points p q =
 
 unfoldable pub double : Point → Point
 double p =
-    let a = mul p.x p.x in
-    let b = mul p.y p.y in
-    let zz = mul p.z p.z in
+    let a = squared p.x in
+    let b = squared p.y in
+    let zz = squared p.z in
     let c = add zz zz in
     let h = add a b in
-    let s = add p.x p.y in
-    let e = sub h (mul s s) in
+    let e = sub h (squared (add p.x p.y)) in
     let g = sub a b in
     point_of_factors e (add c g) g h
 
@@ -78,15 +77,15 @@ encode_point p = let through_z = inverse p.z in with_sign (encode (mul p.x throu
 -- a square root of the one through the other, where it is this one or this one times the root of -1
 unfoldable pub root_by : List ℕ → List ℕ → List ℕ → Option (List ℕ)
 root_by u v x =
-    let found = encode (mul v (mul x x)) in
+    let found = encode (mul v (squared x)) in
     if bytes_eq found (encode u) then Some x
     else if bytes_eq found (encode (sub none u)) then Some (mul x root)
     else None
 
 unfoldable pub square_root_of_ratio : List ℕ → List ℕ → Option (List ℕ)
 square_root_of_ratio u v =
-    let cube = mul (mul v v) v in
-    let seventh = mul (mul cube cube) v in
+    let cube = mul (squared v) v in
+    let seventh = mul (squared cube) v in
     root_by u v (mul (mul u cube) (root_power (mul u seventh)))
 
 -- the point with this x or its opposite, whose lowest bit is this, and this y
@@ -108,7 +107,7 @@ is_canonical bytes = nat_lt (number_of_32 bytes % 2 ^ 255) (2 ^ 255 - 19)
 unfoldable pub decode_point : List ℕ → Option Point
 decode_point bytes =
     let y = decode bytes in
-    let yy = mul y y in
+    let yy = squared y in
     if is_canonical bytes then point_from (square_root_of_ratio (sub yy one) (add (mul d yy) one)) y (slice_index bytes 31 / 128)
     else None
 

@@ -68,22 +68,47 @@ mul a b =
     carried (dot a (b0 ∷ s4 ∷ s3 ∷ s2 ∷ s1 ∷ []) ∷ dot a (b1 ∷ b0 ∷ s4 ∷ s3 ∷ s2 ∷ []) ∷ dot a (b2 ∷ b1 ∷ b0 ∷ s4 ∷ s3 ∷ [])
     ∷ dot a (b3 ∷ b2 ∷ b1 ∷ b0 ∷ s4 ∷ []) ∷ dot a (b4 ∷ b3 ∷ b2 ∷ b1 ∷ b0 ∷ []) ∷ [])
 
+-- the sum of three products
+unfoldable pub three : ℕ → ℕ → ℕ → ℕ → ℕ → ℕ → ℕ
+three x0 y0 x1 y1 x2 y2 = add128 (add128 (mul128 x0 y0) (mul128 x1 y1)) (mul128 x2 y2)
+
+-- the product of an element and itself: each product of two limbs is made once, and counts twice
+unfoldable pub squared : List ℕ → List ℕ
+squared a =
+    let a0 = slice_index a 0 in
+    let a1 = slice_index a 1 in
+    let a2 = slice_index a 2 in
+    let a3 = slice_index a 3 in
+    let a4 = slice_index a 4 in
+    let t0 = mul64 a0 2 in
+    let t1 = mul64 a1 2 in
+    let t2 = mul64 a2 2 in
+    let s3 = mul64 a3 19 in
+    let s4 = mul64 a4 19 in
+    let r4 = mul64 a4 38 in
+    carried (three a0 a0 a1 r4 t2 s3 ∷ three t0 a1 a2 r4 a3 s3 ∷ three t0 a2 a1 a1 a3 r4 ∷ three t0 a3 t1 a2 a4 s4 ∷ three t0 a4 t1 a3 a2 a2 ∷ [])
+
+-- so many times the element
+unfoldable pub scaled : List ℕ → ℕ → List ℕ
+scaled a n =
+    carried (mul128 (slice_index a 0) n ∷ mul128 (slice_index a 1) n ∷ mul128 (slice_index a 2) n ∷ mul128 (slice_index a 3) n ∷ mul128 (slice_index a 4) n ∷ [])
+
 -- squared so many times
 unfoldable pub squares : List ℕ → ℕ → List ℕ
 squares a zero = a
-squares a (suc n) = mul (squares a n) (squares a n)
+squares a (suc n) = squared (squares a n)
 
 -- the power eleven
 unfoldable pub eleventh : List ℕ → List ℕ
-eleventh a = let two = mul a a in mul (mul (squares two 2) a) two
+eleventh a = let two = squared a in mul (mul (squares two 2) a) two
 
 -- the power 2^50 - 1
 unfoldable pub to_50 : List ℕ → List ℕ
 to_50 a =
-    let two = mul a a in
+    let two = squared a in
     let nine = mul (squares two 2) a in
     let eleven = mul nine two in
-    let to_5 = mul (mul eleven eleven) nine in
+    let to_5 = mul (squared eleven) nine in
     let to_10 = mul (squares to_5 5) to_5 in
     let to_20 = mul (squares to_10 10) to_10 in
     let to_40 = mul (squares to_20 20) to_20 in
@@ -155,6 +180,6 @@ pub squares_none : (a : List ℕ) → squares a 0 ≡ a
 unfolding squares
 squares_none a = refl
 
-pub squares_more : (a : List ℕ) (n : ℕ) → squares a (n + 1) ≡ mul (squares a n) (squares a n)
+pub squares_more : (a : List ℕ) (n : ℕ) → squares a (n + 1) ≡ squared (squares a n)
 unfolding squares
 squares_more a n = rw (add-one n) refl

@@ -5,11 +5,11 @@ ghost use Rattle.sshsuite.specs.Curve25519.{affine, clamped, ladder, ladder_bit,
 
 use crate::bits::bit_at;
 use crate::field_element::{
-    Element, ONE, ZERO, add, decode, encode, inverse, mul, select_element, square, sub,
+    Element, ONE, ZERO, add, decode, encode, inverse, mul, scale, select_element, square, sub,
 };
 
 /// (486662 - 2) / 4, which RFC 7748 calls a24.
-const A24: Element = [121665, 0, 0, 0, 0];
+const A24: u32 = 121665;
 
 /// The u-coordinate of the base point (RFC 7748 section 4.1).
 pub(crate) const BASE_POINT: [u8; 32] = [
@@ -52,7 +52,7 @@ fn ladder_step(s: LadderState, x1: Element) -> LadderState
     let da = mul(sub(s.x3, s.z3), a);
     let cb = mul(add(s.x3, s.z3), b);
     let x2 = mul(aa, bb);
-    let z2 = mul(e, add(aa, mul(A24, e)));
+    let z2 = mul(e, add(aa, scale(e, A24)));
     let x3 = square(add(da, cb));
     let z3 = mul(x1, square(sub(da, cb)));
     LadderState { x2, z2, x3, z3 }

@@ -37,7 +37,8 @@ const ED25519: &str = "ssh-ed25519";
 ///
 /// No branch and no index depends on a secret, as the code is written; no contract promises it of what a
 /// compiler makes. What time does tell is how many zeros a shared number begins with, since it goes as an
-/// mpint into the exchange hash (RFC 8731 section 3.1). Nothing is wiped.
+/// mpint into the exchange hash (RFC 8731 section 3.1). How long a verification takes tells of its arguments, which
+/// are all public. Nothing is wiped.
 #[derive(Clone, Copy, Debug)]
 pub struct DeployedSuite;
 
@@ -148,7 +149,10 @@ impl Suite for DeployedSuite {
         secret: &[u8],
         input: &[u8],
     ) -> Result<Vec<u8>, Memory> {
-        wrapped(alloc, &signature(alloc, secret, input)?)
+        wrapped(
+            alloc,
+            &signature(alloc, secret, &public_key(secret), input)?,
+        )
     }
 
     fn verify(
@@ -230,7 +234,7 @@ fn shared_number(alloc: Global, secret: [u8; 32]) -> Result<Option<Vec<u8>>, Mem
 /// The name of the algorithm and the bytes, each as a string: a public key or a signature (RFC 8709
 /// sections 4 and 6).
 #[tactic(auto, unfolding(crate::specs::Deployed::wrapped))]
-fn wrapped(alloc: Global, bytes: &[u8]) -> Result<Vec<u8>, Memory>
+pub(crate) fn wrapped(alloc: Global, bytes: &[u8]) -> Result<Vec<u8>, Memory>
     requires { length bytes.now < 2 ^ 32 }
     ensures { IfOk result (λ v. v.items ≡ wrapped bytes.now) }
 {

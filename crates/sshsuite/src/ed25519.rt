@@ -7,7 +7,7 @@ ghost use Rattle.sshsuite.specs.Ed25519.{hash_of, is_signature, prefix_of, publi
 use crate::bits::{first_half, second_half};
 use crate::curve25519::clamped;
 use crate::edwards25519::{
-    BASE_POINT, Point, add_points, decode_point, encode_point, multiply, negate,
+    BASE_POINT, Point, add_points, decode_point, encode_point, multiply, multiply_public, negate,
 };
 use crate::scalar::{encode_scalar, is_reduced, scalar_from, times_plus};
 use sha2::{Digest, Sha512};
@@ -58,15 +58,22 @@ fn hash_of(first: &[u8], second: &[u8], third: &[u8]) -> [u8; 64]
     hasher.finalize()
 }
 
-/// The signature of the input, of 64 bytes (RFC 8032 section 5.1.6).
+/// The signature of the input, of 64 bytes (RFC 8032 section 5.1.6), by a private key and its public key: by another
+/// one the private key would come to light.
 #[tactic(auto, unfolding(crate::specs::Ed25519::signature))]
-pub(crate) fn signature(alloc: Global, private_key: &[u8], input: &[u8]) -> Result<Vec<u8>, Memory>
+pub(crate) fn signature(
+    alloc: Global,
+    private_key: &[u8],
+    key: &[u8],
+    input: &[u8],
+) -> Result<Vec<u8>, Memory>
+    requires { key.now ≡ public_key private_key.now }
     ensures value { IfOk result (λ v. v.items ≡ signature private_key.now input.now) }
     ensures long { IfOk result (λ v. length v.items ≡ 64) }
 {
     let nonce = scalar_from(&hash_of(&prefix_of(private_key), input, &[]));
     let point = encode_point(multiply(&encode_scalar(nonce), BASE_POINT));
-    let challenge = scalar_from(&hash_of(&point, &public_key(private_key), input));
+    let challenge = scalar_from(&hash_of(&point, key, input));
     let answer = encode_scalar(times_plus(&secret_scalar(private_key), challenge, nonce));
     let mut signature = Vec::from_slice(alloc, &point)?;
     signature.extend_from_slice(&answer)?;
@@ -89,7 +96,7 @@ pub(crate) fn is_signature(key: &[u8], input: &[u8], signature: &[u8]) -> bool
 }
 
 /// Whether the two halves of a signature, R and s, are those of the input by the key of this point: s B is
-/// R and k times the point.
+/// R and k times the point. All of it is public.
 #[tactic(auto, unfolding(crate::specs::Ed25519::verifies))]
 fn verifies(p: Point, key: &[u8], input: &[u8], point: &[u8], answer: &[u8]) -> bool
     requires { length answer.now ≡ 32 }
@@ -97,8 +104,8 @@ fn verifies(p: Point, key: &[u8], input: &[u8], point: &[u8], answer: &[u8]) -> 
 {
     let challenge = encode_scalar(scalar_from(&hash_of(point, key, input)));
     let sum = add_points(
-        multiply(answer, BASE_POINT),
-        multiply(&challenge, negate(p)),
+        multiply_public(answer, BASE_POINT),
+        multiply_public(&challenge, negate(p)),
     );
     is_reduced(answer) && encode_point(sum).as_slice() == point
 }

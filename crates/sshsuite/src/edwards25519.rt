@@ -156,7 +156,21 @@ fn double_and_add(sum: Point, p: Point, bit: u64) -> Point
     select_point(twice, add_points(twice, p), bit)
 }
 
-/// The multiply of the point by the number of 32 bytes.
+/// The same of a bit that is public: where it is 0 no sum is made, so the time tells the bit.
+#[tactic(auto, unfolding(crate::specs::Edwards25519::double_and_add))]
+fn double_and_add_public(sum: Point, p: Point, bit: u64) -> Point
+    requires { bit < 2 }
+    ensures { result ≡ double_and_add sum p bit }
+{
+    let twice = double(sum);
+    if bit == 1 {
+        add_points(twice, p)
+    } else {
+        twice
+    }
+}
+
+/// The multiply of the point by the number of 32 bytes, in a time that doesn't depend on the bytes.
 #[tactic(auto, using(crate::specs::Edwards25519::multiply_none, crate::specs::Edwards25519::multiply_more), unfolding(crate::specs::Edwards25519::multiply))]
 pub(crate) fn multiply(bytes: &[u8], p: Point) -> Point
     requires { length bytes.now ≡ 32 }
@@ -165,6 +179,21 @@ pub(crate) fn multiply(bytes: &[u8], p: Point) -> Point
     let mut sum = NEUTRAL;
     for i in 0..256 {
         let next = double_and_add(sum, p, bit_at(bytes, 255 - i));
+        sum = next;
+    }
+    sum
+}
+
+/// The same of bytes and a point that are public, as all is of which a signature is verified: its time tells
+/// how many bits are 1, and where. Never call it with a secret.
+#[tactic(auto, using(crate::specs::Edwards25519::multiply_none, crate::specs::Edwards25519::multiply_more), unfolding(crate::specs::Edwards25519::multiply))]
+pub(crate) fn multiply_public(bytes: &[u8], p: Point) -> Point
+    requires { length bytes.now ≡ 32 }
+    ensures { result ≡ multiply bytes.now p }
+{
+    let mut sum = NEUTRAL;
+    for i in 0..256 {
+        let next = double_and_add_public(sum, p, bit_at(bytes, 255 - i));
         sum = next;
     }
     sum

@@ -4,7 +4,7 @@
 //! lost, but by that bound nothing is ([`field_law`](crate::field_law)).
 
 ghost use Rattle.std.specs.Prelude.{◌≡◌, ◌<◌, ◌+◌, ◌*◌, ◌%◌, ◌^◌, ◌==◌, if◌then◌else◌, length};
-ghost use Rattle.sshsuite.specs.FieldElement.{add, add128, canonical, carried, decode, dot, eleventh, encode, inverse, less, mul, mul128, packed, root_power, squares, sub, to_250, to_50};
+ghost use Rattle.sshsuite.specs.FieldElement.{add, add128, canonical, carried, decode, dot, eleventh, encode, inverse, less, mul, mul128, packed, root_power, scaled, squared, squares, sub, three, to_250, to_50};
 
 use crate::bits::{bytes_of_words, word_at};
 use crate::constant_time::select;
@@ -136,11 +136,52 @@ pub(crate) fn mul(a: Element, b: Element) -> Element
     ])
 }
 
-/// The product of an element and itself.
-pub(crate) fn square(a: Element) -> Element
-    ensures { result ≡ mul a a }
+/// The sum of three products.
+#[inline(always)]
+#[tactic(auto, unfolding(crate::specs::FieldElement::three))]
+fn three(first: (u64, u64), second: (u64, u64), third: (u64, u64)) -> u128
+    ensures { result ≡ three first.0 first.1 second.0 second.1 third.0 third.1 }
 {
-    mul(a, a)
+    product(first.0, first.1)
+        .wrapping_add(product(second.0, second.1))
+        .wrapping_add(product(third.0, third.1))
+}
+
+/// The product of an element and itself: each product of two limbs is made once, and counts twice.
+#[tactic(auto, unfolding(crate::specs::FieldElement::squared))]
+pub(crate) fn square(a: Element) -> Element
+    ensures { result ≡ squared a }
+{
+    let [a0, a1, a2, a3, a4] = a;
+    let (t0, t1, t2) = (a0.wrapping_mul(2), a1.wrapping_mul(2), a2.wrapping_mul(2));
+    let (s3, s4, r4) = (
+        a3.wrapping_mul(19),
+        a4.wrapping_mul(19),
+        a4.wrapping_mul(38),
+    );
+    carried([
+        three((a0, a0), (a1, r4), (t2, s3)),
+        three((t0, a1), (a2, r4), (a3, s3)),
+        three((t0, a2), (a1, a1), (a3, r4)),
+        three((t0, a3), (t1, a2), (a4, s4)),
+        three((t0, a4), (t1, a3), (a2, a2)),
+    ])
+}
+
+/// So many times the element.
+#[tactic(auto, unfolding(crate::specs::FieldElement::scaled))]
+pub(crate) fn scale(a: Element, n: u32) -> Element
+    ensures { result ≡ scaled a n }
+{
+    let [a0, a1, a2, a3, a4] = a;
+    let n = u64::from(n);
+    carried([
+        product(a0, n),
+        product(a1, n),
+        product(a2, n),
+        product(a3, n),
+        product(a4, n),
+    ])
 }
 
 /// Squared so many times.

@@ -13,15 +13,15 @@ ghost use Rattle.sshsuite.specs.Ed25519Numbers.{is_signed, key_of, signed};
 ghost use Rattle.sshsuite.specs.Edwards25519.{base_point, decode_point, encode_point, multiply};
 ghost use Rattle.sshsuite.specs.EdwardsNumbers.{Coordinates, HasCoordinates, base_numbers, bytes_of_point, multiple};
 ghost use Rattle.sshsuite.specs.FieldBytes.{bytes_of_number};
-ghost use Rattle.sshsuite.specs.FieldElement.{add, decode, encode, mul, sub};
+ghost use Rattle.sshsuite.specs.FieldElement.{add, decode, encode, mul, scaled, squared, sub};
 ghost use Rattle.sshsuite.specs.FieldValues.{AreBelow, field, value};
 ghost use Rattle.sshsuite.specs.Poly1305.{tag_of};
 ghost use Rattle.sshsuite.specs.PolyNumbers.{mac};
 ghost use Rattle.sshsuite.specs.X25519Numbers.{x25519_number};
 ghost use Rattle.sshsuite.specs.declared.edwards25519.Point.{Point};
 
-/// The law of elements whose limbs are below 2^52: sums, differences and products have such limbs too,
-/// and are those modulo 2^255 - 19; limbs that are read of 32 bytes have the number of these without their
+/// The law of elements whose limbs are below 2^52: sums, differences, products, squares and products by a number
+/// below 2^32 (`scaled`) have such limbs too, and are those modulo 2^255 - 19; limbs that are read of 32 bytes have the number of these without their
 /// highest bit, and limbs are written as the bytes of their number modulo 2^255 - 19.
 pub fn field_law()
     ensures sum { (a b : List ℕ) → AreBelow (2 ^ 52) a → AreBelow (2 ^ 52) b
@@ -30,6 +30,10 @@ pub fn field_law()
         → AreBelow (2 ^ 52) (sub a b) × ((value (sub a b) + value b) % field ≡ value a % field) }
     ensures product { (a b : List ℕ) → AreBelow (2 ^ 52) a → AreBelow (2 ^ 52) b
         → AreBelow (2 ^ 52) (mul a b) × (value (mul a b) % field ≡ value a * value b % field) }
+    ensures square { (a : List ℕ) → AreBelow (2 ^ 52) a
+        → AreBelow (2 ^ 52) (squared a) × (value (squared a) % field ≡ value a * value a % field) }
+    ensures scaled { (a : List ℕ) (n : ℕ) → AreBelow (2 ^ 52) a → n < 2 ^ 32
+        → AreBelow (2 ^ 52) (scaled a n) × (value (scaled a n) % field ≡ n * value a % field) }
     ensures decoded { (bytes : List ℕ) → IsBytes bytes
         → AreBelow (2 ^ 51) (decode bytes) × (value (decode bytes) ≡ number_of_32 bytes % 2 ^ 255) }
     ensures encoded { (a : List ℕ) → AreBelow (2 ^ 52) a → encode a ≡ bytes_of_number (value a % field) }

@@ -10,6 +10,8 @@ mod deployed_suite;
 mod ed25519;
 mod edwards25519;
 mod field_element;
+mod key_pair;
+mod keyed_suite;
 mod laws;
 mod mpint;
 mod poly1305;
@@ -17,4 +19,6 @@ mod scalar;
 mod sealing;
 
 pub use deployed_suite::DeployedSuite;
+pub use key_pair::KeyPair;
+pub use keyed_suite::KeyedSuite;
 pub use laws::{deployed_law, ed25519_law, field_law, point_law, poly1305_law, x25519_law};

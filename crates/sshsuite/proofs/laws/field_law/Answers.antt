@@ -1,5 +1,5 @@
 use Rattle.sshsuite.proofs.EncodingLemmas.{are_words, decode_value, encode_value}
-use Rattle.sshsuite.proofs.FieldLemmas.{add_value, mul_value, sub_value}
+use Rattle.sshsuite.proofs.FieldLemmas.{add_value, mul_value, scaled_value, square_value, sub_value}
 use Rattle.sshsuite.proofs.laws.field_law.Goals as goal
 
 pub returns-clause-sum : goal.returns-clause-sum
@@ -10,6 +10,12 @@ returns-clause-difference c = sub_value
 
 pub returns-clause-product : goal.returns-clause-product
 returns-clause-product c = mul_value
+
+pub returns-clause-square : goal.returns-clause-square
+returns-clause-square c = square_value
+
+pub returns-clause-scaled : goal.returns-clause-scaled
+returns-clause-scaled c = scaled_value
 
 pub returns-clause-decoded : goal.returns-clause-decoded
 returns-clause-decoded c = λ bytes h. decode_value bytes (are_words bytes h)
