@@ -1,6 +1,6 @@
 -- Whom an endpoint of this program trusts.
 
-use Rattle.std.specs.Prelude.{ℕ, ◌&&◌, Bool, false, List, Option, None, Some, option_map, string_bytes}
+use Rattle.std.specs.Prelude.{ℕ, ◌&&◌, Bool, false, true, List, Option, None, Some, option_map, string_bytes}
 use Rattle.std.specs.List.{list_any}
 use Rattle.std.specs.Str.{bytes_eq}
 use Rattle.sshcore.specs.Party.{KeyProof, NoProof, PasswordProof, Policy, ProofData}
@@ -26,4 +26,11 @@ abbrev pub trust_policy : Trust → Policy
 trust_policy trust = record {
   host_key = λ algorithm blob. is_trusted trust blob;
   user = λ number user service proof. bytes_eq (string_bytes trust.user) user && proves trust proof;
+}
+
+-- any host key will do, and no user is let in
+abbrev pub any_host_policy : {A : Type 0} → A → Policy
+any_host_policy looking = record {
+  host_key = λ algorithm blob. true;
+  user = λ number user service proof. false;
 }

@@ -1,14 +1,17 @@
 //! The program `sshauth`: a client or a server that authenticates over standard input and output, by algorithms that
-//! are deployed. What it tells of itself goes to standard error. docs/SSHAUTH.md has its words.
+//! are deployed, or a client that only looks at a server. What it tells of itself goes to standard error. docs/SSHAUTH.md has its words.
 #![tactic(auto)]
 
 mod authorized;
 mod channel;
+mod clear_stream;
 mod fault;
 mod files;
+mod findings;
 mod identity;
 mod link;
 mod parts;
+mod probe;
 mod report;
 mod settings;
 mod talk;
@@ -32,7 +35,7 @@ fn main(rt: HostRuntime) -> ExitCode {
     }
 }
 
-/// Does what the words ask for, and answers whether the user was authenticated.
+/// Does what the words ask for, and answers whether the user was authenticated, or a probe saw the server's lists.
 fn run(rt: &HostRuntime) -> Result<bool, Fault> {
     let words = words_of(rt)?;
     let matches = words::matches_of(rt.alloc(), &words)?;
@@ -40,6 +43,7 @@ fn run(rt: &HostRuntime) -> Result<bool, Fault> {
     match settings.role {
         Role::Client => talk::client(rt, &settings),
         Role::Server => talk::server(rt, &settings),
+        Role::Probe => probe::probe(rt, &settings),
     }
 }
 

@@ -1,16 +1,29 @@
 //! What is told on standard error. A report that can't be written is left out.
 
 use sshcore::{Accepted, End, Fault, Session};
+use std::fmt;
 use std::io::Write;
+
+/// How an endpoint ended, in words.
+#[derive(Clone, Copy)]
+pub(crate) struct Ended<'a>(pub(crate) &'a End);
+
+impl fmt::Display for Ended<'_> {
+    fn fmt<W: fmt::Write>(&self, f: &mut fmt::Formatter<W>) -> fmt::Result {
+        match self.0 {
+            End::Authenticated(_) => f.write_str("authenticated"),
+            End::Open => f.write_str("open"),
+            End::Failed(fault) => write!(f, "failed {fault}: {}", cause_of(fault)),
+            End::Closed(reason) => write!(f, "closed {reason}: the peer has disconnected"),
+        }
+    }
+}
 
 /// Says how an endpoint ended that isn't authenticated.
 pub(crate) fn end(rt: &HostRuntime, end: &End) {
-    let _ = match end {
-        End::Authenticated(_) => Ok(()),
-        End::Open => writeln!(rt.stderr(), "open"),
-        End::Failed(fault) => writeln!(rt.stderr(), "failed {fault}: {}", cause_of(fault)),
-        End::Closed(reason) => writeln!(rt.stderr(), "closed {reason}: the peer has disconnected"),
-    };
+    if !matches!(end, End::Authenticated(_)) {
+        let _ = writeln!(rt.stderr(), "{}", Ended(end));
+    }
 }
 
 /// Says who was authenticated, at a server how, and by which algorithms.

@@ -5,6 +5,8 @@
 pub(crate) enum Role {
     Client,
     Server,
+    /// A client that only looks at a server.
+    Probe,
 }
 
 /// What the words say, each as it stands.
@@ -17,7 +19,7 @@ pub(crate) struct Settings<'a> {
     pub(crate) identity: Option<&'a str>,
     /// A file whose first line is the password.
     pub(crate) password_file: Option<&'a str>,
-    /// A client's file of host keys that are trusted, and the name by which they stand there.
+    /// A client's file of host keys that are trusted, and the name by which they stand there, which a probe has too.
     pub(crate) known_hosts: Option<&'a str>,
     pub(crate) host: Option<&'a str>,
     /// A server's private host key, and the file of the keys by which the user may come in.
@@ -39,4 +41,6 @@ pub(crate) struct Settings<'a> {
     pub(crate) mac: &'a str,
     /// What a client asks the server to execute.
     pub(crate) exec: Option<&'a str>,
+    /// A file to which a probe writes what it finds.
+    pub(crate) report: Option<&'a str>,
 }

@@ -6,14 +6,25 @@ use clap::error::ErrorKind;
 use clap::{Arg, ArgAction, ArgMatches, Command};
 use std::alloc::{AllocError, Global};
 
-/// The options that both sides have, each with a value.
-const COMMON: &[&str] = &["user", "password-file", "strict", "kex", "mac"];
+/// The options that all have, each with a value.
+const COMMON: &[&str] = &["user", "strict", "kex", "mac"];
 
 /// Those of a client besides.
-const CLIENT: &[&str] = &["identity", "known-hosts", "host", "guess", "exec"];
+const CLIENT: &[&str] = &[
+    "password-file",
+    "identity",
+    "known-hosts",
+    "host",
+    "guess",
+    "exec",
+];
+
+/// Those of a probe besides.
+const PROBE: &[&str] = &["host", "report"];
 
 /// Those of a server besides.
 const SERVER: &[&str] = &[
+    "password-file",
     "host-key",
     "authorized-keys",
     "banner",
@@ -47,7 +58,8 @@ fn command<'a>(alloc: Global) -> Result<Command<'a>, AllocError> {
         .disable_version_flag(true)
         .subcommand_required(true);
     let program = program.subcommand(side_of(alloc, "client", CLIENT)?)?;
-    program.subcommand(side_of(alloc, "server", SERVER)?)
+    let program = program.subcommand(side_of(alloc, "server", SERVER)?)?;
+    program.subcommand(side_of(alloc, "probe", PROBE)?)
 }
 
 /// The form of the words of one side.
@@ -76,41 +88,43 @@ pub(crate) fn settings_of<'a>(matches: &ArgMatches<'a>) -> Result<Settings<'a>, 
     match matches.subcommand() {
         Some(("client", found)) => settings_in(Role::Client, found),
         Some(("server", found)) => settings_in(Role::Server, found),
+        Some(("probe", found)) => settings_in(Role::Probe, found),
         _ => Err(Fault::Words),
     }
 }
 
-/// What the words of one side say.
+/// What the words of one side say. An option that it doesn't have has no value.
 fn settings_in<'a>(role: Role, found: &ArgMatches<'a>) -> Result<Settings<'a>, Fault> {
-    let Some(user) = found.get_str("user") else {
+    let Some(user) = user_of(role, found.get_str("user")) else {
         return Err(Fault::Words);
     };
     Ok(Settings {
         role,
         user,
-        identity: own(role, Role::Client, found, "identity"),
+        identity: found.get_str("identity"),
         password_file: found.get_str("password-file"),
-        known_hosts: own(role, Role::Client, found, "known-hosts"),
-        host: own(role, Role::Client, found, "host"),
-        host_key: own(role, Role::Server, found, "host-key"),
-        authorized_keys: own(role, Role::Server, found, "authorized-keys"),
-        banner: own(role, Role::Server, found, "banner"),
-        methods: own(role, Role::Server, found, "methods").unwrap_or("publickey,password"),
-        required: own(role, Role::Server, found, "required"),
-        tries: tries_of(own(role, Role::Server, found, "tries"))?,
+        known_hosts: found.get_str("known-hosts"),
+        host: found.get_str("host"),
+        host_key: found.get_str("host-key"),
+        authorized_keys: found.get_str("authorized-keys"),
+        banner: found.get_str("banner"),
+        methods: found.get_str("methods").unwrap_or("publickey,password"),
+        required: found.get_str("required"),
+        tries: tries_of(found.get_str("tries"))?,
         strict: flag_of(found.get_str("strict"), true)?,
-        guess: flag_of(own(role, Role::Client, found, "guess"), false)?,
+        guess: flag_of(found.get_str("guess"), false)?,
         kex: found.get_str("kex").unwrap_or(KEX),
         mac: found.get_str("mac").unwrap_or(MAC),
-        exec: own(role, Role::Client, found, "exec"),
+        exec: found.get_str("exec"),
+        report: found.get_str("report"),
     })
 }
 
-/// The value of an option that this side alone has.
-fn own<'a>(role: Role, owner: Role, found: &ArgMatches<'a>, name: &'static str) -> Option<&'a str> {
-    match (role, owner) {
-        (Role::Client, Role::Client) | (Role::Server, Role::Server) => found.get_str(name),
-        _ => None,
+/// The user, whom a client and a server have to name.
+fn user_of(role: Role, word: Option<&str>) -> Option<&str> {
+    match role {
+        Role::Client | Role::Server => word,
+        Role::Probe => Some(word.unwrap_or("nobody")),
     }
 }
 

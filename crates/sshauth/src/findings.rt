@@ -1,0 +1,197 @@
+//! What a probe tells of a server, as text.
+
+use crate::clear_stream::Said;
+use crate::fault::Fault;
+use crate::report::Ended;
+use base64::engine::general_purpose::{STANDARD, STANDARD_NO_PAD};
+use sha2::{Digest, Sha256};
+use sshcore::End;
+use sshmsg::{KexInit, Message, MsgFault, read};
+use sshneg::{Chosen, Role, choose, strict_of};
+use sshsuite::DeployedSuite;
+use sshwire::NameList;
+use std::alloc::{AllocError, Global};
+use std::fmt::Write;
+
+/// The algorithm of keys, the only one that a probe lists.
+const ALGORITHM: &str = "ssh-ed25519";
+
+/// What a probe has found.
+#[derive(Clone, Copy)]
+pub(crate) struct Findings<'a> {
+    /// The name by which the server goes.
+    pub(crate) host: &'a str,
+    /// Whether the probe was willing to be strict.
+    pub(crate) strict: bool,
+    pub(crate) ours: &'a Said,
+    pub(crate) theirs: &'a Said,
+    /// The server's public host key, whose signature was verified.
+    pub(crate) host_key: &'a Option<Vec<u8>>,
+    /// How the endpoint ended.
+    pub(crate) end: &'a End,
+}
+
+/// The report: a line `HOST ssh-ed25519 KEY`, and lines `# WORD VALUE` of all else, so that it is a file of host keys too.
+pub(crate) fn report_of(alloc: Global, findings: &Findings<'_>) -> Result<String, Fault> {
+    let mut text = String::new(alloc);
+    if let Some(version) = &findings.theirs.version {
+        writeln!(text, "# version {version}")?;
+    }
+    if let Some(payload) = &findings.theirs.kexinit {
+        put_kexinit(alloc, &mut text, payload, findings)?;
+    }
+    if let Some(key) = findings.host_key {
+        put_key(alloc, &mut text, findings.host, key)?;
+    }
+    writeln!(text, "# end {}", Ended(findings.end))?;
+    Ok(text)
+}
+
+/// Puts what is told of the server's KEXINIT: its lists, and what these come to with ours.
+fn put_kexinit(
+    alloc: Global,
+    text: &mut String,
+    payload: &[u8],
+    findings: &Findings<'_>,
+) -> Result<(), Fault> {
+    let Some(theirs) = kexinit_in(alloc, payload)? else {
+        return Ok(());
+    };
+    put_lists(text, &theirs)?;
+    if let Some(payload) = &findings.ours.kexinit
+        && let Some(ours) = kexinit_in(alloc, payload)?
+    {
+        put_choice(text, &ours, &theirs)?;
+    }
+    let strict = strict_of(findings.strict, Role::Client, &theirs);
+    writeln!(text, "# strict {}", if strict { "yes" } else { "no" })?;
+    Ok(())
+}
+
+/// The KEXINIT that a payload spells, if it is one.
+fn kexinit_in<'a>(alloc: Global, payload: &'a [u8]) -> Result<Option<Box<KexInit<'a>>>, Fault> {
+    match read(alloc, payload) {
+        Ok(Message::KexInit(kexinit)) => Ok(Some(kexinit)),
+        Err(MsgFault::Memory) => Err(Fault::Memory),
+        _ => Ok(None),
+    }
+}
+
+/// Puts the lists by the names that they have in RFC 4253 section 7.1.
+fn put_lists(text: &mut String, kexinit: &KexInit<'_>) -> Result<(), AllocError> {
+    put_list(text, "kex_algorithms", &kexinit.kex_algorithms)?;
+    put_list(
+        text,
+        "server_host_key_algorithms",
+        &kexinit.server_host_key_algorithms,
+    )?;
+    put_list(
+        text,
+        "encryption_algorithms_client_to_server",
+        &kexinit.encryption_client_to_server,
+    )?;
+    put_list(
+        text,
+        "encryption_algorithms_server_to_client",
+        &kexinit.encryption_server_to_client,
+    )?;
+    put_list(
+        text,
+        "mac_algorithms_client_to_server",
+        &kexinit.mac_client_to_server,
+    )?;
+    put_list(
+        text,
+        "mac_algorithms_server_to_client",
+        &kexinit.mac_server_to_client,
+    )?;
+    put_list(
+        text,
+        "compression_algorithms_client_to_server",
+        &kexinit.compression_client_to_server,
+    )?;
+    put_list(
+        text,
+        "compression_algorithms_server_to_client",
+        &kexinit.compression_server_to_client,
+    )
+}
+
+/// Puts a line with a list, its names with commas between.
+fn put_list(text: &mut String, word: &str, list: &NameList) -> Result<(), AllocError> {
+    write!(text, "# {word} ")?;
+    for (place, name) in list.names().enumerate() {
+        if place > 0 {
+            text.push(',')?;
+        }
+        text.push_str(name)?;
+    }
+    text.push('\n')
+}
+
+/// Puts the algorithms that both lists come to, or the first field that has none.
+fn put_choice(
+    text: &mut String,
+    ours: &KexInit<'_>,
+    theirs: &KexInit<'_>,
+) -> Result<(), AllocError> {
+    match choose(ours, theirs, &DeployedSuite) {
+        Ok(chosen) => put_chosen(text, ours, &chosen),
+        Err(field) => writeln!(text, "# no_common {field}"),
+    }
+}
+
+/// Puts the algorithms that are chosen.
+fn put_chosen(text: &mut String, ours: &KexInit<'_>, chosen: &Chosen) -> Result<(), AllocError> {
+    put_name(text, "kex", &ours.kex_algorithms, chosen.kex)?;
+    put_name(
+        text,
+        "hostkey",
+        &ours.server_host_key_algorithms,
+        chosen.host_key,
+    )?;
+    put_name(
+        text,
+        "cipher_cs",
+        &ours.encryption_client_to_server,
+        chosen.encryption_client_to_server,
+    )?;
+    put_name(
+        text,
+        "cipher_sc",
+        &ours.encryption_server_to_client,
+        chosen.encryption_server_to_client,
+    )?;
+    put_name(
+        text,
+        "mac_cs",
+        &ours.mac_client_to_server,
+        chosen.mac_client_to_server,
+    )?;
+    put_name(
+        text,
+        "mac_sc",
+        &ours.mac_server_to_client,
+        chosen.mac_server_to_client,
+    )
+}
+
+/// Puts the name at a place of a list as chosen.
+fn put_name(
+    text: &mut String,
+    field: &str,
+    list: &NameList,
+    place: usize,
+) -> Result<(), AllocError> {
+    let name = list.name_at(place).unwrap_or("");
+    writeln!(text, "# chosen {field} {name}")
+}
+
+/// Puts the host key as `ssh-keyscan` does, and its fingerprint as `ssh-keygen -l` does.
+fn put_key(alloc: Global, text: &mut String, host: &str, key: &[u8]) -> Result<(), AllocError> {
+    write!(text, "{host} {ALGORITHM} ")?;
+    STANDARD.encode_string(key, text)?;
+    text.push_str("\n# fingerprint SHA256:")?;
+    STANDARD_NO_PAD.encode_string(&Sha256::digest(key), text)?;
+    text.push('\n')
+}
