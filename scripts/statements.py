@@ -20,6 +20,10 @@ BINDERS = [re.compile(r'λ((?:\s+[^\s(){}.]+)+)\.'), re.compile(r'[({]((?:[^\s()
            re.compile(r'\blet\s+(\S+)\s+='), re.compile(r'(?:^|[\s;{])(\w+) ←')]
 
 
+class Wrong(Exception):
+    """Why a source can't be read so, or what isn't there."""
+
+
 def without_comments(lines):
     return '\n'.join(re.sub(r'(^|\s)--.*$', '', line) for line in lines)
 
@@ -95,7 +99,7 @@ class Spec:
                 if is_data and (m := re.match(r'\s+(?:pub )?([^\s:]+)\s*:', line)):
                     self.owner.setdefault(m[1], current)
             elif not re.match(r'use |pub mod |infix', text):
-                raise SystemExit(f'{self.path}:{number}: this belongs to no definition: {text}')
+                raise Wrong(f'{self.path}:{number}: this belongs to no definition: {text}')
         for it in self.found.values():
             while not it.lines[-1].strip():
                 it.lines.pop()
@@ -318,7 +322,7 @@ class Function:
             inside = range(at, self.source.end_of(at)) if at is not None else range(0)
         head = next((at for at in inside if re.match(rf'\s*pub fn {last}\b', lines[at])), None)
         if head is None:
-            raise SystemExit(f'crates/{path} has no public function {name}')
+            raise Wrong(f'crates/{path} has no public function {name}')
         self.line = head + 1
         self.comment = [x for x in lines[self.source.begin_of(head):head] if '///' in x]
         self.head, at = [], head
@@ -345,7 +349,7 @@ class Function:
         known = {name or '-' for kind, name, _ in self.clauses if kind != 'requires'}
         lacking = [x for x in wanted if x not in known]
         if lacking:
-            raise SystemExit(f'{self.source.path}: {self.name} has no clause {", ".join(lacking)}')
+            raise Wrong(f'{self.source.path}: {self.name} has no clause {", ".join(lacking)}')
         taken = [x for x in self.clauses if x[0] == 'requires' or (x[1] or '-') in wanted]
         return taken, [x[1] or '-' for x in self.clauses if x[0] != 'requires' and (x[1] or '-') not in wanted]
 
