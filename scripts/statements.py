@@ -217,7 +217,7 @@ class Source:
                 continue
             if line.strip() or kept[-1].strip() not in ('', kept[0].strip()):
                 kept.append(line)
-        return ['', *kept]
+        return ['', *(x for at, x in enumerate(kept) if x.strip() or at != len(kept) - 2)]
 
     def names(self, it, book):
         """What an item names: where contracts see another thing than its fields, what that is; else the types of its
@@ -314,6 +314,8 @@ class Function:
 
     def __init__(self, book, path, name):
         self.source, self.name = book.open(path), name
+        if not self.source:
+            raise Wrong(f'there is no file crates/{path}')
         lines, last = self.source.lines, name.split('::')[-1]
         self.owner = name.split('::')[0] if '::' in name else None
         inside = range(len(lines))
