@@ -26,6 +26,7 @@ pub mod JoinedHistory
 pub mod FormLemmas
 pub mod SayingLemmas
 pub mod OutputLemmas
+pub mod PairLemmas
 pub mod GivesLemmas
 pub mod KexInitLemmas
 pub mod ConfigLemmas
@@ -47,6 +48,7 @@ pub mod AttemptLemmas
 pub mod BeginLemmas
 pub mod CallLemmas
 pub mod LineLemmas
+pub mod LinkLemmas
 pub mod AuthenticatedLemmas
 pub mod UncutLemmas
 pub mod ReachedLemmas

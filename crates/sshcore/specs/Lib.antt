@@ -43,3 +43,4 @@ pub mod EndpointData
 pub mod Endpoints
 pub mod Authenticated
 pub mod Sessions
+pub mod Linked

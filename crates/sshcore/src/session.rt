@@ -6,9 +6,11 @@ ghost use Rattle.sshpacket.specs.KeyData.{KeyData};
 ghost use Rattle.sshcore.specs.declared.end.Agreed.{Agreed};
 
 use crate::end::Agreed;
+use crate::link::Link;
 use crate::state::ReachedMethods;
 use sshneg::Role;
 use sshpacket::Keys;
+use std::alloc::Global;
 
 /// The keys of one direction, and the sequence number of its next packet (RFC 4253 section 6.4).
 ///
@@ -44,9 +46,9 @@ pub struct Accepted {
 /// What goes on behind authentication: what both sides agreed on, what a later exchange and the files of
 /// known hosts and of authorized keys ask for, and both directions.
 ///
-/// A `PacketReader` with the incoming keys and number reads what the peer sends next, from the first byte
-/// behind the packet that ended the endpoint; `write_sealed` with the outgoing ones writes what is sent
-/// next, with a padding seed of the caller's own. It has no `Debug`: keys are never printed.
+/// [`into_link`](Session::into_link) makes of it what opens all that the peer sends next, from the first byte
+/// behind the packet that ended the endpoint, and seals what is sent next. It has no `Debug`: keys are never
+/// printed.
 #[derive(Drop)]
 pub struct Session {
     /// What both sides agreed on.
@@ -65,6 +67,23 @@ pub struct Session {
     pub incoming: Direction,
     /// What is sent to the peer.
     pub outgoing: Direction,
+}
+
+impl Session {
+    ghost use Rattle.std.specs.Prelude.{◌<◌, ◌^◌};
+    ghost use Rattle.sshpacket.specs.Suite.{Meaning};
+    ghost use Rattle.sshcore.specs.Linked.{BeginsBy, LinkWaits, incoming_of, outgoing_of, sent_by};
+
+    /// The link of both directions, with a padding seed of the caller's own: 32 random bytes that served nothing
+    /// else. What else the session has is given up. Takes no memory.
+    pub fn into_link(self, alloc: Global, seed: [u8; 32]) -> Link
+        ensures seals { outgoing_of result ≡ sent_by self.outgoing seed }
+        ensures in_range { (outgoing_of result).number < 2 ^ 32 }
+        ensures opens { BeginsBy self.incoming (incoming_of result) }
+        ensures waits { (m : Meaning) → LinkWaits m (incoming_of result) }
+    {
+        Link::new(alloc, self.incoming, self.outgoing, seed)
+    }
 }
 
 /// The session of this, with these keys and numbers, where it is agreed and both directions have keys; of the version lines the

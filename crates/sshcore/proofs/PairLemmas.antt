@@ -1,0 +1,69 @@
+-- What one link seals, the other opens; and numbers of packets one after another.
+
+use Rattle.std.proofs.Common.{◌≡◌, ◌≢◌, ◌⊎◌, ℕ, suc, zero, ◌+◌, ◌%◌, ◌^◌, ◌<◌, ◌≤◌, List, [], ◌++◌, length, take, refl, sym, ap, ◌∙◌, subst, Some, None, Option, Result, Ok, Err, arith}
+use Rattle.std.proofs.lemmas.List.{length-append, take_at}
+use Rattle.sshwire.specs.Types.{IsBytes}
+use Rattle.sshpacket.specs.declared.reader.PacketStep.{PacketStep}
+use Rattle.sshpacket.specs.declared.reader.PacketStep.TheVariants.{More, Payload}
+use Rattle.sshpacket.specs.KeyData.{KeyData}
+use Rattle.sshpacket.specs.Parse.{Protection, protection}
+use Rattle.sshpacket.specs.ProtectedPacket.{IsProtectedPacket}
+use Rattle.sshpacket.specs.ReaderState.{ReaderState, protection_at, state}
+use Rattle.sshpacket.specs.Suite.{IsLawful, Meaning}
+use Rattle.sshcore.specs.declared.link_fault.LinkFault.{LinkFault}
+use Rattle.sshcore.specs.declared.link_fault.LinkFault.TheVariants as fault
+use Rattle.sshcore.specs.declared.session.Direction.{Direction}
+use Rattle.sshcore.specs.Linked.{AreLinked, BeginsBy, Incoming, LinkLeaves, OnlyOpenAnswer, Opens, Outgoing, raised, raised_times, sealed_by, sent_by}
+
+pub begins_linked : (direction : Direction) (seed : List ℕ) (i : Incoming) → direction.sequence_number < 2 ^ 32 → BeginsBy direction i → AreLinked (sent_by direction seed) i
+begins_linked direction seed i low b = record {
+  same_keys = ap (λ (s : ReaderState). s.keys) b.state_is;
+  same_number = ap (λ (s : ReaderState). s.seq) b.state_is;
+  none_held = ap (λ (s : ReaderState). s.held) b.state_is;
+  in_range = low;
+}
+
+-- the reader's protection is that of the packet
+same_protection : (m : Meaning) (o : Outgoing) (i : Incoming) → AreLinked o i → protection m (Some o.keys) o.number ≡ protection_at m (state i.reader)
+same_protection m o i l =
+    ap (λ (k : Option KeyData). protection m k o.number) (sym l.same_keys) ∙ ap (λ (n : ℕ). protection m (state i.reader).keys n) (sym l.same_number)
+
+-- the packet is opened, if it is one by its protection
+pub opens_linked : (m : Meaning) (o : Outgoing) (i : Incoming) → AreLinked o i → (payload rest : List ℕ)
+    → IsProtectedPacket (protection m (Some o.keys) o.number) payload (sealed_by m o payload)
+    → (result : Result PacketStep LinkFault) → OnlyOpenAnswer m i (sealed_by m o payload ++ rest) result
+    → Opens payload o.number (length (sealed_by m o payload)) result ⊎ (result ≡ Err fault.Memory)
+opens_linked m o i l payload rest unit result only =
+    let sealed : List ℕ = sealed_by m o payload in
+    let all : length (sealed ++ rest) ≡ length sealed + length rest = length-append sealed rest in
+    let front : sealed ≡ (state i.reader).held ++ take (length sealed) (sealed ++ rest)
+    = sym (take_at sealed rest (length sealed) refl) ∙ ap (λ (xs : List ℕ). xs ++ take (length sealed) (sealed ++ rest)) (sym l.none_held) in
+    let told : Opens payload (state i.reader).seq (length sealed) result ⊎ (result ≡ Err fault.Memory)
+    = only.payload payload (length sealed) (omega (arith, all))
+        (subst (λ (w : Protection). IsProtectedPacket w payload ((state i.reader).held ++ take (length sealed) (sealed ++ rest))) (same_protection m o i l)
+        (subst (λ (xs : List ℕ). IsProtectedPacket (protection m (Some o.keys) o.number) payload xs) front unit)) in
+    subst (λ (n : ℕ). Opens payload n (length sealed) result ⊎ (result ≡ Err fault.Memory)) l.same_number told
+
+pub goes_on_linked : (m : Meaning) (o : Outgoing) (i new : Incoming) → AreLinked o i → (piece : List ℕ) (step : PacketStep) (payload : List ℕ) (seq used : ℕ)
+    → Opens payload seq used (Ok step) → LinkLeaves m i piece (Ok step) new → AreLinked (raised o) new
+goes_on_linked m o i new l piece More payload seq used is leaves = absurd is
+goes_on_linked m o i new l piece (Payload lent number taken) payload seq used is leaves = record {
+  same_keys = ap (λ (s : ReaderState). s.keys) leaves.0 ∙ l.same_keys;
+  same_number = ap (λ (s : ReaderState). s.seq) leaves.0 ∙ ap (λ (n : ℕ). (n + 1) % 2 ^ 32) l.same_number;
+  none_held = ap (λ (s : ReaderState). s.held) leaves.0;
+  in_range = omega arith;
+}
+
+pub counts_times : (o : Outgoing) (n : ℕ) → (raised_times n o).sealed ≡ o.sealed + n
+counts_times o zero = omega arith
+counts_times o (suc n) = let ih : (raised_times n o).sealed ≡ o.sealed + n = counts_times o n in omega (arith, ih)
+
+number_times : (o : Outgoing) (n : ℕ) → o.number < 2 ^ 32 → (raised_times n o).number ≡ (o.number + n) % 2 ^ 32
+number_times o zero low = omega (arith, low)
+number_times o (suc n) low = let ih : (raised_times n o).number ≡ (o.number + n) % 2 ^ 32 = number_times o n low in omega (arith, ih)
+
+apart : (x a b : ℕ) → a < b → b < a + 2 ^ 32 → (x + a) % 2 ^ 32 ≢ (x + b) % 2 ^ 32
+apart x a b low near = λ e. omega (arith, low, near, e)
+
+pub fresh_times : (o : Outgoing) (a b : ℕ) → o.number < 2 ^ 32 → a < b → b < a + 2 ^ 32 → (raised_times a o).number ≢ (raised_times b o).number
+fresh_times o a b low below near = λ e. apart o.number a b below near (sym (number_times o a low) ∙ (e ∙ number_times o b low))

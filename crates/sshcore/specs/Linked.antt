@@ -1,0 +1,142 @@
+-- A link, as contracts see it, and what it answers: payloads that are sealed and opened after authentication.
+
+use Rattle.std.specs.Prelude.{◌≡◌, ◌≢◌, ◌⊎◌, ℕ, suc, zero, ◌+◌, ◌%◌, ◌^◌, ◌<◌, ◌≤◌, List, [], ◌∷◌, ◌++◌, length, take, None, Some, Result, Ok, Err}
+use Rattle.sshwire.specs.declared.limits.TheConstants.{PAYLOAD_LIMIT}
+use Rattle.sshpacket.specs.declared.fault.PacketFault.{PacketFault}
+use Rattle.sshpacket.specs.declared.fault.PacketFault.TheVariants as packet_fault
+use Rattle.sshpacket.specs.declared.reader.PacketReader.{PacketReader}
+use Rattle.sshpacket.specs.declared.reader.PacketStep.{PacketStep}
+use Rattle.sshpacket.specs.declared.reader.PacketStep.TheVariants.{More, Payload}
+use Rattle.sshpacket.specs.KeyData.{KeyData}
+use Rattle.sshpacket.specs.Parse.{unfinished}
+use Rattle.sshpacket.specs.ProtectedPacket.{IsProtectedPacket, PacketMeans, Refuses}
+use Rattle.sshpacket.specs.ReaderState.{IsStep, PacketAnswer, ParseAnswer, ReaderLeaves, ReaderState, ReaderWaits, last_used, protection_at, state}
+use Rattle.sshpacket.specs.Suite.{Meaning}
+use Rattle.sshpacket.specs.Written.{IsWritten, written, written_sealed}
+use Rattle.sshcore.specs.declared.session.Direction.{Direction}
+use Rattle.sshcore.specs.declared.link.Link.{Link}
+use Rattle.sshcore.specs.declared.link.TheConstants.{LINK_LIMIT}
+use Rattle.sshcore.specs.declared.link_fault.LinkFault.{LinkFault}
+use Rattle.sshcore.specs.declared.link_fault.LinkFault.TheVariants as fault
+
+-- what it seals with: the keys, the number of the next packet, what padding is made of; and how many packets it has sealed
+pub record Outgoing : Type 0 where
+  pub keys : KeyData
+  pub number : ℕ
+  pub seed : List ℕ
+  pub sealed : ℕ
+
+-- what it opens with, its reader; and how many packets it has opened
+pub record Incoming : Type 0 where
+  pub reader : PacketReader
+  pub opened : ℕ
+
+-- a reader that holds nothing, and has used some bytes last, has come to the end of a packet
+abbrev pub packet_ended : List ℕ → ℕ → ℕ
+packet_ended [] zero = 0
+packet_ended [] (suc n) = 1
+packet_ended (b ∷ held) n = 0
+
+unfoldable pub outgoing_of : Link → Outgoing
+outgoing_of l = record { keys = l.keys; number = l.number; seed = l.seed; sealed = l.sealed }
+
+unfoldable pub incoming_of : Link → Incoming
+incoming_of l = record { reader = l.reader; opened = l.opened + packet_ended (state l.reader).held (last_used l.reader) }
+
+-- at the beginning, by what a session has of this direction
+abbrev pub sent_by : Direction → List ℕ → Outgoing
+sent_by direction seed = record { keys = direction.keys; number = direction.sequence_number; seed = seed; sealed = 0 }
+
+pub record BeginsBy (direction : Direction) (i : Incoming) : Type 0 where
+  pub state_is : state i.reader ≡ record { keys = Some direction.keys; seq = direction.sequence_number; held = []; fault = None }
+  pub none_used : last_used i.reader ≡ 0
+  pub none_opened : i.opened ≡ 0
+
+-- what is opened waits for more of this suite's packets
+abbrev pub LinkWaits : Meaning → Incoming → Type 0
+LinkWaits m i = ReaderWaits m i.reader
+
+-- after a packet was sealed: the next number, in 32 bits, and one packet more
+abbrev pub raised : Outgoing → Outgoing
+raised o = record o { number = (o.number + 1) % 2 ^ 32; sealed = o.sealed + 1 }
+
+-- after so many packets
+abbrev pub raised_times : ℕ → Outgoing → Outgoing
+raised_times zero o = o
+raised_times (suc n) o = raised (raised_times n o)
+
+-- a payload can be sealed: it has 1 to 32768 bytes, and the keys aren't used up
+pub record CanSeal (o : Outgoing) (payload : List ℕ) : Type 0 where
+  pub some : 0 < length payload
+  pub short : length payload ≤ PAYLOAD_LIMIT
+  pub left : o.sealed < LINK_LIMIT
+
+-- why it isn't sealed
+abbrev pub SealRefused : Outgoing → List ℕ → LinkFault → Type 0
+SealRefused o payload fault.Payload = (payload ≡ []) ⊎ (PAYLOAD_LIMIT < length payload)
+SealRefused o payload fault.UsedUp = (0 < length payload) × (length payload ≤ PAYLOAD_LIMIT) × (LINK_LIMIT ≤ o.sealed)
+SealRefused o payload (fault.Packet f) = ⊥
+SealRefused o payload fault.Memory = CanSeal o payload
+
+-- the packet of a payload, sealed
+abbrev pub sealed_by : Meaning → Outgoing → List ℕ → List ℕ
+sealed_by m o payload = written_sealed m o.keys o.seed o.number payload
+
+-- what is sealed in it is a packet of the payload with the least padding
+abbrev pub IsSealed : Meaning → Outgoing → List ℕ → Type 0
+IsSealed m o payload =
+    IsWritten (m.counts_length o.keys.cipher o.keys.mac) (m.block o.keys.cipher) (m.tag_len o.keys.cipher o.keys.mac) payload
+    (written m (m.counts_length o.keys.cipher o.keys.mac) (m.block o.keys.cipher) o.seed o.number payload)
+
+-- what its reader answers, as a link tells it
+abbrev pub fault_by : PacketFault → LinkFault
+fault_by packet_fault.Length = fault.Packet packet_fault.Length
+fault_by packet_fault.Padding = fault.Packet packet_fault.Padding
+fault_by packet_fault.Empty = fault.Packet packet_fault.Empty
+fault_by packet_fault.Mac = fault.Packet packet_fault.Mac
+fault_by packet_fault.Memory = fault.Memory
+
+abbrev pub told_by : Result PacketStep PacketFault → Result PacketStep LinkFault
+told_by (Ok step) = Ok step
+told_by (Err f) = Err (fault_by f)
+
+-- What the answer says of the packet at hand, as a reader's does (PacketAnswer): that it is unfinished; that with so many bytes of
+-- the piece it is a packet of the payload, whose number is the next; or that it is refused for this cause.
+abbrev pub OpenAnswer : Meaning → Incoming → List ℕ → Result PacketStep LinkFault → Type 0
+OpenAnswer m i piece (Ok step) = PacketAnswer m (state i.reader) piece (Ok step)
+OpenAnswer m i piece (Err fault.Payload) = ⊥
+OpenAnswer m i piece (Err fault.UsedUp) = ⊥
+OpenAnswer m i piece (Err (fault.Packet f)) = (f ≢ packet_fault.Memory) × PacketAnswer m (state i.reader) piece (Err f)
+OpenAnswer m i piece (Err fault.Memory) = Unit {0}
+
+-- it answers this payload with this number, and so many bytes were used
+abbrev pub Opens : List ℕ → ℕ → ℕ → Result PacketStep LinkFault → Type 0
+Opens payload seq used (Ok step) = IsStep payload seq used step
+Opens payload seq used (Err f) = ⊥
+
+-- No other answer comes than the one that the packet at hand has, want of memory apart.
+pub record OnlyOpenAnswer (m : Meaning) (i : Incoming) (piece : List ℕ) (result : Result PacketStep LinkFault) : Type 0 where
+  pub more : PacketMeans (protection_at m (state i.reader)) ((state i.reader).held ++ piece) unfinished → (result ≡ Ok More) ⊎ (result ≡ Err fault.Memory)
+  pub payload : (payload : List ℕ) (used : ℕ) → used ≤ length piece → IsProtectedPacket (protection_at m (state i.reader)) payload ((state i.reader).held ++ take used piece)
+      → Opens payload (state i.reader).seq used result ⊎ (result ≡ Err fault.Memory)
+  pub refused : (f : PacketFault) (place : ℕ) → Refuses (protection_at m (state i.reader)) ((state i.reader).held ++ piece) f place
+      → (result ≡ Err (fault.Packet f)) ⊎ (result ≡ Err fault.Memory)
+
+-- How what it opens with is left: with all unfinished bytes; after a packet with none, the next number, in 32 bits, and one packet
+-- more; after a refusal with the fault, for good.
+abbrev pub LinkLeaves : Meaning → Incoming → List ℕ → Result PacketStep LinkFault → Incoming → Type 0
+LinkLeaves m i piece (Ok More) new =
+    (state new.reader ≡ record (state i.reader) { held = (state i.reader).held ++ piece }) × (new.opened ≡ i.opened) × LinkWaits m new
+LinkLeaves m i piece (Ok (Payload payload seq used)) new =
+    (state new.reader ≡ record (state i.reader) { held = []; seq = ((state i.reader).seq + 1) % 2 ^ 32 }) × (new.opened ≡ i.opened + 1) × LinkWaits m new
+LinkLeaves m i piece (Err fault.Payload) new = ⊥
+LinkLeaves m i piece (Err fault.UsedUp) new = ⊥
+LinkLeaves m i piece (Err (fault.Packet f)) new = state new.reader ≡ record (state i.reader) { held = []; fault = Some f }
+LinkLeaves m i piece (Err fault.Memory) new = state new.reader ≡ record (state i.reader) { held = []; fault = Some packet_fault.Memory }
+
+-- What is sealed with these is opened with those: the keys and the next number are the same, and no packet is unfinished.
+pub record AreLinked (o : Outgoing) (i : Incoming) : Type 0 where
+  pub same_keys : (state i.reader).keys ≡ Some o.keys
+  pub same_number : (state i.reader).seq ≡ o.number
+  pub none_held : (state i.reader).held ≡ []
+  pub in_range : o.number < 2 ^ 32

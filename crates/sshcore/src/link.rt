@@ -1,0 +1,185 @@
+//! What goes on after authentication: payloads are sealed and opened by the keys of a session.
+
+use crate::link_fault::{LinkFault, told_fault};
+use crate::session::Direction;
+use sshpacket::{Keys, PacketReader, PacketStep, Suite, write_sealed};
+use sshwire::PAYLOAD_LIMIT;
+use std::alloc::Global;
+
+/// The most packets that a link seals, and the most that it opens: 2^31 (profile).
+///
+/// That is half of all sequence numbers: the other half is for the packets that went before with the same
+/// keys, while the user was authenticated. So no number comes again under one key, also where the first of a
+/// link isn't 0 and numbers begin anew after 2^32 - 1. New keys are asked for long before: by RFC 4253 section
+/// 9 after a gigabyte or an hour, by RFC 4344 section 3.1 after 2^31 packets. They aren't made here: end the
+/// connection then.
+pub const LINK_LIMIT: u32 = 0x8000_0000;
+
+/// Both directions of a session: it seals payloads for the peer, and opens what the peer sends.
+///
+/// Each packet that is sealed has the next number, and so does each that is opened, so no caller counts. What
+/// stands in a payload is nothing to a link: KEXINIT (20) and NEWKEYS (21) are payloads as any other, and no
+/// new keys come of them. It has no `Debug`: keys are never printed.
+#[derive(Drop)]
+pub struct Link {
+    alloc: Global,
+    /// What is sealed with.
+    keys: Keys,
+    /// The number of the next packet that is sealed.
+    number: u32,
+    /// What padding is made of.
+    seed: [u8; 32],
+    /// How many packets were sealed.
+    sealed: u32,
+    reader: PacketReader,
+    /// How many packets the reader had come to the end of before it was last asked.
+    opened: u32,
+}
+
+impl Link {
+    ghost use Rattle.std.specs.Borrow.{sem};
+    ghost use Rattle.std.specs.Io.BufRead.{Rests};
+    ghost use Rattle.std.specs.Prelude.{◌≡◌, ◌<◌, ◌≤◌, ◌^◌, ◌++◌, Err, IfErr, IfOk, IfSome, OnOk, if◌then◌else◌, is_ok, length};
+    ghost use Rattle.sshpacket.specs.declared.limits.TheConstants.{PACKET_LIMIT};
+    ghost use Rattle.sshpacket.specs.ReaderState.{Uses, last_used, state};
+    ghost use Rattle.sshpacket.specs.Suite.{Meaning};
+    ghost use Rattle.sshcore.specs.declared.link_fault.LinkFault.TheVariants as fault;
+    ghost use Rattle.sshcore.specs.Linked.{BeginsBy, CanSeal, IsSealed, LinkLeaves, LinkWaits, OnlyOpenAnswer, OpenAnswer, SealRefused, fault_by, incoming_of, outgoing_of, raised, sealed_by, sent_by};
+    ghost use Rattle.sshcore.specs.contracts.link.Link.{the_row};
+
+    /// A link that opens by the first direction and seals by the second, which are those of a session
+    /// ([`Session::into_link`](crate::Session::into_link) is the same). Padding is made of the seed, which is 32
+    /// random bytes that served nothing else. Takes no memory.
+    #[tactic(auto, unfolding(crate::specs::Linked::outgoing_of, crate::specs::Linked::incoming_of))]
+    pub fn new(alloc: Global, incoming: Direction, outgoing: Direction, seed: [u8; 32]) -> Link
+        ensures seals { outgoing_of result ≡ sent_by outgoing seed }
+        ensures in_range { (outgoing_of result).number < 2 ^ 32 }
+        ensures opens { BeginsBy incoming (incoming_of result) }
+        ensures waits { (m : Meaning) → LinkWaits m (incoming_of result) }
+    {
+        Link {
+            alloc,
+            keys: outgoing.keys,
+            number: outgoing.sequence_number,
+            seed,
+            sealed: 0,
+            reader: PacketReader::with_keys(alloc, incoming.keys, incoming.sequence_number),
+            opened: 0,
+        }
+    }
+
+    /// Appends the packet of a payload of 1 to `PAYLOAD_LIMIT` bytes, sealed, and raises the number of the next
+    /// one (RFC 4253 sections 6 and 6.4). After an error all is as before: `Payload` of another length, `UsedUp`
+    /// where `LINK_LIMIT` packets were sealed, `Memory` where a growth was refused.
+    #[tactic(auto, unfolding(crate::specs::Linked::outgoing_of, crate::specs::Linked::incoming_of))]
+    pub fn seal<S: Suite>(
+        &mut self,
+        suite: &S,
+        payload: &[u8],
+        out: &mut Vec<u8>,
+    ) -> Result<(), LinkFault>
+        ensures appends { out.new.items ≡ (if is_ok result then out.old.items ++ sealed_by (S.meaning suite.now) (outgoing_of self.old) payload.now else out.old.items) }
+        // What is sealed is a packet of the payload with the least padding.
+        ensures packet { OnOk result (IsSealed (S.meaning suite.now) (outgoing_of self.old) payload.now) }
+        // The number goes up by one exactly where a packet was sealed, and what is opened stays as it is.
+        ensures raises { outgoing_of self.new ≡ (if is_ok result then raised (outgoing_of self.old) else outgoing_of self.old) }
+        ensures incoming { incoming_of self.new ≡ incoming_of self.old }
+        ensures can { OnOk result (CanSeal (outgoing_of self.old) payload.now) }
+        ensures refused { IfErr result (λ f. SealRefused (outgoing_of self.old) payload.now f) }
+    {
+        if payload.is_empty() || payload.len() > PAYLOAD_LIMIT {
+            return Err(LinkFault::Payload);
+        }
+        if self.sealed >= LINK_LIMIT {
+            return Err(LinkFault::UsedUp);
+        }
+        write_sealed(
+            self.alloc,
+            suite,
+            &self.keys,
+            self.number,
+            payload,
+            &self.seed,
+            out,
+        )?;
+        self.number = self.number.wrapping_add(1);
+        self.sealed += 1;
+        Ok(())
+    }
+
+    /// Reads on with a piece of what the peer sends, however it is cut: first the bytes that the endpoint's
+    /// `feed` didn't use, then all that comes. Answers a payload, lent until the next call, with its number and
+    /// how many bytes of the piece were used (the rest is the front of the next piece), or that more bytes are
+    /// wanted.
+    ///
+    /// `UsedUp` where `LINK_LIMIT` packets were opened, and then all is as before. `Packet` where what came is no
+    /// packet, `Memory` where a growth was refused: either is answered for good, and nothing is opened any more.
+    #[tactic(auto, unfolding(crate::specs::Linked::outgoing_of, crate::specs::Linked::incoming_of))]
+    pub fn next<S: Suite>(
+        &mut self,
+        suite: &S,
+        piece: &[u8],
+    ) -> Result<PacketStep<'_>, LinkFault>
+        ensures used_up { LINK_LIMIT ≤ (incoming_of self.old).opened → result ≡ Err fault.UsedUp }
+        // Before that: a payload exactly where a packet of it stands at the front, a fault exactly where the
+        // packet there is refused, want of memory apart.
+        ensures tells { (incoming_of self.old).opened < LINK_LIMIT → LinkWaits (S.meaning suite.now) (incoming_of self.old) → OpenAnswer (S.meaning suite.now) (incoming_of self.old) piece.now result }
+        ensures only { (incoming_of self.old).opened < LINK_LIMIT → LinkWaits (S.meaning suite.now) (incoming_of self.old) → OnlyOpenAnswer (S.meaning suite.now) (incoming_of self.old) piece.now result }
+        ensures again { (incoming_of self.old).opened < LINK_LIMIT → IfSome (state (incoming_of self.old).reader).fault (λ f. result ≡ Err (fault_by f)) }
+        // In every state: a packet uses some bytes of the piece, and no more than it has.
+        ensures uses { IfOk result (λ step. Uses (length piece.now) step) }
+        // How the link is left: what it seals with stays as it is.
+        ensures* after { sem 𝓛 (Rests the_row self.entry (λ new.
+            (outgoing_of new ≡ outgoing_of self.old)
+            × (LINK_LIMIT ≤ (incoming_of self.old).opened → incoming_of new ≡ incoming_of self.old)
+            × ((incoming_of self.old).opened < LINK_LIMIT → LinkWaits (S.meaning suite.now) (incoming_of self.old) → LinkLeaves (S.meaning suite.now) (incoming_of self.old) piece.now result (incoming_of new)))) }
+    {
+        let opened = self.opened();
+        if opened >= LINK_LIMIT as u64 {
+            return Err(LinkFault::UsedUp);
+        }
+        self.opened = opened as u32;
+        match self.reader.next(suite, piece) {
+            Ok(step) => Ok(step),
+            Err(fault) => Err(told_fault(fault)),
+        }
+    }
+
+    /// How many packets were sealed, at most `LINK_LIMIT`. Takes no memory.
+    #[tactic(auto, unfolding(crate::specs::Linked::outgoing_of))]
+    pub fn sealed(&self) -> u32
+        ensures { result ≡ (outgoing_of self.now).sealed }
+    {
+        self.sealed
+    }
+
+    /// How many packets were opened; one that was refused counts too. Takes no memory.
+    #[tactic(auto, unfolding(crate::specs::Linked::incoming_of))]
+    pub fn opened(&self) -> u64
+        ensures { result ≡ (incoming_of self.now).opened }
+    {
+        if self.reader.is_idle() && self.reader.taken() > 0 {
+            self.opened as u64 + 1
+        } else {
+            self.opened as u64
+        }
+    }
+
+    /// How many bytes of the piece were used when something was last opened or refused; at a refusal those up to
+    /// the byte that decided it. Takes no memory.
+    #[tactic(auto, unfolding(crate::specs::Linked::incoming_of))]
+    pub fn taken(&self) -> usize
+        ensures { result ≡ last_used (incoming_of self.now).reader }
+    {
+        self.reader.taken()
+    }
+
+    /// How many bytes of the unfinished packet are held, at most `PACKET_LIMIT`. Takes no memory.
+    #[tactic(auto, unfolding(crate::specs::Linked::incoming_of))]
+    pub fn buffered(&self) -> usize
+        ensures held { result ≡ length (state (incoming_of self.now).reader).held }
+        ensures bound { result ≤ PACKET_LIMIT }
+    {
+        self.reader.buffered()
+    }
+}
