@@ -40,8 +40,8 @@ opens_linked m o i l payload rest unit result only =
     = sym (take_at sealed rest (length sealed) refl) ∙ ap (λ (xs : List ℕ). xs ++ take (length sealed) (sealed ++ rest)) (sym l.none_held) in
     let told : Opens payload (state i.reader).seq (length sealed) result ⊎ (result ≡ Err fault.Memory)
     = only.payload payload (length sealed) (omega (arith, all))
-        (subst (λ (w : Protection). IsProtectedPacket w payload ((state i.reader).held ++ take (length sealed) (sealed ++ rest))) (same_protection m o i l)
-        (subst (λ (xs : List ℕ). IsProtectedPacket (protection m (Some o.keys) o.number) payload xs) front unit)) in
+    (subst (λ (w : Protection). IsProtectedPacket w payload ((state i.reader).held ++ take (length sealed) (sealed ++ rest))) (same_protection m o i l)
+    (subst (λ (xs : List ℕ). IsProtectedPacket (protection m (Some o.keys) o.number) payload xs) front unit)) in
     subst (λ (n : ℕ). Opens payload n (length sealed) result ⊎ (result ≡ Err fault.Memory)) l.same_number told
 
 pub goes_on_linked : (m : Meaning) (o : Outgoing) (i new : Incoming) → AreLinked o i → (piece : List ℕ) (step : PacketStep) (payload : List ℕ) (seq used : ℕ)

@@ -30,6 +30,7 @@ pub mod Redrawn
 pub mod ConfigParty
 pub mod Chosen
 pub mod ChosenView
+pub mod NamesView
 pub mod Made
 pub mod Authenticating
 pub mod Kept
@@ -44,3 +45,4 @@ pub mod Endpoints
 pub mod Authenticated
 pub mod Sessions
 pub mod Linked
+pub mod Codes

@@ -7,7 +7,9 @@ ghost use Rattle.sshmsg.specs.View.{offer_of};
 ghost use Rattle.sshneg.specs.Fields as fields;
 ghost use Rattle.sshcore.specs.Chosen.{AreAt, ArePlaced, cipher_of, mac_of};
 ghost use Rattle.sshcore.specs.Ending.{agreed_of};
+ghost use Rattle.sshcore.specs.NamesView.{names_of};
 
+use crate::chosen_names::ChosenNames;
 use crate::end::Agreed;
 use sshmsg::KexInit;
 use sshneg::{Chosen, Role};
@@ -123,6 +125,22 @@ impl Algorithms {
             session,
             user,
             service,
+        }
+    }
+
+    /// The names, lent.
+    pub(crate) fn names(&self) -> ChosenNames<'_>
+        ensures { names_of result ≡ self.now }
+    {
+        ChosenNames {
+            kex: &self.kex,
+            host_key: &self.host_key,
+            encryption_client_to_server: &self.encryption.client_to_server,
+            encryption_server_to_client: &self.encryption.server_to_client,
+            mac_client_to_server: &self.mac.client_to_server,
+            mac_server_to_client: &self.mac.server_to_client,
+            compression_client_to_server: &self.compression.client_to_server,
+            compression_server_to_client: &self.compression.server_to_client,
         }
     }
 

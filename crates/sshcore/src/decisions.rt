@@ -4,6 +4,8 @@ ghost use Rattle.std.specs.Prelude.{◌≡◌};
 ghost use Rattle.sshcore.specs.Party.{Policy};
 ghost use Rattle.sshcore.specs.PartyView.{proof_of};
 
+use crate::notice::Notice;
+
 /// What a request proves of its user (RFC 4252), or the key that a query asks about.
 ///
 /// It has no `Debug`: passwords are never printed.
@@ -26,7 +28,7 @@ pub enum Proof<'a> {
     },
 }
 
-/// The decisions of whoever runs an endpoint. Each answer is a function of its arguments alone.
+/// The decisions of whoever runs an endpoint, and what it is told. Each answer is a function of its arguments alone.
 ///
 /// So what reads a clock, keeps a count of its own, or looks into a directory that changes while a session lasts is no
 /// lawful `Decisions`. Who has one takes the answers once, before the endpoint is made, and hands in a value
@@ -46,4 +48,10 @@ pub trait Decisions {
     /// methods the server lists: say no to `Proof::None` where nobody comes in without a proof.
     fn user(&self, request_number: u32, user: &str, service: &str, proof: &Proof<'_>) -> bool
         ensures { result ≡ (policy self.now).user request_number user.now service.now (proof_of proof.now) };
+
+    /// Hears what a message of the peer says to people, before the endpoint answers the message. It can't change
+    /// what is answered. Does nothing, unless whoever decides has a body of its own.
+    fn told(&self, notice: Notice<'_>) {
+        let _ = notice;
+    }
 }

@@ -1,6 +1,6 @@
 //! One endpoint, fed with bytes.
 
-ghost use Rattle.std.specs.Prelude.{◌≡◌, ◌≢◌, None, Some, ◌<◌, ◌≤◌, ◌+◌, ◌*◌, ◌↔◌, ◌++◌, [], ℕ, IfOk, IsTrue, List, Ok, OnErr, OnOk, length, take};
+ghost use Rattle.std.specs.Prelude.{◌≡◌, ◌≢◌, None, Some, ◌<◌, ◌≤◌, ◌+◌, ◌*◌, ◌↔◌, ◌++◌, [], ℕ, IfOk, IfSome, IsTrue, List, Ok, OnErr, OnOk, is_some, length, take};
 ghost use Rattle.sshneg.specs.declared.role.Role.TheVariants.{Client, Server};
 ghost use Rattle.sshpacket.specs.declared.limits.TheConstants.{PACKET_LIMIT};
 ghost use Rattle.sshcore.specs.declared.end.Fault.TheVariants as fault;
@@ -10,10 +10,15 @@ ghost use Rattle.sshcore.specs.Brings.{IsOngoing};
 ghost use Rattle.sshcore.specs.ConfigParty.{party_of, role_of};
 ghost use Rattle.sshcore.specs.Endpoints.{After, Breaks, Cuts, Fed, HasUnfinished, Made, buffered_of, ending_of, turns_of};
 ghost use Rattle.sshcore.specs.Inputs.{CanRead, Steps, turns_left};
+ghost use Rattle.sshcore.specs.Directions.{payloads_in};
+ghost use Rattle.sshcore.specs.Exchange.{algorithms_at};
 ghost use Rattle.sshcore.specs.Kept.{kept_of};
+ghost use Rattle.sshcore.specs.NamesView.{names_of};
+ghost use Rattle.sshcore.specs.Phases.{past_kexinit, phase_at};
 ghost use Rattle.sshcore.specs.Redrawn.{redrawn_client, redrawn_server};
 ghost use Rattle.sshcore.specs.Sessions.{IsSession};
 
+use crate::chosen_names::ChosenNames;
 use crate::client_config::ClientConfig;
 use crate::config::Config;
 use crate::decisions::Decisions;
@@ -23,6 +28,7 @@ use crate::input::Input;
 use crate::server_config::ServerConfig;
 use crate::session::{Session, accepted_by, session_of};
 use crate::state::State;
+use crate::table::Phase;
 use sshpacket::Suite;
 use sshwire::Memory;
 use std::alloc::Global;
@@ -237,6 +243,32 @@ impl<'a, S: Suite, D: Decisions> Endpoint<'a, S, D> {
         ensures { result.now ≡ self.now.state.end }
     {
         &self.state.end
+    }
+
+    /// What it waits for; of an endpoint that has ended, what it waited for last. Takes no memory.
+    pub fn phase(&self) -> Phase
+        ensures kept { result ≡ self.now.state.phase }
+        // For every history of an open endpoint: the first phase whose leaving message it hasn't heard.
+        ensures waits { (h s : List ℕ) (a : After S.meaning D.policy self.now h s) → ending_of self.now ≡ Open → phase_at self.now.role self.now.party.offer (payloads_in a.units) ≡ result }
+    {
+        self.state.phase
+    }
+
+    /// The names of the algorithms that both KEXINITs choose (RFC 4253 section 7.1); None before the peer's has
+    /// come, and where there is no choice. Takes no memory.
+    pub fn algorithms(&self) -> Option<ChosenNames<'_>>
+        ensures some { IfSome result (λ names. self.now.state.algorithms ≡ Some (names_of names)) }
+        ensures none { result ≡ None → self.now.state.algorithms ≡ None }
+        // They are there from the peer's KEXINIT on.
+        ensures there { is_some result ≡ past_kexinit self.now.state.phase }
+        // For every history of an open endpoint: they are chosen by what was heard and said.
+        ensures chosen { (h s : List ℕ) (a : After S.meaning D.policy self.now h s) → ending_of self.now ≡ Open
+            → IfSome result (λ names. names_of names ≡ algorithms_at (S.meaning self.now.suite) self.now.role self.now.party (payloads_in a.units)) }
+    {
+        match &self.state.algorithms {
+            Some(algorithms) => Some(algorithms.names()),
+            None => None,
+        }
     }
 
     /// How many bytes of the unfinished line or packet are held, at most `PACKET_LIMIT`; 0 once the

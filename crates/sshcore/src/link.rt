@@ -115,11 +115,7 @@ impl Link {
     /// `UsedUp` where `LINK_LIMIT` packets were opened, and then all is as before. `Packet` where what came is no
     /// packet, `Memory` where a growth was refused: either is answered for good, and nothing is opened any more.
     #[tactic(auto, unfolding(crate::specs::Linked::outgoing_of, crate::specs::Linked::incoming_of))]
-    pub fn next<S: Suite>(
-        &mut self,
-        suite: &S,
-        piece: &[u8],
-    ) -> Result<PacketStep<'_>, LinkFault>
+    pub fn next<S: Suite>(&mut self, suite: &S, piece: &[u8]) -> Result<PacketStep<'_>, LinkFault>
         ensures used_up { LINK_LIMIT ≤ (incoming_of self.old).opened → result ≡ Err fault.UsedUp }
         // Before that: a payload exactly where a packet of it stands at the front, a fault exactly where the
         // packet there is refused, want of memory apart.

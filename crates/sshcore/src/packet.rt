@@ -25,6 +25,7 @@ use crate::decisions::Decisions;
 use crate::end::{End, Fault};
 use crate::exchange::Reply;
 use crate::lent::set;
+use crate::notice::tell_notice;
 use crate::state::State;
 use crate::table::{Line, Phase};
 use sshmsg::{
@@ -128,6 +129,7 @@ impl State<'_> {
     {
         sshmsg::messages_law();
         sshmsg::numbers_law();
+        tell_notice(decisions, message);
         match message {
             Message::Disconnect { reason, .. } => {
                 set(&mut self.end, End::Closed(*reason));

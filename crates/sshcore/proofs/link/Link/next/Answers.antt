@@ -15,14 +15,18 @@ returns-in-Ok g c =
     let piece = c.args.piece.now in
     let new : Incoming = incoming_of (record c.args.self.now { reader = c.next.follows.lender-at-none; opened = c.opened-opened.result }) in
     let answer : Result PacketStep PacketFault = Ok c.in-Ok.step in (
-      (refl, λ _. tt, (
+      (
         refl,
-        λ up. absurd (omega (arith, up, c.opened-opened.ensures, c.if-opened.false)),
-        λ low waits. leaves_of m i piece answer new
-            (subst (λ (r : Result PacketStep PacketFault). ReaderLeaves m (state i.reader) piece r new.reader) c.in-Ok.is (c.next.follows.holds-at-none.0 waits))
-            c.in-Ok.ensures.uses
-            (ap (λ (n : ℕ). n + packet_ended (state new.reader).held (last_used new.reader)) c.opened-opened.ensures),
-      )),
+        λ _. tt,
+        (
+          refl,
+          λ up. absurd (omega (arith, up, c.opened-opened.ensures, c.if-opened.false)),
+          λ low waits. leaves_of m i piece answer new
+              (subst (λ (r : Result PacketStep PacketFault). ReaderLeaves m (state i.reader) piece r new.reader) c.in-Ok.is (c.next.follows.holds-at-none.0 waits))
+              c.in-Ok.ensures.uses
+              (ap (λ (n : ℕ). n + packet_ended (state new.reader).held (last_used new.reader)) c.opened-opened.ensures),
+        ),
+      ),
       record {
         used_up = λ up. absurd (omega (arith, up, c.opened-opened.ensures, c.if-opened.false));
         tells = λ low waits. tells_of m i piece answer (c.in-Ok.ensures.tells waits);
@@ -42,14 +46,18 @@ returns-in-Err g c =
     let new : Incoming = incoming_of (record c.args.self.now { reader = c.next.follows.lender-at-none; opened = c.opened-opened.result }) in
     let answer : Result PacketStep PacketFault = Err c.in-Err.fault in
     let told : ◌≡◌ {A = LinkFault} (fault_by c.in-Err.fault) c.told_fault.result = sym c.told_fault.ensures in (
-      (refl, λ _. tt, (
+      (
         refl,
-        λ up. absurd (omega (arith, up, c.opened-opened.ensures, c.if-opened.false)),
-        λ low waits. subst (λ (f : LinkFault). LinkLeaves m i piece (Err f) new) told (leaves_of m i piece answer new
-            (subst (λ (r : Result PacketStep PacketFault). ReaderLeaves m (state i.reader) piece r new.reader) c.in-Err.is (c.next.follows.holds-at-none.0 waits))
-            tt
-            (ap (λ (n : ℕ). n + packet_ended (state new.reader).held (last_used new.reader)) c.opened-opened.ensures)),
-      )),
+        λ _. tt,
+        (
+          refl,
+          λ up. absurd (omega (arith, up, c.opened-opened.ensures, c.if-opened.false)),
+          λ low waits. subst (λ (f : LinkFault). LinkLeaves m i piece (Err f) new) told (leaves_of m i piece answer new
+              (subst (λ (r : Result PacketStep PacketFault). ReaderLeaves m (state i.reader) piece r new.reader) c.in-Err.is (c.next.follows.holds-at-none.0 waits))
+              tt
+              (ap (λ (n : ℕ). n + packet_ended (state new.reader).held (last_used new.reader)) c.opened-opened.ensures)),
+        ),
+      ),
       record {
         used_up = λ up. absurd (omega (arith, up, c.opened-opened.ensures, c.if-opened.false));
         tells = λ low waits. subst (λ (f : LinkFault). OpenAnswer m i piece (Err f)) told (tells_of m i piece answer (c.in-Err.ensures.tells waits));

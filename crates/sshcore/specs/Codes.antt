@@ -1,0 +1,41 @@
+-- The codes of failures and refusals.
+
+use Rattle.std.specs.Prelude.{ℕ, List, codes}
+use Rattle.sshcore.specs.declared.config_fault.ConfigFault.{ConfigFault}
+use Rattle.sshcore.specs.declared.config_fault.ConfigFault.TheVariants as config
+use Rattle.sshcore.specs.declared.end.Fault.{Fault}
+use Rattle.sshcore.specs.declared.end.Fault.TheVariants as fault
+
+-- of a failure
+abbrev pub fault_code : Fault → List ℕ
+fault_code fault.Version = codes "F1"
+fault_code fault.Length = codes "F2"
+fault_code fault.Padding = codes "F3"
+fault_code fault.Mac = codes "F4"
+fault_code (fault.Malformed number) = codes "F5"
+fault_code (fault.Unexpected number) = codes "F6"
+fault_code (fault.Strict number) = codes "F7"
+fault_code (fault.NoCommon field) = codes "F8"
+fault_code fault.Exchange = codes "F9"
+fault_code fault.HostKey = codes "F10"
+fault_code fault.Signature = codes "F11"
+fault_code fault.Service = codes "F12"
+fault_code fault.TooManyTries = codes "F13"
+fault_code fault.NoMoreMethods = codes "F14"
+fault_code fault.Memory = codes "F15"
+fault_code fault.Cut = codes "F16"
+
+-- of a refusal: its number, and a C before it
+abbrev pub config_code : ConfigFault → List ℕ
+config_code config.EmptyList = codes "C1"
+config_code config.Name = codes "C2"
+config_code config.ListTooLong = codes "C3"
+config_code config.Line = codes "C4"
+config_code config.User = codes "C5"
+config_code config.Secret = codes "C6"
+config_code config.Blob = codes "C7"
+config_code config.Plan = codes "C8"
+config_code config.Tries = codes "C9"
+config_code config.Random = codes "C10"
+config_code config.Memory = codes "C11"
+config_code config.Required = codes "C12"

@@ -1,0 +1,16 @@
+-- What contracts see of the names that an endpoint lends.
+
+use Rattle.sshneg.specs.Fields.{Algorithms}
+use Rattle.sshcore.specs.declared.chosen_names.ChosenNames.{ChosenNames}
+
+abbrev pub names_of : ChosenNames → Algorithms
+names_of n = record {
+  kex = n.kex.now;
+  host_key = n.host_key.now;
+  encryption_client_to_server = n.encryption_client_to_server.now;
+  encryption_server_to_client = n.encryption_server_to_client.now;
+  mac_client_to_server = n.mac_client_to_server.now;
+  mac_server_to_client = n.mac_server_to_client.now;
+  compression_client_to_server = n.compression_client_to_server.now;
+  compression_server_to_client = n.compression_server_to_client.now;
+}
