@@ -1,1 +1,2 @@
+pub mod KeyLines
 pub mod Trust

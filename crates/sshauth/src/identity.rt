@@ -1,5 +1,8 @@
 //! Private keys in OpenSSH's form (openssh-key-v1), without a passphrase.
 
+ghost use Rattle.std.specs.Prelude.{◌≡◌, IfOk, option_map};
+ghost use Rattle.sshauth.specs.KeyLines.{spelled};
+
 use crate::fault::Fault;
 use crate::files::{bytes_of, text_in};
 use base64::DecodeAllocError;
@@ -67,8 +70,10 @@ fn decoded(alloc: Global, body: &str) -> Result<Option<Vec<u8>>, Fault> {
     base64_of(alloc, &digits)
 }
 
-/// The bytes that the digits spell, if they spell some.
-pub(crate) fn base64_of(alloc: Global, digits: &[u8]) -> Result<Option<Vec<u8>>, Fault> {
+/// The bytes that the digits spell (RFC 4648 section 4), if they spell some.
+pub(crate) fn base64_of(alloc: Global, digits: &[u8]) -> Result<Option<Vec<u8>>, Fault>
+    ensures { IfOk result (λ found. option_map (λ bytes. bytes.items) found ≡ spelled digits.now) }
+{
     match STANDARD.decode(alloc, digits) {
         Ok(bytes) => Ok(Some(bytes)),
         Err(DecodeAllocError::OutOfMemory) => Err(Fault::Memory),

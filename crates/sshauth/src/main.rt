@@ -9,6 +9,7 @@ mod fault;
 mod files;
 mod findings;
 mod identity;
+mod key_lines;
 mod link;
 mod parts;
 mod probe;
