@@ -16,9 +16,6 @@ use std::random::RandomSource;
 /// The one service (RFC 4254).
 const SERVICE: &str = "ssh-connection";
 
-/// The one cipher.
-const CIPHER: &str = "chacha20-poly1305@openssh.com";
-
 /// The algorithm of keys.
 const ALGORITHM: &str = "ssh-ed25519";
 
@@ -184,8 +181,8 @@ fn banner_of(rt: &HostRuntime, settings: &Settings<'_>) -> Result<Option<Vec<u8>
 fn side_of(alloc: Global, settings: &Settings<'_>) -> Result<SideParts, Fault> {
     let softwareversion = String::from_str(alloc, "rezdolin")?;
     let kex_algorithms = names_of(alloc, settings.kex)?;
-    let encryption_client_to_server = names_of(alloc, CIPHER)?;
-    let encryption_server_to_client = names_of(alloc, CIPHER)?;
+    let encryption_client_to_server = names_of(alloc, settings.cipher)?;
+    let encryption_server_to_client = names_of(alloc, settings.cipher)?;
     let mac_client_to_server = names_of(alloc, settings.mac)?;
     let mac_server_to_client = names_of(alloc, settings.mac)?;
     let cookie = Vec::from_slice(alloc, &[0; 16])?;

@@ -38,6 +38,7 @@ pub(crate) struct Settings<'a> {
     pub(crate) guess: bool,
     /// Names with commas between.
     pub(crate) kex: &'a str,
+    pub(crate) cipher: &'a str,
     pub(crate) mac: &'a str,
     /// What a client asks the server to execute.
     pub(crate) exec: Option<&'a str>,

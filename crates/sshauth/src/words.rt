@@ -7,7 +7,7 @@ use clap::{Arg, ArgAction, ArgMatches, Command};
 use std::alloc::{AllocError, Global};
 
 /// The options that all have, each with a value.
-const COMMON: &[&str] = &["user", "strict", "kex", "mac"];
+const COMMON: &[&str] = &["user", "strict", "kex", "cipher", "mac"];
 
 /// Those of a client besides.
 const CLIENT: &[&str] = &[
@@ -36,7 +36,13 @@ const SERVER: &[&str] = &[
 /// Methods of key exchange where no word names others: both names of one.
 const KEX: &str = "curve25519-sha256,curve25519-sha256@libssh.org";
 
-/// MACs that peers list: the cipher needs none, but each side has to choose one.
+/// The cipher where no word names others.
+const CIPHER: &str = "chacha20-poly1305@openssh.com";
+
+/// The ciphers of a side that is willing to be strict.
+const CIPHERS: &str = "chacha20-poly1305@openssh.com,aes256-gcm@openssh.com";
+
+/// MACs that peers list: the ciphers need none, but each side has to choose one.
 const MAC: &str =
     "hmac-sha2-256-etm@openssh.com,hmac-sha2-512-etm@openssh.com,hmac-sha2-256,hmac-sha2-512,hmac-sha1";
 
@@ -114,6 +120,7 @@ fn settings_in<'a>(role: Role, found: &ArgMatches<'a>) -> Result<Settings<'a>, F
         strict: flag_of(found.get_str("strict"), true)?,
         guess: flag_of(found.get_str("guess"), false)?,
         kex: found.get_str("kex").unwrap_or(KEX),
+        cipher: ciphers_of(found)?,
         mac: found.get_str("mac").unwrap_or(MAC),
         exec: found.get_str("exec"),
         report: found.get_str("report"),
@@ -125,6 +132,16 @@ fn user_of(role: Role, word: Option<&str>) -> Option<&str> {
     match role {
         Role::Client | Role::Server => word,
         Role::Probe => Some(word.unwrap_or("nobody")),
+    }
+}
+
+/// The names of ciphers. Where strictness is refused, aes256-gcm@openssh.com doesn't work, so it isn't listed unless a word
+/// names it.
+fn ciphers_of<'a>(found: &ArgMatches<'a>) -> Result<&'a str, Fault> {
+    match found.get_str("cipher") {
+        Some(names) => Ok(names),
+        None if flag_of(found.get_str("strict"), true)? => Ok(CIPHERS),
+        None => Ok(CIPHER),
     }
 }
 

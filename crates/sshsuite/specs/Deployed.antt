@@ -1,13 +1,16 @@
 -- What the suite answers.
 
-use Rattle.std.specs.Prelude.{ℕ, ◌==◌, ◌&&◌, ◌||◌, codes, false, nat_le, if◌then◌else◌, Bool, List, [], ◌∷◌, ◌++◌, length, drop, replicate, Option, None, Some, option_map}
+use Rattle.std.specs.Prelude.{ℕ, ◌==◌, ◌&&◌, ◌||◌, codes, true, false, nat_le, if◌then◌else◌, Bool, List, [], ◌∷◌, ◌++◌, length, drop, replicate, Option, None, Some, option_map}
 use Rattle.std.specs.Str.{bytes_eq}
 use Rattle.sha2.specs.Sha256.{sha256}
 use Rattle.sshwire.specs.Types.{string}
 use Rattle.sshpacket.specs.declared.suite.Need.TheVariants.{Encryption, Signature}
 use Rattle.sshwire.specs.declared.share_form.ShareForm.TheVariants.{OctetString}
+use Rattle.sshpacket.specs.declared.suite.KeyLens.{KeyLens}
+use Rattle.sshpacket.specs.Packet.{number}
 use Rattle.sshpacket.specs.Suite.{Meaning, ResponseData}
 use Rattle.sshsuite.specs.Curve25519.{base_point, x25519}
+use Rattle.sshsuite.specs.Gcm.{seal as gcm_seal, unseal as gcm_unseal}
 use Rattle.sshsuite.specs.Sealing.{head, seal, unseal}
 use Rattle.sshsuite.specs.Ed25519.{is_signature, public_key, signature}
 use Rattle.sshsuite.specs.KeyStream.{stream}
@@ -21,6 +24,14 @@ ed25519 = codes "ssh-ed25519"
 
 unfoldable pub is_ed25519 : List ℕ → Bool
 is_ed25519 alg = bytes_eq alg ed25519
+
+-- the name of aes256-gcm
+unfoldable pub is_aes256_gcm : List ℕ → Bool
+is_aes256_gcm cipher = bytes_eq cipher (codes "aes256-gcm@openssh.com")
+
+abbrev pub key_lens : Bool → KeyLens
+key_lens true = record { iv = 12; enc = 32; mac = 0 }
+key_lens false = record { iv = 0; enc = 64; mac = 0 }
 
 -- the share of 32 random bytes
 unfoldable pub share : List ℕ → List ℕ
@@ -58,13 +69,13 @@ abbrev pub deployed : Meaning
 deployed = record {
   need = λ kex. if is_curve25519 kex then Signature else Encryption;
   can = λ alg. record { signature = is_ed25519 alg; encryption = false };
-  block = λ cipher. 8;
+  block = λ cipher. if is_aes256_gcm cipher then 16 else 8;
   tag_len = λ cipher mac. 16;
   counts_length = λ cipher mac. false;
-  key_lens = λ cipher mac. record { iv = 0; enc = 64; mac = 0 };
-  seal = λ keys seq packet. seal keys.enc seq packet;
-  head = λ keys seq first. head keys.enc seq first;
-  unseal = λ keys seq sealed. unseal keys.enc seq sealed;
+  key_lens = λ cipher mac. key_lens (is_aes256_gcm cipher);
+  seal = λ keys seq packet. if is_aes256_gcm keys.cipher then gcm_seal keys.iv keys.enc seq packet else seal keys.enc seq packet;
+  head = λ keys seq first. if is_aes256_gcm keys.cipher then number first else head keys.enc seq first;
+  unseal = λ keys seq sealed. if is_aes256_gcm keys.cipher then gcm_unseal keys.iv keys.enc seq sealed else unseal keys.enc seq sealed;
   padding = λ seed seq len. stream (sha256 seed) seq 0 len;
   share_form = λ kex. OctetString;
   share = λ kex random. share random;

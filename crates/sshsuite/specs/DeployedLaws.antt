@@ -1,6 +1,6 @@
 -- The suite has the laws of one end.
 
-use Rattle.std.proofs.Common.{◌≡◌, ℕ, ◌+◌, ◌<◌, ◌≤◌, Bool, true, false, List, [], ◌∷◌, ◌++◌, length, refl, sym, ap, ap₂, ◌∙◌, arith, cond, leb, eqb, inl, inr}
+use Rattle.std.proofs.Common.{◌≡◌, ℕ, ◌+◌, ◌<◌, ◌≤◌, Bool, true, false, List, [], ◌∷◌, ◌++◌, length, take, refl, sym, ap, ap₂, ◌∙◌, arith, cond, leb, eqb, inl, inr}
 use Rattle.std.proofs.lemmas.Bool.{cond_both, eqb-false, leb-false, leb-true}
 use Rattle.std.proofs.lemmas.List.{length-append, length-set}
 use Rattle.std.specs.Int.{w64, to_le_bytes}
@@ -10,15 +10,20 @@ use Rattle.sha2.proofs.Facts256.{length-sha256}
 use Rattle.sha2.specs.Sha256.{sha256}
 use Rattle.sshwire.specs.ByteLaws.{bytes_append, bytes_cons, bytes_dropped, bytes_none}
 use Rattle.sshwire.specs.Types.{IsBytes, string}
-use Rattle.sshpacket.specs.Suite.{IsLawful, IsNumberBody, IsPositiveBody, ResponseData}
-use Rattle.sshpacket.specs.declared.limits.TheConstants.{SHARE_LIMIT}
+use Rattle.sshpacket.specs.KeyData.{KeyData}
+use Rattle.sshpacket.specs.Packet.{number}
+use Rattle.sshpacket.specs.Suite.{IsLawful, IsNumberBody, IsPositiveBody, Keeps, ResponseData}
+use Rattle.sshpacket.specs.declared.limits.TheConstants.{BLOCK_LIMIT, KEY_LIMIT, SHARE_LIMIT}
 use Rattle.sshsuite.specs.Bits.{bytes_of_words}
 use Rattle.sshsuite.specs.Curve25519.{affine, base_point, x25519}
 use Rattle.sshsuite.specs.Edwards25519.{with_sign, encode_point}
 use Rattle.sshsuite.specs.declared.edwards25519.Point.{Point}
 use Rattle.sshsuite.specs.FieldElement.{encode}
-use Rattle.sshsuite.specs.Deployed.{deployed, ed25519, is_curve25519, mpint_body, response_with, share, shared, shared_number, wrapped}
+use Rattle.sshsuite.specs.Deployed.{deployed, ed25519, is_aes256_gcm, is_curve25519, key_lens, mpint_body, response_with, share, shared, shared_number, wrapped}
 use Rattle.sshsuite.specs.Scalar.{bytes_of_halves, encode_scalar}
+use Rattle.sshsuite.specs.Gcm.{seal as gcm_seal, unseal as gcm_unseal}
+use Rattle.sshsuite.specs.GcmLaws as gcm
+use Rattle.sshsuite.specs.Sealing.{head, seal, unseal}
 use Rattle.sshsuite.specs.SealingLaws.{bytes_seal, guard_none, head_of_seal, seal_length, some_of_packet, unseal_of_seal, unsealed}
 use Rattle.sshsuite.specs.Ed25519.{public_key, signature}
 use Rattle.sshsuite.specs.KeyStream.{bytes_low, bytes_stream, length_stream}
@@ -152,29 +157,65 @@ length_wrapped : (bytes : List ℕ) → length (wrapped bytes) ≡ 19 + length b
 unfolding wrapped
 length_wrapped bytes = let both = length-append (string ed25519) (string bytes) in omega (arith, both)
 
+-- Each cipher.
+both_head : (b : Bool) (keys : KeyData) (seq : ℕ) (clear : List ℕ) → 4 ≤ length clear →
+    (let sealed = cond b (gcm_seal keys.iv keys.enc seq clear) (seal keys.enc seq clear) in
+    cond b (number (take 4 sealed)) (head keys.enc seq (take 4 sealed)) ≡ number clear)
+both_head true keys seq clear h = gcm.head_of_seal keys.iv keys.enc seq clear h
+both_head false keys seq clear h = head_of_seal keys.enc seq clear h
+
+both_unseal : (b : Bool) (keys : KeyData) (seq : ℕ) (clear : List ℕ) → 4 ≤ length clear →
+    (let sealed = cond b (gcm_seal keys.iv keys.enc seq clear) (seal keys.enc seq clear) in
+    cond b (gcm_unseal keys.iv keys.enc seq sealed) (unseal keys.enc seq sealed) ≡ Some clear)
+both_unseal true keys seq clear h = gcm.unseal_of_seal keys.iv keys.enc seq clear h
+both_unseal false keys seq clear h = unseal_of_seal keys.enc seq clear h
+
+both_unsealed : (b : Bool) (keys : KeyData) (seq : ℕ) (sealed clear : List ℕ) → IsBytes sealed
+    → length sealed ≡ 4 + cond b (number (take 4 sealed)) (head keys.enc seq (take 4 sealed)) + 16
+    → cond b (gcm_unseal keys.iv keys.enc seq sealed) (unseal keys.enc seq sealed) ≡ Some clear
+    → Keeps (cond b (number (take 4 sealed)) (head keys.enc seq (take 4 sealed))) clear
+both_unsealed true keys seq sealed clear h long e = gcm.unsealed keys.iv keys.enc seq sealed clear h long e
+both_unsealed false keys seq sealed clear h long e = unsealed keys.enc seq sealed clear h long e
+
+iv_short : (b : Bool) → (key_lens b).iv ≤ KEY_LIMIT
+iv_short true = omega arith
+iv_short false = omega arith
+
+enc_short : (b : Bool) → (key_lens b).enc ≤ KEY_LIMIT
+enc_short true = omega arith
+enc_short false = omega arith
+
+mac_short : (b : Bool) → (key_lens b).mac ≤ KEY_LIMIT
+mac_short true = omega arith
+mac_short false = omega arith
+
 pub deployed_lawful : IsLawful deployed
 deployed_lawful = record {
-  seal_length = λ keys seq payload clear h p. seal_length keys.enc seq clear (some_of_packet _ _ _ payload clear p.1);
-  head_of_seal = λ keys seq payload clear h p. head_of_seal keys.enc seq clear (some_of_packet _ _ _ payload clear p.1);
-  unseal_of_seal = λ keys seq payload clear h p. unseal_of_seal keys.enc seq clear (some_of_packet _ _ _ payload clear p.1);
-  unsealed = λ keys seq sealed clear h bytes long e. unsealed keys.enc seq sealed clear bytes long e;
+  seal_length = λ keys seq payload clear h p. let some = some_of_packet _ _ _ payload clear p.1 in
+      cond_both (is_aes256_gcm keys.cipher) (gcm_seal keys.iv keys.enc seq clear) (seal keys.enc seq clear) (λ (xs : List ℕ). length xs ≡ length clear + 16)
+      (λ _. gcm.seal_length keys.iv keys.enc seq clear some) (λ _. seal_length keys.enc seq clear some);
+  head_of_seal = λ keys seq payload clear h p. both_head (is_aes256_gcm keys.cipher) keys seq clear (some_of_packet _ _ _ payload clear p.1);
+  unseal_of_seal = λ keys seq payload clear h p. both_unseal (is_aes256_gcm keys.cipher) keys seq clear (some_of_packet _ _ _ payload clear p.1);
+  unsealed = λ keys seq sealed clear h bytes long e. both_unsealed (is_aes256_gcm keys.cipher) keys seq sealed clear bytes long e;
   share_fits = λ kex a h. share_short a;
   shared_fits = λ kex a peer body h e. shared_fits kex a peer body e;
   response_fits = λ kex a peer r h e. let parts = response_parts (share a) (shared kex a peer) r e in
       (short_by (share a) r.share parts.0 (share_short a), shared_fits kex a peer r.shared parts.1);
-  block_low = λ cipher. omega arith;
-  block_high = λ cipher. omega arith;
+  block_low = λ cipher. cond_both (is_aes256_gcm cipher) 16 8 (λ (n : ℕ). 8 ≤ n) (λ _. omega arith) (λ _. omega arith);
+  block_high = λ cipher. cond_both (is_aes256_gcm cipher) 16 8 (λ (n : ℕ). n ≤ BLOCK_LIMIT) (λ _. omega arith) (λ _. omega arith);
   tag_high = λ cipher mac. omega arith;
-  iv_high = λ cipher mac. omega arith;
-  enc_high = λ cipher mac. omega arith;
-  mac_high = λ cipher mac. omega arith;
+  iv_high = λ cipher mac. iv_short (is_aes256_gcm cipher);
+  enc_high = λ cipher mac. enc_short (is_aes256_gcm cipher);
+  mac_high = λ cipher mac. mac_short (is_aes256_gcm cipher);
   padding_length = λ seed seq len. length_stream (sha256 seed) seq 0 len;
   digest_low = λ kex input. omega (arith, length-sha256 input);
   digest_high = λ kex input. omega (arith, length-sha256 input);
   digest_even = λ kex input other. length-sha256 input ∙ sym (length-sha256 other);
   blob_high = λ alg secret name. let long = length_wrapped (public_key secret) in let key = length_key secret in omega (arith, long, key);
   sign_high = λ alg secret input name. let long = length_wrapped (signature secret input) in let own = length_signature secret input in omega (arith, long, own);
-  seal_bytes = λ keys seq clear h. bytes_seal keys.enc seq clear h;
+  seal_bytes = λ keys seq clear h.
+      cond_both (is_aes256_gcm keys.cipher) (gcm_seal keys.iv keys.enc seq clear) (seal keys.enc seq clear) (λ (xs : List ℕ). IsBytes xs)
+      (λ _. gcm.bytes_seal keys.iv keys.enc seq clear h) (λ _. bytes_seal keys.enc seq clear h);
   padding_bytes = λ seed seq len. bytes_stream (sha256 seed) seq 0 len;
   share_bytes = λ kex a h. share_bytes a;
   shared_bytes = λ kex a peer body h k e. shared_bytes kex a peer body e;

@@ -36,7 +36,7 @@ length_words step (suc k) s =
     let both = length-append before.0 (to_le_bytes w32 (step before.1).0) in
     omega (arith, long, both)
 
-byte_low : (i n : ℕ) → byte_at i n < 256
+pub byte_low : (i n : ℕ) → byte_at i n < 256
 byte_low zero n = omega arith
 byte_low (suc i) n = omega arith
 

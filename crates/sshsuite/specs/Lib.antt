@@ -10,6 +10,10 @@ pub mod Masks
 pub mod KeyStream
 pub mod Sealing
 pub mod SealingLaws
+pub mod Aes
+pub mod Ghash
+pub mod Gcm
+pub mod GcmLaws
 pub mod Deployed
 pub mod DeployedLaws
 pub mod FieldValues

@@ -17,7 +17,7 @@ use Rattle.sshsuite.specs.Sealing.{payload_key, checked, encrypted, head, length
 use Rattle.sshsuite.specs.KeyStream.{bytes_low, bytes_stream, length_stream, stream}
 use Rattle.std.specs.Int.{w128, to_le_bytes}
 
-same_bytes : (xs : List ℕ) → bytes_eq xs xs ≡ true
+pub same_bytes : (xs : List ℕ) → bytes_eq xs xs ≡ true
 same_bytes xs = nat_list_eq_equiv.refl xs
 
 pub guard_some : {A : Type 0} (b : Bool) (x y : A) → cond b (Some x) None ≡ Some y → (b ≡ true) × (x ≡ y)
@@ -29,7 +29,7 @@ guard_none true o y e = cc
 guard_none false o y e = (refl, e)
 
 -- The number in the first four bytes.
-number_front : (bytes : List ℕ) → 4 ≤ length bytes → number (take 4 bytes) ≡ number bytes
+pub number_front : (bytes : List ℕ) → 4 ≤ length bytes → number (take 4 bytes) ≡ number bytes
 unfolding number uint32_at
 number_front [] h = absurd (omega arith)
 number_front (a ∷ []) h = absurd (omega arith)

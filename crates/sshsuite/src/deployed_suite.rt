@@ -1,7 +1,7 @@
 //! Algorithms that are deployed, as a suite.
 
 ghost use Rattle.std.specs.Prelude.{◌≡◌, ◌<◌, ◌≤◌, ◌^◌, IfOk, drop, length, option_map};
-ghost use Rattle.sshsuite.specs.Deployed.{deployed, is_curve25519, is_ed25519, is_verified, mpint_body, share, shared, shared_number, verify, wrapped};
+ghost use Rattle.sshsuite.specs.Deployed.{deployed, is_aes256_gcm, is_curve25519, is_ed25519, is_verified, mpint_body, share, shared, shared_number, verify, wrapped};
 ghost use Rattle.sshsuite.specs.DeployedLaws.{deployed_lawful};
 
 use crate::chacha20::stream;
@@ -9,9 +9,9 @@ use crate::constant_time::is_equal;
 use crate::curve25519::{BASE_POINT, x25519};
 use crate::ed25519::{is_signature, public_key, signature};
 use crate::mpint::mpint_body;
-use crate::sealing;
+use crate::{gcm, sealing};
 use sha2::{Digest, Sha256};
-use sshpacket::{Capability, KeyLens, Keys, Need, Response, ShareForm, Suite};
+use sshpacket::{Capability, KeyLens, Keys, Need, Response, ShareForm, Suite, leading_uint32};
 use sshwire::{Memory, put_string};
 use std::alloc::Global;
 
@@ -19,8 +19,9 @@ use std::alloc::Global;
 const ED25519: &str = "ssh-ed25519";
 
 /// A suite of algorithms that are deployed: the key exchange curve25519-sha256 (RFC 8731), also under the
-/// name curve25519-sha256@libssh.org, keys of ssh-ed25519 (RFC 8709), and the cipher
-/// chacha20-poly1305@openssh.com (OpenSSH PROTOCOL.chacha20poly1305).
+/// name curve25519-sha256@libssh.org, keys of ssh-ed25519 (RFC 8709), and the ciphers
+/// chacha20-poly1305@openssh.com (OpenSSH PROTOCOL.chacha20poly1305) and aes256-gcm@openssh.com (RFC 5647 as
+/// OpenSSH PROTOCOL section 1.6 has it).
 ///
 /// A private key is the 32 bytes of RFC 8032 section 5.1.5; other bytes are hashed to one as these are. Of
 /// other names:
@@ -29,7 +30,12 @@ const ED25519: &str = "ssh-ed25519";
 ///   it doesn't know can neither sign nor encrypt: so no choice comes to one. A share of such a method is
 ///   refused.
 /// - A signature of an algorithm that it doesn't know is never good.
-/// - Every cipher is chacha20-poly1305@openssh.com, and every MAC is left out.
+/// - Every other cipher is chacha20-poly1305@openssh.com, and every MAC is left out.
+///
+/// The nonce of a packet under aes256-gcm@openssh.com tells how many packets came before it under the same keys. A suite
+/// is told the packet's number alone, which is that only where numbers begin anew with the keys: under strict key
+/// exchange. Elsewhere the first sealed packet isn't the peer's, and the endpoint fails as F4: so whoever lists
+/// this cipher lists it behind another, or for peers that are strict.
 ///
 /// What it computes is proved to be the RFCs' ([`deployed_law`](crate::deployed_law)), down to numbers; SHA-256,
 /// SHA-512 and ChaCha20 are the kit's. That two ends agree, and that a signature is verified by its own key,
@@ -60,8 +66,8 @@ impl Suite for DeployedSuite {
         }
     }
 
-    fn block(&self, _cipher: &str) -> u8 {
-        8
+    fn block(&self, cipher: &str) -> u8 {
+        if is_aes256_gcm(cipher) { 16 } else { 8 }
     }
 
     fn tag_len(&self, _cipher: &str, _mac: &str) -> u8 {
@@ -72,20 +78,36 @@ impl Suite for DeployedSuite {
         false
     }
 
-    fn key_lens(&self, _cipher: &str, _mac: &str) -> KeyLens {
-        KeyLens {
-            iv: 0,
-            enc: 64,
-            mac: 0,
+    fn key_lens(&self, cipher: &str, _mac: &str) -> KeyLens {
+        if is_aes256_gcm(cipher) {
+            KeyLens {
+                iv: 12,
+                enc: 32,
+                mac: 0,
+            }
+        } else {
+            KeyLens {
+                iv: 0,
+                enc: 64,
+                mac: 0,
+            }
         }
     }
 
     fn seal(&self, alloc: Global, keys: &Keys, seq: u32, packet: &[u8]) -> Result<Vec<u8>, Memory> {
-        sealing::seal(alloc, keys.enc(), seq, packet)
+        if is_aes256_gcm(keys.cipher()) {
+            gcm::seal(alloc, keys.iv(), keys.enc(), seq, packet)
+        } else {
+            sealing::seal(alloc, keys.enc(), seq, packet)
+        }
     }
 
     fn head(&self, keys: &Keys, seq: u32, first: [u8; 4]) -> u32 {
-        sealing::head(keys.enc(), seq, first)
+        if is_aes256_gcm(keys.cipher()) {
+            leading_uint32(&first)
+        } else {
+            sealing::head(keys.enc(), seq, first)
+        }
     }
 
     fn unseal(
@@ -95,7 +117,11 @@ impl Suite for DeployedSuite {
         seq: u32,
         sealed: &[u8],
     ) -> Result<Option<Vec<u8>>, Memory> {
-        sealing::unseal(alloc, keys.enc(), seq, sealed)
+        if is_aes256_gcm(keys.cipher()) {
+            gcm::unseal(alloc, keys.iv(), keys.enc(), seq, sealed)
+        } else {
+            sealing::unseal(alloc, keys.enc(), seq, sealed)
+        }
     }
 
     fn padding(&self, alloc: Global, seed: &[u8], seq: u32, len: u8) -> Result<Vec<u8>, Memory> {
@@ -175,6 +201,14 @@ fn is_curve25519(kex: &str) -> bool
     ensures { result ≡ is_curve25519 kex.now }
 {
     kex == "curve25519-sha256" || kex == "curve25519-sha256@libssh.org"
+}
+
+/// Whether this is the name of aes256-gcm.
+#[tactic(auto, unfolding(crate::specs::Deployed::is_aes256_gcm))]
+fn is_aes256_gcm(cipher: &str) -> bool
+    ensures { result ≡ is_aes256_gcm cipher.now }
+{
+    cipher == "aes256-gcm@openssh.com"
 }
 
 /// Whether this is the name of ssh-ed25519.

@@ -1,7 +1,8 @@
-//! Algorithms that are deployed, as a suite: curve25519-sha256, ssh-ed25519 and
-//! chacha20-poly1305@openssh.com.
+//! Algorithms that are deployed, as a suite: curve25519-sha256, ssh-ed25519, chacha20-poly1305@openssh.com and
+//! aes256-gcm@openssh.com.
 #![tactic(auto)]
 
+mod aes;
 mod bits;
 mod chacha20;
 mod constant_time;
@@ -10,6 +11,8 @@ mod deployed_suite;
 mod ed25519;
 mod edwards25519;
 mod field_element;
+mod gcm;
+mod ghash;
 mod key_pair;
 mod keyed_suite;
 mod laws;

@@ -15,9 +15,9 @@ use std::alloc::Global;
 /// How many bytes a tag has.
 pub(crate) const TAG_LEN: usize = 16;
 
-/// The encryption key, of 64 bytes.
+/// 64 bytes of a key: zeros stand for what it is short of them.
 #[tactic(auto, unfolding(crate::specs::Sealing::whole_key))]
-fn whole_key(enc: &[u8]) -> [u8; 64]
+pub(crate) fn whole_key(enc: &[u8]) -> [u8; 64]
     ensures { result ≡ whole_key enc.now }
 {
     filled_up(&enc[..enc.len().min(64)])
