@@ -10,3 +10,5 @@ pub mod DecodingLemmas
 pub mod Ed25519Lemmas
 pub mod PolyLemmas
 pub mod DeployedLemmas
+pub mod AesLemmas
+pub mod AesSamples

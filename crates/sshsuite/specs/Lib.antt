@@ -11,6 +11,7 @@ pub mod KeyStream
 pub mod Sealing
 pub mod SealingLaws
 pub mod Aes
+pub mod AesBytes
 pub mod Ghash
 pub mod Gcm
 pub mod GcmLaws

@@ -1,8 +1,10 @@
 //! What the calls compute, in the RFCs' own words: theorems on their meanings, each of which is the code
 //! written again. No function of the crate calls them.
 
-ghost use Rattle.std.specs.Prelude.{◌≡◌, ◌<◌, ◌+◌, ◌*◌, ◌%◌, ◌^◌, List, ℕ};
+ghost use Rattle.std.specs.Prelude.{◌≡◌, ◌<◌, ◌+◌, ◌*◌, ◌%◌, ◌^◌, List, ℕ, bit_xor};
 ghost use Rattle.sshwire.specs.Types.{IsBytes};
+ghost use Rattle.sshsuite.specs.Aes.{cipher, round_keys, sub_bytes};
+ghost use Rattle.sshsuite.specs.AesBytes.{bit_of, block_of, byte_inverse, byte_mapped, byte_product, mapped_bit, s_box, sample_key, tag_additional, tag_key, tag_sealed};
 ghost use Rattle.sshsuite.specs.Bits.{number_of_32};
 ghost use Rattle.sshsuite.specs.Curve25519.{clamped, x25519};
 ghost use Rattle.sshsuite.specs.DecodingNumbers.{AreAlike, point_in};
@@ -16,6 +18,7 @@ ghost use Rattle.sshsuite.specs.FieldBytes.{bytes_of_number};
 ghost use Rattle.sshsuite.specs.FieldElement.{add, decode, encode, mul, scaled, squared, sub};
 ghost use Rattle.sshsuite.specs.FieldValues.{AreBelow, field, value};
 ghost use Rattle.sshsuite.specs.Poly1305.{tag_of};
+ghost use Rattle.sshsuite.specs.Ghash.{ghash};
 ghost use Rattle.sshsuite.specs.PolyNumbers.{mac};
 ghost use Rattle.sshsuite.specs.X25519Numbers.{x25519_number};
 ghost use Rattle.sshsuite.specs.declared.edwards25519.Point.{Point};
@@ -67,6 +70,23 @@ pub fn ed25519_law()
 /// The law of Poly1305: a tag is that of RFC 8439 section 2.5, in numbers modulo 2^130 - 5.
 pub fn poly1305_law()
     ensures { (key input : List ℕ) → IsBytes key → IsBytes input → tag_of key input ≡ mac key input }
+{}
+
+/// The law of the S-box of AES: over a block it is that of each byte (`bytes`), which is FIPS 197's, the inverse in GF(2^8)
+/// (`inverse`, and `zero` of zero) and then the affine map, bit by bit (`affine`); and the example of FIPS 197 appendix
+/// C.3 comes out (`example`).
+pub fn aes_law()
+    ensures bytes { (bytes : ℕ → ℕ) → ((i : ℕ) → bytes i < 2 ^ 8) → sub_bytes (block_of 16 bytes) ≡ block_of 16 (λ i. s_box (bytes i)) }
+    ensures inverse { (b : ℕ) → 0 < b → b < 256 → byte_product b (byte_inverse b) ≡ 1 }
+    ensures zero { byte_inverse 0 ≡ 0 }
+    ensures affine { (b i : ℕ) → b < 256 → i < 8 → bit_of (byte_mapped b) i ≡ mapped_bit b i }
+    ensures example { cipher (round_keys sample_key) 0x00112233445566778899aabbccddeeff ≡ 0x8ea2b7ca516745bfeafc49904b496089 }
+{}
+
+/// The law of GCM: the tag of test case 16 of its specification comes out, whose additional data and sealed bytes are no whole
+/// blocks.
+pub fn gcm_law()
+    ensures { bit_xor (cipher (round_keys tag_key) 0xcafebabefacedbaddecaf88800000001) (ghash (cipher (round_keys tag_key) 0) tag_additional tag_sealed) ≡ 0x76fc6ece0f4e1768cddf8853bb2d551b }
 {}
 
 /// The law of the suite: its shares and what both sides share are those of RFC 8731 (`share`, `shared`), its

@@ -24,4 +24,6 @@ mod sealing;
 pub use deployed_suite::DeployedSuite;
 pub use key_pair::KeyPair;
 pub use keyed_suite::KeyedSuite;
-pub use laws::{deployed_law, ed25519_law, field_law, point_law, poly1305_law, x25519_law};
+pub use laws::{
+    aes_law, deployed_law, ed25519_law, field_law, gcm_law, point_law, poly1305_law, x25519_law,
+};

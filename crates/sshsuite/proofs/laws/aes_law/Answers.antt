@@ -1,0 +1,18 @@
+use Rattle.sshsuite.proofs.AesLemmas.{sub_bytes_is}
+use Rattle.sshsuite.proofs.AesSamples.{cipher_sample, inverse_none, inverse_of, mapped_by_bits}
+use Rattle.sshsuite.proofs.laws.aes_law.Goals as goal
+
+pub returns-clause-bytes : goal.returns-clause-bytes
+returns-clause-bytes c = sub_bytes_is
+
+pub returns-clause-inverse : goal.returns-clause-inverse
+returns-clause-inverse c = inverse_of
+
+pub returns-clause-zero : goal.returns-clause-zero
+returns-clause-zero c = inverse_none
+
+pub returns-clause-affine : goal.returns-clause-affine
+returns-clause-affine c = mapped_by_bits
+
+pub returns-clause-example : goal.returns-clause-example
+returns-clause-example c = cipher_sample
