@@ -11,7 +11,7 @@ use Rattle.sshsuite.specs.Bits.{bytes_of_words, number_of_32, word_at}
 use Rattle.sshsuite.specs.Edwards25519.{d, decode_point, is_canonical, point_from, point_with, root, root_by, square_root_of_ratio}
 use Rattle.sshsuite.specs.FieldElement.{decode, encode, mul, none, squared, sub}
 use Rattle.sshsuite.specs.declared.edwards25519.Point.{Point}
-use Rattle.sshsuite.proofs.EncodingLemmas.{AreWords}
+use Rattle.sshsuite.proofs.WordLemmas.{AreWords}
 use Rattle.sshsuite.proofs.FieldNumberLemmas.{add_number, decode_number, encode_number, mul_number, none_number, one_number, root_power_number, square_number, sub_number}
 use Rattle.sshsuite.specs.DecodingNumbers.{AreAlike, point_in, root_number, root_of, root_of_quotient, with_root, with_x}
 use Rattle.sshsuite.specs.EdwardsNumbers.{Coordinates, d_number}

@@ -9,8 +9,7 @@ use Rattle.sshsuite.specs.Bits.{number_of_32, word_at}
 use Rattle.sshsuite.specs.Curve25519.{base_point, clamped}
 use Rattle.sshsuite.specs.Deployed.{is_curve25519, mpint_body, share, shared, shared_number}
 use Rattle.sshsuite.proofs.DecodingLemmas.{same_number, zeros}
-use Rattle.sshsuite.proofs.EncodingLemmas.{are_words}
-use Rattle.sshsuite.proofs.PolyLemmas.{zero_bytes}
+use Rattle.sshsuite.proofs.WordLemmas.{are_words, zero_bytes}
 use Rattle.sshsuite.proofs.X25519Lemmas.{x25519_is}
 use Rattle.sshsuite.specs.DeployedNumbers.{share_bytes, shared_body}
 use Rattle.sshsuite.specs.FieldBytes.{bytes_of_number}

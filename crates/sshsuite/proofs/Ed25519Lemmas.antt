@@ -10,7 +10,7 @@ use Rattle.sshsuite.specs.Scalar.{encode_scalar, number_in, order}
 use Rattle.sshsuite.specs.declared.edwards25519.Point.{Point}
 use Rattle.sshsuite.proofs.DecodingLemmas.{point_in_is}
 use Rattle.sshsuite.proofs.EdwardsLemmas.{base_is, bytes_are, multiple_is, opposite_is, sum_is}
-use Rattle.sshsuite.proofs.EncodingLemmas.{AreWords}
+use Rattle.sshsuite.proofs.WordLemmas.{AreWords}
 use Rattle.sshsuite.specs.DecodingNumbers.{AreAlike, point_in}
 use Rattle.sshsuite.specs.Ed25519Numbers.{is_right, is_signed, key_of, signed, times_base}
 use Rattle.sshsuite.specs.EdwardsNumbers.{Coordinates, base_numbers}

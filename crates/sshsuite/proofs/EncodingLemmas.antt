@@ -2,19 +2,15 @@
 -- number modulo 2^255 - 19.
 
 use Rattle.std.proofs.Common.{◌≡◌, ℕ, ◌+◌, ◌*◌, ◌/◌, ◌%◌, ◌^◌, ◌<◌, ◌≤◌, ◌++◌, zero, suc, List, [], ◌∷◌, refl, sym, ap, ap₂, ◌∙◌, arith}
-use Rattle.std.proofs.lemmas.Nat.{or_comm, or_shifted}
 use Rattle.std.specs.Int.{w64, to_le_bytes}
 use Rattle.std.specs.Prelude.{bit_or, slice_index}
-use Rattle.sshwire.specs.Types.{IsBytes}
 use Rattle.sshsuite.specs.Bits.{bytes_of_words, number_of_32, word_at}
-use Rattle.sshsuite.specs.FieldElement.{add, add64, add128, canonical, carried, decode, encode, mul64, mul128, none, packed}
+use Rattle.sshsuite.specs.FieldElement.{add, canonical, carried, decode, encode, none, packed}
+use Rattle.sshsuite.specs.Limbs.{add64, add128, mul64, mul128, reduced_once}
 use Rattle.sshsuite.proofs.FieldLemmas.{add_value}
+use Rattle.sshsuite.proofs.WordLemmas.{AreWords, or_high}
 use Rattle.sshsuite.specs.FieldBytes.{bytes_of_number}
 use Rattle.sshsuite.specs.FieldValues.{AreBelow, field, value, weighed}
-
--- the bits of two words beside each other
-pub or_high : (a k b : ℕ) → b < 2 ^ k → bit_or b (a * 2 ^ k) ≡ a * 2 ^ k + b
-or_high a k b h = or_comm b (a * 2 ^ k) ∙ or_shifted a k b h
 
 -- Bytes to limbs.
 limb1 : (x y : ℕ) → x < 2 ^ 64 → bit_or (x / 2 ^ 51) (y * 2 ^ 13 % 2 ^ 64) % 2 ^ 51 ≡ y % 2 ^ 38 * 2 ^ 13 + x / 2 ^ 51
@@ -45,20 +41,6 @@ least_of x y q e h = omega arith
 
 bounded : (l0 l1 l2 l3 l4 : ℕ) → l0 < 2 ^ 51 → l1 < 2 ^ 51 → l2 < 2 ^ 51 → l3 < 2 ^ 51 → l4 < 2 ^ 51 → weighed l0 l1 l2 l3 l4 < 2 ^ 255
 bounded l0 l1 l2 l3 l4 h0 h1 h2 h3 h4 = omega arith
-
--- words of bytes are below 2^64
-pub record AreWords (bytes : List ℕ) : Type 0 where
-  pub w0 : word_at bytes 0 < 2 ^ 64
-  pub w1 : word_at bytes 8 < 2 ^ 64
-  pub w2 : word_at bytes 16 < 2 ^ 64
-  pub w3 : word_at bytes 24 < 2 ^ 64
-
-pub word_low : (bytes : List ℕ) (i : ℕ) → IsBytes bytes → word_at bytes i < 2 ^ 64
-unfolding word_at
-word_low bytes i h = omega (arith, h i, h (i + 1), h (i + 2), h (i + 3), h (i + 4), h (i + 5), h (i + 6), h (i + 7))
-
-pub are_words : (bytes : List ℕ) → IsBytes bytes → AreWords bytes
-are_words bytes h = record { w0 = word_low bytes 0 h; w1 = word_low bytes 8 h; w2 = word_low bytes 16 h; w3 = word_low bytes 24 h }
 
 pub decode_value : (bytes : List ℕ) → AreWords bytes → AreBelow (2 ^ 51) (decode bytes) × (value (decode bytes) ≡ number_of_32 bytes % 2 ^ 255)
 unfolding decode number_of_32
@@ -134,9 +116,6 @@ chain : (l0 l1 l2 l3 l4 first q0 q1 q2 q3 q4 r0 r1 r2 r3 r4 : ℕ) → l0 + firs
     → l3 + q2 ≡ 2 ^ 51 * q3 + r3 → l4 + q3 ≡ 2 ^ 51 * q4 + r4 → weighed l0 l1 l2 l3 l4 + first ≡ weighed r0 r1 r2 r3 r4 + 2 ^ 255 * q4
 chain l0 l1 l2 l3 l4 first q0 q1 q2 q3 q4 r0 r1 r2 r3 r4 e0 e1 e2 e3 e4 = omega arith
 
-added : (x y : ℕ) → x < 2 ^ 53 → y < 2 ^ 53 → add64 x y ≡ 2 ^ 51 * (add64 x y / 2 ^ 51) + add64 x y % 2 ^ 51
-added x y h k = omega arith
-
 sum64 : (x y : ℕ) → x < 2 ^ 53 → y < 2 ^ 53 → x + y ≡ 2 ^ 51 * (add64 x y / 2 ^ 51) + add64 x y % 2 ^ 51
 sum64 x y h k = omega arith
 
@@ -155,7 +134,7 @@ tight_value : (l0 l1 l2 l3 l4 : ℕ) → l0 < 2 ^ 51 → l1 < 2 ^ 51 → l2 < 2 
 tight_value l0 l1 l2 l3 l4 h0 h1 h2 h3 h4 = omega arith
 
 canonical_value : (l : List ℕ) → AreTight l → AreBelow (2 ^ 51) (canonical l) × (value (canonical l) ≡ value l % field)
-unfolding canonical
+unfolding canonical reduced_once
 canonical_value l h =
     let l0 : ℕ = slice_index l 0 in
     let l1 : ℕ = slice_index l 1 in

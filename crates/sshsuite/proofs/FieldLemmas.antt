@@ -4,8 +4,10 @@
 use Rattle.std.proofs.Common.{◌≡◌, ℕ, ◌+◌, ◌*◌, ◌/◌, ◌%◌, ◌^◌, ◌<◌, ◌≤◌, List, [], ◌∷◌, sym, ap, ap₂, ◌∙◌, arith}
 use Rattle.std.proofs.Math.Nat.{mul-le-mul_left}
 use Rattle.std.specs.Prelude.{slice_index}
-use Rattle.sshsuite.specs.FieldElement.{add, add128, carried, dot, less, mul, mul64, mul128, scaled, squared, sub, three}
+use Rattle.sshsuite.specs.FieldElement.{add, carried, dot, less, mul, scaled, squared, sub, three}
+use Rattle.sshsuite.specs.Limbs.{add128, mul64, mul128}
 use Rattle.sshsuite.specs.FieldValues.{AreBelow, field, value, weighed}
+use Rattle.sshsuite.proofs.LimbLemmas.{at_places, folded}
 
 -- one pass of carries
 pass : (c0 c1 c2 c3 c4 q0 q1 q2 q3 q4 r0 r1 r2 r3 r4 : ℕ) → c0 ≡ 2 ^ 51 * q0 + r0 → c1 + q0 ≡ 2 ^ 51 * q1 + r1 → c2 + q1 ≡ 2 ^ 51 * q2 + r2
@@ -109,7 +111,7 @@ sums x0 x1 x2 x3 x4 h0 h1 h2 h3 h4 =
     ∙ omega (arith, t3, s4)
 
 dot_value : (a b : List ℕ) → AreBelow (2 ^ 52) a → AreBelow (2 ^ 57) b
-    → (dot a b ≡ slice_index a 0 * slice_index b 0 + slice_index a 1 * slice_index b 1 + slice_index a 2 * slice_index b 2 + slice_index a 3 * slice_index b 3 + slice_index a 4 * slice_index b 4) × (dot a b < 2 ^ 115)
+    → (dot a b ≡ at_places a b) × (dot a b < 2 ^ 115)
 unfolding dot
 dot_value a b h k =
     let m0 : slice_index a 0 * slice_index b 0 < 2 ^ 109 = below (slice_index a 0) (slice_index b 0) h.l0 k.l0 in
@@ -162,34 +164,10 @@ mul_value a b h k =
     let s4 : ℕ = mul64 b4 19 in
     let w4 : s4 ≡ 19 * b4 = omega (arith, k.l4) in
     let z4 : s4 < 2 ^ 57 = omega (arith, w4, k.l4) in
-    let f0 = dot_value a (b0 ∷ s4 ∷ s3 ∷ s2 ∷ s1 ∷ []) h (record { l0 = k0; l1 = z4; l2 = z3; l3 = z2; l4 = z1 }) in
-    let f1 = dot_value a (b1 ∷ b0 ∷ s4 ∷ s3 ∷ s2 ∷ []) h (record { l0 = k1; l1 = k0; l2 = z4; l3 = z3; l4 = z2 }) in
-    let f2 = dot_value a (b2 ∷ b1 ∷ b0 ∷ s4 ∷ s3 ∷ []) h (record { l0 = k2; l1 = k1; l2 = k0; l3 = z4; l4 = z3 }) in
-    let f3 = dot_value a (b3 ∷ b2 ∷ b1 ∷ b0 ∷ s4 ∷ []) h (record { l0 = k3; l1 = k2; l2 = k1; l3 = k0; l4 = z4 }) in
-    let f4 = dot_value a (b4 ∷ b3 ∷ b2 ∷ b1 ∷ b0 ∷ []) h (record { l0 = k4; l1 = k3; l2 = k2; l3 = k1; l4 = k0 }) in
-    let p14 : a1 * s4 ≡ a1 * (19 * b4) = ap (λ (n : ℕ). a1 * n) w4 in
-    let p23 : a2 * s3 ≡ a2 * (19 * b3) = ap (λ (n : ℕ). a2 * n) w3 in
-    let p24 : a2 * s4 ≡ a2 * (19 * b4) = ap (λ (n : ℕ). a2 * n) w4 in
-    let p32 : a3 * s2 ≡ a3 * (19 * b2) = ap (λ (n : ℕ). a3 * n) w2 in
-    let p33 : a3 * s3 ≡ a3 * (19 * b3) = ap (λ (n : ℕ). a3 * n) w3 in
-    let p34 : a3 * s4 ≡ a3 * (19 * b4) = ap (λ (n : ℕ). a3 * n) w4 in
-    let p41 : a4 * s1 ≡ a4 * (19 * b1) = ap (λ (n : ℕ). a4 * n) w1 in
-    let p42 : a4 * s2 ≡ a4 * (19 * b2) = ap (λ (n : ℕ). a4 * n) w2 in
-    let p43 : a4 * s3 ≡ a4 * (19 * b3) = ap (λ (n : ℕ). a4 * n) w3 in
-    let p44 : a4 * s4 ≡ a4 * (19 * b4) = ap (λ (n : ℕ). a4 * n) w4 in
-    let c0 : ℕ = dot a (b0 ∷ s4 ∷ s3 ∷ s2 ∷ s1 ∷ []) in
-    let g0 : c0 ≡ a0 * b0 + 19 * (a1 * b4) + 19 * (a2 * b3) + 19 * (a3 * b2) + 19 * (a4 * b1) = omega (arith, f0.0, p14, p23, p32, p41) in
-    let c1 : ℕ = dot a (b1 ∷ b0 ∷ s4 ∷ s3 ∷ s2 ∷ []) in
-    let g1 : c1 ≡ a0 * b1 + a1 * b0 + 19 * (a2 * b4) + 19 * (a3 * b3) + 19 * (a4 * b2) = omega (arith, f1.0, p24, p33, p42) in
-    let c2 : ℕ = dot a (b2 ∷ b1 ∷ b0 ∷ s4 ∷ s3 ∷ []) in
-    let g2 : c2 ≡ a0 * b2 + a1 * b1 + a2 * b0 + 19 * (a3 * b4) + 19 * (a4 * b3) = omega (arith, f2.0, p34, p43) in
-    let c3 : ℕ = dot a (b3 ∷ b2 ∷ b1 ∷ b0 ∷ s4 ∷ []) in
-    let g3 : c3 ≡ a0 * b3 + a1 * b2 + a2 * b1 + a3 * b0 + 19 * (a4 * b4) = omega (arith, f3.0, p44) in
-    let c4 : ℕ = dot a (b4 ∷ b3 ∷ b2 ∷ b1 ∷ b0 ∷ []) in
-    let g4 : c4 ≡ a0 * b4 + a1 * b3 + a2 * b2 + a3 * b1 + a4 * b0 = omega (arith, f4.0) in
-    let out = carried_value c0 c1 c2 c3 c4 f0.1 f1.1 f2.1 f3.1 f4.1 in
-    let all = expand a0 a1 a2 a3 a4 b0 b1 b2 b3 b4 c0 c1 c2 c3 c4 g0 g1 g2 g3 g4 in
-    (out.0, out.1 ∙ sym (multiple (value a * value b) (weighed c0 c1 c2 c3 c4) (weighed (a1 * b4 + a2 * b3 + a3 * b2 + a4 * b1) (a2 * b4 + a3 * b3 + a4 * b2) (a3 * b4 + a4 * b3) (a4 * b4) 0) all))
+    let both = folded 19 (2 ^ 52) (2 ^ 57) (2 ^ 115) dot dot_value a b s1 s2 s3 s4 h (record { l0 = k0; l1 = k1; l2 = k2; l3 = k3; l4 = k4 }) w1 w2 w3 w4 z1 z2 z3 z4 in
+    let out = carried_value _ _ _ _ _ both.1.l0 both.1.l1 both.1.l2 both.1.l3 both.1.l4 in
+    let all = expand a0 a1 a2 a3 a4 b0 b1 b2 b3 b4 _ _ _ _ _ both.0.p0 both.0.p1 both.0.p2 both.0.p3 both.0.p4 in
+    (out.0, out.1 ∙ sym (multiple (value a * value b) _ (weighed (a1 * b4 + a2 * b3 + a3 * b2 + a4 * b1) (a2 * b4 + a3 * b3 + a4 * b2) (a3 * b4 + a4 * b3) (a4 * b4) 0) all))
 
 factors : (a b : ℕ) → a < 2 ^ 53 → b < 2 ^ 58 → a * b < 2 ^ 111
 factors a b h k = let m : a * b ≤ a * 2 ^ 58 = mul-le-mul_left a (omega arith) in omega (arith, m)

@@ -5,7 +5,8 @@ use Rattle.std.proofs.Math.Nat.{pow-suc, pow-zero}
 use Rattle.std.proofs.lemmas.Nat.{pow-add}
 use Rattle.sshsuite.specs.Bits.{number_of_32}
 use Rattle.sshsuite.specs.FieldElement.{add, decode, eleventh, encode, inverse, mul, none, one, root_power, scaled, squared, squares, sub, to_50, to_250}
-use Rattle.sshsuite.proofs.EncodingLemmas.{AreWords, decode_value, encode_value}
+use Rattle.sshsuite.proofs.EncodingLemmas.{decode_value, encode_value}
+use Rattle.sshsuite.proofs.WordLemmas.{AreWords}
 use Rattle.sshsuite.proofs.FieldLemmas.{add_value, mul_value, scaled_value, square_value, sub_value}
 use Rattle.sshsuite.specs.FieldBytes.{bytes_of_number}
 use Rattle.sshsuite.specs.FieldNumbers.{HasNumber, minus, plus, power, reciprocal, times}

@@ -1,4 +1,6 @@
 pub mod ConstantTimeLemmas
+pub mod WordLemmas
+pub mod LimbLemmas
 pub mod FieldLemmas
 pub mod EncodingLemmas
 pub mod FieldNumberLemmas

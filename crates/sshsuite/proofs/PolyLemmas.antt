@@ -1,17 +1,19 @@
 -- The code computes Poly1305 in numbers.
 
-use Rattle.std.proofs.Common.{◌≡◌, ℕ, zero, suc, ◌+◌, ◌-◌, ◌*◌, ◌/◌, ◌%◌, ◌^◌, ◌<◌, ◌≤◌, Bool, true, false, List, [], ◌∷◌, ◌++◌, length, refl, sym, ap, ap₂, ◌∙◌, arith, cond, eqb}
+use Rattle.std.proofs.Common.{◌≡◌, ℕ, zero, suc, ◌+◌, ◌-◌, ◌*◌, ◌/◌, ◌%◌, ◌^◌, ◌<◌, ◌≤◌, Bool, true, false, List, ◌∷◌, ◌++◌, length, refl, sym, ap, ap₂, ◌∙◌, arith, cond, eqb}
 use Rattle.std.proofs.Math.Nat.{mul-le-mul_left}
 use Rattle.std.proofs.lemmas.Nat.{and_le_r}
 use Rattle.std.specs.Int.{w128, to_le_bytes}
 use Rattle.std.specs.Int.Bits.{or_zero_r}
 use Rattle.std.specs.Prelude.{bit_and, bit_or, replicate, slice_index}
-use Rattle.sshwire.specs.ByteLaws.{bytes_append, bytes_cons, bytes_dropped, bytes_none, bytes_taken}
+use Rattle.sshwire.specs.ByteLaws.{bytes_append, bytes_cons, bytes_dropped, bytes_taken}
 use Rattle.sshwire.specs.Types.{IsBytes}
 use Rattle.sshsuite.specs.Bits.{word_at}
-use Rattle.sshsuite.specs.FieldElement.{add64, mul64}
+use Rattle.sshsuite.specs.FieldValues.{AreBelow}
+use Rattle.sshsuite.specs.Limbs.{add64, mul64, reduced_once}
 use Rattle.sshsuite.specs.Poly1305.{accumulated, add, block_at, block_limbs, canonical, carried, clamped_r, dot, limbs_of, mul, packed, s_of, sum_to, tag_of}
-use Rattle.sshsuite.proofs.EncodingLemmas.{or_high, word_low}
+use Rattle.sshsuite.proofs.LimbLemmas.{at_places, folded}
+use Rattle.sshsuite.proofs.WordLemmas.{or_high, word_low, zero_bytes}
 use Rattle.sshsuite.specs.PolyNumbers.{accumulator, block_number, mac, modulus, number_of_16, r_number, s_number}
 
 -- the number of five limbs
@@ -20,14 +22,6 @@ weighed c0 c1 c2 c3 c4 = c0 + 67108864 * c1 + 4503599627370496 * c2 + 3022314549
 
 abbrev pub value : List ℕ → ℕ
 value a = weighed (slice_index a 0) (slice_index a 1) (slice_index a 2) (slice_index a 3) (slice_index a 4)
-
--- each limb is below
-pub record AreBelow (n : ℕ) (a : List ℕ) : Type 0 where
-  pub l0 : slice_index a 0 < n
-  pub l1 : slice_index a 1 < n
-  pub l2 : slice_index a 2 < n
-  pub l3 : slice_index a 3 < n
-  pub l4 : slice_index a 4 < n
 
 -- Two words as limbs.
 third : (low high : ℕ) → low < 2 ^ 64 → bit_or (low / 2 ^ 52) (high * 2 ^ 12 % 2 ^ 64) % 2 ^ 26 ≡ high % 2 ^ 14 * 2 ^ 12 + low / 2 ^ 52
@@ -142,7 +136,7 @@ sums x0 x1 x2 x3 x4 h0 h1 h2 h3 h4 =
     ∙ omega (arith, t3, s4)
 
 dot_value : (a b : List ℕ) → AreBelow (2 ^ 28) a → AreBelow (2 ^ 29) b
-    → (dot a b ≡ slice_index a 0 * slice_index b 0 + slice_index a 1 * slice_index b 1 + slice_index a 2 * slice_index b 2 + slice_index a 3 * slice_index b 3 + slice_index a 4 * slice_index b 4) × (dot a b < 2 ^ 61)
+    → (dot a b ≡ at_places a b) × (dot a b < 2 ^ 61)
 unfolding dot
 dot_value a b h k =
     let m0 : slice_index a 0 * slice_index b 0 < 2 ^ 57 = below (slice_index a 0) (slice_index b 0) h.l0 k.l0 in
@@ -195,34 +189,10 @@ mul_value a b h k =
     let s4 : ℕ = mul64 b4 5 in
     let w4 : s4 ≡ 5 * b4 = omega (arith, k.l4) in
     let z4 : s4 < 2 ^ 29 = omega (arith, w4, k.l4) in
-    let f0 = dot_value a (b0 ∷ s4 ∷ s3 ∷ s2 ∷ s1 ∷ []) h (record { l0 = k0; l1 = z4; l2 = z3; l3 = z2; l4 = z1 }) in
-    let f1 = dot_value a (b1 ∷ b0 ∷ s4 ∷ s3 ∷ s2 ∷ []) h (record { l0 = k1; l1 = k0; l2 = z4; l3 = z3; l4 = z2 }) in
-    let f2 = dot_value a (b2 ∷ b1 ∷ b0 ∷ s4 ∷ s3 ∷ []) h (record { l0 = k2; l1 = k1; l2 = k0; l3 = z4; l4 = z3 }) in
-    let f3 = dot_value a (b3 ∷ b2 ∷ b1 ∷ b0 ∷ s4 ∷ []) h (record { l0 = k3; l1 = k2; l2 = k1; l3 = k0; l4 = z4 }) in
-    let f4 = dot_value a (b4 ∷ b3 ∷ b2 ∷ b1 ∷ b0 ∷ []) h (record { l0 = k4; l1 = k3; l2 = k2; l3 = k1; l4 = k0 }) in
-    let p14 : a1 * s4 ≡ a1 * (5 * b4) = ap (λ (n : ℕ). a1 * n) w4 in
-    let p23 : a2 * s3 ≡ a2 * (5 * b3) = ap (λ (n : ℕ). a2 * n) w3 in
-    let p24 : a2 * s4 ≡ a2 * (5 * b4) = ap (λ (n : ℕ). a2 * n) w4 in
-    let p32 : a3 * s2 ≡ a3 * (5 * b2) = ap (λ (n : ℕ). a3 * n) w2 in
-    let p33 : a3 * s3 ≡ a3 * (5 * b3) = ap (λ (n : ℕ). a3 * n) w3 in
-    let p34 : a3 * s4 ≡ a3 * (5 * b4) = ap (λ (n : ℕ). a3 * n) w4 in
-    let p41 : a4 * s1 ≡ a4 * (5 * b1) = ap (λ (n : ℕ). a4 * n) w1 in
-    let p42 : a4 * s2 ≡ a4 * (5 * b2) = ap (λ (n : ℕ). a4 * n) w2 in
-    let p43 : a4 * s3 ≡ a4 * (5 * b3) = ap (λ (n : ℕ). a4 * n) w3 in
-    let p44 : a4 * s4 ≡ a4 * (5 * b4) = ap (λ (n : ℕ). a4 * n) w4 in
-    let c0 : ℕ = dot a (b0 ∷ s4 ∷ s3 ∷ s2 ∷ s1 ∷ []) in
-    let g0 : c0 ≡ a0 * b0 + 5 * (a1 * b4) + 5 * (a2 * b3) + 5 * (a3 * b2) + 5 * (a4 * b1) = omega (arith, f0.0, p14, p23, p32, p41) in
-    let c1 : ℕ = dot a (b1 ∷ b0 ∷ s4 ∷ s3 ∷ s2 ∷ []) in
-    let g1 : c1 ≡ a0 * b1 + a1 * b0 + 5 * (a2 * b4) + 5 * (a3 * b3) + 5 * (a4 * b2) = omega (arith, f1.0, p24, p33, p42) in
-    let c2 : ℕ = dot a (b2 ∷ b1 ∷ b0 ∷ s4 ∷ s3 ∷ []) in
-    let g2 : c2 ≡ a0 * b2 + a1 * b1 + a2 * b0 + 5 * (a3 * b4) + 5 * (a4 * b3) = omega (arith, f2.0, p34, p43) in
-    let c3 : ℕ = dot a (b3 ∷ b2 ∷ b1 ∷ b0 ∷ s4 ∷ []) in
-    let g3 : c3 ≡ a0 * b3 + a1 * b2 + a2 * b1 + a3 * b0 + 5 * (a4 * b4) = omega (arith, f3.0, p44) in
-    let c4 : ℕ = dot a (b4 ∷ b3 ∷ b2 ∷ b1 ∷ b0 ∷ []) in
-    let g4 : c4 ≡ a0 * b4 + a1 * b3 + a2 * b2 + a3 * b1 + a4 * b0 = omega (arith, f4.0) in
-    let out = carried_value (c0 ∷ c1 ∷ c2 ∷ c3 ∷ c4 ∷ []) (record { l0 = f0.1; l1 = f1.1; l2 = f2.1; l3 = f3.1; l4 = f4.1 }) in
-    let all = expand a0 a1 a2 a3 a4 b0 b1 b2 b3 b4 c0 c1 c2 c3 c4 g0 g1 g2 g3 g4 in
-    (out.0, out.1 ∙ sym (multiple (value a * value b) (weighed c0 c1 c2 c3 c4) (weighed (a1 * b4 + a2 * b3 + a3 * b2 + a4 * b1) (a2 * b4 + a3 * b3 + a4 * b2) (a3 * b4 + a4 * b3) (a4 * b4) 0) all))
+    let both = folded 5 (2 ^ 28) (2 ^ 29) (2 ^ 61) dot dot_value a b s1 s2 s3 s4 h (record { l0 = k0; l1 = k1; l2 = k2; l3 = k3; l4 = k4 }) w1 w2 w3 w4 z1 z2 z3 z4 in
+    let out = carried_value _ both.1 in
+    let all = expand a0 a1 a2 a3 a4 b0 b1 b2 b3 b4 _ _ _ _ _ both.0.p0 both.0.p1 both.0.p2 both.0.p3 both.0.p4 in
+    (out.0, out.1 ∙ sym (multiple (value a * value b) _ (weighed (a1 * b4 + a2 * b3 + a3 * b2 + a4 * b1) (a2 * b4 + a3 * b3 + a4 * b2) (a3 * b4 + a4 * b3) (a4 * b4) 0) all))
 
 -- The accumulator.
 sum_value : (a b : List ℕ) → AreCarried (2 ^ 26 + 2 ^ 13) a → AreBelow (2 ^ 26) b → AreBelow (2 ^ 28) (add a b) × (value (add a b) ≡ value a + value b)
@@ -236,10 +206,6 @@ sum_value a b h k =
       record { l0 = omega (arith, e0, h.l0, k.l0); l1 = omega (arith, e1, h.l1, k.l1); l2 = omega (arith, e2, h.l2, k.l2); l3 = omega (arith, e3, h.l3, k.l3); l4 = omega (arith, e4, h.l4, k.l4) },
       omega (arith, e0, e1, e2, e3, e4),
     )
-
-pub zero_bytes : (n : ℕ) → IsBytes (replicate n 0)
-zero_bytes zero = bytes_none
-zero_bytes (suc n) = bytes_cons 0 (replicate n 0) (omega arith) (zero_bytes n)
 
 behind : (block : List ℕ) → IsBytes block → IsBytes (block ++ 1 ∷ replicate (15 - length block) 0)
 behind block h = bytes_append block (1 ∷ replicate (15 - length block) 0) h (bytes_cons 1 (replicate (15 - length block) 0) (omega arith) (zero_bytes (15 - length block)))
@@ -317,7 +283,7 @@ carried_low : (l0 l1 l2 l3 l4 : ℕ) → l0 < 2 ^ 26 → l1 ≤ 2 ^ 26 + 2 ^ 13 
 carried_low l0 l1 l2 l3 l4 h0 h1 h2 h3 h4 = omega arith
 
 canonical_value : (l : List ℕ) → AreCarried (2 ^ 26 + 2 ^ 13) l → AreBelow (2 ^ 26) (canonical l) × (value (canonical l) ≡ value l % modulus)
-unfolding canonical
+unfolding canonical reduced_once
 canonical_value l h =
     let l0 : ℕ = slice_index l 0 in
     let l1 : ℕ = slice_index l 1 in

@@ -5,7 +5,7 @@ use Rattle.sshsuite.specs.Bits.{bit_at, number_of_32}
 use Rattle.sshsuite.specs.Curve25519.{affine, clamped, ladder, ladder_bit, ladder_start, ladder_step, swapped, x25519}
 use Rattle.sshsuite.specs.FieldElement.{decode}
 use Rattle.sshsuite.specs.declared.curve25519.LadderState.{LadderState}
-use Rattle.sshsuite.proofs.EncodingLemmas.{AreWords}
+use Rattle.sshsuite.proofs.WordLemmas.{AreWords}
 use Rattle.sshsuite.proofs.FieldNumberLemmas.{add_number, decode_number, encode_number, inverse_number, mul_number, none_number, one_number, scaled_number, square_number, sub_number}
 use Rattle.sshsuite.specs.FieldBytes.{bytes_of_number}
 use Rattle.sshsuite.specs.FieldNumbers.{HasNumber}

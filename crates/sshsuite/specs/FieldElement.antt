@@ -4,18 +4,7 @@
 use Rattle.std.proofs.Common.{◌≡◌, add-one, refl}
 use Rattle.std.specs.Prelude.{ℕ, zero, suc, ◌+◌, ◌-◌, ◌*◌, ◌/◌, ◌%◌, ◌^◌, List, [], ◌∷◌, slice_index, bit_or}
 use Rattle.sshsuite.specs.Bits.{bytes_of_words, word_at}
-
-abbrev pub add64 : ℕ → ℕ → ℕ
-add64 x y = (x + y) % 2 ^ 64
-
-abbrev pub mul64 : ℕ → ℕ → ℕ
-mul64 x y = x * y % 2 ^ 64
-
-abbrev pub add128 : ℕ → ℕ → ℕ
-add128 x y = (x + y) % 2 ^ 128
-
-abbrev pub mul128 : ℕ → ℕ → ℕ
-mul128 x y = x * y % 2 ^ 128
+use Rattle.sshsuite.specs.Limbs.{add128, mul64, mul128, reduced_once}
 
 -- the sum of the products at each place
 unfoldable pub dot : List ℕ → List ℕ → ℕ
@@ -141,23 +130,7 @@ decode bytes =
 
 -- the limbs less the field's size where they are more
 unfoldable pub canonical : List ℕ → List ℕ
-canonical a =
-    let a0 = slice_index a 0 in
-    let a1 = slice_index a 1 in
-    let a2 = slice_index a 2 in
-    let a3 = slice_index a 3 in
-    let a4 = slice_index a 4 in
-    let o0 = add64 a0 19 / 2 ^ 51 in
-    let o1 = add64 a1 o0 / 2 ^ 51 in
-    let o2 = add64 a2 o1 / 2 ^ 51 in
-    let o3 = add64 a3 o2 / 2 ^ 51 in
-    let over = add64 a4 o3 / 2 ^ 51 in
-    let l0 = add64 a0 (mul64 over 19) in
-    let l1 = add64 a1 (l0 / 2 ^ 51) in
-    let l2 = add64 a2 (l1 / 2 ^ 51) in
-    let l3 = add64 a3 (l2 / 2 ^ 51) in
-    let l4 = add64 a4 (l3 / 2 ^ 51) in
-    l0 % 2 ^ 51 ∷ l1 % 2 ^ 51 ∷ l2 % 2 ^ 51 ∷ l3 % 2 ^ 51 ∷ l4 % 2 ^ 51 ∷ []
+canonical a = reduced_once (2 ^ 51) 19 a
 
 -- four words of five limbs
 unfoldable pub packed : List ℕ → List ℕ

@@ -1,4 +1,5 @@
 pub mod Bits
+pub mod Limbs
 pub mod FieldElement
 pub mod Curve25519
 pub mod Scalar

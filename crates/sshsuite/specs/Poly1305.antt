@@ -4,7 +4,7 @@ use Rattle.std.proofs.Common.{◌≡◌, add-one, refl}
 use Rattle.std.specs.Prelude.{ℕ, zero, suc, ◌+◌, ◌-◌, ◌*◌, ◌/◌, ◌%◌, ◌^◌, ◌==◌, List, [], ◌∷◌, ◌++◌, length, take, drop, slice_index, bit_and, bit_or, if◌then◌else◌, replicate, min}
 use Rattle.std.specs.Int.{w128, to_le_bytes}
 use Rattle.sshsuite.specs.Bits.{word_at}
-use Rattle.sshsuite.specs.FieldElement.{add64, mul64}
+use Rattle.sshsuite.specs.Limbs.{add64, mul64, reduced_once}
 
 -- the limbs of two words, and of what stands above them
 unfoldable pub limbs_of : ℕ → ℕ → ℕ → List ℕ
@@ -79,23 +79,7 @@ sum_more input factor n = rw (add-one n) refl
 
 -- the limbs less 2^130 - 5 where they are more
 unfoldable pub canonical : List ℕ → List ℕ
-canonical h =
-    let h0 = slice_index h 0 in
-    let h1 = slice_index h 1 in
-    let h2 = slice_index h 2 in
-    let h3 = slice_index h 3 in
-    let h4 = slice_index h 4 in
-    let o0 = add64 h0 5 / 2 ^ 26 in
-    let o1 = add64 h1 o0 / 2 ^ 26 in
-    let o2 = add64 h2 o1 / 2 ^ 26 in
-    let o3 = add64 h3 o2 / 2 ^ 26 in
-    let over = add64 h4 o3 / 2 ^ 26 in
-    let l0 = add64 h0 (mul64 over 5) in
-    let l1 = add64 h1 (l0 / 2 ^ 26) in
-    let l2 = add64 h2 (l1 / 2 ^ 26) in
-    let l3 = add64 h3 (l2 / 2 ^ 26) in
-    let l4 = add64 h4 (l3 / 2 ^ 26) in
-    l0 % 2 ^ 26 ∷ l1 % 2 ^ 26 ∷ l2 % 2 ^ 26 ∷ l3 % 2 ^ 26 ∷ l4 % 2 ^ 26 ∷ []
+canonical h = reduced_once (2 ^ 26) 5 h
 
 -- the number below 2^128 of five limbs
 unfoldable pub packed : List ℕ → ℕ

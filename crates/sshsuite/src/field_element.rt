@@ -4,7 +4,8 @@
 //! lost, but by that bound nothing is ([`field_law`](crate::field_law)).
 
 ghost use Rattle.std.specs.Prelude.{◌≡◌, ◌<◌, ◌+◌, ◌*◌, ◌%◌, ◌^◌, ◌==◌, if◌then◌else◌, length};
-ghost use Rattle.sshsuite.specs.FieldElement.{add, add128, canonical, carried, decode, dot, eleventh, encode, inverse, less, mul, mul128, packed, root_power, scaled, squared, squares, sub, three, to_250, to_50};
+ghost use Rattle.sshsuite.specs.Limbs.{add128, mul128};
+ghost use Rattle.sshsuite.specs.FieldElement.{add, canonical, carried, decode, dot, eleventh, encode, inverse, less, mul, packed, root_power, scaled, squared, squares, sub, three, to_250, to_50};
 
 use crate::bits::{bytes_of_words, word_at};
 use crate::constant_time::select;
@@ -267,7 +268,7 @@ pub(crate) fn decode(bytes: &[u8]) -> Element
 }
 
 /// The limbs less the field's size where they are more.
-#[tactic(auto, unfolding(crate::specs::FieldElement::canonical))]
+#[tactic(auto, unfolding(crate::specs::FieldElement::canonical, crate::specs::Limbs::reduced_once))]
 fn canonical(a: Element) -> Element
     ensures { result ≡ canonical a }
 {

@@ -156,7 +156,7 @@ fn sum_of(input: &[u8], factor: Limbs) -> Limbs
 }
 
 /// The limbs less 2^130 - 5 where they are more.
-#[tactic(auto, unfolding(crate::specs::Poly1305::canonical))]
+#[tactic(auto, unfolding(crate::specs::Poly1305::canonical, crate::specs::Limbs::reduced_once))]
 fn canonical(h: Limbs) -> Limbs
     ensures { result ≡ canonical h }
 {

@@ -1,4 +1,4 @@
-use Rattle.sshsuite.proofs.EncodingLemmas.{are_words}
+use Rattle.sshsuite.proofs.WordLemmas.{are_words}
 use Rattle.sshsuite.proofs.Ed25519Lemmas.{is_signed_is, key_is, signed_is}
 use Rattle.sshsuite.proofs.laws.ed25519_law.Goals as goal
 

@@ -1,4 +1,5 @@
-use Rattle.sshsuite.proofs.EncodingLemmas.{are_words, decode_value, encode_value}
+use Rattle.sshsuite.proofs.EncodingLemmas.{decode_value, encode_value}
+use Rattle.sshsuite.proofs.WordLemmas.{are_words}
 use Rattle.sshsuite.proofs.FieldLemmas.{add_value, mul_value, scaled_value, square_value, sub_value}
 use Rattle.sshsuite.proofs.laws.field_law.Goals as goal
 

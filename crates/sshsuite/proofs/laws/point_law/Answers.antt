@@ -1,5 +1,5 @@
 use Rattle.sshsuite.proofs.DecodingLemmas.{point_in_is}
-use Rattle.sshsuite.proofs.EncodingLemmas.{are_words}
+use Rattle.sshsuite.proofs.WordLemmas.{are_words}
 use Rattle.sshsuite.proofs.EdwardsLemmas.{base_is, bytes_are, multiple_is}
 use Rattle.sshsuite.proofs.laws.point_law.Goals as goal
 

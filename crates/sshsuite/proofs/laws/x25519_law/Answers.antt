@@ -1,4 +1,4 @@
-use Rattle.sshsuite.proofs.EncodingLemmas.{are_words}
+use Rattle.sshsuite.proofs.WordLemmas.{are_words}
 use Rattle.sshsuite.proofs.X25519Lemmas.{x25519_is}
 use Rattle.sshsuite.proofs.laws.x25519_law.Goals as goal
 
