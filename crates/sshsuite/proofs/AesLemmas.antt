@@ -12,18 +12,23 @@ abbrev pub AreBytes : (ℕ → ℕ) → Type 0
 AreBytes f = (i : ℕ) → f i < 2 ^ 8
 
 -- Blocks of any length.
-same_block : (n : ℕ) (f g : ℕ → ℕ) → ((i : ℕ) → f i ≡ g i) → block_of n f ≡ block_of n g
+pub same_until : (n : ℕ) (f g : ℕ → ℕ) → ((i : ℕ) → i < n → f i ≡ g i) → block_of n f ≡ block_of n g
 unfolding block_of
-same_block zero f g h = refl
-same_block (suc n) f g h = let before = same_block n f g h in let last = h n in omega (arith, before, last)
+same_until zero f g h = refl
+same_until (suc n) f g h =
+    let before = same_until n f g (λ i k. h i (omega arith)) in
+    let last = h n (omega arith) in omega (arith, before, last)
 
-xor_of : (n : ℕ) (f g : ℕ → ℕ) → AreBytes f → AreBytes g → bit_xor (block_of n f) (block_of n g) ≡ block_of n (λ i. bit_xor (f i) (g i))
+pub same_block : (n : ℕ) (f g : ℕ → ℕ) → ((i : ℕ) → f i ≡ g i) → block_of n f ≡ block_of n g
+same_block n f g h = same_until n f g (λ i _. h i)
+
+pub xor_of : (n : ℕ) (f g : ℕ → ℕ) → AreBytes f → AreBytes g → bit_xor (block_of n f) (block_of n g) ≡ block_of n (λ i. bit_xor (f i) (g i))
 unfolding block_of
 xor_of zero f g h k = xor_zero_l 0
 xor_of (suc n) f g h k =
     xor_block 8 (block_of n f) (block_of n g) (f n) (g n) (h n) (k n) ∙ ap (λ (m : ℕ). m * 2 ^ 8 + bit_xor (f n) (g n)) (xor_of n f g h k)
 
-and_of : (n : ℕ) (f g : ℕ → ℕ) → AreBytes f → AreBytes g → bit_and (block_of n f) (block_of n g) ≡ block_of n (λ i. bit_and (f i) (g i))
+pub and_of : (n : ℕ) (f g : ℕ → ℕ) → AreBytes f → AreBytes g → bit_and (block_of n f) (block_of n g) ≡ block_of n (λ i. bit_and (f i) (g i))
 unfolding block_of
 and_of zero f g h k = and_zero_l 0
 and_of (suc n) f g h k =
@@ -44,11 +49,11 @@ unfolding block_of
 times_255 zero f = refl
 times_255 (suc n) f = let before = times_255 n f in omega (arith, before)
 
-unfoldable limit : ℕ → ℕ
+unfoldable pub limit : ℕ → ℕ
 limit zero = 1
 limit (suc n) = limit n * 2 ^ 8
 
-below_limit : (n : ℕ) (f : ℕ → ℕ) → AreBytes f → block_of n f < limit n
+pub below_limit : (n : ℕ) (f : ℕ → ℕ) → AreBytes f → block_of n f < limit n
 unfolding block_of limit
 below_limit zero f h = omega arith
 below_limit (suc n) f h = let before = below_limit n f h in let last = h n in omega (arith, before, last)
@@ -115,7 +120,7 @@ raised_is f h =
     ∙ same_block 16 (λ i. bit_and (f i) 0x7f) (λ i. f i % 2 ^ 7) (λ i. and_mask (f i) 7)))
     ∙ (ap (λ (x : ℕ). x % 2 ^ 128) (times_2 16 (λ i. f i % 2 ^ 7)) ∙ whole (λ i. f i % 2 ^ 7 * 2) (λ i. omega arith))
 
-xtime_is : (b : ℕ) → b < 2 ^ 8 → bit_xor (b % 2 ^ 7 * 2) (b / 2 ^ 7 % 2 * 0x1b) ≡ xtime b
+pub xtime_is : (b : ℕ) → b < 2 ^ 8 → bit_xor (b % 2 ^ 7 * 2) (b / 2 ^ 7 % 2 * 0x1b) ≡ xtime b
 unfolding xtime
 xtime_is b h =
     elim (cases_Bool (ltb b 128)) [
@@ -131,12 +136,12 @@ xtime_is b h =
           rw e (ap (bit_xor (b % 2 ^ 7 * 2)) high ∙ ap (λ (x : ℕ). bit_xor x 0x1b) low)
     ]
 
-xtime_byte : (b : ℕ) → b < 2 ^ 8 → xtime b < 2 ^ 8
+pub xtime_byte : (b : ℕ) → b < 2 ^ 8 → xtime b < 2 ^ 8
 xtime_byte b h =
     let small = xor_lt 8 (b % 2 ^ 7 * 2) (b / 2 ^ 7 % 2 * 0x1b) (omega arith) (omega arith) in
     let is = xtime_is b h in omega (arith, small, is)
 
-doubled_is : (f : ℕ → ℕ) → AreBytes f → doubled (block_of 16 f) ≡ block_of 16 (λ i. xtime (f i))
+pub doubled_is : (f : ℕ → ℕ) → AreBytes f → doubled (block_of 16 f) ≡ block_of 16 (λ i. xtime (f i))
 unfolding doubled
 doubled_is f h =
     ap (λ (x : ℕ). bit_xor x (highest_bits (block_of 16 f) * 0x1b % 2 ^ 128)) (raised_is f h)
@@ -197,7 +202,7 @@ product_to_is f g (suc n) small h l =
     (λ i. product_to_byte (f i) (g i) n (l i))
     (λ i. either_byte (eqb (f i / 2 ^ n % 2) 1) (xtime_by (g i) n) (xtime_by_byte (g i) n (l i)))))
 
-product_byte : (a b : ℕ) → b < 2 ^ 8 → byte_product a b < 2 ^ 8
+pub product_byte : (a b : ℕ) → b < 2 ^ 8 → byte_product a b < 2 ^ 8
 unfolding byte_product
 product_byte a b h = product_to_byte a b 8 h
 
@@ -245,11 +250,11 @@ inverse_is f h =
     let e252 = by_product _ _ f240 f12 h240 h12 e240 e12 in
     by_product _ _ f252 f2 h252 h2 e252 e2
 
-inverse_byte : (b : ℕ) → b < 2 ^ 8 → byte_inverse b < 2 ^ 8
+pub inverse_byte : (b : ℕ) → b < 2 ^ 8 → byte_inverse b < 2 ^ 8
 unfolding byte_inverse
 inverse_byte b h = product_byte _ (byte_product b b) (product_byte b b h)
 
-turned_byte : (b : ℕ) → b < 2 ^ 8 → byte_turned b < 2 ^ 8
+pub turned_byte : (b : ℕ) → b < 2 ^ 8 → byte_turned b < 2 ^ 8
 unfolding byte_turned
 turned_byte b h = omega (arith, h)
 
@@ -274,11 +279,11 @@ turned_is f h =
 by_turned : (a : ℕ) (f : ℕ → ℕ) → AreBytes f → a ≡ block_of 16 f → turned a ≡ block_of 16 (λ i. byte_turned (f i))
 by_turned a f h e = ap turned e ∙ turned_is f h
 
-by_xor : (a b : ℕ) (f g : ℕ → ℕ) → AreBytes f → AreBytes g → a ≡ block_of 16 f → b ≡ block_of 16 g
+pub by_xor : (a b : ℕ) (f g : ℕ → ℕ) → AreBytes f → AreBytes g → a ≡ block_of 16 f → b ≡ block_of 16 g
     → bit_xor a b ≡ block_of 16 (λ i. bit_xor (f i) (g i))
 by_xor a b f g h l e d = ap (λ (x : ℕ). bit_xor x b) e ∙ (ap (bit_xor (block_of 16 f)) d ∙ xor_of 16 f g h l)
 
-xor_byte : (a b : ℕ) → a < 2 ^ 8 → b < 2 ^ 8 → bit_xor a b < 2 ^ 8
+pub xor_byte : (a b : ℕ) → a < 2 ^ 8 → b < 2 ^ 8 → bit_xor a b < 2 ^ 8
 xor_byte a b h l = xor_lt 8 a b h l
 
 mapped_is : (f : ℕ → ℕ) → AreBytes f → mapped (block_of 16 f) ≡ block_of 16 (λ i. byte_mapped (f i))
@@ -313,3 +318,16 @@ mapped_is f h =
 pub sub_bytes_is : (f : ℕ → ℕ) → AreBytes f → sub_bytes (block_of 16 f) ≡ block_of 16 (λ i. s_box (f i))
 unfolding sub_bytes s_box
 sub_bytes_is f h = ap mapped (inverse_is f h) ∙ mapped_is (λ i. byte_inverse (f i)) (λ i. inverse_byte (f i) (h i))
+
+pub mapped_byte : (b : ℕ) → b < 2 ^ 8 → byte_mapped b < 2 ^ 8
+unfolding byte_mapped
+mapped_byte a h =
+    let hb = turned_byte a h in
+    let hc = turned_byte _ hb in
+    let hd = turned_byte _ hc in
+    let he = turned_byte _ hd in
+    xor_byte _ 0x63 (xor_byte _ _ (xor_byte _ _ (xor_byte _ _ (xor_byte a _ h hb) hc) hd) he) (omega arith)
+
+pub s_box_byte : (b : ℕ) → b < 2 ^ 8 → s_box b < 2 ^ 8
+unfolding s_box
+s_box_byte b h = mapped_byte (byte_inverse b) (inverse_byte b h)

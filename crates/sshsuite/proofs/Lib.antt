@@ -11,4 +11,5 @@ pub mod Ed25519Lemmas
 pub mod PolyLemmas
 pub mod DeployedLemmas
 pub mod AesLemmas
+pub mod AesStateLemmas
 pub mod AesSamples

@@ -63,6 +63,35 @@ bit_of b i = b / 2 ^ (i % 8) % 2
 unfoldable pub mapped_bit : ℕ → ℕ → ℕ
 mapped_bit b i = (bit_of b i + bit_of b (i + 4) + bit_of b (i + 5) + bit_of b (i + 6) + bit_of b (i + 7) + bit_of 0x63 i) % 2
 
+-- A state is its 16 bytes, column by column. Its row is the byte's number modulo 4.
+
+-- each byte of row r comes from r columns further (section 5.1.2)
+unfoldable pub shifted_row : (ℕ → ℕ) → ℕ → ℕ
+shifted_row state i = state ((i + 4 * (i % 4)) % 16)
+
+-- the byte of the same column that is so many rows below, from the last row on the first
+unfoldable pub below_in_column : (ℕ → ℕ) → ℕ → ℕ → ℕ
+below_in_column state i k = state (4 * (i / 4) + (i % 4 + k) % 4)
+
+-- a mixed column: 2 times the byte, 3 times the one below it, and the two others (section 5.1.3)
+unfoldable pub mixed_column : (ℕ → ℕ) → ℕ → ℕ
+mixed_column state i =
+    bit_xor (bit_xor (bit_xor (byte_product 2 (below_in_column state i 0)) (byte_product 3 (below_in_column state i 1))) (below_in_column state i 2))
+    (below_in_column state i 3)
+
+-- a state XOR a round key (section 5.1.4)
+unfoldable pub with_key : (ℕ → ℕ) → (ℕ → ℕ) → ℕ → ℕ
+with_key state key i = bit_xor (state i) (key i)
+
+-- the state behind so many rounds (section 5.1)
+unfoldable pub state_behind : (ℕ → ℕ → ℕ) → (ℕ → ℕ) → ℕ → ℕ → ℕ
+state_behind keys input zero = with_key input (keys 0)
+state_behind keys input (suc n) = with_key (mixed_column (shifted_row (λ i. s_box (state_behind keys input n i)))) (keys (suc n))
+
+-- a block encrypted by its 15 round keys (section 5.1)
+unfoldable pub encrypted_state : (ℕ → ℕ → ℕ) → (ℕ → ℕ) → ℕ → ℕ
+encrypted_state keys input = with_key (shifted_row (λ i. s_box (state_behind keys input 13 i))) (keys 14)
+
 -- the key of FIPS 197 appendix C.3
 abbrev pub sample_key : List ℕ
 sample_key =

@@ -1,10 +1,10 @@
 //! What the calls compute, in the RFCs' own words: theorems on their meanings, each of which is the code
 //! written again. No function of the crate calls them.
 
-ghost use Rattle.std.specs.Prelude.{◌≡◌, ◌<◌, ◌+◌, ◌*◌, ◌%◌, ◌^◌, List, ℕ, bit_xor};
+ghost use Rattle.std.specs.Prelude.{◌≡◌, ◌<◌, ◌+◌, ◌*◌, ◌%◌, ◌^◌, List, ℕ, bit_xor, slice_index};
 ghost use Rattle.sshwire.specs.Types.{IsBytes};
-ghost use Rattle.sshsuite.specs.Aes.{cipher, round_keys, sub_bytes};
-ghost use Rattle.sshsuite.specs.AesBytes.{bit_of, block_of, byte_inverse, byte_mapped, byte_product, mapped_bit, s_box, sample_key, tag_additional, tag_key, tag_sealed};
+ghost use Rattle.sshsuite.specs.Aes.{cipher, number_at, round_keys};
+ghost use Rattle.sshsuite.specs.AesBytes.{bit_of, block_of, byte_inverse, byte_mapped, byte_product, encrypted_state, mapped_bit, sample_key, tag_additional, tag_key, tag_sealed};
 ghost use Rattle.sshsuite.specs.Bits.{number_of_32};
 ghost use Rattle.sshsuite.specs.Curve25519.{clamped, x25519};
 ghost use Rattle.sshsuite.specs.DecodingNumbers.{AreAlike, point_in};
@@ -72,11 +72,15 @@ pub fn poly1305_law()
     ensures { (key input : List ℕ) → IsBytes key → IsBytes input → tag_of key input ≡ mac key input }
 {}
 
-/// The law of the S-box of AES: over a block it is that of each byte (`bytes`), which is FIPS 197's, the inverse in GF(2^8)
-/// (`inverse`, and `zero` of zero) and then the affine map, bit by bit (`affine`); and the example of FIPS 197 appendix
-/// C.3 comes out (`example`).
+/// The law of AES: a block is a number of 16 bytes, the first the highest (`block`), and with 15 round keys it is encrypted as FIPS
+/// 197 section 5.1 tells, byte by byte (`cipher`). There the S-box is the inverse in GF(2^8) (`inverse`, and `zero` of
+/// zero) and then the affine map, bit by bit (`affine`). Of the round keys the example of appendix C.3 alone is
+/// shown (`example`).
 pub fn aes_law()
-    ensures bytes { (bytes : ℕ → ℕ) → ((i : ℕ) → bytes i < 2 ^ 8) → sub_bytes (block_of 16 bytes) ≡ block_of 16 (λ i. s_box (bytes i)) }
+    ensures block { (bytes : List ℕ) (i : ℕ) → number_at bytes i ≡ block_of 16 (λ k. slice_index bytes (i + k)) }
+    ensures cipher { (keys : List ℕ) (key_bytes : ℕ → ℕ → ℕ) (state : ℕ → ℕ) → ((j i : ℕ) → key_bytes j i < 2 ^ 8)
+        → ((j : ℕ) → j < 15 → slice_index keys j ≡ block_of 16 (key_bytes j)) → ((i : ℕ) → state i < 2 ^ 8)
+        → cipher keys (block_of 16 state) ≡ block_of 16 (encrypted_state key_bytes state) }
     ensures inverse { (b : ℕ) → 0 < b → b < 256 → byte_product b (byte_inverse b) ≡ 1 }
     ensures zero { byte_inverse 0 ≡ 0 }
     ensures affine { (b i : ℕ) → b < 256 → i < 8 → bit_of (byte_mapped b) i ≡ mapped_bit b i }

@@ -1,9 +1,12 @@
-use Rattle.sshsuite.proofs.AesLemmas.{sub_bytes_is}
 use Rattle.sshsuite.proofs.AesSamples.{cipher_sample, inverse_none, inverse_of, mapped_by_bits}
+use Rattle.sshsuite.proofs.AesStateLemmas.{cipher_is, number_is}
 use Rattle.sshsuite.proofs.laws.aes_law.Goals as goal
 
-pub returns-clause-bytes : goal.returns-clause-bytes
-returns-clause-bytes c = sub_bytes_is
+pub returns-clause-block : goal.returns-clause-block
+returns-clause-block c = number_is
+
+pub returns-clause-cipher : goal.returns-clause-cipher
+returns-clause-cipher c = cipher_is
 
 pub returns-clause-inverse : goal.returns-clause-inverse
 returns-clause-inverse c = inverse_of
