@@ -5,33 +5,28 @@
 //! both sides hand over. Each draws fresh bytes for its connection from the system's random source.
 #![tactic(auto)]
 
-ghost use Rattle.std.specs.Prelude.{◌<◌, ◌≤◌, length};
-
 mod peer;
 
 use crate::peer::Peer;
 use anyhow::bail;
 use sshcore::{
-    Attempt, ClientConfig, Credential, Direction, Draws, End, Endpoint, ServerConfig, Session,
+    Agreed, Attempt, ClientConfig, Credential, Draws, End, Endpoint, Link, ServerConfig, Session,
 };
-use sshpacket::{PacketReader, PacketStep, write_sealed};
+use sshpacket::PacketStep;
 use sshsuites::{LabDecisions, LabSuite, lab_client_parts};
 use std::alloc::Global;
 use std::io::Write;
 use std::random::RandomSource;
 
-/// What padding is made of, for as long as the program runs.
-const SEED: &[u8] = b"another seed";
-
 /// An endpoint of the lab.
 pub(crate) type LabEndpoint<'a> = Endpoint<'a, LabSuite, LabDecisions>;
 
-/// One side behind SUCCESS.
+/// One side after SUCCESS.
 #[derive(Drop)]
-struct Side {
+pub(crate) struct Side {
     name: &'static str,
-    outgoing: Direction,
-    reader: PacketReader,
+    agreed: Agreed,
+    link: Link,
 }
 
 fn main(rt: HostRuntime) -> anyhow::Result<()> {
@@ -71,7 +66,7 @@ pub(crate) fn draw(rt: &HostRuntime) -> anyhow::Result<Draws> {
 }
 
 /// Random bytes.
-fn random<const N: usize>(rt: &HostRuntime) -> anyhow::Result<[u8; N]> {
+pub(crate) fn random<const N: usize>(rt: &HostRuntime) -> anyhow::Result<[u8; N]> {
     let mut bytes = [0; N];
     rt.fill_bytes(&mut bytes)?;
     Ok(bytes)
@@ -86,7 +81,7 @@ fn connect(
 ) -> anyhow::Result<()> {
     let mut peer = Peer::new(rt, theirs, decisions)?;
     let client = authenticate(rt, config, decisions, &mut peer);
-    let ((client, behind), server) = both(client, peer.into_session())?;
+    let ((client, behind), server) = both(client, peer.into_side())?;
     go_on(rt, client, server, &behind)
 }
 
@@ -152,86 +147,66 @@ fn talk(
 }
 
 /// Says what both sides agreed on, and lets them speak.
-fn go_on(rt: &HostRuntime, client: Session, server: Session, behind: &[u8]) -> anyhow::Result<()> {
-    let told = tell(rt, &client, &server);
-    let mut client = Side::new(rt.alloc(), "client", client);
-    let mut server = Side::new(rt.alloc(), "server", server);
-    match told {
-        Ok(()) => speak(rt, &mut client, &mut server, behind),
-        Err(error) => Err(error),
+fn go_on(rt: &HostRuntime, client: Session, server: Side, behind: &[u8]) -> anyhow::Result<()> {
+    let seed = random(rt);
+    let (mut client, mut server) = (Side::new(rt.alloc(), "client", client, seed?), server);
+    speak(rt, &mut client, &mut server, behind)
+}
+
+impl Side {
+    /// The side that goes on with this session.
+    pub(crate) fn new(alloc: Global, name: &'static str, session: Session, seed: [u8; 32]) -> Side {
+        let agreed = session.agreed; // with whom, for what and by which algorithms
+        let link = Link::new(alloc, session.incoming, session.outgoing, seed);
+        Side { name, agreed, link }
+    }
+
+    /// Appends the packet of a message.
+    pub(crate) fn seal(&mut self, message: &[u8], out: &mut Vec<u8>) -> anyhow::Result<()> {
+        self.link.seal(&LabSuite, message, out)?;
+        Ok(())
     }
 }
 
 /// Says what both sides agreed on.
-fn tell(rt: &HostRuntime, client: &Session, server: &Session) -> anyhow::Result<()> {
-    tell_side(rt, "client", client)?;
-    tell_side(rt, "server", server)?;
+fn tell(rt: &HostRuntime, client: &Side, server: &Side) -> anyhow::Result<()> {
+    tell_side(rt, client)?;
+    tell_side(rt, server)?;
     let same = client.agreed.session == server.agreed.session;
     println!(rt; "session identifiers equal {same}")?;
     Ok(())
 }
 
 /// Says whom a side authenticated, and for which service.
-fn tell_side(rt: &HostRuntime, side: &str, session: &Session) -> anyhow::Result<()> {
-    let (user, service) = (&session.agreed.user, &session.agreed.service);
-    println!(rt; "{side} authenticated {user} {service}")?;
+fn tell_side(rt: &HostRuntime, side: &Side) -> anyhow::Result<()> {
+    let (name, user, service) = (side.name, &side.agreed.user, &side.agreed.service);
+    println!(rt; "{name} authenticated {user} {service}")?;
     Ok(())
 }
 
-impl Side {
-    /// The side that goes on with this session.
-    fn new(alloc: Global, name: &'static str, session: Session) -> Side {
-        let (keys, number) = (session.incoming.keys, session.incoming.sequence_number);
-        let reader = PacketReader::with_keys(alloc, keys, number);
-        Side {
-            name,
-            outgoing: session.outgoing,
-            reader,
-        }
-    }
-}
-
-/// Says what the client reads behind SUCCESS, and then carries a message each way.
+/// Says what both sides agreed on, what the client reads after SUCCESS, and then carries a message each way.
 fn speak(
     rt: &HostRuntime,
     client: &mut Side,
     server: &mut Side,
     behind: &[u8],
 ) -> anyhow::Result<()> {
+    tell(rt, client, server)?;
     read(rt, client, behind)?;
     carry(rt, b"hello, server", client, server)?;
     carry(rt, b"hello again", server, client)
 }
 
 /// Carries a message from one side to the other.
-fn carry(rt: &HostRuntime, message: &[u8], from: &mut Side, to: &mut Side) -> anyhow::Result<()>
-    requires some { 0 < length message.now }
-    requires short { length message.now ≤ 32768 }
-{
+fn carry(rt: &HostRuntime, message: &[u8], from: &mut Side, to: &mut Side) -> anyhow::Result<()> {
     let mut packet = Vec::new(rt.alloc());
-    seal(rt.alloc(), message, &mut from.outgoing, &mut packet)?;
+    from.seal(message, &mut packet)?;
     read(rt, to, &packet)
-}
-
-/// Appends the packet of a message; the next one has the next number.
-pub(crate) fn seal(
-    alloc: Global,
-    message: &[u8],
-    outgoing: &mut Direction,
-    out: &mut Vec<u8>,
-) -> anyhow::Result<()>
-    requires some { 0 < length message.now }
-    requires short { length message.now ≤ 32768 }
-{
-    let number = outgoing.sequence_number;
-    write_sealed(alloc, &LabSuite, &outgoing.keys, number, message, SEED, out)?;
-    outgoing.sequence_number = number.wrapping_add(1);
-    Ok(())
 }
 
 /// Says what a side reads in a piece that is one packet.
 fn read(rt: &HostRuntime, side: &mut Side, piece: &[u8]) -> anyhow::Result<()> {
-    match side.reader.next(&LabSuite, piece)? {
+    match side.link.next(&LabSuite, piece)? {
         PacketStep::Payload { payload, .. } => show(rt, side.name, payload),
         PacketStep::More => bail!("the rest of the packet is still to come"),
     }

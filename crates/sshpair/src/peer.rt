@@ -1,12 +1,12 @@
 //! The other side of the client, in the place of a socket: a server of the lab.
 
-use crate::{LabEndpoint, draw, seal};
-use sshcore::{End, Endpoint, ServerConfig, Session};
+use crate::{LabEndpoint, Side, draw, random};
+use sshcore::{End, Endpoint, ServerConfig};
 use sshsuites::{LabDecisions, LabSuite, lab_server_parts};
 use std::alloc::Global;
 use std::mem;
 
-/// What the server says first behind SUCCESS.
+/// What the server says first after SUCCESS.
 const GREETING: &[u8] = b"hello, client";
 
 /// A server, and what it has said that the client hasn't received.
@@ -16,7 +16,9 @@ pub(crate) struct Peer<'a> {
     /// The server up to its end.
     server: Option<LabEndpoint<'a>>,
     /// What it goes on with once it has authenticated the user.
-    session: Option<Session>,
+    side: Option<Side>,
+    /// What the padding of that is made of.
+    seed: [u8; 32],
     waiting: Vec<u8>,
 }
 
@@ -28,7 +30,7 @@ impl<'a> Peer<'a> {
         decisions: &'a LabDecisions,
     ) -> anyhow::Result<Peer<'a>> {
         let alloc = rt.alloc();
-        let draws = draw(rt)?;
+        let (draws, seed) = (draw(rt)?, random(rt)?);
         let mut waiting = Vec::new(alloc);
         let server = Endpoint::server_with(
             alloc,
@@ -41,7 +43,8 @@ impl<'a> Peer<'a> {
         Ok(Peer {
             alloc,
             server: Some(server),
-            session: None,
+            side: None,
+            seed,
             waiting,
         })
     }
@@ -63,20 +66,15 @@ impl<'a> Peer<'a> {
     }
 
     /// What the server goes on with, if it has authenticated the user.
-    pub(crate) fn into_session(self) -> Option<Session> {
-        self.session
+    pub(crate) fn into_side(self) -> Option<Side> {
+        self.side
     }
 
     /// Takes the session of a server that has ended, and says its first message.
     fn begin_session(&mut self) -> anyhow::Result<()> {
-        self.session = take_session(&mut self.server);
-        match &mut self.session {
-            Some(session) => seal(
-                self.alloc,
-                GREETING,
-                &mut session.outgoing,
-                &mut self.waiting,
-            ),
+        self.side = take_side(self.alloc, &mut self.server, self.seed);
+        match &mut self.side {
+            Some(side) => side.seal(GREETING, &mut self.waiting),
             None => Ok(()),
         }
     }
@@ -110,10 +108,18 @@ fn feed(server: &mut LabEndpoint<'_>, bytes: &[u8], waiting: &mut Vec<u8>) -> an
     Ok(())
 }
 
-/// The session of a server that has ended, which is gone then.
-fn take_session(server: &mut Option<LabEndpoint<'_>>) -> Option<Session> {
+/// What a server that has ended goes on with; the server is gone then.
+fn take_side(alloc: Global, server: &mut Option<LabEndpoint<'_>>, seed: [u8; 32]) -> Option<Side> {
     match server.take() {
-        Some(server) => server.into_session(),
+        Some(server) => side_of(alloc, server, seed),
+        None => None,
+    }
+}
+
+/// What a server that has ended goes on with.
+fn side_of(alloc: Global, server: LabEndpoint<'_>, seed: [u8; 32]) -> Option<Side> {
+    match server.into_session() {
+        Some(session) => Some(Side::new(alloc, "server", session, seed)),
         None => None,
     }
 }
