@@ -48,37 +48,61 @@ struct Looked {
 
 /// Looks at a server and tells what it finds. Answers whether the server's lists came.
 pub(crate) fn probe(rt: &HostRuntime, settings: &Settings<'_>) -> Result<bool, Fault> {
-    let Some(host) = settings.host else {
+    if settings.host.is_none() {
         return Err(Fault::Words);
-    };
+    }
     let config = client_config(rt, settings)?;
-    let (draws, alloc) = (draw(rt)?, rt.alloc());
-    let mut out = Vec::new(alloc);
-    let mut endpoint = Endpoint::client_with(
-        alloc,
+    let draws = draw(rt)?;
+    let mut out = Vec::new(rt.alloc());
+    let endpoint = Endpoint::client_with(
+        rt.alloc(),
         &config,
         draws,
         &DeployedSuite,
         &AnyHost,
         &mut out,
     )?;
+    look(rt, settings, endpoint, out)
+}
+
+/// The same by an endpoint that has said these bytes so far.
+fn look(
+    rt: &HostRuntime,
+    settings: &Settings<'_>,
+    endpoint: Prober<'_>,
+    out: Vec<u8>,
+) -> Result<bool, Fault> {
+    let (mut endpoint, alloc) = (endpoint, rt.alloc());
     let mut looked = Looked {
         ours: ClearStream::new(alloc, 0),
         theirs: ClearStream::new(alloc, OTHER_LINE_LIMIT),
         host_key: None,
     };
     let carried = carry(rt, &mut endpoint, out, &mut looked);
+    found(rt, settings, &looked, endpoint.end())?;
+    carried?;
+    Ok(looked.theirs.said.kexinit.is_some())
+}
+
+/// Tells what both sides have said, and how the endpoint ended.
+fn found(
+    rt: &HostRuntime,
+    settings: &Settings<'_>,
+    looked: &Looked,
+    end: &End,
+) -> Result<(), Fault> {
+    let Some(host) = settings.host else {
+        return Err(Fault::Words);
+    };
     let findings = Findings {
         host,
         strict: settings.strict,
         ours: &looked.ours.said,
         theirs: &looked.theirs.said,
         host_key: &looked.host_key,
-        end: endpoint.end(),
+        end,
     };
-    tell(rt, settings.report, &report_of(alloc, &findings)?)?;
-    carried?;
-    Ok(looked.theirs.said.kexinit.is_some())
+    tell(rt, settings.report, &report_of(rt.alloc(), &findings)?)
 }
 
 /// Writes what was found to the file, or where none is named to standard error.
