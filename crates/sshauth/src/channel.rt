@@ -1,8 +1,8 @@
 //! One channel of a session, by messages made by hand, to show that the session goes on (RFC 4254).
 
 use crate::fault::Fault;
-use crate::link::Link;
 use crate::report::{say, say_number};
+use crate::session_stream::SessionStream;
 use sshcore::Session;
 use sshwire::{Memory, Reader, WireFault, put_boolean, put_string, put_u32};
 use std::alloc::Global;
@@ -58,20 +58,20 @@ pub(crate) fn ask(
     if command.len() > COMMAND_LIMIT {
         return Err(Fault::Words);
     }
-    let mut link = Link::new(rt, session, behind)?;
-    link.send(rt, &open(rt.alloc())?)?;
-    hear_server(rt, &mut link, command)
+    let mut stream = SessionStream::new(rt, session, behind)?;
+    stream.send(rt, &open(rt.alloc())?)?;
+    hear_server(rt, &mut stream, command)
 }
 
 /// Hears what a server says until its channel is closed, or its input ends.
-fn hear_server(rt: &HostRuntime, link: &mut Link, command: &str) -> Result<(), Fault> {
+fn hear_server(rt: &HostRuntime, stream: &mut SessionStream, command: &str) -> Result<(), Fault> {
     for _ in 0..u64::MAX {
-        let Some(payload) = link.receive(rt)? else {
+        let Some(payload) = stream.receive(rt)? else {
             say(rt, "the input ended");
             return Ok(());
         };
         if let Some(reply) = reply_to_server(rt, &payload, command)? {
-            link.send(rt, &reply)?;
+            stream.send(rt, &reply)?;
         }
         if payload.first() == Some(&CHANNEL_CLOSE) {
             return Ok(());
@@ -146,10 +146,10 @@ pub(crate) fn answer(
     session: Box<Session>,
     behind: Vec<u8>,
 ) -> Result<(), Fault> {
-    let mut link = Link::new(rt, session, behind)?;
+    let mut stream = SessionStream::new(rt, session, behind)?;
     let mut theirs = 0;
     for _ in 0..u64::MAX {
-        let Some(payload) = link.receive(rt)? else {
+        let Some(payload) = stream.receive(rt)? else {
             say(rt, "the input ended");
             return Ok(());
         };
@@ -157,7 +157,7 @@ pub(crate) fn answer(
             say(rt, "the peer has disconnected");
             return Ok(());
         }
-        hear_client(rt, &mut link, &payload, &mut theirs)?;
+        hear_client(rt, &mut stream, &payload, &mut theirs)?;
     }
     Ok(())
 }
@@ -165,7 +165,7 @@ pub(crate) fn answer(
 /// Answers one message of the client.
 fn hear_client(
     rt: &HostRuntime,
-    link: &mut Link,
+    stream: &mut SessionStream,
     payload: &[u8],
     theirs: &mut u32,
 ) -> Result<(), Fault> {
@@ -177,11 +177,11 @@ fn hear_client(
         OPEN => {
             reader.string()?;
             *theirs = reader.u32()?;
-            link.send(rt, &confirmation(rt.alloc(), *theirs)?)
+            stream.send(rt, &confirmation(rt.alloc(), *theirs)?)
         }
-        REQUEST => hear_request(rt, link, &mut reader, *theirs),
+        REQUEST => hear_request(rt, stream, &mut reader, *theirs),
         _ => match reply_besides(rt, *number, &mut reader)? {
-            Some(reply) => link.send(rt, &reply),
+            Some(reply) => stream.send(rt, &reply),
             None => Ok(()),
         },
     }
@@ -190,29 +190,29 @@ fn hear_client(
 /// Answers a request on the channel.
 fn hear_request(
     rt: &HostRuntime,
-    link: &mut Link,
+    stream: &mut SessionStream,
     reader: &mut Reader<'_>,
     theirs: u32,
 ) -> Result<(), Fault> {
     reader.u32()?;
     let name = reader.string()?;
     if reader.boolean()? {
-        link.send(rt, &of_channel(rt.alloc(), REQUEST_SUCCESS, theirs)?)?;
+        stream.send(rt, &of_channel(rt.alloc(), REQUEST_SUCCESS, theirs)?)?;
     }
     if name == b"exec".as_slice() || name == b"shell".as_slice() {
-        finish(rt, link, theirs)
+        finish(rt, stream, theirs)
     } else {
         Ok(())
     }
 }
 
 /// Says a line, the exit status 0 and the end of the channel.
-fn finish(rt: &HostRuntime, link: &mut Link, theirs: u32) -> Result<(), Fault> {
+fn finish(rt: &HostRuntime, stream: &mut SessionStream, theirs: u32) -> Result<(), Fault> {
     let alloc = rt.alloc();
-    link.send(rt, &data(alloc, theirs)?)?;
-    link.send(rt, &status(alloc, theirs)?)?;
-    link.send(rt, &of_channel(alloc, CHANNEL_EOF, theirs)?)?;
-    link.send(rt, &of_channel(alloc, CHANNEL_CLOSE, theirs)?)
+    stream.send(rt, &data(alloc, theirs)?)?;
+    stream.send(rt, &status(alloc, theirs)?)?;
+    stream.send(rt, &of_channel(alloc, CHANNEL_EOF, theirs)?)?;
+    stream.send(rt, &of_channel(alloc, CHANNEL_CLOSE, theirs)?)
 }
 
 /// A message that has the number of the peer's channel, and whatever is put behind.

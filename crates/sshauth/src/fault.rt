@@ -1,7 +1,6 @@
 //! Why the program doesn't begin, or doesn't go on.
 
-use sshcore::ConfigFault;
-use sshpacket::PacketFault;
+use sshcore::{ConfigFault, LinkFault};
 use sshwire::{Memory, WireFault};
 use std::alloc::{AllocError, AllocFailed};
 use std::fmt;
@@ -48,7 +47,9 @@ impl fmt::Display for Fault {
                 f,
                 "the file of --{option} hasn't the form that it needs"
             ),
-            Fault::Config(fault) => write!(f, "the settings are refused: {fault}"),
+            Fault::Config(fault) => {
+                write!(f, "the settings are refused: {fault}: {}", fault.words())
+            }
             _ => f.write_str(text_of(self)),
         }
     }
@@ -93,10 +94,10 @@ impl From<ConfigFault> for Fault {
     }
 }
 
-impl From<PacketFault> for Fault {
-    fn from(fault: PacketFault) -> Fault {
+impl From<LinkFault> for Fault {
+    fn from(fault: LinkFault) -> Fault {
         match fault {
-            PacketFault::Memory => Fault::Memory,
+            LinkFault::Memory => Fault::Memory,
             _ => Fault::Session,
         }
     }

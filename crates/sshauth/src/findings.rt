@@ -27,6 +27,8 @@ pub(crate) struct Findings<'a> {
     pub(crate) theirs: &'a Said,
     /// The server's public host key, whose signature was verified.
     pub(crate) host_key: &'a Option<Vec<u8>>,
+    /// What the server has said to people, a line for each.
+    pub(crate) notices: &'a str,
     /// How the endpoint ended.
     pub(crate) end: &'a End,
 }
@@ -43,8 +45,17 @@ pub(crate) fn report_of(alloc: Global, findings: &Findings<'_>) -> Result<String
     if let Some(key) = findings.host_key {
         put_key(alloc, &mut text, findings.host, key)?;
     }
+    put_notices(&mut text, findings.notices)?;
     writeln!(text, "# end {}", Ended(findings.end))?;
     Ok(text)
+}
+
+/// Puts the lines of what the server has said to people.
+fn put_notices(text: &mut String, notices: &str) -> Result<(), AllocError> {
+    for line in notices.lines() {
+        writeln!(text, "# {line}")?;
+    }
+    Ok(())
 }
 
 /// Puts what is told of the server's KEXINIT: its lists, and what these come to with ours.

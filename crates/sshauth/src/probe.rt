@@ -6,10 +6,11 @@ ghost use Rattle.sshauth.specs.Trust.{any_host_policy};
 use crate::clear_stream::ClearStream;
 use crate::fault::Fault;
 use crate::findings::{Findings, report_of};
+use crate::notices::{Listening, Notices};
 use crate::parts::{client_config, draw};
 use crate::settings::Settings;
 use crate::talk::{CHUNK, receive, send};
-use sshcore::{Decisions, End, Endpoint, Proof};
+use sshcore::{ClientConfig, Decisions, End, Endpoint, Proof};
 use sshsuite::DeployedSuite;
 use sshwire::OTHER_LINE_LIMIT;
 use std::fs;
@@ -35,7 +36,7 @@ impl Decisions for AnyHost {
 }
 
 /// An endpoint of a probe.
-type Prober<'a> = Endpoint<'a, DeployedSuite, AnyHost>;
+type Prober<'a> = Endpoint<'a, DeployedSuite, Listening<'a, AnyHost>>;
 
 /// What both sides have said.
 #[derive(Drop)]
@@ -52,17 +53,27 @@ pub(crate) fn probe(rt: &HostRuntime, settings: &Settings<'_>) -> Result<bool, F
         return Err(Fault::Words);
     }
     let config = client_config(rt, settings)?;
+    begin(rt, settings, &config)
+}
+
+/// The same by an endpoint of this config.
+fn begin(rt: &HostRuntime, settings: &Settings<'_>, config: &ClientConfig) -> Result<bool, Fault> {
     let draws = draw(rt)?;
+    let notices = &Notices::new(rt.alloc());
+    let decisions = &Listening {
+        decisions: &AnyHost,
+        notices,
+    };
     let mut out = Vec::new(rt.alloc());
     let endpoint = Endpoint::client_with(
         rt.alloc(),
-        &config,
+        config,
         draws,
         &DeployedSuite,
-        &AnyHost,
+        decisions,
         &mut out,
     )?;
-    look(rt, settings, endpoint, out)
+    look(rt, settings, endpoint, out, notices)
 }
 
 /// The same by an endpoint that has said these bytes so far.
@@ -71,6 +82,7 @@ fn look(
     settings: &Settings<'_>,
     endpoint: Prober<'_>,
     out: Vec<u8>,
+    notices: &Notices,
 ) -> Result<bool, Fault> {
     let (mut endpoint, alloc) = (endpoint, rt.alloc());
     let mut looked = Looked {
@@ -79,7 +91,7 @@ fn look(
         host_key: None,
     };
     let carried = carry(rt, &mut endpoint, out, &mut looked);
-    found(rt, settings, &looked, endpoint.end())?;
+    found(rt, settings, &looked, endpoint.end(), &notices.taken())?;
     carried?;
     Ok(looked.theirs.said.kexinit.is_some())
 }
@@ -90,6 +102,7 @@ fn found(
     settings: &Settings<'_>,
     looked: &Looked,
     end: &End,
+    notices: &str,
 ) -> Result<(), Fault> {
     let Some(host) = settings.host else {
         return Err(Fault::Words);
@@ -100,6 +113,7 @@ fn found(
         ours: &looked.ours.said,
         theirs: &looked.theirs.said,
         host_key: &looked.host_key,
+        notices,
         end,
     };
     tell(rt, settings.report, &report_of(rt.alloc(), &findings)?)

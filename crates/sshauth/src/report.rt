@@ -1,6 +1,7 @@
 //! What is told on standard error. A report that can't be written is left out.
 
-use sshcore::{Accepted, End, Fault, Session};
+use crate::notices::Notices;
+use sshcore::{Accepted, End, Session};
 use std::fmt;
 use std::io::Write;
 
@@ -13,10 +14,15 @@ impl fmt::Display for Ended<'_> {
         match self.0 {
             End::Authenticated(_) => f.write_str("authenticated"),
             End::Open => f.write_str("open"),
-            End::Failed(fault) => write!(f, "failed {fault}: {}", cause_of(fault)),
+            End::Failed(fault) => write!(f, "failed {fault}: {}", fault.words()),
             End::Closed(reason) => write!(f, "closed {reason}: the peer has disconnected"),
         }
     }
+}
+
+/// Says what the peer has said to people since the last call.
+pub(crate) fn notices(rt: &HostRuntime, notices: &Notices) {
+    let _ = rt.stderr().write_all(notices.taken().as_bytes());
 }
 
 /// Says how an endpoint ended that isn't authenticated.
@@ -64,34 +70,4 @@ pub(crate) fn say(rt: &HostRuntime, text: &str) {
 /// Says a line with a number.
 pub(crate) fn say_number(rt: &HostRuntime, text: &str, number: u32) {
     let _ = writeln!(rt.stderr(), "{text} {number}");
-}
-
-/// What a failure is, in words.
-fn cause_of(fault: &Fault) -> &'static str {
-    match fault {
-        Fault::Version => "the peer's version line is refused",
-        Fault::Length => "a packet's length is refused",
-        Fault::Padding => "a packet's padding is refused",
-        Fault::Mac => "a packet's tag is wrong",
-        Fault::Malformed(_) => "a message can't be read",
-        Fault::Unexpected(_) => "a message has no use at its place",
-        Fault::Strict(_) => "a message breaks strict key exchange",
-        Fault::NoCommon(_) => "no algorithm is in common",
-        Fault::Exchange => "the peer's share gives no shared number",
-        _ => last_cause_of(fault),
-    }
-}
-
-/// The same of the failures behind the exchange.
-fn last_cause_of(fault: &Fault) -> &'static str {
-    match fault {
-        Fault::HostKey => "the host key isn't trusted",
-        Fault::Signature => "the server's signature is wrong",
-        Fault::Service => "the service isn't there",
-        Fault::TooManyTries => "too many requests failed",
-        Fault::NoMoreMethods => "no attempt is left",
-        Fault::Memory => "out of memory",
-        Fault::Cut => "the input ended before",
-        _ => "the exchange failed",
-    }
 }

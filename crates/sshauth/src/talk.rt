@@ -1,6 +1,7 @@
 //! An endpoint over standard input and output.
 
 use crate::fault::Fault;
+use crate::notices::{Listening, Notices};
 use crate::parts::{client_config, client_trust, draw, server_config, server_trust};
 use crate::settings::Settings;
 use crate::trust::Trust;
@@ -13,7 +14,7 @@ use std::io::{Read, Write};
 pub(crate) const CHUNK: usize = 16384;
 
 /// An endpoint of this program.
-type SuiteEndpoint<'a> = Endpoint<'a, DeployedSuite, Trust>;
+type SuiteEndpoint<'a> = Endpoint<'a, DeployedSuite, Listening<'a, Trust>>;
 
 /// A session, and the bytes that came behind the packet that ended the endpoint.
 type Handed = Option<(Box<Session>, Vec<u8>)>;
@@ -47,37 +48,52 @@ pub(crate) fn server(rt: &HostRuntime, settings: &Settings<'_>) -> Result<bool, 
 /// A client's session.
 fn client_session(rt: &HostRuntime, config: &ClientConfig, trust: &Trust) -> Result<Handed, Fault> {
     let draws = draw(rt)?;
+    let notices = &Notices::new(rt.alloc());
+    let decisions = &Listening {
+        decisions: trust,
+        notices,
+    };
     let mut out = Vec::new(rt.alloc());
     let endpoint = Endpoint::client_with(
         rt.alloc(),
         config,
         draws,
         &DeployedSuite,
-        trust,
+        decisions,
         &mut out,
     )?;
-    hand_over(rt, endpoint, out)
+    hand_over(rt, endpoint, out, notices)
 }
 
 /// A server's session.
 fn server_session(rt: &HostRuntime, config: &ServerConfig, trust: &Trust) -> Result<Handed, Fault> {
     let draws = draw(rt)?;
+    let notices = &Notices::new(rt.alloc());
+    let decisions = &Listening {
+        decisions: trust,
+        notices,
+    };
     let mut out = Vec::new(rt.alloc());
     let endpoint = Endpoint::server_with(
         rt.alloc(),
         config,
         draws,
         &DeployedSuite,
-        trust,
+        decisions,
         &mut out,
     )?;
-    hand_over(rt, endpoint, out)
+    hand_over(rt, endpoint, out, notices)
 }
 
 /// What an endpoint hands over that has said these bytes so far.
-fn hand_over(rt: &HostRuntime, endpoint: SuiteEndpoint<'_>, out: Vec<u8>) -> Result<Handed, Fault> {
+fn hand_over(
+    rt: &HostRuntime,
+    endpoint: SuiteEndpoint<'_>,
+    out: Vec<u8>,
+    notices: &Notices,
+) -> Result<Handed, Fault> {
     let (mut endpoint, mut behind) = (endpoint, Vec::new(rt.alloc()));
-    carry(rt, &mut endpoint, out, &mut behind)?;
+    carry(rt, &mut endpoint, out, notices, &mut behind)?;
     report::end(rt, endpoint.end());
     match endpoint.into_session() {
         Some(session) => {
@@ -88,11 +104,12 @@ fn hand_over(rt: &HostRuntime, endpoint: SuiteEndpoint<'_>, out: Vec<u8>) -> Res
     }
 }
 
-/// Gives the endpoint what comes until it has ended.
+/// Gives the endpoint what comes until it has ended, and tells what the peer says to people.
 fn carry(
     rt: &HostRuntime,
     endpoint: &mut SuiteEndpoint<'_>,
     out: Vec<u8>,
+    notices: &Notices,
     behind: &mut Vec<u8>,
 ) -> Result<(), Fault> {
     let mut out = out;
@@ -111,6 +128,7 @@ fn carry(
         let piece = chunk.get(..count).unwrap_or(&[]);
         let used = endpoint.feed(piece, &mut out)?;
         behind.extend_from_slice(&piece[used..])?;
+        report::notices(rt, notices);
     }
     Ok(())
 }

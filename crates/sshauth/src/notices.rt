@@ -1,0 +1,131 @@
+//! What the peer says to people, kept as text until it is told.
+
+use sshcore::{Decisions, Notice, Proof};
+use sshwire::NameList;
+use std::alloc::{AllocError, Global};
+use std::cell::RefCell;
+use std::fmt::Write;
+
+/// What the peer has said to people, a line for each: `banner TEXT` for each line of one, `debug TEXT`, `disconnect
+/// TEXT`, and after a FAILURE `methods NAMES` for those that can continue, or `partial success, methods NAMES`.
+///
+/// A byte that is no printable character of ASCII stands as `\xNN` in them, so none of them moves a terminal's
+/// cursor (RFC 4251 section 9.2). A notice for which memory is wanting is left out.
+#[derive(Drop)]
+pub(crate) struct Notices {
+    lines: RefCell<String>,
+    alloc: Global,
+}
+
+impl Notices {
+    /// None yet.
+    pub(crate) fn new(alloc: Global) -> Notices {
+        Notices {
+            lines: RefCell::new(String::new(alloc)),
+            alloc,
+        }
+    }
+
+    /// Keeps the lines of a notice.
+    fn keep(&self, notice: Notice<'_>) {
+        if let Ok(text) = text_of(self.alloc, notice) {
+            let _ = self.append(&text);
+        }
+    }
+
+    /// Appends lines.
+    fn append(&self, text: &str) -> Result<(), AllocError> {
+        match self.lines.try_borrow_mut() {
+            Ok(mut lines) => lines.push_str(text),
+            Err(_) => Ok(()),
+        }
+    }
+
+    /// The lines that were kept; none is kept any more.
+    pub(crate) fn taken(&self) -> String {
+        match self.lines.try_replace(String::new(self.alloc)) {
+            Ok(lines) => lines,
+            Err(_) => String::new(self.alloc),
+        }
+    }
+}
+
+/// Decisions that keep what the peer says to people.
+#[derive(Drop)]
+pub(crate) struct Listening<'a, D: Decisions> {
+    pub(crate) decisions: &'a D,
+    pub(crate) notices: &'a Notices,
+}
+
+impl<D: Decisions> Decisions for Listening<'_, D> {
+    ghost policy = { λ listening. D.policy listening.decisions.now };
+
+    fn host_key(&self, algorithm: &str, blob: &[u8]) -> bool {
+        self.decisions.host_key(algorithm, blob)
+    }
+
+    fn user(&self, request_number: u32, user: &str, service: &str, proof: &Proof<'_>) -> bool {
+        self.decisions.user(request_number, user, service, proof)
+    }
+
+    fn told(&self, notice: Notice<'_>) {
+        self.notices.keep(notice);
+    }
+}
+
+/// The lines of a notice.
+fn text_of(alloc: Global, notice: Notice<'_>) -> Result<String, AllocError> {
+    let mut lines = String::new(alloc);
+    match notice {
+        Notice::Disconnect { description, .. } => {
+            put_lines(&mut lines, "disconnect", description)?;
+        }
+        Notice::Debug { text, .. } => put_lines(&mut lines, "debug", text)?,
+        Notice::Banner { text, .. } => put_lines(&mut lines, "banner", text)?,
+        Notice::Failure {
+            methods,
+            partial_success,
+        } => put_methods(&mut lines, methods, partial_success)?,
+    }
+    Ok(lines)
+}
+
+/// Puts a line for each line of the text that isn't empty.
+fn put_lines(lines: &mut String, word: &str, text: &[u8]) -> Result<(), AllocError> {
+    for line in text.split(|byte| *byte == b'\n') {
+        let line = line.strip_suffix(b"\r").unwrap_or(line);
+        if !line.is_empty() {
+            put_line(lines, word, line)?;
+        }
+    }
+    Ok(())
+}
+
+/// Puts a line.
+fn put_line(lines: &mut String, word: &str, text: &[u8]) -> Result<(), AllocError> {
+    write!(lines, "{word} ")?;
+    for byte in text {
+        match byte {
+            b' '..=b'~' => lines.push(char::from(*byte))?,
+            _ => write!(lines, "\\x{byte:02x}")?,
+        }
+    }
+    lines.push('\n')
+}
+
+/// Puts the names of the methods that can continue, and whether the request was good as one of several.
+fn put_methods(
+    lines: &mut String,
+    methods: &NameList,
+    partial_success: bool,
+) -> Result<(), AllocError> {
+    if partial_success {
+        lines.push_str("partial success, ")?;
+    }
+    lines.push_str("methods")?;
+    for (place, name) in methods.names().enumerate() {
+        let sign = if place == 0 { ' ' } else { ',' };
+        write!(lines, "{sign}{name}")?;
+    }
+    lines.push('\n')
+}
