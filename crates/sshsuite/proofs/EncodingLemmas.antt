@@ -1,13 +1,13 @@
 -- Limbs that are read of bytes have the number of these without their highest bit, and limbs are written as the bytes of their
 -- number modulo 2^255 - 19.
 
-use Rattle.std.proofs.Common.{◌≡◌, ℕ, ◌+◌, ◌*◌, ◌/◌, ◌%◌, ◌^◌, ◌<◌, ◌≤◌, ◌++◌, zero, suc, List, [], ◌∷◌, refl, sym, ap, ap₂, ◌∙◌, arith}
+use Rattle.std.proofs.Common.{◌≡◌, ℕ, ◌+◌, ◌*◌, ◌/◌, ◌%◌, ◌^◌, ◌<◌, ◌++◌, zero, suc, List, [], ◌∷◌, refl, sym, ap, ap₂, ◌∙◌, arith}
 use Rattle.std.specs.Int.{w64, to_le_bytes}
 use Rattle.std.specs.Prelude.{bit_or, slice_index}
 use Rattle.sshsuite.specs.Bits.{bytes_of_words, number_of_32, word_at}
-use Rattle.sshsuite.specs.FieldElement.{add, canonical, carried, decode, encode, none, packed}
-use Rattle.sshsuite.specs.Limbs.{add64, add128, mul64, mul128, reduced_once}
-use Rattle.sshsuite.proofs.FieldLemmas.{add_value}
+use Rattle.sshsuite.specs.FieldElement.{add, canonical, decode, encode, none, packed}
+use Rattle.sshsuite.specs.Limbs.{add64, mul64, reduced_once}
+use Rattle.sshsuite.proofs.FieldLemmas.{AreTight, add_tight}
 use Rattle.sshsuite.proofs.WordLemmas.{AreWords, or_high}
 use Rattle.sshsuite.specs.FieldBytes.{bytes_of_number}
 use Rattle.sshsuite.specs.FieldValues.{AreBelow, field, value, weighed}
@@ -122,15 +122,7 @@ sum64 x y h k = omega arith
 over_low : (x y : ℕ) → x < 2 ^ 53 → y < 2 ^ 53 → add64 x y / 2 ^ 51 < 8
 over_low x y h k = omega arith
 
--- limbs of a number below 2^255 + 2^204
-pub record AreTight (a : List ℕ) : Type 0 where
-  pub l0 : slice_index a 0 < 2 ^ 51
-  pub l1 : slice_index a 1 < 2 ^ 51
-  pub l2 : slice_index a 2 < 2 ^ 51
-  pub l3 : slice_index a 3 < 2 ^ 51
-  pub l4 : slice_index a 4 ≤ 2 ^ 51
-
-tight_value : (l0 l1 l2 l3 l4 : ℕ) → l0 < 2 ^ 51 → l1 < 2 ^ 51 → l2 < 2 ^ 51 → l3 < 2 ^ 51 → l4 ≤ 2 ^ 51 → weighed l0 l1 l2 l3 l4 < 2 * field
+tight_value : (l0 l1 l2 l3 l4 : ℕ) → l0 < 2 ^ 52 → l1 < 2 ^ 51 → l2 < 2 ^ 51 → l3 < 2 ^ 51 → l4 < 2 ^ 51 → weighed l0 l1 l2 l3 l4 < 2 * field
 tight_value l0 l1 l2 l3 l4 h0 h1 h2 h3 h4 = omega arith
 
 canonical_value : (l : List ℕ) → AreTight l → AreBelow (2 ^ 51) (canonical l) × (value (canonical l) ≡ value l % field)
@@ -179,55 +171,15 @@ canonical_value l h =
           (bounded _ _ _ _ _ below.l0 below.l1 below.l2 below.l3 below.l4) (tight_value l0 l1 l2 l3 l4 h.l0 h.l1 h.l2 h.l3 h.l4),
     )
 
--- A sum with zero has tight limbs.
-add_tight : (a : List ℕ) → AreBelow (2 ^ 52) a → AreTight (add a none)
-unfolding add carried
-add_tight a h =
-    let c0 : ℕ = add128 (slice_index a 0) 0 in
-    let c1 : ℕ = add128 (slice_index a 1) 0 in
-    let c2 : ℕ = add128 (slice_index a 2) 0 in
-    let c3 : ℕ = add128 (slice_index a 3) 0 in
-    let c4 : ℕ = add128 (slice_index a 4) 0 in
-    let e1 : ℕ = add128 c1 (c0 / 2 ^ 51) in
-    let e2 : ℕ = add128 c2 (e1 / 2 ^ 51) in
-    let e3 : ℕ = add128 c3 (e2 / 2 ^ 51) in
-    let e4 : ℕ = add128 c4 (e3 / 2 ^ 51) in
-    let d0 : ℕ = add128 (c0 % 2 ^ 51) (mul128 (e4 / 2 ^ 51) 19) in
-    let d1 : ℕ = add128 (e1 % 2 ^ 51) (d0 / 2 ^ 51) in
-    let d2 : ℕ = add128 (e2 % 2 ^ 51) (d1 / 2 ^ 51) in
-    let d3 : ℕ = add128 (e3 % 2 ^ 51) (d2 / 2 ^ 51) in
-    let d4 : ℕ = add128 (e4 % 2 ^ 51) (d3 / 2 ^ 51) in
-    let b0 : c0 < 2 ^ 52 = omega (arith, h.l0) in
-    let b1 : e1 < 2 ^ 53 = small c1 (c0 / 2 ^ 51) (omega (arith, h.l1)) (omega (arith, b0)) in
-    let b2 : e2 < 2 ^ 53 = small c2 (e1 / 2 ^ 51) (omega (arith, h.l2)) (omega (arith, b1)) in
-    let b3 : e3 < 2 ^ 53 = small c3 (e2 / 2 ^ 51) (omega (arith, h.l3)) (omega (arith, b2)) in
-    let b4 : e4 < 2 ^ 53 = small c4 (e3 / 2 ^ 51) (omega (arith, h.l4)) (omega (arith, b3)) in
-    let m : mul128 (e4 / 2 ^ 51) 19 < 2 ^ 51 = omega (arith, b4) in
-    let y0 : d0 / 2 ^ 51 ≤ 1 = one_more (c0 % 2 ^ 51) (mul128 (e4 / 2 ^ 51) 19) (omega arith) m in
-    let y1 : d1 / 2 ^ 51 ≤ 1 = one_more (e1 % 2 ^ 51) (d0 / 2 ^ 51) (omega arith) (omega (arith, y0)) in
-    let y2 : d2 / 2 ^ 51 ≤ 1 = one_more (e2 % 2 ^ 51) (d1 / 2 ^ 51) (omega arith) (omega (arith, y1)) in
-    let y3 : d3 / 2 ^ 51 ≤ 1 = one_more (e3 % 2 ^ 51) (d2 / 2 ^ 51) (omega arith) (omega (arith, y2)) in
-    record { l0 = low d0; l1 = low d1; l2 = low d2; l3 = low d3; l4 = last (e4 % 2 ^ 51) (d3 / 2 ^ 51) (omega arith) y3 }
-  where
-    small : (x y : ℕ) → x < 2 ^ 52 → y ≤ 2 ^ 10 → add128 x y < 2 ^ 53
-    small x y h k = omega arith
-
-    one_more : (x y : ℕ) → x < 2 ^ 51 → y < 2 ^ 51 → add128 x y / 2 ^ 51 ≤ 1
-    one_more x y h k = omega arith
-
-    last : (x y : ℕ) → x < 2 ^ 51 → y ≤ 1 → add128 x y % 2 ^ 52 ≤ 2 ^ 51
-    last x y h k = omega arith
-
 none_below : AreBelow (2 ^ 52) none
 none_below = record { l0 = omega arith; l1 = omega arith; l2 = omega arith; l3 = omega arith; l4 = omega arith }
 
 pub encode_value : (a : List ℕ) → AreBelow (2 ^ 52) a → encode a ≡ bytes_of_number (value a % field)
 unfolding encode
 encode_value a h =
-    let once = add_value a none h none_below in
-    let twice = add_value (add a none) none once.0 none_below in
-    let out = canonical_value (add (add a none) none) (add_tight (add a none) once.0) in
-    packed_value (canonical (add (add a none) none)) out.0 ∙ ap bytes_of_number (out.1 ∙ (twice.1 ∙ (ap (λ (n : ℕ). n % field) (plain (value (add a none))) ∙ (once.1 ∙ ap (λ (n : ℕ). n % field) (plain (value a))))))
+    let sum = add_tight a none h none_below in
+    let out = canonical_value (add a none) sum.0 in
+    packed_value (canonical (add a none)) out.0 ∙ ap bytes_of_number (out.1 ∙ (sum.1 ∙ ap (λ (n : ℕ). n % field) (plain (value a))))
   where
     plain : (n : ℕ) → n + 0 ≡ n
     plain n = omega arith

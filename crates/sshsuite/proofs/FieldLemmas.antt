@@ -4,8 +4,8 @@
 use Rattle.std.proofs.Common.{◌≡◌, ℕ, ◌+◌, ◌*◌, ◌/◌, ◌%◌, ◌^◌, ◌<◌, ◌≤◌, List, [], ◌∷◌, sym, ap, ap₂, ◌∙◌, arith}
 use Rattle.std.proofs.Math.Nat.{mul-le-mul_left}
 use Rattle.std.specs.Prelude.{slice_index}
-use Rattle.sshsuite.specs.FieldElement.{add, carried, dot, less, mul, scaled, squared, sub, three}
-use Rattle.sshsuite.specs.Limbs.{add128, mul64, mul128}
+use Rattle.sshsuite.specs.FieldElement.{add, carried, carried_once, dot, less, mul, scaled, squared, sub, three}
+use Rattle.sshsuite.specs.Limbs.{add64, add128, mul64, mul128}
 use Rattle.sshsuite.specs.FieldValues.{AreBelow, field, value, weighed}
 use Rattle.sshsuite.proofs.LimbLemmas.{at_places, folded}
 
@@ -14,11 +14,6 @@ pass : (c0 c1 c2 c3 c4 q0 q1 q2 q3 q4 r0 r1 r2 r3 r4 : ℕ) → c0 ≡ 2 ^ 51 * 
     → c3 + q2 ≡ 2 ^ 51 * q3 + r3 → c4 + q3 ≡ 2 ^ 51 * q4 + r4
     → weighed c0 c1 c2 c3 c4 ≡ weighed r0 r1 r2 r3 r4 + (field + 19) * q4
 pass c0 c1 c2 c3 c4 q0 q1 q2 q3 q4 r0 r1 r2 r3 r4 e0 e1 e2 e3 e4 = omega arith
-
-again : (c0 c1 c2 c3 c4 q0 q1 q2 q3 r0 r1 r2 r3 : ℕ) → c0 ≡ 2 ^ 51 * q0 + r0 → c1 + q0 ≡ 2 ^ 51 * q1 + r1 → c2 + q1 ≡ 2 ^ 51 * q2 + r2
-    → c3 + q2 ≡ 2 ^ 51 * q3 + r3
-    → weighed c0 c1 c2 c3 c4 ≡ weighed r0 r1 r2 r3 (c4 + q3)
-again c0 c1 c2 c3 c4 q0 q1 q2 q3 r0 r1 r2 r3 e0 e1 e2 e3 = omega arith
 
 -- a sum that is taken modulo 2^128 and isn't more
 pub whole : (x y : ℕ) → x < 2 ^ 127 → y < 2 ^ 127 → add128 x y ≡ x + y
@@ -36,10 +31,9 @@ parts x = omega arith
 multiple : (x y q : ℕ) → x ≡ y + field * q → x % field ≡ y % field
 multiple x y q e = omega arith
 
-together : (c0 c1 c2 c3 c4 r0 r1 r2 r3 r4 q d0 f0 f1 f2 f3 g last : ℕ) → weighed c0 c1 c2 c3 c4 ≡ weighed r0 r1 r2 r3 r4 + (field + 19) * q
-    → weighed d0 r1 r2 r3 r4 ≡ weighed f0 f1 f2 f3 g → d0 ≡ r0 + 19 * q → last ≡ g
-    → weighed c0 c1 c2 c3 c4 ≡ weighed f0 f1 f2 f3 last + field * q
-together c0 c1 c2 c3 c4 r0 r1 r2 r3 r4 q d0 f0 f1 f2 f3 g last e1 e2 e3 e4 = omega arith
+together : (v r0 r1 r2 r3 r4 q d0 h f0 last : ℕ) → v ≡ weighed r0 r1 r2 r3 r4 + (field + 19) * q → d0 ≡ r0 + 19 * q → d0 ≡ 2 ^ 51 * h + f0 → last ≡ r1 + h
+    → v ≡ weighed f0 last r2 r3 r4 + field * q
+together v r0 r1 r2 r3 r4 q d0 h f0 last e1 e2 e3 e4 = omega arith
 
 -- sums below 2^115 are carried into limbs below 2^52 of the same number
 module _ (c0 c1 c2 c3 c4 : ℕ) (h0 : c0 < 2 ^ 115) (h1 : c1 < 2 ^ 115) (h2 : c2 < 2 ^ 115) (h3 : c3 < 2 ^ 115) (h4 : c4 < 2 ^ 115) where
@@ -52,9 +46,6 @@ module _ (c0 c1 c2 c3 c4 : ℕ) (h0 : c0 < 2 ^ 115) (h1 : c1 < 2 ^ 115) (h2 : c2
       let e4 : ℕ = add128 c4 (e3 / 2 ^ 51) in
       let d0 : ℕ = add128 (c0 % 2 ^ 51) (mul128 (e4 / 2 ^ 51) 19) in
       let d1 : ℕ = add128 (e1 % 2 ^ 51) (d0 / 2 ^ 51) in
-      let d2 : ℕ = add128 (e2 % 2 ^ 51) (d1 / 2 ^ 51) in
-      let d3 : ℕ = add128 (e3 % 2 ^ 51) (d2 / 2 ^ 51) in
-      let d4 : ℕ = add128 (e4 % 2 ^ 51) (d3 / 2 ^ 51) in
       let w1 : e1 ≡ c1 + c0 / 2 ^ 51 = whole c1 (c0 / 2 ^ 51) (omega (arith, h1)) (omega (arith, h0)) in
       let b1 : e1 < 2 ^ 116 = omega (arith, w1, h0, h1) in
       let w2 : e2 ≡ c2 + e1 / 2 ^ 51 = whole c2 (e1 / 2 ^ 51) (omega (arith, h2)) (omega (arith, b1)) in
@@ -69,25 +60,14 @@ module _ (c0 c1 c2 c3 c4 : ℕ) (h0 : c0 < 2 ^ 115) (h1 : c1 < 2 ^ 115) (h2 : c2
       let y0 : d0 < 2 ^ 71 = omega (arith, x0, n) in
       let x1 : d1 ≡ e1 % 2 ^ 51 + d0 / 2 ^ 51 = whole (e1 % 2 ^ 51) (d0 / 2 ^ 51) (omega arith) (omega (arith, y0)) in
       let y1 : d1 < 2 ^ 52 = omega (arith, x1, y0) in
-      let x2 : d2 ≡ e2 % 2 ^ 51 + d1 / 2 ^ 51 = whole (e2 % 2 ^ 51) (d1 / 2 ^ 51) (omega arith) (omega (arith, y1)) in
-      let y2 : d2 < 2 ^ 52 = omega (arith, x2, y1) in
-      let x3 : d3 ≡ e3 % 2 ^ 51 + d2 / 2 ^ 51 = whole (e3 % 2 ^ 51) (d2 / 2 ^ 51) (omega arith) (omega (arith, y2)) in
-      let y3 : d3 < 2 ^ 52 = omega (arith, x3, y2) in
-      let x4 : d4 ≡ e4 % 2 ^ 51 + d3 / 2 ^ 51 = whole (e4 % 2 ^ 51) (d3 / 2 ^ 51) (omega arith) (omega (arith, y3)) in
-      let y4 : d4 < 2 ^ 52 = omega (arith, x4, y3) in
-      let last : d4 % 2 ^ 52 ≡ d4 = omega (arith, y4) in
+      let last : d1 % 2 ^ 52 ≡ d1 = omega (arith, y1) in
       let first_pass : weighed c0 c1 c2 c3 c4 ≡ weighed (c0 % 2 ^ 51) (e1 % 2 ^ 51) (e2 % 2 ^ 51) (e3 % 2 ^ 51) (e4 % 2 ^ 51) + (field + 19) * (e4 / 2 ^ 51)
       = pass c0 c1 c2 c3 c4 (c0 / 2 ^ 51) (e1 / 2 ^ 51) (e2 / 2 ^ 51) (e3 / 2 ^ 51) (e4 / 2 ^ 51) (c0 % 2 ^ 51) (e1 % 2 ^ 51) (e2 % 2 ^ 51) (e3 % 2 ^ 51) (e4 % 2 ^ 51)
       (parts c0) (sym w1 ∙ parts e1) (sym w2 ∙ parts e2) (sym w3 ∙ parts e3) (sym w4 ∙ parts e4) in
-      let second_pass : weighed d0 (e1 % 2 ^ 51) (e2 % 2 ^ 51) (e3 % 2 ^ 51) (e4 % 2 ^ 51)
-      ≡ weighed (d0 % 2 ^ 51) (d1 % 2 ^ 51) (d2 % 2 ^ 51) (d3 % 2 ^ 51) (e4 % 2 ^ 51 + d3 / 2 ^ 51)
-      = again d0 (e1 % 2 ^ 51) (e2 % 2 ^ 51) (e3 % 2 ^ 51) (e4 % 2 ^ 51) (d0 / 2 ^ 51) (d1 / 2 ^ 51) (d2 / 2 ^ 51) (d3 / 2 ^ 51)
-      (d0 % 2 ^ 51) (d1 % 2 ^ 51) (d2 % 2 ^ 51) (d3 % 2 ^ 51) (parts d0) (sym x1 ∙ parts d1) (sym x2 ∙ parts d2) (sym x3 ∙ parts d3) in
-      let all : weighed c0 c1 c2 c3 c4 ≡ weighed (d0 % 2 ^ 51) (d1 % 2 ^ 51) (d2 % 2 ^ 51) (d3 % 2 ^ 51) (d4 % 2 ^ 52) + field * (e4 / 2 ^ 51)
-      = together c0 c1 c2 c3 c4 (c0 % 2 ^ 51) (e1 % 2 ^ 51) (e2 % 2 ^ 51) (e3 % 2 ^ 51) (e4 % 2 ^ 51) (e4 / 2 ^ 51) d0
-      (d0 % 2 ^ 51) (d1 % 2 ^ 51) (d2 % 2 ^ 51) (d3 % 2 ^ 51) (e4 % 2 ^ 51 + d3 / 2 ^ 51) (d4 % 2 ^ 52) first_pass second_pass x0 (last ∙ x4) in (
-        record { l0 = low51 d0; l1 = low51 d1; l2 = low51 d2; l3 = low51 d3; l4 = low52 d4 },
-        sym (multiple (weighed c0 c1 c2 c3 c4) (weighed (d0 % 2 ^ 51) (d1 % 2 ^ 51) (d2 % 2 ^ 51) (d3 % 2 ^ 51) (d4 % 2 ^ 52)) (e4 / 2 ^ 51) all),
+      let all = together (weighed c0 c1 c2 c3 c4) (c0 % 2 ^ 51) (e1 % 2 ^ 51) (e2 % 2 ^ 51) (e3 % 2 ^ 51) (e4 % 2 ^ 51) (e4 / 2 ^ 51) d0 (d0 / 2 ^ 51) (d0 % 2 ^ 51) (d1 % 2 ^ 52)
+      first_pass x0 (parts d0) (last ∙ x1) in (
+        record { l0 = low51 d0; l1 = low52 d1; l2 = low51 e2; l3 = low51 e3; l4 = low51 e4 },
+        sym (multiple (weighed c0 c1 c2 c3 c4) (weighed (d0 % 2 ^ 51) (d1 % 2 ^ 52) (e2 % 2 ^ 51) (e3 % 2 ^ 51) (e4 % 2 ^ 51)) (e4 / 2 ^ 51) all),
       )
 
 below : (a b : ℕ) → a < 2 ^ 52 → b < 2 ^ 57 → a * b < 2 ^ 109
@@ -273,31 +253,80 @@ scaled_value a n h k =
     let out = carried_value _ _ _ _ _ w0.1 w1.1 w2.1 w3.1 w4.1 in
     (out.0, out.1 ∙ ap (λ (m : ℕ). m % field) (spread _ _ _ _ _ n _ _ _ _ _ w0.0 w1.0 w2.0 w3.0 w4.0))
 
+-- limbs of a number below 2^255 + 2^51
+pub record AreTight (a : List ℕ) : Type 0 where
+  pub l0 : slice_index a 0 < 2 ^ 52
+  pub l1 : slice_index a 1 < 2 ^ 51
+  pub l2 : slice_index a 2 < 2 ^ 51
+  pub l3 : slice_index a 3 < 2 ^ 51
+  pub l4 : slice_index a 4 < 2 ^ 51
+
+below_tight : (a : List ℕ) → AreTight a → AreBelow (2 ^ 52) a
+below_tight a h = record { l0 = h.l0; l1 = omega (arith, h.l1); l2 = omega (arith, h.l2); l3 = omega (arith, h.l3); l4 = omega (arith, h.l4) }
+
+-- a sum that is taken modulo 2^64 and isn't more
+whole64 : (x y : ℕ) → x < 2 ^ 63 → y < 2 ^ 63 → add64 x y ≡ x + y
+whole64 x y h k = omega arith
+
+least : (x : ℕ) → x % 2 ^ 51 < 2 ^ 51
+least x = omega arith
+
+lowered : (v r0 r1 r2 r3 r4 q d0 : ℕ) → v ≡ weighed r0 r1 r2 r3 r4 + (field + 19) * q → d0 ≡ r0 + 19 * q → v ≡ weighed d0 r1 r2 r3 r4 + field * q
+lowered v r0 r1 r2 r3 r4 q d0 e k = omega arith
+
+-- sums below 2^56 are carried by one pass
+module _ (c0 c1 c2 c3 c4 : ℕ) (h0 : c0 < 2 ^ 56) (h1 : c1 < 2 ^ 56) (h2 : c2 < 2 ^ 56) (h3 : c3 < 2 ^ 56) (h4 : c4 < 2 ^ 56) where
+  once_value : AreTight (carried_once (c0 ∷ c1 ∷ c2 ∷ c3 ∷ c4 ∷ [])) × (value (carried_once (c0 ∷ c1 ∷ c2 ∷ c3 ∷ c4 ∷ [])) % field ≡ weighed c0 c1 c2 c3 c4 % field)
+  unfolding carried_once
+  once_value =
+      let e1 : ℕ = add64 c1 (c0 / 2 ^ 51) in
+      let e2 : ℕ = add64 c2 (e1 / 2 ^ 51) in
+      let e3 : ℕ = add64 c3 (e2 / 2 ^ 51) in
+      let e4 : ℕ = add64 c4 (e3 / 2 ^ 51) in
+      let d0 : ℕ = add64 (c0 % 2 ^ 51) (mul64 (e4 / 2 ^ 51) 19) in
+      let w1 : e1 ≡ c1 + c0 / 2 ^ 51 = whole64 c1 (c0 / 2 ^ 51) (omega (arith, h1)) (omega (arith, h0)) in
+      let b1 : e1 < 2 ^ 57 = omega (arith, w1, h0, h1) in
+      let w2 : e2 ≡ c2 + e1 / 2 ^ 51 = whole64 c2 (e1 / 2 ^ 51) (omega (arith, h2)) (omega (arith, b1)) in
+      let b2 : e2 < 2 ^ 57 = omega (arith, w2, h2, b1) in
+      let w3 : e3 ≡ c3 + e2 / 2 ^ 51 = whole64 c3 (e2 / 2 ^ 51) (omega (arith, h3)) (omega (arith, b2)) in
+      let b3 : e3 < 2 ^ 57 = omega (arith, w3, h3, b2) in
+      let w4 : e4 ≡ c4 + e3 / 2 ^ 51 = whole64 c4 (e3 / 2 ^ 51) (omega (arith, h4)) (omega (arith, b3)) in
+      let b4 : e4 < 2 ^ 57 = omega (arith, w4, h4, b3) in
+      let m : mul64 (e4 / 2 ^ 51) 19 ≡ 19 * (e4 / 2 ^ 51) = omega (arith, b4) in
+      let n : 19 * (e4 / 2 ^ 51) < 2 ^ 11 = omega (arith, b4) in
+      let x0 : d0 ≡ c0 % 2 ^ 51 + 19 * (e4 / 2 ^ 51) = whole64 (c0 % 2 ^ 51) (mul64 (e4 / 2 ^ 51) 19) (omega arith) (omega (arith, m, n)) ∙ ap (λ (k : ℕ). c0 % 2 ^ 51 + k) m in
+      let first_pass = pass c0 c1 c2 c3 c4 (c0 / 2 ^ 51) (e1 / 2 ^ 51) (e2 / 2 ^ 51) (e3 / 2 ^ 51) (e4 / 2 ^ 51) (c0 % 2 ^ 51) (e1 % 2 ^ 51) (e2 % 2 ^ 51) (e3 % 2 ^ 51) (e4 % 2 ^ 51)
+      (parts c0) (sym w1 ∙ parts e1) (sym w2 ∙ parts e2) (sym w3 ∙ parts e3) (sym w4 ∙ parts e4) in
+      let all = lowered (weighed c0 c1 c2 c3 c4) (c0 % 2 ^ 51) (e1 % 2 ^ 51) (e2 % 2 ^ 51) (e3 % 2 ^ 51) (e4 % 2 ^ 51) (e4 / 2 ^ 51) d0 first_pass x0 in (
+        record { l0 = omega (arith, x0, n); l1 = least e1; l2 = least e2; l3 = least e3; l4 = least e4 },
+        sym (multiple (weighed c0 c1 c2 c3 c4) (weighed d0 (e1 % 2 ^ 51) (e2 % 2 ^ 51) (e3 % 2 ^ 51) (e4 % 2 ^ 51)) (e4 / 2 ^ 51) all),
+      )
+
+limbs_added : (x y : ℕ) → x < 2 ^ 52 → y < 2 ^ 52 → (add64 x y ≡ x + y) × (add64 x y < 2 ^ 56)
+limbs_added x y h k = (omega arith, omega arith)
+
+pub add_tight : (a b : List ℕ) → AreBelow (2 ^ 52) a → AreBelow (2 ^ 52) b
+    → AreTight (add a b) × (value (add a b) % field ≡ (value a + value b) % field)
+unfolding add
+add_tight a b h k =
+    let w0 = limbs_added (slice_index a 0) (slice_index b 0) h.l0 k.l0 in
+    let w1 = limbs_added (slice_index a 1) (slice_index b 1) h.l1 k.l1 in
+    let w2 = limbs_added (slice_index a 2) (slice_index b 2) h.l2 k.l2 in
+    let w3 = limbs_added (slice_index a 3) (slice_index b 3) h.l3 k.l3 in
+    let w4 = limbs_added (slice_index a 4) (slice_index b 4) h.l4 k.l4 in
+    let out = once_value _ _ _ _ _ w0.1 w1.1 w2.1 w3.1 w4.1 in
+    (out.0, out.1 ∙ ap (λ (n : ℕ). n % field) (spread_sum _ _ _ _ _ _ _ _ _ _ _ _ _ _ _ w0.0 w1.0 w2.0 w3.0 w4.0))
+  where
+    spread_sum : (a0 a1 a2 a3 a4 b0 b1 b2 b3 b4 c0 c1 c2 c3 c4 : ℕ) → c0 ≡ a0 + b0 → c1 ≡ a1 + b1 → c2 ≡ a2 + b2 → c3 ≡ a3 + b3 → c4 ≡ a4 + b4
+        → weighed c0 c1 c2 c3 c4 ≡ weighed a0 a1 a2 a3 a4 + weighed b0 b1 b2 b3 b4
+    spread_sum a0 a1 a2 a3 a4 b0 b1 b2 b3 b4 c0 c1 c2 c3 c4 e0 e1 e2 e3 e4 = omega arith
+
 pub add_value : (a b : List ℕ) → AreBelow (2 ^ 52) a → AreBelow (2 ^ 52) b
     → AreBelow (2 ^ 52) (add a b) × (value (add a b) % field ≡ (value a + value b) % field)
-unfolding add
-add_value a b h k =
-    let c0 : ℕ = add128 (slice_index a 0) (slice_index b 0) in
-    let w0 : c0 ≡ slice_index a 0 + slice_index b 0 = whole (slice_index a 0) (slice_index b 0) (omega (arith, h.l0)) (omega (arith, k.l0)) in
-    let m0 : c0 < 2 ^ 115 = omega (arith, w0, h.l0, k.l0) in
-    let c1 : ℕ = add128 (slice_index a 1) (slice_index b 1) in
-    let w1 : c1 ≡ slice_index a 1 + slice_index b 1 = whole (slice_index a 1) (slice_index b 1) (omega (arith, h.l1)) (omega (arith, k.l1)) in
-    let m1 : c1 < 2 ^ 115 = omega (arith, w1, h.l1, k.l1) in
-    let c2 : ℕ = add128 (slice_index a 2) (slice_index b 2) in
-    let w2 : c2 ≡ slice_index a 2 + slice_index b 2 = whole (slice_index a 2) (slice_index b 2) (omega (arith, h.l2)) (omega (arith, k.l2)) in
-    let m2 : c2 < 2 ^ 115 = omega (arith, w2, h.l2, k.l2) in
-    let c3 : ℕ = add128 (slice_index a 3) (slice_index b 3) in
-    let w3 : c3 ≡ slice_index a 3 + slice_index b 3 = whole (slice_index a 3) (slice_index b 3) (omega (arith, h.l3)) (omega (arith, k.l3)) in
-    let m3 : c3 < 2 ^ 115 = omega (arith, w3, h.l3, k.l3) in
-    let c4 : ℕ = add128 (slice_index a 4) (slice_index b 4) in
-    let w4 : c4 ≡ slice_index a 4 + slice_index b 4 = whole (slice_index a 4) (slice_index b 4) (omega (arith, h.l4)) (omega (arith, k.l4)) in
-    let m4 : c4 < 2 ^ 115 = omega (arith, w4, h.l4, k.l4) in
-    let out = carried_value c0 c1 c2 c3 c4 m0 m1 m2 m3 m4 in
-    let all : weighed c0 c1 c2 c3 c4 ≡ value a + value b = omega (arith, w0, w1, w2, w3, w4) in
-    (out.0, out.1 ∙ ap (λ (n : ℕ). n % field) all)
+add_value a b h k = let out = add_tight a b h k in (below_tight (add a b) out.0, out.1)
 
 -- a limb more than any, less a limb
-less_is : (spare a b : ℕ) → b ≤ spare → spare < 2 ^ 60 → a < 2 ^ 52 → (less spare a b + b ≡ spare + a) × (less spare a b < 2 ^ 115)
+less_is : (spare a b : ℕ) → b ≤ spare → spare < 2 ^ 54 → a < 2 ^ 52 → (less spare a b + b ≡ spare + a) × (less spare a b < 2 ^ 56)
 unfolding less
 less_is spare a b h k l = (omega arith, omega arith)
 
@@ -323,6 +352,6 @@ sub_value a b h k =
     let c4 : ℕ = less 9007199254740988 (slice_index a 4) (slice_index b 4) in
     let w4 = less_is 9007199254740988 (slice_index a 4) (slice_index b 4) (omega (arith, k.l4)) (omega arith) h.l4 in
     let e4 : c4 + slice_index b 4 ≡ 9007199254740988 + slice_index a 4 = w4.0 in
-    let out = carried_value c0 c1 c2 c3 c4 w0.1 w1.1 w2.1 w3.1 w4.1 in
+    let out = once_value c0 c1 c2 c3 c4 w0.1 w1.1 w2.1 w3.1 w4.1 in
     let all : weighed c0 c1 c2 c3 c4 + value b ≡ value a + field * 4 = omega (arith, e0, e1, e2, e3, e4) in
-    (out.0, shifted (value (sub a b)) (weighed c0 c1 c2 c3 c4) (value b) (value a) out.1 all)
+    (below_tight (sub a b) out.0, shifted (value (sub a b)) (weighed c0 c1 c2 c3 c4) (value b) (value a) out.1 all)

@@ -4,7 +4,7 @@
 use Rattle.std.proofs.Common.{◌≡◌, add-one, refl}
 use Rattle.std.specs.Prelude.{ℕ, zero, suc, ◌+◌, ◌-◌, ◌*◌, ◌/◌, ◌%◌, ◌^◌, List, [], ◌∷◌, slice_index, bit_or}
 use Rattle.sshsuite.specs.Bits.{bytes_of_words, word_at}
-use Rattle.sshsuite.specs.Limbs.{add128, mul64, mul128, reduced_once}
+use Rattle.sshsuite.specs.Limbs.{add64, add128, mul64, mul128, reduced_once}
 
 -- the sum of the products at each place
 unfoldable pub dot : List ℕ → List ℕ → ℕ
@@ -21,24 +21,30 @@ carried sums =
     let c3 = add128 (slice_index sums 3) (c2 / 2 ^ 51) in
     let c4 = add128 (slice_index sums 4) (c3 / 2 ^ 51) in
     let d0 = add128 (c0 % 2 ^ 51) (mul128 (c4 / 2 ^ 51) 19) in
-    let d1 = add128 (c1 % 2 ^ 51) (d0 / 2 ^ 51) in
-    let d2 = add128 (c2 % 2 ^ 51) (d1 / 2 ^ 51) in
-    let d3 = add128 (c3 % 2 ^ 51) (d2 / 2 ^ 51) in
-    let d4 = add128 (c4 % 2 ^ 51) (d3 / 2 ^ 51) in
-    d0 % 2 ^ 51 ∷ d1 % 2 ^ 51 ∷ d2 % 2 ^ 51 ∷ d3 % 2 ^ 51 ∷ d4 % 2 ^ 52 ∷ []
+    d0 % 2 ^ 51 ∷ add128 (c1 % 2 ^ 51) (d0 / 2 ^ 51) % 2 ^ 52 ∷ c2 % 2 ^ 51 ∷ c3 % 2 ^ 51 ∷ c4 % 2 ^ 51 ∷ []
+
+-- the limbs of five sums that are hardly more than limbs, by one pass of carries
+unfoldable pub carried_once : List ℕ → List ℕ
+carried_once sums =
+    let c0 = slice_index sums 0 in
+    let c1 = add64 (slice_index sums 1) (c0 / 2 ^ 51) in
+    let c2 = add64 (slice_index sums 2) (c1 / 2 ^ 51) in
+    let c3 = add64 (slice_index sums 3) (c2 / 2 ^ 51) in
+    let c4 = add64 (slice_index sums 4) (c3 / 2 ^ 51) in
+    add64 (c0 % 2 ^ 51) (mul64 (c4 / 2 ^ 51) 19) ∷ c1 % 2 ^ 51 ∷ c2 % 2 ^ 51 ∷ c3 % 2 ^ 51 ∷ c4 % 2 ^ 51 ∷ []
 
 unfoldable pub add : List ℕ → List ℕ → List ℕ
 add a b =
-    carried (add128 (slice_index a 0) (slice_index b 0) ∷ add128 (slice_index a 1) (slice_index b 1) ∷ add128 (slice_index a 2) (slice_index b 2)
-    ∷ add128 (slice_index a 3) (slice_index b 3) ∷ add128 (slice_index a 4) (slice_index b 4) ∷ [])
+    carried_once (add64 (slice_index a 0) (slice_index b 0) ∷ add64 (slice_index a 1) (slice_index b 1) ∷ add64 (slice_index a 2) (slice_index b 2)
+    ∷ add64 (slice_index a 3) (slice_index b 3) ∷ add64 (slice_index a 4) (slice_index b 4) ∷ [])
 
 -- a limb more than any, less a limb
 unfoldable pub less : ℕ → ℕ → ℕ → ℕ
-less spare a b = (spare + a + 2 ^ 128 - b) % 2 ^ 128
+less spare a b = (add64 spare a + 2 ^ 64 - b) % 2 ^ 64
 
 unfoldable pub sub : List ℕ → List ℕ → List ℕ
 sub a b =
-    carried (less 9007199254740916 (slice_index a 0) (slice_index b 0) ∷ less 9007199254740988 (slice_index a 1) (slice_index b 1)
+    carried_once (less 9007199254740916 (slice_index a 0) (slice_index b 0) ∷ less 9007199254740988 (slice_index a 1) (slice_index b 1)
     ∷ less 9007199254740988 (slice_index a 2) (slice_index b 2) ∷ less 9007199254740988 (slice_index a 3) (slice_index b 3)
     ∷ less 9007199254740988 (slice_index a 4) (slice_index b 4) ∷ [])
 
@@ -146,7 +152,7 @@ one = 1 ∷ 0 ∷ 0 ∷ 0 ∷ 0 ∷ []
 
 -- the 32 bytes of an element below the field's size
 unfoldable pub encode : List ℕ → List ℕ
-encode a = bytes_of_words (packed (canonical (add (add a none) none)))
+encode a = bytes_of_words (packed (canonical (add a none)))
 
 -- steps of the loop
 pub squares_none : (a : List ℕ) → squares a 0 ≡ a

@@ -4,8 +4,8 @@
 //! lost, but by that bound nothing is ([`field_law`](crate::field_law)).
 
 ghost use Rattle.std.specs.Prelude.{◌≡◌, ◌<◌, ◌+◌, ◌*◌, ◌%◌, ◌^◌, ◌==◌, if◌then◌else◌, length};
-ghost use Rattle.sshsuite.specs.Limbs.{add128, mul128};
-ghost use Rattle.sshsuite.specs.FieldElement.{add, canonical, carried, decode, dot, eleventh, encode, inverse, less, mul, packed, root_power, scaled, squared, squares, sub, three, to_250, to_50};
+ghost use Rattle.sshsuite.specs.Limbs.{mul128};
+ghost use Rattle.sshsuite.specs.FieldElement.{add, canonical, carried, carried_once, decode, dot, eleventh, encode, inverse, less, mul, packed, root_power, scaled, squared, squares, sub, three, to_250, to_50};
 
 use crate::bits::{bytes_of_words, word_at};
 use crate::constant_time::select;
@@ -59,24 +59,28 @@ fn carried(sums: [u128; 5]) -> Element
     let c4 = c4.wrapping_add(c3 / WIDE_RADIX);
     let d0 = (c0 % WIDE_RADIX).wrapping_add((c4 / WIDE_RADIX).wrapping_mul(19));
     let d1 = (c1 % WIDE_RADIX).wrapping_add(d0 / WIDE_RADIX);
-    let d2 = (c2 % WIDE_RADIX).wrapping_add(d1 / WIDE_RADIX);
-    let d3 = (c3 % WIDE_RADIX).wrapping_add(d2 / WIDE_RADIX);
-    let d4 = (c4 % WIDE_RADIX).wrapping_add(d3 / WIDE_RADIX);
     [
         (d0 % WIDE_RADIX) as u64,
-        (d1 % WIDE_RADIX) as u64,
-        (d2 % WIDE_RADIX) as u64,
-        (d3 % WIDE_RADIX) as u64,
-        (d4 % 0x10000000000000) as u64,
+        (d1 % 0x10000000000000) as u64,
+        (c2 % WIDE_RADIX) as u64,
+        (c3 % WIDE_RADIX) as u64,
+        (c4 % WIDE_RADIX) as u64,
     ]
 }
 
-/// The sum of two limbs.
+/// The limbs of five sums below 2^56: for these one pass of carries is enough.
 #[inline(always)]
-fn wide_sum(a: u64, b: u64) -> u128
-    ensures { result ≡ add128 a b }
+#[tactic(auto, unfolding(crate::specs::FieldElement::carried_once))]
+fn carried_once(sums: [u64; 5]) -> Element
+    ensures { result ≡ carried_once sums }
 {
-    u128::from(a).wrapping_add(u128::from(b))
+    let [c0, c1, c2, c3, c4] = sums;
+    let c1 = c1.wrapping_add(c0 / RADIX);
+    let c2 = c2.wrapping_add(c1 / RADIX);
+    let c3 = c3.wrapping_add(c2 / RADIX);
+    let c4 = c4.wrapping_add(c3 / RADIX);
+    let c0 = (c0 % RADIX).wrapping_add((c4 / RADIX).wrapping_mul(19));
+    [c0, c1 % RADIX, c2 % RADIX, c3 % RADIX, c4 % RADIX]
 }
 
 /// The sum of two elements.
@@ -86,22 +90,22 @@ pub(crate) fn add(a: Element, b: Element) -> Element
 {
     let [a0, a1, a2, a3, a4] = a;
     let [b0, b1, b2, b3, b4] = b;
-    carried([
-        wide_sum(a0, b0),
-        wide_sum(a1, b1),
-        wide_sum(a2, b2),
-        wide_sum(a3, b3),
-        wide_sum(a4, b4),
+    carried_once([
+        a0.wrapping_add(b0),
+        a1.wrapping_add(b1),
+        a2.wrapping_add(b2),
+        a3.wrapping_add(b3),
+        a4.wrapping_add(b4),
     ])
 }
 
 /// A limb more than any, less a limb.
 #[inline(always)]
 #[tactic(auto, unfolding(crate::specs::FieldElement::less))]
-fn less(spare: u64, a: u64, b: u64) -> u128
+fn less(spare: u64, a: u64, b: u64) -> u64
     ensures { result ≡ less spare a b }
 {
-    (u128::from(spare) + u128::from(a)).wrapping_sub(u128::from(b))
+    spare.wrapping_add(a).wrapping_sub(b)
 }
 
 /// The difference of two elements. Four times the field's size is added first, by limbs, each more than any limb.
@@ -111,7 +115,7 @@ pub(crate) fn sub(a: Element, b: Element) -> Element
 {
     let [a0, a1, a2, a3, a4] = a;
     let [b0, b1, b2, b3, b4] = b;
-    carried([
+    carried_once([
         less(9007199254740916, a0, b0),
         less(9007199254740988, a1, b1),
         less(9007199254740988, a2, b2),
@@ -305,7 +309,7 @@ fn packed(l: Element) -> [u64; 4]
 pub(crate) fn encode(a: Element) -> [u8; 32]
     ensures { result ≡ encode a }
 {
-    bytes_of_words(packed(canonical(add(add(a, ZERO), ZERO))))
+    bytes_of_words(packed(canonical(add(a, ZERO))))
 }
 
 /// The second element where the bit is 1, else the first.
