@@ -1,16 +1,15 @@
 -- Round keys are those of the standard's key schedule.
 
-use Rattle.std.proofs.Common.{◌≡◌, ℕ, zero, suc, ◌+◌, ◌-◌, ◌*◌, ◌/◌, ◌%◌, ◌^◌, ◌<◌, ◌≤◌, inl, inr, Bool, true, false, List, [], ◌∷◌, ◌++◌, length, refl, sym, ap, ◌∙◌, arith, cond, eqb, ltb}
+use Rattle.std.proofs.Common.{◌≡◌, ℕ, zero, suc, ◌+◌, ◌-◌, ◌*◌, ◌/◌, ◌%◌, ◌^◌, ◌<◌, inl, inr, true, false, List, [], ◌∷◌, ◌++◌, length, refl, sym, ap, ◌∙◌, arith, cond, eqb, ltb}
 use Rattle.std.proofs.lemmas.Bool.{cases_Bool, eqb-false, eqb-true, le-ltb, lt-ltb}
 use Rattle.std.proofs.lemmas.List.{get_or-append_right, length-append}
 use Rattle.std.proofs.Math.ListN.{get_or-append}
-use Rattle.std.proofs.lemmas.Nat.{xor_comm}
 use Rattle.std.specs.Int.Bits.{xor_assoc, xor_zero_r}
 use Rattle.std.specs.Prelude.{bit_xor, slice_index}
 use Rattle.sshsuite.specs.Aes.{cipher, last_word, next_pair, number_at, round_keys, sub_bytes, summed_words, turned_words}
 use Rattle.sshsuite.specs.AesBytes.{IsExpanded, block_of, encrypted_state, key_state, s_box}
 use Rattle.sshsuite.proofs.AesLemmas.{AreBytes, by_xor, s_box_byte, same_until, sub_bytes_is, xor_byte}
-use Rattle.sshsuite.proofs.AesStateLemmas.{below_12, below_4, below_8, cipher_is, either_byte, next, number_is, split_12, split_8, turned_words_is}
+use Rattle.sshsuite.proofs.AesStateLemmas.{below_4, below_8, cipher_is, either_byte, next, number_is, split_12, split_8, turned_words_is}
 
 -- the last word, four times
 four_times : (f : ℕ → ℕ) → block_of 4 (λ i. f (i + 12)) * 0x00000001000000010000000100000001 ≡ block_of 16 (λ i. f (12 + i % 4))

@@ -1,6 +1,6 @@
 -- Rounds over a block are the standard's over its bytes.
 
-use Rattle.std.proofs.Common.{◌≡◌, ℕ, zero, suc, ◌+◌, ◌-◌, ◌*◌, ◌/◌, ◌%◌, ◌^◌, ◌<◌, ◌≤◌, inl, inr, Bool, true, false, List, refl, sym, ap, ◌∙◌, arith, cond, eqb, ltb}
+use Rattle.std.proofs.Common.{◌≡◌, ℕ, zero, suc, ◌+◌, ◌-◌, ◌*◌, ◌/◌, ◌%◌, ◌^◌, ◌<◌, inl, inr, Bool, true, false, List, refl, sym, ap, ◌∙◌, arith, cond, eqb, ltb}
 use Rattle.std.proofs.lemmas.Bool.{cases_Bool, eqb-false, eqb-true, le-ltb, lt-ltb}
 use Rattle.std.proofs.lemmas.Nat.{and_le_l, and_mask, or_block, or_lt, xor_block, xor_comm, xor_mod, xor_shr}
 use Rattle.std.specs.Int.{w128, rotate_left}
@@ -8,7 +8,7 @@ use Rattle.std.specs.Int.Bits.{and_zero_r, or_zero_l, or_zero_r, xor_assoc, xor_
 use Rattle.std.specs.Prelude.{bit_and, bit_or, bit_xor, slice_index}
 use Rattle.sshsuite.specs.Aes.{behind_rounds, cipher, doubled, last_round, mix_columns, number_at, round, shift_rows, sub_bytes, turned_words}
 use Rattle.sshsuite.specs.AesBytes.{below_in_column, block_of, byte_product, byte_product_to, encrypted_state, mixed_column, s_box, shifted_row, state_behind, with_key, xtime, xtime_by}
-use Rattle.sshsuite.proofs.AesLemmas.{AreBytes, and_of, below_limit, by_xor, doubled_is, limit, product_byte, s_box_byte, same_block, same_until, sub_bytes_is, xor_byte, xor_of, xtime_byte, xtime_is}
+use Rattle.sshsuite.proofs.AesLemmas.{AreBytes, and_of, below_limit, by_xor, doubled_is, limit, product_byte, s_box_byte, same_block, same_until, sub_bytes_is, xor_byte, xtime_byte, xtime_is}
 
 or_of : (n : ℕ) (f g : ℕ → ℕ) → AreBytes f → AreBytes g → bit_or (block_of n f) (block_of n g) ≡ block_of n (λ i. bit_or (f i) (g i))
 unfolding block_of
