@@ -2,7 +2,7 @@
 
 use Rattle.std.proofs.Common.{◌≡◌, ℕ, zero, suc, ◌+◌, ◌-◌, ◌*◌, ◌/◌, ◌%◌, ◌^◌, ◌<◌, ◌≤◌, inl, inr, Bool, true, false, refl, sym, ap, ◌∙◌, arith, cond, eqb, ltb}
 use Rattle.std.proofs.lemmas.Bool.{cases_Bool, ltb-false, ltb-true}
-use Rattle.std.proofs.lemmas.Nat.{and_block, and_comm, and_mask, xor_block, xor_lt}
+use Rattle.std.proofs.lemmas.Nat.{and_block, and_mask, xor_block, xor_lt}
 use Rattle.std.specs.Int.Bits.{and_zero_l, and_zero_r, xor_zero_l, xor_zero_r}
 use Rattle.std.specs.Prelude.{bit_and, bit_xor}
 use Rattle.sshsuite.specs.Aes.{chosen, doubled, doubled_by, highest_bits, inverse, mapped, others_raised, product, product_to, sub_bytes, turned}

@@ -1,6 +1,6 @@
 -- What is seen by computing: of each byte its inverse and its image, and of a block its cipher.
 
-use Rattle.std.proofs.Common.{◌≡◌, ℕ, zero, suc, ◌+◌, ◌%◌, ◌^◌, ◌<◌, inl, inr, Bool, true, false, List, [], ◌∷◌, refl, sym, ap, ◌∙◌, arith, cond, eqb, ltb}
+use Rattle.std.proofs.Common.{◌≡◌, ℕ, zero, suc, ◌<◌, inl, inr, Bool, true, false, refl, arith, cond, eqb}
 use Rattle.std.proofs.lemmas.Bool.{cases_Bool, eqb-false, eqb-true}
 use Rattle.std.specs.Prelude.{bit_xor}
 use Rattle.sshsuite.specs.Aes.{behind_rounds, chosen, cipher, doubled, doubled_by, highest_bits, inverse, last_round, last_word, mapped, mix_columns, next_pair, number_at, others_raised, product, product_to, round, round_keys, shift_rows, sub_bytes, summed_words, turned, turned_words}

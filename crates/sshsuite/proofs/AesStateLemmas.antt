@@ -1,6 +1,6 @@
 -- Rounds over a block are the standard's over its bytes.
 
-use Rattle.std.proofs.Common.{◌≡◌, ℕ, zero, suc, ◌+◌, ◌-◌, ◌*◌, ◌/◌, ◌%◌, ◌^◌, ◌<◌, ◌≤◌, inl, inr, Bool, true, false, List, refl, sym, ap, ◌∙◌, arith, cond, eqb, ltb}
+use Rattle.std.proofs.Common.{◌≡◌, ℕ, zero, suc, ◌+◌, ◌-◌, ◌*◌, ◌/◌, ◌%◌, ◌^◌, ◌<◌, inl, inr, Bool, true, false, List, refl, sym, ap, ◌∙◌, arith, cond, eqb, ltb}
 use Rattle.std.proofs.lemmas.Bool.{cases_Bool, eqb-false, eqb-true, le-ltb, lt-ltb}
 use Rattle.std.proofs.lemmas.Nat.{and_le_l, and_mask, or_block, or_lt, xor_block, xor_comm, xor_mod, xor_shr}
 use Rattle.std.specs.Int.{w128, rotate_left}
@@ -8,7 +8,7 @@ use Rattle.std.specs.Int.Bits.{and_zero_r, or_zero_l, or_zero_r, xor_assoc, xor_
 use Rattle.std.specs.Prelude.{bit_and, bit_or, bit_xor, slice_index}
 use Rattle.sshsuite.specs.Aes.{behind_rounds, cipher, doubled, last_round, mix_columns, number_at, round, shift_rows, sub_bytes, turned_words}
 use Rattle.sshsuite.specs.AesBytes.{below_in_column, block_of, byte_product, byte_product_to, encrypted_state, mixed_column, s_box, shifted_row, state_behind, with_key, xtime, xtime_by}
-use Rattle.sshsuite.proofs.AesLemmas.{AreBytes, and_of, below_limit, by_xor, doubled_is, limit, product_byte, s_box_byte, same_block, same_until, sub_bytes_is, xor_byte, xor_of, xtime_byte, xtime_is}
+use Rattle.sshsuite.proofs.AesLemmas.{AreBytes, and_of, below_limit, by_xor, doubled_is, limit, product_byte, s_box_byte, same_block, same_until, sub_bytes_is, xor_byte, xtime_byte, xtime_is}
 
 or_of : (n : ℕ) (f g : ℕ → ℕ) → AreBytes f → AreBytes g → bit_or (block_of n f) (block_of n g) ≡ block_of n (λ i. bit_or (f i) (g i))
 unfolding block_of
@@ -16,7 +16,7 @@ or_of zero f g h k = or_zero_l 0
 or_of (suc n) f g h k =
     or_block 8 (block_of n f) (block_of n g) (f n) (g n) (h n) (k n) ∙ ap (λ (m : ℕ). m * 2 ^ 8 + bit_or (f n) (g n)) (or_of n f g h k)
 
-either_byte : (c : Bool) (a b : ℕ) → a < 2 ^ 8 → b < 2 ^ 8 → cond c a b < 2 ^ 8
+pub either_byte : (c : Bool) (a b : ℕ) → a < 2 ^ 8 → b < 2 ^ 8 → cond c a b < 2 ^ 8
 either_byte true a b h k = h
 either_byte false a b h k = k
 
@@ -38,7 +38,7 @@ join_4 : (f : ℕ → ℕ) → block_of 12 (λ i. f (i + 4)) * 2 ^ 32 + block_of
 unfolding block_of
 join_4 f = omega arith
 
-split_8 : (f : ℕ → ℕ) → block_of 16 f ≡ block_of 8 f * 2 ^ 64 + block_of 8 (λ i. f (i + 8))
+pub split_8 : (f : ℕ → ℕ) → block_of 16 f ≡ block_of 8 f * 2 ^ 64 + block_of 8 (λ i. f (i + 8))
 unfolding block_of
 split_8 f = omega arith
 
@@ -46,7 +46,7 @@ join_8 : (f : ℕ → ℕ) → block_of 8 (λ i. f (i + 8)) * 2 ^ 64 + block_of 
 unfolding block_of
 join_8 f = omega arith
 
-split_12 : (f : ℕ → ℕ) → block_of 16 f ≡ block_of 12 f * 2 ^ 32 + block_of 4 (λ i. f (i + 12))
+pub split_12 : (f : ℕ → ℕ) → block_of 16 f ≡ block_of 12 f * 2 ^ 32 + block_of 4 (λ i. f (i + 12))
 unfolding block_of
 split_12 f = omega arith
 
@@ -58,15 +58,15 @@ below_3 : (f : ℕ → ℕ) → AreBytes f → block_of 3 f < 2 ^ 24
 unfolding limit
 below_3 f h = below_limit 3 f h
 
-below_4 : (f : ℕ → ℕ) → AreBytes f → block_of 4 f < 2 ^ 32
+pub below_4 : (f : ℕ → ℕ) → AreBytes f → block_of 4 f < 2 ^ 32
 unfolding limit
 below_4 f h = below_limit 4 f h
 
-below_8 : (f : ℕ → ℕ) → AreBytes f → block_of 8 f < 2 ^ 64
+pub below_8 : (f : ℕ → ℕ) → AreBytes f → block_of 8 f < 2 ^ 64
 unfolding limit
 below_8 f h = below_limit 8 f h
 
-below_12 : (f : ℕ → ℕ) → AreBytes f → block_of 12 f < 2 ^ 96
+pub below_12 : (f : ℕ → ℕ) → AreBytes f → block_of 12 f < 2 ^ 96
 unfolding limit
 below_12 f h = below_limit 12 f h
 
@@ -138,10 +138,10 @@ by_or a b f g h l e d = ap (λ (x : ℕ). bit_or x b) e ∙ (ap (bit_or (block_o
 chosen_row : (t : ℕ) (a : ℕ → ℕ) → t < 4 → AreBytes a
     → bit_or (bit_or (bit_or (bit_and (a 0) (cond (eqb t 0) 0xff 0)) (bit_and (a 1) (cond (eqb t 1) 0xff 0))) (bit_and (a 2) (cond (eqb t 2) 0xff 0)))
     (bit_and (a 3) (cond (eqb t 3) 0xff 0)) ≡ a t
-chosen_row zero a h k = simp (whole_byte (a 0) (k 0), and_zero_r, or_zero_r, or_zero_l) refl
+chosen_row zero a h k = simp (whole_byte (a 0) (k 0), and_zero_r, or_zero_r) refl
 chosen_row (suc zero) a h k = simp (whole_byte (a 1) (k 1), and_zero_r, or_zero_r, or_zero_l) refl
 chosen_row (suc (suc zero)) a h k = simp (whole_byte (a 2) (k 2), and_zero_r, or_zero_r, or_zero_l) refl
-chosen_row (suc (suc (suc zero))) a h k = simp (whole_byte (a 3) (k 3), and_zero_r, or_zero_r, or_zero_l) refl
+chosen_row (suc (suc (suc zero))) a h k = simp (whole_byte (a 3) (k 3), and_zero_r, or_zero_l) refl
 chosen_row (suc (suc (suc (suc t)))) a h k = absurd (omega arith)
 
 and_byte : (a b : ℕ) → a < 2 ^ 8 → bit_and a b < 2 ^ 8
@@ -231,7 +231,7 @@ unfolding other_rows
 other_byte i = either_byte (eqb (i % 4) 3) 0 0xff (omega arith) (omega arith)
 
 -- the place below in the same column
-abbrev next : ℕ → ℕ
+abbrev pub next : ℕ → ℕ
 next i = 4 * (i / 4) + (i + 1) % 4
 
 next_is : (f : ℕ → ℕ) (i : ℕ) → AreBytes f → i < 16
@@ -253,7 +253,7 @@ next_is f i h low =
           ∙ (or_zero_r (bit_and (f (i + 1)) 0xff) ∙ (whole_byte (f (i + 1)) (h (i + 1)) ∙ ap f place))))
     ]
 
-turned_words_is : (f : ℕ → ℕ) → AreBytes f → turned_words (block_of 16 f) ≡ block_of 16 (λ i. f (next i))
+pub turned_words_is : (f : ℕ → ℕ) → AreBytes f → turned_words (block_of 16 f) ≡ block_of 16 (λ i. f (next i))
 unfolding turned_words
 turned_words_is f h =
     let l : ℕ → ℕ = λ i. cond (ltb i 15) (f (i + 1)) 0 in
@@ -365,10 +365,10 @@ mix_columns_is f h =
         ∙ ap (λ (p : ℕ). bit_xor (bit_xor (bit_xor (two (f (4 * (i / 4) + (i % 4 + 0) % 4))) (three (f (4 * (i / 4) + (i % 4 + 1) % 4)))) (f (4 * (i / 4) + (i % 4 + 2) % 4))) (f p)) e3))
 
 -- Rounds.
-abbrev substituted : (ℕ → ℕ) → ℕ → ℕ
+abbrev pub substituted : (ℕ → ℕ) → ℕ → ℕ
 substituted f i = s_box (f i)
 
-substituted_bytes : (f : ℕ → ℕ) → AreBytes f → AreBytes (substituted f)
+pub substituted_bytes : (f : ℕ → ℕ) → AreBytes f → AreBytes (substituted f)
 substituted_bytes f h i = s_box_byte (f i) (h i)
 
 shifted_bytes : (f : ℕ → ℕ) → AreBytes f → AreBytes (shifted_row f)

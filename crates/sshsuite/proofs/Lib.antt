@@ -12,4 +12,5 @@ pub mod PolyLemmas
 pub mod DeployedLemmas
 pub mod AesLemmas
 pub mod AesStateLemmas
+pub mod AesKeyLemmas
 pub mod AesSamples

@@ -1,6 +1,6 @@
 -- AES in the words of FIPS 197, on single bytes, and blocks of such bytes.
 
-use Rattle.std.proofs.Common.{ℕ, zero, suc, ◌+◌, ◌-◌, ◌*◌, ◌/◌, ◌%◌, ◌^◌}
+use Rattle.std.proofs.Common.{◌≡◌, ℕ, zero, suc, ◌+◌, ◌-◌, ◌*◌, ◌/◌, ◌%◌, ◌^◌, ◌<◌}
 use Rattle.std.specs.Prelude.{List, [], ◌∷◌, ◌==◌, nat_lt, bit_xor, if◌then◌else◌}
 
 -- the number of so many bytes, the first the highest
@@ -91,6 +91,18 @@ state_behind keys input (suc n) = with_key (mixed_column (shifted_row (λ i. s_b
 -- a block encrypted by its 15 round keys (section 5.1)
 unfoldable pub encrypted_state : (ℕ → ℕ → ℕ) → (ℕ → ℕ) → ℕ → ℕ
 encrypted_state keys input = with_key (shifted_row (λ i. s_box (state_behind keys input 13 i))) (keys 14)
+
+-- the key schedule (section 5.2): word n has the bytes w n 0 to w n 3, and every eighth word takes in a power of x
+pub record IsExpanded (key : ℕ → ℕ) (w : ℕ → ℕ → ℕ) : Type 0 where
+  pub first : (n r : ℕ) → n < 8 → r < 4 → w n r ≡ key (4 * n + r)
+  pub eighth : (m r : ℕ) → m < 7 → r < 4
+      → w (8 * m + 8) r ≡ bit_xor (w (8 * m) r) (bit_xor (s_box (w (8 * m + 7) ((r + 1) % 4))) (if r == 0 then 2 ^ m else 0))
+  pub fourth : (m r : ℕ) → m < 7 → r < 4 → w (8 * m + 12) r ≡ bit_xor (w (8 * m + 4) r) (s_box (w (8 * m + 11) r))
+  pub other : (n r : ℕ) → (n % 4 ≡ 0 → ⊥) → r < 4 → w (n + 8) r ≡ bit_xor (w n r) (w (n + 7) r)
+
+-- the bytes of the round key with this number, four words
+unfoldable pub key_state : (ℕ → ℕ → ℕ) → ℕ → ℕ → ℕ
+key_state w j i = w (4 * j + i / 4) (i % 4)
 
 -- the key of FIPS 197 appendix C.3
 abbrev pub sample_key : List ℕ

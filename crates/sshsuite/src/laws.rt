@@ -4,7 +4,7 @@
 ghost use Rattle.std.specs.Prelude.{◌≡◌, ◌<◌, ◌+◌, ◌*◌, ◌%◌, ◌^◌, List, ℕ, bit_xor, slice_index};
 ghost use Rattle.sshwire.specs.Types.{IsBytes};
 ghost use Rattle.sshsuite.specs.Aes.{cipher, number_at, round_keys};
-ghost use Rattle.sshsuite.specs.AesBytes.{bit_of, block_of, byte_inverse, byte_mapped, byte_product, encrypted_state, mapped_bit, sample_key, tag_additional, tag_key, tag_sealed};
+ghost use Rattle.sshsuite.specs.AesBytes.{IsExpanded, bit_of, block_of, byte_inverse, byte_mapped, byte_product, encrypted_state, key_state, mapped_bit, sample_key, tag_additional, tag_key, tag_sealed};
 ghost use Rattle.sshsuite.specs.Bits.{number_of_32};
 ghost use Rattle.sshsuite.specs.Curve25519.{clamped, x25519};
 ghost use Rattle.sshsuite.specs.DecodingNumbers.{AreAlike, point_in};
@@ -72,15 +72,15 @@ pub fn poly1305_law()
     ensures { (key input : List ℕ) → IsBytes key → IsBytes input → tag_of key input ≡ mac key input }
 {}
 
-/// The law of AES: a block is a number of 16 bytes, the first the highest (`block`), and with 15 round keys it is encrypted as FIPS
-/// 197 section 5.1 tells, byte by byte (`cipher`). There the S-box is the inverse in GF(2^8) (`inverse`, and `zero` of
-/// zero) and then the affine map, bit by bit (`affine`). Of the round keys the example of appendix C.3 alone is
-/// shown (`example`).
+/// The law of AES: a block is a number of 16 bytes, the first the highest (`block`), and by a key of 32 bytes it is encrypted as FIPS
+/// 197 tells, byte by byte (`cipher`): by the rounds of section 5.1, and for all words that are the key's schedule of
+/// section 5.2. There the S-box is the inverse in GF(2^8) (`inverse`, and `zero` of zero) and then the affine map, bit by
+/// bit (`affine`). The example of appendix C.3 comes out (`example`).
 pub fn aes_law()
     ensures block { (bytes : List ℕ) (i : ℕ) → number_at bytes i ≡ block_of 16 (λ k. slice_index bytes (i + k)) }
-    ensures cipher { (keys : List ℕ) (key_bytes : ℕ → ℕ → ℕ) (state : ℕ → ℕ) → ((j i : ℕ) → key_bytes j i < 2 ^ 8)
-        → ((j : ℕ) → j < 15 → slice_index keys j ≡ block_of 16 (key_bytes j)) → ((i : ℕ) → state i < 2 ^ 8)
-        → cipher keys (block_of 16 state) ≡ block_of 16 (encrypted_state key_bytes state) }
+    ensures cipher { (key : List ℕ) (words : ℕ → ℕ → ℕ) (state : ℕ → ℕ) → IsExpanded (λ k. slice_index key k) words
+        → ((n r : ℕ) → words n r < 2 ^ 8) → ((i : ℕ) → state i < 2 ^ 8)
+        → cipher (round_keys key) (block_of 16 state) ≡ block_of 16 (encrypted_state (key_state words) state) }
     ensures inverse { (b : ℕ) → 0 < b → b < 256 → byte_product b (byte_inverse b) ≡ 1 }
     ensures zero { byte_inverse 0 ≡ 0 }
     ensures affine { (b i : ℕ) → b < 256 → i < 8 → bit_of (byte_mapped b) i ≡ mapped_bit b i }

@@ -1,12 +1,13 @@
 use Rattle.sshsuite.proofs.AesSamples.{cipher_sample, inverse_none, inverse_of, mapped_by_bits}
-use Rattle.sshsuite.proofs.AesStateLemmas.{cipher_is, number_is}
+use Rattle.sshsuite.proofs.AesKeyLemmas.{cipher_by_key}
+use Rattle.sshsuite.proofs.AesStateLemmas.{number_is}
 use Rattle.sshsuite.proofs.laws.aes_law.Goals as goal
 
 pub returns-clause-block : goal.returns-clause-block
 returns-clause-block c = number_is
 
 pub returns-clause-cipher : goal.returns-clause-cipher
-returns-clause-cipher c = cipher_is
+returns-clause-cipher c = cipher_by_key
 
 pub returns-clause-inverse : goal.returns-clause-inverse
 returns-clause-inverse c = inverse_of
