@@ -89,7 +89,7 @@ mapped a =
 unfoldable pub sub_bytes : ℕ → ℕ
 sub_bytes a = mapped (inverse a)
 
--- the rows of a block, whose columns are its words of 32 bits, whose first row is the highest byte: each row is turned left by one place more than the one above it, the first by none
+-- the rows of a block, whose columns are its words of 32 bits, the first row highest: each is turned left by one more than that above it
 unfoldable pub shift_rows : ℕ → ℕ
 shift_rows a =
     bit_or (bit_or (bit_or (bit_and a 0xff000000ff000000ff000000ff000000)
