@@ -74,6 +74,7 @@ def rows(file):
             cuts(file, session)
         unread(file, strict)
         three_pieces(file, strict)
+        injected(file, twice)
     other_line(file, Session(file, CLIENT, "strict", simple))
 
 

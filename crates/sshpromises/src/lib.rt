@@ -7,5 +7,5 @@ mod owned;
 mod sessions;
 mod worlds;
 
-pub use sessions::{hand_over, handed_by_world, joined_by_hand};
+pub use sessions::{hand_over, handed_by_world, into_links, joined_by_hand};
 pub use worlds::{any_two, foretold, same_ends, schedule_ends, settled, settles_from_anywhere};

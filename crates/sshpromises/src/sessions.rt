@@ -4,11 +4,12 @@ ghost use Rattle.std.specs.Prelude.{◌≡◌, ℕ, IfOk, List, OnOk, Some, take
 ghost use Rattle.sshcore.specs.declared.session.Session.{Session};
 ghost use Rattle.sshcore.specs.Ending.{AgreedData, Authenticated};
 ghost use Rattle.sshcore.specs.Endpoints.{Fed};
+ghost use Rattle.sshcore.specs.Linked.{AreLinked, incoming_of, outgoing_of};
 ghost use Rattle.sshworld.specs.Joined.{AreCrosswise};
 ghost use Rattle.sshpromises.specs.Claims.{AreJoinedSomehow, IsJoinedEnd};
 
 use crate::owned::{beside, both, once};
-use sshcore::{ClientConfig, Decisions, Endpoint, ServerConfig, Session};
+use sshcore::{ClientConfig, Decisions, Endpoint, Link, ServerConfig, Session, link_law};
 use sshpacket::{AgreeingSuite, Suite};
 use sshwire::Memory;
 use sshworld::{World, follows_law, session_law};
@@ -37,6 +38,22 @@ pub fn handed_by_world<S: AgreeingSuite, D: Decisions>(
     follows_law();
     world.complete();
     world.into_sessions()
+}
+
+/// The links of two sessions that match crosswise: what either of them seals, the other opens (`link_law`), whatever the
+/// seeds of their padding are.
+pub fn into_links(
+    alloc: Global,
+    client: Session,
+    server: Session,
+    seeds: ([u8; 32], [u8; 32]),
+) -> (Link, Link)
+    ensures { AreCrosswise client.entry server.entry → AreLinked (outgoing_of result.0) (incoming_of result.1) × AreLinked (outgoing_of result.1) (incoming_of result.0) }
+{
+    link_law();
+    let of_client = client.into_link(alloc, seeds.0);
+    let of_server = server.into_link(alloc, seeds.1);
+    (of_client, of_server)
 }
 
 /// Two endpoints that were made and fed by hand are joined.
