@@ -39,7 +39,7 @@ const KEX: &str = "curve25519-sha256,curve25519-sha256@libssh.org";
 /// The cipher where no word names others.
 const CIPHER: &str = "chacha20-poly1305@openssh.com";
 
-/// The ciphers of a side that is willing to be strict.
+/// The ciphers of a side that is willing to be strict: all that the suite has.
 const CIPHERS: &str = "chacha20-poly1305@openssh.com,aes256-gcm@openssh.com";
 
 /// MACs that peers list: the ciphers need none, but each side has to choose one.
@@ -119,7 +119,7 @@ fn settings_in<'a>(role: Role, found: &ArgMatches<'a>) -> Result<Settings<'a>, F
         tries: tries_of(found.get_str("tries"))?,
         strict: flag_of(found.get_str("strict"), true)?,
         guess: flag_of(found.get_str("guess"), false)?,
-        kex: found.get_str("kex").unwrap_or(KEX),
+        kex: known(found.get_str("kex").unwrap_or(KEX), KEX)?,
         cipher: ciphers_of(found)?,
         mac: found.get_str("mac").unwrap_or(MAC),
         exec: found.get_str("exec"),
@@ -139,10 +139,31 @@ fn user_of(role: Role, word: Option<&str>) -> Option<&str> {
 /// names it.
 fn ciphers_of<'a>(found: &ArgMatches<'a>) -> Result<&'a str, Fault> {
     match found.get_str("cipher") {
-        Some(names) => Ok(names),
+        Some(names) => known(names, CIPHERS),
         None if flag_of(found.get_str("strict"), true)? => Ok(CIPHERS),
         None => Ok(CIPHER),
     }
+}
+
+/// These names, where each of them is one that the suite has. It passes over methods that it doesn't know, and the peer
+/// would choose one, and it takes the name of another cipher for its first.
+fn known<'a>(names: &'a str, all: &str) -> Result<&'a str, Fault> {
+    for name in names.split(',') {
+        if !has(all, name) {
+            return Err(Fault::Words);
+        }
+    }
+    Ok(names)
+}
+
+/// Whether the name is one of these.
+fn has(all: &str, name: &str) -> bool {
+    for own in all.split(',') {
+        if own == name {
+            return true;
+        }
+    }
+    false
 }
 
 /// How many requests a server grants: six where no word says it.
