@@ -1,63 +1,73 @@
 //! The program `sshpair`: a client authenticates, in the place of a socket stands a server of the lab (`Peer`), and both
 //! go on behind SUCCESS. README and docs/USING.md show lines of it, word for word.
 //!
-//! The server's first message stands right behind SUCCESS, in one piece with it; then a message goes each way, by what
+//! The server's first message stands right behind SUCCESS, in one piece with it; then the client's goes the other way, by what
 //! both sides hand over. Each draws fresh bytes for its connection from the system's random source.
 #![tactic(auto)]
 
+mod fault;
 mod peer;
 
+use crate::fault::Fault;
 use crate::peer::Peer;
-use anyhow::bail;
-use sshcore::{
-    Agreed, Attempt, ClientConfig, Credential, Draws, End, Endpoint, Link, ServerConfig, Session,
-};
+use sshcore::{Attempt, ClientConfig, Credential, Draws, End, Endpoint, Link, ServerConfig};
 use sshpacket::PacketStep;
 use sshsuites::{LabDecisions, LabSuite, lab_client_parts};
 use std::alloc::Global;
 use std::io::Write;
+use std::process::ExitCode;
 use std::random::RandomSource;
 
 /// An endpoint of the lab.
 pub(crate) type LabEndpoint<'a> = Endpoint<'a, LabSuite, LabDecisions>;
 
-/// One side after SUCCESS.
-#[derive(Drop)]
-pub(crate) struct Side {
-    name: &'static str,
-    agreed: Agreed,
-    link: Link,
+fn main(rt: HostRuntime) -> ExitCode {
+    match run(&rt) {
+        Ok(()) => ExitCode::SUCCESS,
+        Err(fault) => {
+            let _ = writeln!(rt.stderr(), "{fault}");
+            ExitCode::FAILURE
+        }
+    }
 }
 
-fn main(rt: HostRuntime) -> anyhow::Result<()> {
+/// Makes both configs and the decisions, and lets both sides talk.
+fn run(rt: &HostRuntime) -> Result<(), Fault> {
     let alloc = rt.alloc();
     let config = client_config(alloc)?;
     let theirs = peer::server_config(alloc)?;
     let decisions = decisions(alloc)?;
-    connect(&rt, &config, &theirs, &decisions)
+    connect(rt, &config, &theirs, &decisions)
 }
 
 /// The client's config: the lab's algorithms, and one attempt, by `al`, who needs no proof.
-fn client_config(alloc: Global) -> anyhow::Result<Box<ClientConfig>> {
+fn client_config(alloc: Global) -> Result<Box<ClientConfig>, Fault> {
     let mut parts = Box::new(alloc, lab_client_parts(alloc)?)?;
-    parts.plan.push(Attempt {
-        user: String::from_str(alloc, "al")?,
-        service: String::from_str(alloc, "ssh-connection")?,
-        credential: Credential::None,
-    })?;
+    parts.plan.push(attempt(alloc)?)?;
     let config = ClientConfig::new(alloc, Box::into_inner(parts))?;
     Ok(Box::new(alloc, config)?)
 }
 
+/// The one attempt: a user, a service, and what is proved to the server.
+fn attempt(alloc: Global) -> Result<Attempt, Fault> {
+    let user = String::from_str(alloc, "al")?;
+    let service = String::from_str(alloc, "ssh-connection")?;
+    Ok(Attempt {
+        user,
+        service,
+        credential: Credential::None,
+    })
+}
+
 /// The decisions of both sides: `al` is let in without a proof, and the lab's host key is trusted.
-fn decisions(alloc: Global) -> anyhow::Result<LabDecisions> {
+fn decisions(alloc: Global) -> Result<LabDecisions, Fault> {
     let mut decisions = LabDecisions::new(alloc);
     decisions.allow("al", &Credential::None)?;
     Ok(decisions)
 }
 
 /// Fresh draws for one connection, from the system's random source.
-pub(crate) fn draw(rt: &HostRuntime) -> anyhow::Result<Draws> {
+pub(crate) fn draw(rt: &HostRuntime) -> Result<Draws, Fault> {
     Ok(Draws {
         cookie: random(rt)?,
         exchange_random: random(rt)?,
@@ -66,73 +76,95 @@ pub(crate) fn draw(rt: &HostRuntime) -> anyhow::Result<Draws> {
 }
 
 /// Random bytes.
-pub(crate) fn random<const N: usize>(rt: &HostRuntime) -> anyhow::Result<[u8; N]> {
+pub(crate) fn random<const N: usize>(rt: &HostRuntime) -> Result<[u8; N], Fault> {
     let mut bytes = [0; N];
     rt.fill_bytes(&mut bytes)?;
     Ok(bytes)
 }
 
-/// Both sides from their making to their sessions, and what they do with these.
+/// Makes the peer, and has a client talk to it.
 fn connect(
     rt: &HostRuntime,
     config: &ClientConfig,
     theirs: &ServerConfig,
     decisions: &LabDecisions,
-) -> anyhow::Result<()> {
+) -> Result<(), Fault> {
     let mut peer = Peer::new(rt, theirs, decisions)?;
-    let client = authenticate(rt, config, decisions, &mut peer);
-    let ((client, behind), server) = both(client, peer.into_side())?;
-    go_on(rt, client, server, &behind)
+    let done = log_in(rt, config, decisions, &mut peer);
+    drop(peer);
+    done
 }
 
-/// Both sides, where both are authenticated.
-fn both<C: Drop, S: Drop>(client: anyhow::Result<C>, server: Option<S>) -> anyhow::Result<(C, S)> {
-    match (client, server) {
-        (Ok(client), Some(server)) => Ok((client, server)),
-        (Ok(_), None) => bail!("the server isn't authenticated"),
-        (Err(error), _) => Err(error),
-    }
+/// Authenticates the client, and goes on by a link.
+fn log_in(
+    rt: &HostRuntime,
+    config: &ClientConfig,
+    decisions: &LabDecisions,
+    peer: &mut Peer<'_>,
+) -> Result<(), Fault> {
+    let mut behind = Vec::new(rt.alloc());
+    let mut link = authenticate(rt, config, decisions, peer, &mut behind)?;
+    let done = go_on(rt, &mut link, peer, &behind);
+    drop(link);
+    done
 }
 
-/// A client from its making to its session, with the bytes that came behind SUCCESS.
+/// A client from its making to the link of its session; the bytes that came behind SUCCESS are appended to `behind`.
 fn authenticate(
     rt: &HostRuntime,
     config: &ClientConfig,
     decisions: &LabDecisions,
     peer: &mut Peer<'_>,
-) -> anyhow::Result<(Session, Vec<u8>)> {
+    behind: &mut Vec<u8>,
+) -> Result<Link, Fault> {
     let alloc = rt.alloc();
-    let draws = draw(rt)?;
+    let (draws, seed) = (draw(rt)?, random(rt)?);
     let mut out = Vec::new(alloc);
     let client = Endpoint::client_with(alloc, config, draws, &LabSuite, decisions, &mut out)?;
-    hand_over(alloc, client, out, peer)
+    hand_over(rt, client, seed, &mut out, peer, behind)
 }
 
-/// What a client hands over that has said these bytes so far.
+/// The link of a client that has said these bytes so far.
 fn hand_over(
-    alloc: Global,
+    rt: &HostRuntime,
     client: LabEndpoint<'_>,
-    out: Vec<u8>,
+    seed: [u8; 32],
+    out: &mut Vec<u8>,
     peer: &mut Peer<'_>,
-) -> anyhow::Result<(Session, Vec<u8>)> {
-    let (mut client, mut behind) = (client, Vec::new(alloc));
-    talk(&mut client, out, peer, &mut behind)?;
-    match client.into_session() {
-        Some(session) => Ok((session, behind)),
-        None => bail!("not authenticated"), // `client.end()` told why: F1 to F16, or closed
+    behind: &mut Vec<u8>,
+) -> Result<Link, Fault> {
+    let mut client = client;
+    let talked = talk(rt, &mut client, out, peer, behind);
+    handed(talked, link_of(rt.alloc(), client, seed))
+}
+
+/// The link of an endpoint that has ended, if it is authenticated.
+pub(crate) fn link_of(alloc: Global, endpoint: LabEndpoint<'_>, seed: [u8; 32]) -> Option<Link> {
+    match endpoint.into_session() {
+        Some(session) => Some(session.into_link(alloc, seed)),
+        None => None, // `endpoint.end()` told why: F1 to F16, or closed
     }
 }
 
-/// Gives the client what comes until it has ended.
+/// What was handed over, where all went well up to there.
+fn handed<T: Drop>(talked: Result<(), Fault>, link: Option<T>) -> Result<T, Fault> {
+    talked?;
+    match link {
+        Some(link) => Ok(link),
+        None => Err(Fault::NotAuthenticated),
+    }
+}
+
+/// Gives the client what comes until it has ended, and says how it stands then.
 fn talk(
+    rt: &HostRuntime,
     client: &mut LabEndpoint<'_>,
-    out: Vec<u8>,
+    out: &mut Vec<u8>,
     peer: &mut Peer<'_>,
     behind: &mut Vec<u8>,
-) -> anyhow::Result<()> {
-    let mut out = out;
+) -> Result<(), Fault> {
     for _ in 0..u64::MAX {
-        peer.send(&mut out)?; // yours: sends these bytes, and empties `out`
+        peer.send(out)?; // yours: sends these bytes, and empties `out`
         if !matches!(client.end(), End::Open) {
             break;
         }
@@ -140,80 +172,47 @@ fn talk(
         if piece.is_empty() {
             client.end_of_input(); // it fails as F16
         }
-        let used = client.feed(&piece, &mut out)?;
+        let used = client.feed(piece, out)?;
         behind.extend_from_slice(&piece[used..])?; // the first bytes of what follows
     }
+    println!(rt; "client {}", client.end())?;
     Ok(())
 }
 
-/// Says what both sides agreed on, and lets them speak.
-fn go_on(rt: &HostRuntime, client: Session, server: Side, behind: &[u8]) -> anyhow::Result<()> {
-    let seed = random(rt);
-    let (mut client, mut server) = (Side::new(rt.alloc(), "client", client, seed?), server);
-    speak(rt, &mut client, &mut server, behind)
-}
-
-impl Side {
-    /// The side that goes on with this session.
-    pub(crate) fn new(alloc: Global, name: &'static str, session: Session, seed: [u8; 32]) -> Side {
-        let agreed = session.agreed; // with whom, for what and by which algorithms
-        let link = Link::new(alloc, session.incoming, session.outgoing, seed);
-        Side { name, agreed, link }
-    }
-
-    /// Appends the packet of a message.
-    pub(crate) fn seal(&mut self, message: &[u8], out: &mut Vec<u8>) -> anyhow::Result<()> {
-        self.link.seal(&LabSuite, message, out)?;
-        Ok(())
-    }
-}
-
-/// Says what both sides agreed on.
-fn tell(rt: &HostRuntime, client: &Side, server: &Side) -> anyhow::Result<()> {
-    tell_side(rt, client)?;
-    tell_side(rt, server)?;
-    let same = client.agreed.session == server.agreed.session;
-    println!(rt; "session identifiers equal {same}")?;
-    Ok(())
-}
-
-/// Says whom a side authenticated, and for which service.
-fn tell_side(rt: &HostRuntime, side: &Side) -> anyhow::Result<()> {
-    let (name, user, service) = (side.name, &side.agreed.user, &side.agreed.service);
-    println!(rt; "{name} authenticated {user} {service}")?;
-    Ok(())
-}
-
-/// Says what both sides agreed on, what the client reads after SUCCESS, and then carries a message each way.
-fn speak(
+/// Reads what the server has sent behind SUCCESS, and answers.
+fn go_on(
     rt: &HostRuntime,
-    client: &mut Side,
-    server: &mut Side,
+    link: &mut Link,
+    peer: &mut Peer<'_>,
     behind: &[u8],
-) -> anyhow::Result<()> {
-    tell(rt, client, server)?;
-    read(rt, client, behind)?;
-    carry(rt, b"hello, server", client, server)?;
-    carry(rt, b"hello again", server, client)
+) -> Result<(), Fault> {
+    read(rt, "client", link, behind)?;
+    let mut packet = Vec::new(rt.alloc());
+    seal(link, b"hello, server", &mut packet)?;
+    peer.read(rt, &packet)
 }
 
-/// Carries a message from one side to the other.
-fn carry(rt: &HostRuntime, message: &[u8], from: &mut Side, to: &mut Side) -> anyhow::Result<()> {
-    let mut packet = Vec::new(rt.alloc());
-    from.seal(message, &mut packet)?;
-    read(rt, to, &packet)
+/// Appends the packet of a message.
+pub(crate) fn seal(link: &mut Link, message: &[u8], out: &mut Vec<u8>) -> Result<(), Fault> {
+    link.seal(&LabSuite, message, out)?;
+    Ok(())
 }
 
 /// Says what a side reads in a piece that is one packet.
-fn read(rt: &HostRuntime, side: &mut Side, piece: &[u8]) -> anyhow::Result<()> {
-    match side.link.next(&LabSuite, piece)? {
-        PacketStep::Payload { payload, .. } => show(rt, side.name, payload),
-        PacketStep::More => bail!("the rest of the packet is still to come"),
+pub(crate) fn read(
+    rt: &HostRuntime,
+    side: &str,
+    link: &mut Link,
+    piece: &[u8],
+) -> Result<(), Fault> {
+    match link.next(&LabSuite, piece)? {
+        PacketStep::Payload { payload, .. } => show(rt, side, payload),
+        PacketStep::More => Err(Fault::Unfinished),
     }
 }
 
 /// Says what a side read.
-fn show(rt: &HostRuntime, side: &str, payload: &[u8]) -> anyhow::Result<()> {
+fn show(rt: &HostRuntime, side: &str, payload: &[u8]) -> Result<(), Fault> {
     print!(rt; "{side} read ")?;
     rt.stdout().write_all(payload)?;
     println!(rt)?;

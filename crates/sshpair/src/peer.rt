@@ -1,7 +1,8 @@
 //! The other side of the client, in the place of a socket: a server of the lab.
 
-use crate::{LabEndpoint, Side, draw, random};
-use sshcore::{End, Endpoint, ServerConfig};
+use crate::fault::Fault;
+use crate::{LabEndpoint, draw, link_of, random, read, seal};
+use sshcore::{End, Endpoint, Link, ServerConfig};
 use sshsuites::{LabDecisions, LabSuite, lab_server_parts};
 use std::alloc::Global;
 use std::mem;
@@ -16,10 +17,12 @@ pub(crate) struct Peer<'a> {
     /// The server up to its end.
     server: Option<LabEndpoint<'a>>,
     /// What it goes on with once it has authenticated the user.
-    side: Option<Side>,
+    link: Option<Link>,
     /// What the padding of that is made of.
     seed: [u8; 32],
     waiting: Vec<u8>,
+    /// What was received last.
+    received: Vec<u8>,
 }
 
 impl<'a> Peer<'a> {
@@ -28,7 +31,7 @@ impl<'a> Peer<'a> {
         rt: &HostRuntime,
         config: &'a ServerConfig,
         decisions: &'a LabDecisions,
-    ) -> anyhow::Result<Peer<'a>> {
+    ) -> Result<Peer<'a>, Fault> {
         let alloc = rt.alloc();
         let (draws, seed) = (draw(rt)?, random(rt)?);
         let mut waiting = Vec::new(alloc);
@@ -43,83 +46,72 @@ impl<'a> Peer<'a> {
         Ok(Peer {
             alloc,
             server: Some(server),
-            side: None,
+            link: None,
             seed,
             waiting,
+            received: Vec::new(alloc),
         })
     }
 
     /// Sends bytes to the server, and empties `out`. Where the server ends by them as authenticated, its first message
     /// stands right behind SUCCESS.
-    pub(crate) fn send(&mut self, out: &mut Vec<u8>) -> anyhow::Result<()> {
-        let ends = hear(&mut self.server, out, &mut self.waiting)?;
+    pub(crate) fn send(&mut self, out: &mut Vec<u8>) -> Result<(), Fault> {
+        let ended = feed(&mut self.server, out, &mut self.waiting)?;
         out.clear();
-        if ends {
-            self.begin_session()?;
+        match ended {
+            Some(server) => self.begin(server),
+            None => Ok(()),
         }
-        Ok(())
     }
 
-    /// What the server has said since the last call.
-    pub(crate) fn receive(&mut self) -> anyhow::Result<Vec<u8>> {
-        Ok(mem::replace(&mut self.waiting, Vec::new(self.alloc)))
+    /// What the server has said since the last call, lent until the next one.
+    pub(crate) fn receive(&mut self) -> Result<&[u8], Fault> {
+        mem::swap(&mut self.waiting, &mut self.received);
+        self.waiting.clear();
+        Ok(&self.received)
     }
 
-    /// What the server goes on with, if it has authenticated the user.
-    pub(crate) fn into_side(self) -> Option<Side> {
-        self.side
+    /// Says what the server reads in a piece that is one packet, if it has authenticated the user.
+    pub(crate) fn read(&mut self, rt: &HostRuntime, piece: &[u8]) -> Result<(), Fault> {
+        match &mut self.link {
+            Some(link) => read(rt, "server", link, piece),
+            None => Ok(()),
+        }
     }
 
     /// Takes the session of a server that has ended, and says its first message.
-    fn begin_session(&mut self) -> anyhow::Result<()> {
-        self.side = take_side(self.alloc, &mut self.server, self.seed);
-        match &mut self.side {
-            Some(side) => side.seal(GREETING, &mut self.waiting),
+    fn begin(&mut self, server: LabEndpoint<'a>) -> Result<(), Fault> {
+        set(&mut self.link, link_of(self.alloc, server, self.seed));
+        match &mut self.link {
+            Some(link) => seal(link, GREETING, &mut self.waiting),
             None => Ok(()),
         }
     }
 }
 
 /// The server's config: the lab's.
-pub(crate) fn server_config(alloc: Global) -> anyhow::Result<Box<ServerConfig>> {
+pub(crate) fn server_config(alloc: Global) -> Result<Box<ServerConfig>, Fault> {
     let config = ServerConfig::new(alloc, lab_server_parts(alloc)?)?;
     Ok(Box::new(alloc, config)?)
 }
 
-/// Gives a server bytes; answers whether it ends by them. (What it doesn't use would be the first bytes of its session;
-/// this client sends none ahead.)
-fn hear(
-    server: &mut Option<LabEndpoint<'_>>,
+/// Gives a server bytes, and answers it if it has ended by them. (What it doesn't use would be the first bytes of its
+/// session; this client sends none ahead.)
+fn feed<'a>(
+    server: &mut Option<LabEndpoint<'a>>,
     bytes: &[u8],
     waiting: &mut Vec<u8>,
-) -> anyhow::Result<bool> {
-    match server {
-        Some(server) => {
-            feed(server, bytes, waiting)?;
-            Ok(!matches!(server.end(), End::Open))
+) -> Result<Option<LabEndpoint<'a>>, Fault> {
+    if let Some(server) = server {
+        server.feed(bytes, waiting)?;
+        if matches!(server.end(), End::Open) {
+            return Ok(None);
         }
-        None => Ok(false),
     }
+    Ok(server.take())
 }
 
-/// Gives a server bytes.
-fn feed(server: &mut LabEndpoint<'_>, bytes: &[u8], waiting: &mut Vec<u8>) -> anyhow::Result<()> {
-    server.feed(bytes, waiting)?;
-    Ok(())
-}
-
-/// What a server that has ended goes on with; the server is gone then.
-fn take_side(alloc: Global, server: &mut Option<LabEndpoint<'_>>, seed: [u8; 32]) -> Option<Side> {
-    match server.take() {
-        Some(server) => side_of(alloc, server, seed),
-        None => None,
-    }
-}
-
-/// What a server that has ended goes on with.
-fn side_of(alloc: Global, server: LabEndpoint<'_>, seed: [u8; 32]) -> Option<Side> {
-    match server.into_session() {
-        Some(session) => Some(Side::new(alloc, "server", session, seed)),
-        None => None,
-    }
+/// Puts a value into its place.
+fn set<T: Drop>(place: &mut T, value: T) {
+    *place = value;
 }
