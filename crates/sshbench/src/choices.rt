@@ -79,7 +79,10 @@ impl<'a> Offers<'a> {
 /// Chooses once, and judges the choice.
 pub(crate) fn check(alloc: Global) -> Result<(), Fault> {
     let payloads = Payloads::new(alloc)?;
-    Offers::new(alloc, &payloads)?.choose()
+    let offers = Offers::new(alloc, &payloads)?;
+    let chosen = offers.choose();
+    drop(offers);
+    chosen
 }
 
 /// How many pairs of methods are equal.

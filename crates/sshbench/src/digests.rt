@@ -28,14 +28,19 @@ pub(crate) fn digest(stream: &Stream) -> u8 {
 fn mask(seq: u32, clear: &[u8]) -> u8 {
     let mut sum = 0;
     for (index, _) in (0..u32::MAX).zip(clear.chunks(HASH_LEN)) {
-        let mut hasher = Sha256::new();
-        hasher.update(ENCRYPTION_KEY);
-        hasher.update(IV);
-        hasher.update(seq.to_be_bytes());
-        hasher.update(index.to_be_bytes());
-        sum ^= hasher.finalize()[0];
+        sum ^= block(seq, index);
     }
     sum
+}
+
+/// One digest of the key stream.
+fn block(seq: u32, index: u32) -> u8 {
+    let mut hasher = Sha256::new();
+    hasher.update(ENCRYPTION_KEY);
+    hasher.update(IV);
+    hasher.update(seq.to_be_bytes());
+    hasher.update(index.to_be_bytes());
+    hasher.finalize()[0]
 }
 
 /// The digest of a tag, over as many bytes as the clear packet has.

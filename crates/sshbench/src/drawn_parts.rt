@@ -6,7 +6,8 @@ use crate::drawn::{below, byte, flag};
 use crate::fault::Fault;
 use rand_xoshiro::SplitMix64;
 use sshcore::{
-    Attempt, ClientConfig, Credential, Decisions, Proof, ServerConfig, ServerParts, SideParts,
+    Attempt, ClientConfig, ClientParts, Credential, Decisions, Proof, ServerConfig, ServerParts,
+    SideParts,
 };
 use sshsuites::{lab_client_parts, lab_server_parts};
 use std::alloc::Global;
@@ -47,9 +48,7 @@ impl Decisions for Whims {
 /// A client's config whose lists, flags and up to five attempts are drawn.
 pub(crate) fn client_of(alloc: Global, rng: &mut SplitMix64) -> Result<Box<ClientConfig>, Fault> {
     let mut parts = Box::new(alloc, lab_client_parts(alloc)?)?;
-    draw_side(alloc, rng, &mut parts.side)?;
-    parts.guess = flag(rng);
-    draw_plan(alloc, rng, &mut parts.plan)?;
+    draw_client(alloc, rng, &mut parts)?;
     let config = ClientConfig::new(alloc, Box::into_inner(parts))?;
     Ok(Box::new(alloc, config)?)
 }
@@ -57,10 +56,16 @@ pub(crate) fn client_of(alloc: Global, rng: &mut SplitMix64) -> Result<Box<Clien
 /// A server's config whose lists, flags, methods, tries and banner are drawn.
 pub(crate) fn server_of(alloc: Global, rng: &mut SplitMix64) -> Result<Box<ServerConfig>, Fault> {
     let mut parts = Box::new(alloc, lab_server_parts(alloc)?)?;
-    draw_side(alloc, rng, &mut parts.side)?;
     draw_server(alloc, rng, &mut parts)?;
     let config = ServerConfig::new(alloc, Box::into_inner(parts))?;
     Ok(Box::new(alloc, config)?)
+}
+
+/// Draws a client's parts.
+fn draw_client(alloc: Global, rng: &mut SplitMix64, parts: &mut ClientParts) -> Result<(), Fault> {
+    draw_side(alloc, rng, &mut parts.side)?;
+    parts.guess = flag(rng);
+    draw_plan(alloc, rng, &mut parts.plan)
 }
 
 /// Draws what both sides have.
@@ -150,8 +155,9 @@ fn credential_of(alloc: Global, rng: &mut SplitMix64) -> Result<Credential, Faul
     }
 }
 
-/// Draws what a server alone has.
+/// Draws a server's parts.
 fn draw_server(alloc: Global, rng: &mut SplitMix64, parts: &mut ServerParts) -> Result<(), Fault> {
+    draw_side(alloc, rng, &mut parts.side)?;
     draw_methods(alloc, rng, parts)?;
     parts.tries = below(rng, 20).saturating_add(1);
     if flag(rng) {

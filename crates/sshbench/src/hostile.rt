@@ -56,29 +56,46 @@ pub(crate) fn streams(alloc: Global, rng: &mut SplitMix64, count: u32) -> Result
     let mut unheard = 0u32;
     for _ in 0..count {
         let authenticated = if flag(rng) {
-            let endpoint = server_in(alloc, &lab, &mut Vec::new(alloc))?;
-            hear(alloc, rng, endpoint, &said.client)?
+            at_server(alloc, rng, &lab, &said.client)?
         } else {
-            let endpoint = client_in(alloc, &lab, &mut Vec::new(alloc))?;
-            hear(alloc, rng, endpoint, &said.server)?
+            at_client(alloc, rng, &lab, &said.server)?
         };
         unheard = unheard.saturating_add(u32::from(authenticated));
     }
     Ok(unheard)
 }
 
+/// Has a fresh server hear the stream with one change.
+fn at_server(alloc: Global, rng: &mut SplitMix64, lab: &Lab, stream: &[u8]) -> Result<bool, Fault> {
+    let mut endpoint = server_in(alloc, lab, &mut Vec::new(alloc))?;
+    let heard = hear(alloc, rng, &mut endpoint, stream);
+    drop(endpoint);
+    heard
+}
+
+/// The same of a client.
+fn at_client(alloc: Global, rng: &mut SplitMix64, lab: &Lab, stream: &[u8]) -> Result<bool, Fault> {
+    let mut endpoint = client_in(alloc, lab, &mut Vec::new(alloc))?;
+    let heard = hear(alloc, rng, &mut endpoint, stream);
+    drop(endpoint);
+    heard
+}
+
 /// Has the endpoint hear the stream with one change, and answers whether it was authenticated: only where that means nothing.
 fn hear(
     alloc: Global,
     rng: &mut SplitMix64,
-    endpoint: Box<LabEndpoint<'_>>,
+    endpoint: &mut LabEndpoint<'_>,
     stream: &[u8],
 ) -> Result<bool, Fault> {
     let place = place_below(rng, stream.len().saturating_sub(1)).saturating_add(1);
     let change = Change::drawn(rng);
     let changed = changed_by(alloc, rng, stream, place, change)?;
-    let is_authenticated = ends_authenticated(alloc, rng, endpoint, &changed)?;
-    holds(!is_authenticated || means_nothing(stream, &changed, place, change))?;
+    let ended = ends_authenticated(alloc, rng, endpoint, &changed);
+    let nothing = means_nothing(stream, &changed, place, change);
+    drop(changed);
+    let is_authenticated = ended?;
+    holds(!is_authenticated || nothing)?;
     Ok(is_authenticated)
 }
 
@@ -150,10 +167,9 @@ fn put_random(rng: &mut SplitMix64, out: &mut Vec<u8>, count: usize) -> Result<(
 fn ends_authenticated(
     alloc: Global,
     rng: &mut SplitMix64,
-    endpoint: Box<LabEndpoint<'_>>,
+    endpoint: &mut LabEndpoint<'_>,
     stream: &[u8],
 ) -> Result<bool, Fault> {
-    let mut endpoint = endpoint;
     let mut out = Vec::new(alloc);
     for piece in stream.chunks(place_below(rng, 100).max(1)) {
         endpoint.feed(piece, &mut out)?;

@@ -1,6 +1,6 @@
 //! A KEXINIT of 1 KiB, read and written.
 
-use crate::fault::Fault;
+use crate::fault::{Fault, holds};
 use sshmsg::{Message, read, write};
 use sshwire::{put_boolean, put_string, put_u32};
 use std::alloc::Global;
@@ -53,7 +53,9 @@ pub(crate) fn read_and_write(
     out: &mut Vec<u8>,
 ) -> Result<(), Fault> {
     let message = read(alloc, payload)?;
-    write_over(&message, out)
+    let written = write_over(&message, out);
+    drop(message);
+    written
 }
 
 /// Writes a message behind nothing.
@@ -76,9 +78,5 @@ pub(crate) fn copy(payload: &[u8], out: &mut Vec<u8>) -> Result<(), Fault> {
 pub(crate) fn check(alloc: Global, payload: &[u8]) -> Result<(), Fault> {
     let mut out = Vec::new(alloc);
     read_and_write(alloc, payload, &mut out)?;
-    if payload.len() == 1024 && out.as_slice() == payload {
-        Ok(())
-    } else {
-        Err(Fault::Otherwise)
-    }
+    holds(payload.len() == 1024 && out.as_slice() == payload)
 }

@@ -1,6 +1,6 @@
 //! Messages without lists, which are read without memory.
 
-use crate::fault::Fault;
+use crate::fault::{Fault, holds};
 use sshmsg::{Message, Method, read};
 use sshwire::put_string;
 use std::alloc::Global;
@@ -32,30 +32,43 @@ impl fmt::Display for Kind {
 
 /// The payload of such a message, whose long field has so many bytes.
 pub(crate) fn payload(alloc: Global, kind: Kind, len: usize) -> Result<Vec<u8>, Fault> {
+    let long = long_of(alloc, len)?;
+    let mut payload = Vec::new(alloc);
+    let put = put_message(&mut payload, kind, &long);
+    drop(long);
+    put?;
+    Ok(payload)
+}
+
+/// So many bytes.
+fn long_of(alloc: Global, len: usize) -> Result<Vec<u8>, Fault> {
     let mut long = Vec::new(alloc);
     for _ in 0..len {
         long.extend_from_slice(b"x")?;
     }
-    let mut payload = Vec::new(alloc);
+    Ok(long)
+}
+
+/// Appends such a message with this long field.
+fn put_message(payload: &mut Vec<u8>, kind: Kind, long: &[u8]) -> Result<(), Fault> {
     match kind {
         Kind::Ignore => {
             payload.extend_from_slice(&[2])?;
-            put_long(&mut payload, &long)?;
+            put_long(payload, long)
         }
-        Kind::KexdhReply => put_reply(&mut payload, &long)?,
+        Kind::KexdhReply => put_reply(payload, long),
         Kind::Password => {
             payload.extend_from_slice(
                 b"\x32\x00\x00\x00\x05alice\x00\x00\x00\x0essh-connection\x00\x00\x00\x08password\x00",
             )?;
-            put_long(&mut payload, &long)?;
+            put_long(payload, long)
         }
         Kind::Banner => {
             payload.extend_from_slice(&[53])?;
-            put_long(&mut payload, &long)?;
-            put_long(&mut payload, b"en")?;
+            put_long(payload, long)?;
+            put_long(payload, b"en")
         }
     }
-    Ok(payload)
 }
 
 /// Appends a string, which is a field of a message and so short.
@@ -77,7 +90,15 @@ fn put_reply(payload: &mut Vec<u8>, host_key: &[u8]) -> Result<(), Fault> {
 
 /// Reads the payload, whose long field has to have so many bytes.
 pub(crate) fn read_only(alloc: Global, payload: &[u8], len: usize) -> Result<(), Fault> {
-    let found = match read(alloc, payload)? {
+    let message = read(alloc, payload)?;
+    let found = long_in(&message);
+    drop(message);
+    holds(found == len)
+}
+
+/// How many bytes the long field of a message has.
+fn long_in(message: &Message<'_>) -> usize {
+    match message {
         Message::Ignore { content } => content.len(),
         Message::KexdhReply { host_key, .. } => host_key.len(),
         Message::UserauthRequest {
@@ -86,22 +107,13 @@ pub(crate) fn read_only(alloc: Global, payload: &[u8], len: usize) -> Result<(),
         } => password.len(),
         Message::UserauthBanner { text, .. } => text.len(),
         _ => 0,
-    };
-    if found == len {
-        Ok(())
-    } else {
-        Err(Fault::Otherwise)
     }
 }
 
 /// Makes an owned copy of the payload.
 pub(crate) fn own(alloc: Global, payload: &[u8]) -> Result<(), Fault> {
     let copy = payload.to_vec(alloc)?;
-    if copy.len() == payload.len() {
-        Ok(())
-    } else {
-        Err(Fault::Otherwise)
-    }
+    holds(copy.len() == payload.len())
 }
 
 /// Whether a message of each kind is read.

@@ -200,6 +200,13 @@ pub(crate) fn check(alloc: Global) -> Result<(), Fault> {
 /// Reads a stream in pieces of each length.
 fn check_load(alloc: Global, load: Load) -> Result<(), Fault> {
     let stream = Stream::new(alloc, load, load.count(CHECK_LEN))?;
+    let read = read_each(alloc, &stream);
+    drop(stream);
+    read
+}
+
+/// Reads it in pieces of each length.
+fn read_each(alloc: Global, stream: &Stream) -> Result<(), Fault> {
     for piece_len in PIECE_LENS {
         stream.read(alloc, piece_len)?;
     }

@@ -68,7 +68,9 @@ fn session(alloc: Global, rng: &mut SplitMix64) -> Result<bool, Fault> {
     let client = client_of(alloc, rng)?;
     let server = server_of(alloc, rng)?;
     let whims = Whims::drawn(rng);
-    run(alloc, rng, &client, &server, &whims)
+    let ended = run(alloc, rng, &client, &server, &whims);
+    drop((client, server));
+    ended
 }
 
 /// A world of the lab, by decisions that are drawn.
@@ -83,19 +85,24 @@ fn run(
     whims: &Whims,
 ) -> Result<bool, Fault> {
     let wanted = predict(alloc, client, server, &LabSuite, whims)?;
-    let mut world = world_of(alloc, client, server, whims)?;
-    ends_so(rng, &mut world, &wanted)
+    let ended = run_to(alloc, rng, client, server, whims, &wanted);
+    drop(wanted);
+    ended
 }
 
-/// The world of both configs.
-fn world_of<'a>(
+/// Runs one world, whose ends have to be these.
+fn run_to(
     alloc: Global,
-    client: &'a ClientConfig,
-    server: &'a ServerConfig,
-    whims: &'a Whims,
-) -> Result<Box<DrawnWorld<'a>>, Fault> {
-    let world = World::new(alloc, client, server, &LabSuite, whims)?;
-    Ok(Box::new(alloc, world)?)
+    rng: &mut SplitMix64,
+    client: &ClientConfig,
+    server: &ServerConfig,
+    whims: &Whims,
+    wanted: &(End, End),
+) -> Result<bool, Fault> {
+    let mut world = World::new(alloc, client, server, &LabSuite, whims)?;
+    let ended = ends_so(rng, &mut world, wanted);
+    drop(world);
+    ended
 }
 
 /// Delivers all that is said, by which the world has to end so. Answers whether the user was authenticated.

@@ -77,7 +77,10 @@ fn print_message(rt: &HostRuntime, kind: Kind, len: usize) -> Result<(), Fault> 
 /// Times choices beside comparisons of the names of eight lists.
 fn print_choices(rt: &HostRuntime) -> Result<(), Fault> {
     let payloads = Payloads::new(rt.alloc())?;
-    print_offers(rt, &Offers::new(rt.alloc(), &payloads)?)
+    let offers = Offers::new(rt.alloc(), &payloads)?;
+    let printed = print_offers(rt, &offers);
+    drop(offers);
+    printed
 }
 
 /// The same of these offers.

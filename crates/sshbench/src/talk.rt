@@ -224,7 +224,21 @@ pub(crate) fn talk(alloc: Global, lab: &Lab, piece_len: usize) -> Result<Said, F
 /// Talks whole and by single bytes, which has to be the same.
 pub(crate) fn check(alloc: Global, reach: Reach) -> Result<(), Fault> {
     let lab = Lab::new(alloc, reach)?;
-    let whole = talk(alloc, &lab, WHOLE)?;
-    let bytes = talk(alloc, &lab, 1)?;
+    let checked = check_in(alloc, &lab);
+    drop(lab);
+    checked
+}
+
+/// The same of endpoints that are made of this.
+fn check_in(alloc: Global, lab: &Lab) -> Result<(), Fault> {
+    let whole = talk(alloc, lab, WHOLE)?;
+    let same = is_said(alloc, lab, &whole);
+    drop(whole);
+    same
+}
+
+/// Whether this is said by single bytes.
+fn is_said(alloc: Global, lab: &Lab, whole: &Said) -> Result<(), Fault> {
+    let bytes = talk(alloc, lab, 1)?;
     holds(whole.client == bytes.client && whole.server == bytes.server)
 }
