@@ -23,7 +23,7 @@ use std::random::RandomSource;
 
 type Client<'a> = Endpoint<'a, DeployedSuite, HostKeys>;
 
-/// The hash of the host key that is trusted, and of the one that came.
+/// The hash of the host key that is trusted, and of the one that came, before its signature was verified.
 #[derive(Drop)]
 struct HostKeys {
     trusted: Vec<u8>,

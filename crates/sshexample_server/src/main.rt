@@ -100,15 +100,14 @@ fn turn(rt: &HostRuntime, connection: &mut Connection<'_>) -> anyhow::Result<boo
     if !matches!(connection.server.end(), End::Open) {
         return Ok(false);
     }
-    let count = connection.socket.len().min(200); // digits: what has come, in any piece
-    let (digits, rest) = connection.socket.split_at(count);
-    let piece = hex::decode(rt.alloc(), digits)?;
+    let (digits, rest) = connection.socket.split_at(connection.socket.len().min(200));
+    connection.socket = rest;
+    let piece = hex::decode(rt.alloc(), digits)?; // yours: what came; no byte where the client has gone
     if piece.is_empty() {
-        connection.server.end_of_input();
+        connection.server.end_of_input(); // it fails as F16
     }
     let _ = connection.server.feed(&piece, &mut connection.out); // want of memory is its end, F15
-    connection.out.clear(); // a real program writes it to the socket before
-    connection.socket = rest;
+    connection.out.clear(); // yours: sends these bytes first
     let (end, name) = (connection.server.end(), connection.name);
     let is_open = matches!(end, End::Open);
     if !is_open {
