@@ -1,0 +1,146 @@
+//! The program `sshexample_client`: it authenticates by a password over standard input and output, and tells on standard
+//! error which host key it met.
+//!
+//!     exec 3<>/dev/tcp/localhost/22    # of bash: a socket
+//!     SSH_PASSWORD=secret sshexample_client al SHA256:HASH <&3 >&3    # the hash of a host key: ssh-keygen -lf
+//!
+//! A real program finds the host's key by the host's name, asks somebody where it has none, asks for the password where
+//! nobody sees it, limits how long the server may take, and goes on with the session.
+#![tactic(auto)]
+
+use anyhow::{Context, bail};
+use base64::engine::general_purpose::STANDARD_NO_PAD;
+use sha2::{Digest, Sha256};
+use sshcore::{
+    Attempt, ClientConfig, ClientParts, Credential, Decisions, End, Endpoint, Proof, SideParts,
+};
+use sshsuite::DeployedSuite;
+use std::alloc::Global;
+use std::cell::Cell;
+use std::env;
+use std::io::{Read, Write};
+use std::random::RandomSource;
+
+type Client<'a> = Endpoint<'a, DeployedSuite, HostKeys>;
+
+/// The hash of the host key that is trusted, and of the one that came, before its signature was verified.
+#[derive(Drop)]
+struct HostKeys {
+    trusted: Vec<u8>,
+    met: Cell<Option<[u8; 32]>>,
+}
+
+impl Decisions for HostKeys {
+    ghost use Rattle.std.specs.Prelude.{false};
+    ghost use Rattle.std.specs.Str.{bytes_eq};
+    ghost use Rattle.sha2.specs.Sha256.{sha256};
+
+    ghost policy = { λ keys. record {
+      host_key = λ algorithm blob. bytes_eq keys.trusted.items (sha256 blob);
+      user = λ number user service proof. false;
+    } };
+
+    fn host_key(&self, _algorithm: &str, blob: &[u8]) -> bool {
+        let hash = Sha256::digest(blob);
+        self.met.set(Some(hash));
+        self.trusted.as_slice() == hash.as_slice()
+    }
+
+    fn user(&self, _request_number: u32, _user: &str, _service: &str, _proof: &Proof<'_>) -> bool {
+        false // a server asks this
+    }
+}
+
+fn main(rt: HostRuntime) -> anyhow::Result<()> {
+    let (user, hash) = (word(&rt, 1)?, word(&rt, 2)?);
+    let password = env::var(&rt, "SSH_PASSWORD").context("SSH_PASSWORD")?;
+    let digits = hash.strip_prefix("SHA256:").context("no SHA256:HASH")?;
+    let trusted = STANDARD_NO_PAD.decode(rt.alloc(), digits.as_bytes())?;
+    let met = Cell::new(None);
+    let parts = Box::new(rt.alloc(), parts_of(&rt, &user, &password)?)?;
+    let config = ClientConfig::new(rt.alloc(), Box::into_inner(parts))?;
+    authenticate(&rt, &config, &HostKeys { trusted, met })
+}
+
+fn word(rt: &HostRuntime, place: usize) -> anyhow::Result<String> {
+    env::args(rt)?.nth(place).context("words: USER SHA256:HASH")
+}
+
+/// One attempt, over algorithms that OpenSSH and dropbear have. What is drawn here serves one connection; for more there
+/// is `Endpoint::client_with`.
+fn parts_of(rt: &HostRuntime, user: &str, password: &str) -> anyhow::Result<ClientParts> {
+    let alloc = rt.alloc();
+    let mut plan = Vec::new(alloc);
+    plan.push(Attempt {
+        user: String::from_str(alloc, user)?,
+        service: String::from_str(alloc, "ssh-connection")?,
+        credential: Credential::Password(Vec::from_slice(alloc, password.as_bytes())?),
+    })?;
+    Ok(ClientParts {
+        side: SideParts {
+            softwareversion: String::from_str(alloc, "example")?,
+            comments: None,
+            kex_algorithms: list(alloc, "curve25519-sha256")?,
+            encryption_client_to_server: list(alloc, "chacha20-poly1305@openssh.com")?,
+            encryption_server_to_client: list(alloc, "chacha20-poly1305@openssh.com")?,
+            mac_client_to_server: list(alloc, "hmac-sha2-256")?,
+            mac_server_to_client: list(alloc, "hmac-sha2-256")?,
+            strict: true,
+            cookie: random(rt, 16)?,
+            exchange_random: random(rt, 32)?,
+            padding_seed: random(rt, 32)?,
+        },
+        server_host_key_algorithms: list(alloc, "ssh-ed25519")?,
+        guess: false,
+        plan,
+    })
+}
+
+fn list(alloc: Global, name: &str) -> anyhow::Result<Vec<String>> {
+    Ok(Vec::from_array(alloc, [String::from_str(alloc, name)?])?)
+}
+
+fn random(rt: &HostRuntime, count: usize) -> anyhow::Result<Vec<u8>> {
+    let mut bytes = vec![in rt.alloc(); 0; count]?;
+    rt.fill_bytes(&mut bytes)?;
+    Ok(bytes)
+}
+
+fn authenticate(rt: &HostRuntime, config: &ClientConfig, keys: &HostKeys) -> anyhow::Result<()> {
+    let mut out = Vec::new(rt.alloc());
+    let mut client = Endpoint::client(rt.alloc(), config, &DeployedSuite, keys, &mut out)?;
+    let talked = talk(rt, &mut client, &mut out);
+    talked.and(tell(rt, client.end(), keys))
+}
+
+/// Gives the client what comes until it has ended.
+fn talk(rt: &HostRuntime, client: &mut Client<'_>, out: &mut Vec<u8>) -> anyhow::Result<()> {
+    let mut chunk = [0; 16384];
+    for _ in 0..u64::MAX {
+        let sent = rt.stdout().write_all(out).and(rt.stdout().flush());
+        out.clear();
+        if !matches!(client.end(), End::Open) {
+            break; // a server that has gone hears no farewell
+        }
+        sent?;
+        let count = rt.stdin().read(&mut chunk)?;
+        if count == 0 {
+            client.end_of_input();
+        }
+        client.feed(chunk.get(..count).unwrap_or(&[]), out)?; // what it doesn't use is the session's
+    }
+    Ok(())
+}
+
+/// Tells which host key came, and how the client has ended.
+fn tell(rt: &HostRuntime, end: &End, keys: &HostKeys) -> anyhow::Result<()> {
+    if let Some(hash) = keys.met.get() {
+        let digits = STANDARD_NO_PAD.encode(rt.alloc(), &hash)?;
+        eprintln!(rt; "host key SHA256:{digits}")?;
+    }
+    match end {
+        End::Authenticated(agreed) => eprintln!(rt; "authenticated {}", agreed.user)?,
+        end => bail!("{end}"),
+    }
+    Ok(())
+}
