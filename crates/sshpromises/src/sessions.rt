@@ -48,7 +48,7 @@ pub fn into_links(
     server: Session,
     seeds: ([u8; 32], [u8; 32]),
 ) -> (Link, Link)
-    ensures { AreCrosswise client.entry server.entry → AreLinked (outgoing_of result.0) (incoming_of result.1) × AreLinked (outgoing_of result.1) (incoming_of result.0) }
+    ensures { AreCrosswise client server → AreLinked (outgoing_of result.0) (incoming_of result.1) × AreLinked (outgoing_of result.1) (incoming_of result.0) }
 {
     link_law();
     let of_client = client.into_link(alloc, seeds.0);
