@@ -29,6 +29,9 @@ ROWS = {
     'auth': [(f'{side}, {course}', ENDPOINT) for side in ('client', 'server')
              for course in ('simplest', 'an odd service', 'asked', 'both')]
             + [(f'predicted, {course}', {NO_VALUE}) for course in ('simplest', 'both')],
+    'disconnecting': [(f'a {side} {place}', ENDPOINT) for side in ('client', 'server')
+                      for place in ('at its making, strict', 'in authentication, packet by packet')],
+    'notices': [(f'a {side} behind the version line, strict: {kind}', ENDPOINT) for side in ('client', 'server') for kind in ('DISCONNECT', 'DEBUG 1')],
     'worlds': [('course 8', WORLD), ('course 12', MOVES), ('course 15', WORLD), ('guessed, rounds 9', WORLD)],
 }
 

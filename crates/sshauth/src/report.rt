@@ -16,6 +16,7 @@ impl fmt::Display for Ended<'_> {
             End::Open => f.write_str("open"),
             End::Failed(fault) => write!(f, "failed {fault}: {}", fault.words()),
             End::Closed(reason) => write!(f, "closed {reason}: the peer has disconnected"),
+            End::Disconnected(reason) => write!(f, "disconnected {reason}: by this side"),
         }
     }
 }

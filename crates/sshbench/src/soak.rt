@@ -138,6 +138,7 @@ fn is_same(end: &End, other: &End) -> bool {
         (End::Authenticated(agreed), End::Authenticated(other)) => is_agreed(agreed, other),
         (End::Failed(fault), End::Failed(other)) => fault == other,
         (End::Closed(reason), End::Closed(other)) => reason == other,
+        (End::Disconnected(reason), End::Disconnected(other)) => reason == other,
         _ => false,
     }
 }

@@ -31,7 +31,7 @@ use Rattle.sshcore.specs.Before.{count_kept, expects_guess, kept, stood, strict_
 use Rattle.sshcore.specs.ConfigData.{Attempt}
 use Rattle.sshcore.specs.Counting.{number_in}
 use Rattle.sshcore.specs.Directions.{payloads_in, version_in}
-use Rattle.sshcore.specs.Ending.{AgreedData, Authenticated, Closed, Ending, Failed, Open, Reply, fails, goes}
+use Rattle.sshcore.specs.Ending.{AgreedData, Authenticated, Closed, Disconnected, Ending, Failed, Open, Reply, by_owner, fails, goes}
 use Rattle.sshcore.specs.Exchange.{answer_with, choice_with, exchange_with}
 use Rattle.sshcore.specs.Known.{Known, known_at, waits_at}
 use Rattle.sshcore.specs.Party.{Party, Policy}
@@ -53,25 +53,21 @@ use Rattle.sshcore.proofs.ReadsLemmas.{Reads, reads, success_read, user_request_
 use Rattle.sshcore.proofs.StrictLaws.{begun_none, past_parts, stands}
 use Rattle.sshcore.proofs.StrictSteps.{line_is}
 
--- the end of input cut it off
-abbrev pub is_cut : Ending → Bool
-is_cut (Failed fault.Cut) = true
-is_cut _ = false
-
--- neither authenticated nor cut off
+-- neither authenticated nor ended by its owner
 abbrev is_early : Ending → Bool
 is_early (Authenticated a) = false
-is_early end = not (is_cut end)
+is_early end = not (by_owner end)
 
 abbrev pub IsEarly : Ending → Type 0
 IsEarly end = is_early end ≡ true
 
--- an early end isn't cut off
-pub early_uncut : (end : Ending) → IsEarly end → is_cut end ≡ false
+-- an early end isn't its owner's
+pub early_uncut : (end : Ending) → IsEarly end → by_owner end ≡ false
 early_uncut Open h = refl
 early_uncut (Authenticated a) h = refl
-early_uncut (Failed f) h = not-true (is_cut (Failed f)) h
+early_uncut (Failed f) h = not-true (by_owner (Failed f)) h
 early_uncut (Closed reason) h = refl
+early_uncut (Disconnected reason) h = not-true (by_owner (Disconnected reason)) h
 
 early_cond : (b : Bool) (r o : Reply) → IsEarly r.end → IsEarly o.end → IsEarly (if b then r else o).end
 early_cond true r o x y = x

@@ -1,19 +1,25 @@
 -- Calls of an endpoint, one after another.
 
-use Rattle.std.proofs.Common.{◌≡◌, ℕ, ◌+◌, ◌-◌, ◌≤◌, List, [], ◌++◌, length, take, drop, Result, Ok, Err, refl, sym, ap, subst, ◌∙◌, append_assoc, arith}
+use Rattle.std.proofs.Common.{◌≡◌, ℕ, ◌+◌, ◌-◌, ◌≤◌, Bool, List, [], ◌∷◌, ◌++◌, length, take, drop, Result, Ok, Err, refl, sym, ap, subst, ◌∙◌, append_assoc, arith}
+use Rattle.std.proofs.lemmas.Bool.{true≢false}
 use Rattle.std.proofs.lemmas.List.{append-nil, length-drop}
 use Rattle.std.proofs.Math.Seq.{take-add, take-length}
 use Rattle.std.specs.Result.{OnErr}
 use Rattle.sshneg.specs.declared.role.Role.{Role}
+use Rattle.sshpacket.specs.KeyData.{KeyData}
 use Rattle.sshpacket.specs.Suite.{Meaning}
-use Rattle.sshcore.specs.Endpoints.{After, Breaks, Fed, IsSameEndpoint}
+use Rattle.sshcore.specs.Brings.{Gives}
+use Rattle.sshcore.specs.Ending.{Open, by_owner, disconnects, ending, parting}
+use Rattle.sshcore.specs.Endpoints.{After, Breaks, Fed, IsSameEndpoint, Leaves, ending_of}
 use Rattle.sshcore.specs.EndpointData.{EndpointData}
 use Rattle.sshcore.specs.History.{BrokenOff}
 use Rattle.sshcore.specs.declared.input.Input.{Input}
 use Rattle.sshcore.specs.declared.state.State.{State}
 use Rattle.sshcore.specs.Inputs.{Stands, Steps}
 use Rattle.sshcore.specs.Kept.{kept_of}
+use Rattle.sshcore.specs.Output.{said_from}
 use Rattle.sshcore.specs.Party.{Party, Policy}
+use Rattle.sshcore.proofs.FeedLemmas.{SaidMore, said_last, stands_left}
 use Rattle.sshcore.proofs.HistoryLemmas.{broken}
 
 -- what is behind a place, as code cuts it out
@@ -42,7 +48,7 @@ module _ {S D : Type 0} (meaning : S → Meaning) (policy : D → Policy) where
     added = [];
     appended = sym (append-nil out);
     follows = λ h s a. subst (λ (x : List ℕ). After meaning policy e x (s ++ [])) (sym (append-nil h)) (subst (λ (x : List ℕ). After meaning policy e h x) (sym (append-nil s)) a);
-    uncut = λ h s a cut. cut;
+    uncut = λ h s a owned. refl;
     same = same_none e;
   }
 
@@ -52,7 +58,9 @@ module _ {S D : Type 0} (meaning : S → Meaning) (policy : D → Policy) where
     appended = g.appended ∙ ap (λ (x : List ℕ). x ++ g.added) f.appended ∙ append_assoc o0 f.added g.added;
     follows = λ h s a. subst (λ (x : List ℕ). After meaning policy new x (s ++ (f.added ++ g.added))) (append_assoc h t u)
         (subst (λ (x : List ℕ). After meaning policy new ((h ++ t) ++ u) x) (append_assoc s f.added g.added) (g.follows (h ++ t) (s ++ f.added) (f.follows h s a)));
-    uncut = λ h s a cut. f.uncut h s a (g.uncut (h ++ t) (s ++ f.added) (f.follows h s a) cut);
+    uncut = λ h s a owned.
+        let stays : ending_of mid ≡ ending_of new = g.uncut (h ++ t) (s ++ f.added) (f.follows h s a) owned in
+        f.uncut h s a (ap by_owner stays ∙ owned) ∙ stays;
     same = same_then old mid new f.same g.same;
   }
 
@@ -107,7 +115,21 @@ module _ {S D : Type 0} (meaning : S → Meaning) (policy : D → Policy) where
     appended = step.1;
     follows = λ h s a. let g = step.2 h s a in
         subst (λ (l : List ℕ). Stands (meaning suite) (policy decisions) role party (kept_of y) j (h ++ taken) (s ++ l)) (sym g.appended) g.stands;
-    uncut = λ h s a cut. absurd ((step.2 h s a).uncut cut);
+    uncut = λ h s a owned. absurd (true≢false (sym owned ∙ (step.2 h s a).uncut));
+    same = record { same_role = refl; same_party = refl; same_suite = refl; same_decisions = refl };
+  }
+
+  -- what was said for its owner, at an endpoint that stood open, is a call that ended it
+  pub leaves_by : SaidMore → (role : Role) (party : Party) (suite : S) (decisions : D) (i : Input) (x y : State) (reason : ℕ) (description before after : List ℕ) (strict : Bool) (next : KeyData)
+      → ending x.end ≡ Open → Gives (meaning suite) party.seed strict next (kept_of x) (kept_of y) before after (disconnects reason description)
+      → Leaves meaning policy (record { role = role; party = party; suite = suite; decisions = decisions; input = i; state = x })
+      (record { role = role; party = party; suite = suite; decisions = decisions; input = i; state = y }) reason description before after
+  leaves_by more role party suite decisions i x y reason description before after strict next is gives = record {
+    left = gives.ends;
+    added = said_from (meaning suite) party.seed strict next (kept_of x).sending (parting reason description ∷ []);
+    appended = gives.says;
+    follows = λ h s a. stands_left (meaning suite) (policy decisions) role party (kept_of x) i h s is a (kept_of y) reason gives.ends;
+    said = λ h s a. said_last (meaning suite) (policy decisions) role party (kept_of x) i h s is a more reason description strict next;
     same = record { same_role = refl; same_party = refl; same_suite = refl; same_decisions = refl };
   }
 

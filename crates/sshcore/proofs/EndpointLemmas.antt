@@ -1,38 +1,38 @@
 -- How an endpoint ends, by what it heard.
 
-use Rattle.std.proofs.Common.{◌≡◌, ◌≢◌, ℕ, true, List, [], ◌++◌, Option, sym, ap, ◌∙◌, subst}
+use Rattle.std.proofs.Common.{◌≡◌, ℕ, true, false, List, [], ◌++◌, Option, sym, ap, ◌∙◌, subst}
 use Rattle.std.proofs.lemmas.Bool.{true≢false}
 use Rattle.sshneg.specs.declared.role.Role.{Role}
 use Rattle.sshpacket.specs.Parse.{Refusal}
 use Rattle.sshpacket.specs.Stream.{Units}
 use Rattle.sshpacket.specs.Suite.{Meaning}
-use Rattle.sshcore.specs.declared.end.Fault.TheVariants as fault
 use Rattle.sshcore.specs.Authenticated.{IsAuthenticated}
 use Rattle.sshcore.specs.Before.{strict_at}
 use Rattle.sshcore.specs.Directions.{payloads_in}
-use Rattle.sshcore.specs.Ending.{AgreedData, Ending, Failed, Open}
+use Rattle.sshcore.specs.Ending.{AgreedData, Ending, Open, by_owner}
 use Rattle.sshcore.specs.EndpointData.{EndpointData}
 use Rattle.sshcore.specs.Endpoints.{After, IsSameEndpoint, ending_of}
 use Rattle.sshcore.specs.History.{History, IsOneHistory}
-use Rattle.sshcore.specs.Inputs.{AsHeard, CutOff, StandsSo}
+use Rattle.sshcore.specs.Inputs.{AsHeard, CutOff, Left, StandsSo}
 use Rattle.sshcore.specs.Party.{Party, Policy}
 use Rattle.sshcore.specs.Phases.{past_newkeys}
 use Rattle.sshcore.specs.Replies.{Ends}
 use Rattle.sshcore.specs.StrictClause.{KeepsStrict}
 use Rattle.sshcore.specs.StrictSequence.{BeginsStrictly}
-use Rattle.sshcore.proofs.AuthenticatedLemmas.{is_cut}
 use Rattle.sshcore.proofs.UncutLemmas.{uncut_heard}
 
--- an endpoint that wasn't cut off stands as it heard
-pub as_heard : (heard_end end : Ending) → StandsSo heard_end end → end ≢ Failed fault.Cut → heard_end ≡ end
-as_heard heard_end end (AsHeard e) other = sym e
-as_heard heard_end end (CutOff h e) other = absurd (other e)
+-- an endpoint that its owner didn't end stands as it heard
+pub as_heard : (heard_end end : Ending) → StandsSo heard_end end → by_owner end ≡ false → heard_end ≡ end
+as_heard heard_end end (AsHeard e) uncut = sym e
+as_heard heard_end end (CutOff h e) uncut = absurd (true≢false (sym (ap by_owner e) ∙ uncut))
+as_heard heard_end end (Left reason h e) uncut = absurd (true≢false (sym (ap by_owner e) ∙ uncut))
 
 module _ (m : Meaning) (d : Policy) (role : Role) (party : Party) where
-  -- an endpoint that was cut off stood open
-  pub cut_open : (units : Units) (r : Option Refusal) (heard_end end : Ending) → Ends m d role party units r heard_end → StandsSo heard_end end → end ≡ Failed fault.Cut → heard_end ≡ Open
-  cut_open units r heard_end end e (AsHeard same) cut = absurd (true≢false (sym (ap is_cut (sym same ∙ cut)) ∙ uncut_heard m d role party units r heard_end e))
-  cut_open units r heard_end end e (CutOff is_open is) cut = is_open
+  -- an endpoint that its owner ended stood open
+  pub cut_open : (units : Units) (r : Option Refusal) (heard_end end : Ending) → Ends m d role party units r heard_end → StandsSo heard_end end → by_owner end ≡ true → heard_end ≡ Open
+  cut_open units r heard_end end e (AsHeard same) owned = absurd (true≢false (sym (ap by_owner (sym same) ∙ owned) ∙ uncut_heard m d role party units r heard_end e))
+  cut_open units r heard_end end e (CutOff is_open is) owned = is_open
+  cut_open units r heard_end end e (Left reason is_open is) owned = is_open
 
 -- the law of histories' clause of joined inputs
 abbrev pub Joined : Type 0
@@ -60,8 +60,8 @@ module _ {S D : Type 0} (meaning : S → Meaning) (policy : D → Policy) where
       a.history (same_history one other same b.units b.rest b.refusal b.answers b.heard_end g t b.history) e f k in
       (j.0, j.1.same_said, j.1.same_end)
 
-  -- and where neither was cut off, they end the same
-  pub joined_ends : Joined → (one other : EndpointData S D) → IsSameEndpoint one other → ending_of one ≢ Failed fault.Cut → ending_of other ≢ Failed fault.Cut → (h g s t x y : List ℕ)
+  -- and where neither was ended by its owner, they end the same
+  pub joined_ends : Joined → (one other : EndpointData S D) → IsSameEndpoint one other → by_owner (ending_of one) ≡ false → by_owner (ending_of other) ≡ false → (h g s t x y : List ℕ)
       → After meaning policy one h s → After meaning policy other g t → h ++ x ≡ g ++ y → (ending_of one ≡ Open → x ≡ []) → (ending_of other ≡ Open → y ≡ [])
       → (h ≡ g) × (s ≡ t) × (ending_of one ≡ ending_of other)
   joined_ends law one other same p q h g s t x y a b e f k =

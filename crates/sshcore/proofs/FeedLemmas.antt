@@ -3,6 +3,7 @@
 use Rattle.std.proofs.Common.{◌≡◌, inl, inr, ℕ, ◌+◌, ◌≤◌, ◌==◌, Bool, true, false, cond, List, [], ◌∷◌, ◌++◌, length, take, Option, None, Some, refl, sym, ap, ◌∙◌, subst}
 use Rattle.std.proofs.lemmas.Bool.{cases_Bool, true≢false}
 use Rattle.sshmsg.specs.Numbers.{kind}
+use Rattle.sshmsg.specs.Written.{written_message}
 use Rattle.sshneg.specs.declared.role.Role.{Role}
 use Rattle.sshneg.specs.Markers.{other}
 use Rattle.sshpacket.specs.KeyData.{KeyData}
@@ -10,7 +11,7 @@ use Rattle.sshpacket.specs.declared.fault.PacketFault.{PacketFault}
 use Rattle.sshpacket.specs.declared.fault.PacketFault.TheVariants as packet
 use Rattle.sshpacket.specs.Parse.{OfPacket, Refusal, refused, unfinished, whole}
 use Rattle.sshpacket.specs.Places.{EachPlace, flat_places, stands}
-use Rattle.sshpacket.specs.Stream.{Units}
+use Rattle.sshpacket.specs.Stream.{Said, Units}
 use Rattle.sshpacket.specs.Suite.{Meaning}
 use Rattle.sshcore.specs.declared.end.Fault.{Fault}
 use Rattle.sshcore.specs.declared.end.Fault.TheVariants as fault
@@ -21,10 +22,10 @@ use Rattle.sshcore.specs.Before.{stood, strict_at}
 use Rattle.sshcore.specs.Brings.{Brings, Gives, IsOngoing}
 use Rattle.sshcore.specs.Counting.{is_newkeys, number_in, switched_out}
 use Rattle.sshcore.specs.Directions.{keys_in, parsers, payloads_in, spells, version_in}
-use Rattle.sshcore.specs.Ending.{Authenticated, Ending, Failed, Open, Reply, disconnect, fails}
+use Rattle.sshcore.specs.Ending.{Authenticated, Disconnected, Ending, Failed, Open, Reply, disconnect, fails, parting}
 use Rattle.sshcore.specs.Exchange.{keys_at, keys_by}
 use Rattle.sshcore.specs.History.{AllFit, History, IsReady}
-use Rattle.sshcore.specs.Inputs.{AsHeard, CutOff, GoesOn, IsCarried, IsInput, IsInside, Stands, StandsSo, pending_at}
+use Rattle.sshcore.specs.Inputs.{AsHeard, CutOff, GoesOn, IsCarried, IsInput, IsInside, Left, Stands, StandsSo, pending_at}
 use Rattle.sshcore.specs.Kept.{Carried, Kept, keys_due, keys_left}
 use Rattle.sshcore.specs.Known.{Known}
 use Rattle.sshcore.specs.Output.{Sending, Speaks, said_from, sending_from}
@@ -62,6 +63,11 @@ pub failed_over : (f : Fault) (e : Ending) → e ≡ Failed f → IsOngoing e �
 failed_over f e is (inl o) = absurd cc
 failed_over f e is (inr a) = let same : e ≡ Authenticated a.0 = a.1 in absurd cc
 
+-- nor is one that its owner told to disconnect
+pub left_over : (reason : ℕ) (e : Ending) → e ≡ Disconnected reason → IsOngoing e → ⊥
+left_over reason e is (inl o) = absurd cc
+left_over reason e is (inr a) = let same : e ≡ Authenticated a.0 = a.1 in absurd cc
+
 -- of refused packets want of memory alone fails as that
 pub from_memory : (f : PacketFault) → Failed (fault_of (OfPacket f)) ≡ Failed fault.Memory → f ≡ packet.Memory
 from_memory packet.Length e = absurd cc
@@ -74,6 +80,7 @@ from_memory packet.Memory e = refl
 pub heard_open : (heard_end end : Ending) → StandsSo heard_end end → end ≡ Open → heard_end ≡ Open
 heard_open heard_end end (AsHeard e) o = sym e ∙ o
 heard_open heard_end end (CutOff h e) o = absurd cc
+heard_open heard_end end (Left reason h e) o = absurd cc
 
 pub none_refused : (m : Meaning) (d : Policy) (role : Role) (party : Party) (units : Units) (r : Option Refusal) (end : Ending) → end ≡ Open → Ends m d role party units r end → r ≡ None
 none_refused m d role party units r end o (goes_on stays e) = no_refusal r (sym e ∙ o)
@@ -98,6 +105,38 @@ clear_at : (m : Meaning) (d : Policy) (role : Role) (party : Party) (version : L
 clear_at m d role party version before payload last s {behind} is answers speaks keyed not_past =
     clear_before m role party behind answers last.phase last.sending
     (ap (λ (us : Units). stood role party.offer (leaving role phase.Exchange) (payloads_in us)) is ∙ s.tied.exchange) speaks keyed not_past
+
+-- a DISCONNECT is no NEWKEYS
+quiet_parting : (reason : ℕ) (description : List ℕ) → (kind (parting reason description) == 21) ≡ false
+unfolding written_message
+quiet_parting reason description = refl
+
+-- the law of streams on what is said behind what was said
+abbrev pub SaidMore : Type 0
+SaidMore = (spelled : Units → List ℕ → List ℕ) (stream : List ℕ) (us more : Units) → Said spelled stream us → Said spelled (stream ++ flat_places spelled us more) (us ++ more)
+
+-- Its owner tells an endpoint that stands open to disconnect.
+module _ (m : Meaning) (d : Policy) (role : Role) (party : Party) (kept : Kept) (i : Input) (h s : List ℕ) (is : kept.end ≡ Open) (a : Stands m d role party kept i h s) where
+  -- it has heard and said the same before that
+  pub stands_left : (new : Kept) (reason : ℕ) → new.end ≡ Disconnected reason → Stands m d role party new i h s
+  stands_left new reason ends = record {
+    units = a.units;
+    rest = a.rest;
+    refusal = a.refusal;
+    answers = a.answers;
+    heard_end = a.heard_end;
+    history = a.history;
+    ends = Left reason (heard_open a.heard_end kept.end a.ends is) ends;
+    inside = λ o. absurd (left_over reason new.end ends o);
+  }
+
+  -- and the DISCONNECT is spelled behind what it had said
+  pub said_last : SaidMore → (reason : ℕ) (description : List ℕ) (strict : Bool) (next : KeyData)
+      → Said (spells m role party a.units) (s ++ said_from m party.seed strict next kept.sending (parting reason description ∷ [])) (party.version ∷ (a.answers ++ parting reason description ∷ []))
+  said_last more reason description strict next =
+      let spoken = said_quiet m role party a.units strict next a.answers (parting reason description ∷ []) kept.sending (quiet_parting reason description, tt) (a.inside (inl is)).speaks in
+      subst (λ (l : List ℕ). Said (spells m role party a.units) (s ++ l) (party.version ∷ (a.answers ++ parting reason description ∷ []))) (sym spoken.0)
+      (more (spells m role party a.units) s (party.version ∷ a.answers) (parting reason description ∷ []) a.history.said)
 
 module _ (below : Below) (streams : Streams) (m : Meaning) (d : Policy) (role : Role) (party : Party) (kept : Kept) (i : Input) (h s : List ℕ) (is : kept.end ≡ Open) (a : Stands m d role party kept i h s) where
   heard_is : a.heard_end ≡ Open

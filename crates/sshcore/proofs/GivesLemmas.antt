@@ -88,6 +88,16 @@ module _ (m : Meaning) (seed : List ℕ) (strict : Bool) (next : KeyData) where
         fits = fit_both xs ys a.fits b.fits;
       }
 
+  -- what was said behind nothing, behind what it is appended to
+  pub gives_onto : (old new : Kept) (none said before after : List ℕ) (r : Reply) → none ≡ [] → after ≡ before ++ said
+      → Gives m seed strict next old new none said r → Gives m seed strict next old new before after r
+  gives_onto old new none said before after r e f g = record {
+    ends = g.ends;
+    says = f ∙ ap (λ (l : List ℕ). before ++ l) (g.says ∙ ap (λ (l : List ℕ). l ++ said_from m seed strict next old.sending r.answers) e);
+    sends = g.sends;
+    fits = g.fits;
+  }
+
   -- the same answers, otherwise spelled
   pub gives_as : (old new : Kept) (before after : List ℕ) (xs ys : Units) (end : Ending) → xs ≡ ys
       → Gives m seed strict next old new before after (record { answers = xs; end = end }) → Gives m seed strict next old new before after (record { answers = ys; end = end })

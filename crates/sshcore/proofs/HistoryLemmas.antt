@@ -14,7 +14,7 @@ use Rattle.sshcore.specs.declared.end.Fault.{Fault}
 use Rattle.sshcore.specs.declared.table.Phase.TheVariants as phase
 use Rattle.sshcore.specs.Counting.{switched_out}
 use Rattle.sshcore.specs.Directions.{others_of, parsers, payloads_in, protection_in, spells}
-use Rattle.sshcore.specs.Ending.{Authenticated, Closed, Ending, Failed, Open, disconnect}
+use Rattle.sshcore.specs.Ending.{Authenticated, Closed, Disconnected, Ending, Failed, Open, disconnect}
 use Rattle.sshcore.specs.History.{AllFit, BrokenOff, FitsPacket, History, IsReady}
 use Rattle.sshcore.specs.Party.{Party, Policy}
 use Rattle.sshcore.specs.Replies.{Ends, Replies, StaysOpen, answers_at, end_at, ended, fault_of, goes_on, refusal_reply}
@@ -62,6 +62,7 @@ is_open Open = inl refl
 is_open (Authenticated a) = inr (λ e. absurd cc)
 is_open (Failed f) = inr (λ e. absurd cc)
 is_open (Closed reason) = inr (λ e. absurd cc)
+is_open (Disconnected reason) = inr (λ e. absurd cc)
 
 module _ (streams : Streams) (m : Meaning) (role : Role) (party : Party) where
   pub each : (us : Units) → IsIncremental (parsers m role party us)

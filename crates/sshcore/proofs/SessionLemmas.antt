@@ -44,7 +44,7 @@ use Rattle.sshcore.specs.Counting.{number_in, number_out, switched_out}
 use Rattle.sshcore.specs.Directions.{keys_in, keys_out, payloads_in, version_in}
 use Rattle.sshcore.specs.Ending.{AgreedData, Authenticated, Ending, Failed, Open, agreed_of, ending, fails, goes}
 use Rattle.sshcore.specs.Exchange.{answer_with, exchange_at, exchange_with, keys_at, secret_of}
-use Rattle.sshcore.specs.Inputs.{AsHeard, CutOff, IsInside, Stands, StandsSo}
+use Rattle.sshcore.specs.Inputs.{AsHeard, CutOff, IsInside, Left, Stands, StandsSo}
 use Rattle.sshcore.specs.Kept.{Kept, user_key_of}
 use Rattle.sshcore.specs.Known.{Known, known_at, waits_at}
 use Rattle.sshcore.specs.Output.{Sending}
@@ -238,6 +238,7 @@ authenticated_shut end a is is_open = cc
 pub uncut_end : (heard_end end : Ending) (a : AgreedData) → StandsSo heard_end end → end ≡ Authenticated a → heard_end ≡ Authenticated a
 uncut_end heard_end end a (AsHeard same) is = sym same ∙ is
 uncut_end heard_end end a (CutOff was_open cut) is = absurd cc
+uncut_end heard_end end a (Left reason was_open left) is = absurd cc
 
 module _ (below : Below) (m : Meaning) (d : Policy) (role : Role) (party : Party) where
   module _ (kept : Kept) (i : Input) (h s : List ℕ) (p : Stands m d role party kept i h s) (a : AgreedData) (is : kept.end ≡ Authenticated a) where
@@ -304,6 +305,7 @@ authenticated_at end.Open a is = absurd cc
 authenticated_at (end.Authenticated x) a is = (x, refl)
 authenticated_at (end.Failed f) a is = absurd cc
 authenticated_at (end.Closed reason) a is = absurd cc
+authenticated_at (end.Disconnected reason) a is = absurd cc
 
 -- what is handed over besides: both version lines, the host key, and how the user came in
 pub record HandsOn (m : Meaning) (d : Policy) (role : Role) (party : Party) (units : Units) (a : AgreedData) (own_version peer_version host_key : List ℕ) (accepted : Option Accepted) : Type 0 where

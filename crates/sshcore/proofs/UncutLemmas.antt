@@ -1,7 +1,6 @@
--- What is heard never ends an endpoint as the end of input does.
+-- What is heard never ends an endpoint as its owner does.
 
-use Rattle.std.proofs.Common.{◌≡◌, ◌≢◌, ℕ, false, List, [], ◌∷◌, Option, None, Some, Result, Ok, Err, refl, sym, ap, ◌∙◌}
-use Rattle.std.proofs.lemmas.Bool.{true≢false}
+use Rattle.std.proofs.Common.{◌≡◌, ℕ, false, List, [], ◌∷◌, Option, None, Some, Result, Ok, Err, refl, ap, ◌∙◌}
 use Rattle.sshmsg.specs.declared.fault.MsgFault.{MsgFault}
 use Rattle.sshmsg.specs.Content.{Content}
 use Rattle.sshmsg.specs.Messages.{message_in}
@@ -11,20 +10,19 @@ use Rattle.sshpacket.specs.declared.fault.PacketFault.TheVariants as packet
 use Rattle.sshpacket.specs.Parse.{OfLine, OfPacket, Refusal}
 use Rattle.sshpacket.specs.Stream.{Units}
 use Rattle.sshpacket.specs.Suite.{Meaning}
-use Rattle.sshcore.specs.declared.end.Fault.TheVariants as fault
 use Rattle.sshcore.specs.declared.table.Line.{Line}
 use Rattle.sshcore.specs.declared.table.Line.TheVariants as line
 use Rattle.sshcore.specs.Counting.{number_in}
-use Rattle.sshcore.specs.Ending.{Ending, Failed, Open}
+use Rattle.sshcore.specs.Ending.{Ending, Failed, Open, by_owner}
 use Rattle.sshcore.specs.Known.{Known, known_at}
 use Rattle.sshcore.specs.Party.{Party, Policy}
 use Rattle.sshcore.specs.Replies.{Ends, end_at, ended, fault_of, goes_on, line_at, line_reply, read_reply, refusal_reply}
 use Rattle.sshcore.specs.Work.{work}
-use Rattle.sshcore.proofs.AuthenticatedLemmas.{Early, Requested, Succeeded, WorkEnds, early_uncut, is_cut, work_ends}
+use Rattle.sshcore.proofs.AuthenticatedLemmas.{Early, Requested, Succeeded, WorkEnds, early_uncut, work_ends}
 
--- what is heard never ends as the end of input does
+-- what is heard never ends as an owner does
 abbrev pub IsUncut : Ending → Type 0
-IsUncut end = is_cut end ≡ false
+IsUncut end = by_owner end ≡ false
 
 uncut_refusal : (r : Option Refusal) → IsUncut (refusal_reply r).end
 uncut_refusal None = refl
@@ -41,8 +39,8 @@ module _ (m : Meaning) (d : Policy) (role : Role) (party : Party) where
     where
       by : WorkEnds m d party known c (work m d role party known c).end → IsUncut (work m d role party known c).end
       by (Early h) = early_uncut (work m d role party known c).end h
-      by (Requested _ _ _ same has good done is) = ap is_cut is
-      by (Succeeded _ _ same left is) = ap is_cut is
+      by (Requested _ _ _ same has good done is) = ap by_owner is
+      by (Succeeded _ _ same left is) = ap by_owner is
 
   uncut_read : (known : Known) (n : ℕ) (r : Result Content MsgFault) → IsUncut (read_reply m d role party known n r).end
   uncut_read known n (Ok c) = uncut_work known c
@@ -61,19 +59,19 @@ module _ (m : Meaning) (d : Policy) (role : Role) (party : Party) where
   uncut_unit (version ∷ before) unit = uncut_line (known_at m d role party version before) (number_in role party before) (line_at role party before unit) unit
 
   pub uncut_heard : (units : Units) (r : Option Refusal) (end : Ending) → Ends m d role party units r end → IsUncut end
-  uncut_heard units r end (goes_on stays e) = ap is_cut e ∙ uncut_refusal r
-  uncut_heard units r end (ended before last is stays e shut none) = ap is_cut e ∙ uncut_unit before last
+  uncut_heard units r end (goes_on stays e) = ap by_owner e ∙ uncut_refusal r
+  uncut_heard units r end (ended before last is stays e shut none) = ap by_owner e ∙ uncut_unit before last
 
--- so an endpoint that stands open, that was refused something, or that replied to a unit isn't cut off
-pub open_stays : (end : Ending) → end ≡ Open → end ≢ Failed fault.Cut
-open_stays end is cut = let same : Open ≡ Failed fault.Cut = sym is ∙ cut in absurd cc
+-- so an endpoint that stands open, that was refused something, or that replied to a unit wasn't ended by its owner
+still_uncut : (end wanted : Ending) → end ≡ wanted → IsUncut wanted → IsUncut end
+still_uncut end wanted is uncut = ap by_owner is ∙ uncut
 
-not_cut : (end wanted : Ending) → end ≡ wanted → is_cut wanted ≡ false → end ≢ Failed fault.Cut
-not_cut end wanted is uncut cut = absurd (true≢false (sym (ap is_cut (sym is ∙ cut)) ∙ uncut))
+pub open_stays : (end : Ending) → end ≡ Open → IsUncut end
+open_stays end is = still_uncut end Open is refl
 
-pub refusal_stays : (r : Refusal) (end : Ending) → end ≡ Failed (fault_of r) → end ≢ Failed fault.Cut
-refusal_stays r end is = not_cut end (Failed (fault_of r)) is (uncut_refusal (Some r))
+pub refusal_stays : (r : Refusal) (end : Ending) → end ≡ Failed (fault_of r) → IsUncut end
+refusal_stays r end is = still_uncut end (Failed (fault_of r)) is (uncut_refusal (Some r))
 
 pub unit_stays : (m : Meaning) (d : Policy) (role : Role) (party : Party) (before : Units) (unit : List ℕ) (end : Ending)
-    → end ≡ end_at m d role party before unit → end ≢ Failed fault.Cut
-unit_stays m d role party before unit end is = not_cut end (end_at m d role party before unit) is (uncut_unit m d role party before unit)
+    → end ≡ end_at m d role party before unit → IsUncut end
+unit_stays m d role party before unit end is = still_uncut end (end_at m d role party before unit) is (uncut_unit m d role party before unit)

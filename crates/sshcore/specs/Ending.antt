@@ -1,11 +1,12 @@
 -- How an endpoint stands, as plain data, and what a payload brings.
 
-use Rattle.std.specs.Prelude.{ℕ, Bool, List, [], ◌∷◌, string_bytes, Option, None, Some}
+use Rattle.std.specs.Prelude.{ℕ, nat_le, Bool, true, false, if◌then◌else◌, List, [], ◌∷◌, length, string_bytes, Option, None, Some}
 use Rattle.sshmsg.specs.declared.numbers.TheConstants.{SSH_DISCONNECT_HOST_KEY_NOT_VERIFIABLE, SSH_DISCONNECT_KEY_EXCHANGE_FAILED, SSH_DISCONNECT_MAC_ERROR, SSH_DISCONNECT_NO_MORE_AUTH_METHODS_AVAILABLE, SSH_DISCONNECT_PROTOCOL_ERROR, SSH_DISCONNECT_SERVICE_NOT_AVAILABLE}
 use Rattle.sshmsg.specs.Content.{Disconnect}
 use Rattle.sshmsg.specs.Written.{written_message}
 use Rattle.sshneg.specs.Fields.{Algorithms}
 use Rattle.sshpacket.specs.Stream.{Units}
+use Rattle.sshcore.specs.declared.disconnecting.TheConstants.{DESCRIPTION_LIMIT}
 use Rattle.sshcore.specs.declared.end.Agreed.{Agreed}
 use Rattle.sshcore.specs.declared.end.End.{End}
 use Rattle.sshcore.specs.declared.end.End.TheVariants as end
@@ -25,6 +26,7 @@ pub data Ending : Type 0 where
   Authenticated : AgreedData → Ending
   Failed : Fault → Ending
   Closed : ℕ → Ending
+  Disconnected : ℕ → Ending
 
 -- an end without where its texts lie in memory
 abbrev pub agreed_of : Agreed → AgreedData
@@ -50,6 +52,13 @@ ending end.Open = Open
 ending (end.Authenticated a) = Authenticated (agreed_of a)
 ending (end.Failed f) = Failed f
 ending (end.Closed reason) = Closed reason
+ending (end.Disconnected reason) = Disconnected reason
+
+-- the endpoint's owner ended it: its input was cut off, or it was told to disconnect
+abbrev pub by_owner : Ending → Bool
+by_owner (Failed fault.Cut) = true
+by_owner (Disconnected reason) = true
+by_owner _ = false
 
 -- the reason of the DISCONNECT that a failure sends (RFC 4253 section 11.1), or none where nothing is sent
 abbrev pub reason_of : Fault → Option ℕ
@@ -90,3 +99,15 @@ goes answers = record { answers = answers; end = Open }
 -- the endpoint tells the failure and has failed
 abbrev pub fails : Fault → Reply
 fails f = record { answers = disconnect f; end = Failed f }
+
+-- the description that an endpoint sends for its owner: none in place of a longer one (profile)
+abbrev pub description_sent : List ℕ → List ℕ
+description_sent text = if nat_le (length text) DESCRIPTION_LIMIT then text else []
+
+-- the DISCONNECT of an endpoint that its owner ends, with an empty language tag (RFC 4253 section 11.1)
+abbrev pub parting : ℕ → List ℕ → List ℕ
+parting reason description = written_message (Disconnect reason (description_sent description) [])
+
+-- the endpoint says it and has ended
+abbrev pub disconnects : ℕ → List ℕ → Reply
+disconnects reason description = record { answers = parting reason description ∷ []; end = Disconnected reason }

@@ -1,13 +1,13 @@
 -- An endpoint and its history.
 
-use Rattle.std.specs.Prelude.{◌≡◌, ℕ, ◌≤◌, List, [], ◌∷◌, ◌++◌, length, take}
+use Rattle.std.specs.Prelude.{◌≡◌, ℕ, ◌≤◌, true, List, [], ◌∷◌, ◌++◌, length, take}
 use Rattle.sshwire.specs.Lines.{LineOpen}
 use Rattle.sshneg.specs.declared.role.Role.{Role}
-use Rattle.sshpacket.specs.Stream.{Units}
+use Rattle.sshpacket.specs.Stream.{Said, Units}
 use Rattle.sshpacket.specs.Suite.{Meaning}
 use Rattle.sshcore.specs.declared.end.Fault.TheVariants as fault
-use Rattle.sshcore.specs.Directions.{others_of}
-use Rattle.sshcore.specs.Ending.{Authenticated, Closed, Ending, Failed, Open, ending}
+use Rattle.sshcore.specs.Directions.{others_of, spells}
+use Rattle.sshcore.specs.Ending.{Authenticated, Closed, Disconnected, Ending, Failed, Open, by_owner, ending, parting}
 use Rattle.sshcore.specs.EndpointData.{EndpointData}
 use Rattle.sshcore.specs.History.{BrokenOff}
 use Rattle.sshcore.specs.Inputs.{Stands, held_by, turns_left}
@@ -17,7 +17,8 @@ use Rattle.sshcore.specs.Party.{Party, Policy}
 abbrev pub ending_of : {S D : Type 0} → EndpointData S D → Ending
 ending_of e = ending e.state.end
 
--- An endpoint has heard and said these bytes. Of one that failed for want of memory BrokenOff tells what it has said.
+-- An endpoint has heard and said these bytes. Of one that failed for want of memory BrokenOff tells what it has said; of one that
+-- its owner told to disconnect these are the bytes before that, and Leaves tells what it said last.
 abbrev pub After : {S D : Type 0} → (S → Meaning) → (D → Policy) → EndpointData S D → List ℕ → List ℕ → Type 0
 After meaning policy e h s = Stands (meaning e.suite) (policy e.decisions) e.role e.party (kept_of e.state) e.input h s
 
@@ -28,12 +29,12 @@ pub record IsSameEndpoint {S D : Type 0} (old new : EndpointData S D) : Type 0 w
   pub same_suite : new.suite ≡ old.suite
   pub same_decisions : new.decisions ≡ old.decisions
 
--- What a call did that used these bytes. Only the end of input cuts an endpoint off.
+-- What a call did that used these bytes. No such call ends an endpoint as its owner does.
 pub record Fed {S D : Type 0} (meaning : S → Meaning) (policy : D → Policy) (old new : EndpointData S D) (taken before after : List ℕ) : Type 0 where
   pub added : List ℕ
   pub appended : after ≡ before ++ added
   pub follows : (h s : List ℕ) → After meaning policy old h s → After meaning policy new (h ++ taken) (s ++ added)
-  pub uncut : (h s : List ℕ) → After meaning policy old h s → ending_of new ≡ Failed fault.Cut → ending_of old ≡ Failed fault.Cut
+  pub uncut : (h s : List ℕ) → After meaning policy old h s → by_owner (ending_of new) ≡ true → ending_of old ≡ ending_of new
   pub same : IsSameEndpoint old new
 
 -- What a call did that wanted memory: it used some of the piece, and said whole packets, a prefix of those that it would have
@@ -64,12 +65,25 @@ pub record Cuts {S D : Type 0} (meaning : S → Meaning) (policy : D → Policy)
   pub follows : (h s : List ℕ) → After meaning policy old h s → After meaning policy new h s
   pub same : IsSameEndpoint old new
 
+-- What the call did by which its owner told an open endpoint to disconnect: the endpoint has ended, and has heard the same; and it
+-- has said a DISCONNECT with this reason behind what it had said. After has no such answer, for it tells of what was heard: so what
+-- was said last stands in `said`, as a unit behind the answers.
+pub record Leaves {S D : Type 0} (meaning : S → Meaning) (policy : D → Policy) (old new : EndpointData S D) (reason : ℕ) (description before after : List ℕ) : Type 0 where
+  pub left : ending_of new ≡ Disconnected reason
+  pub added : List ℕ
+  pub appended : after ≡ before ++ added
+  pub follows : (h s : List ℕ) → After meaning policy old h s → After meaning policy new h s
+  pub said : (h s : List ℕ) (a : After meaning policy old h s)
+      → Said (spells (meaning old.suite) old.role old.party a.units) (s ++ added) (old.party.version ∷ (a.answers ++ parting reason description ∷ []))
+  pub same : IsSameEndpoint old new
+
 -- how many bytes are held: none once the endpoint has ended
 abbrev pub held_at : Ending → ℕ → ℕ
 held_at Open n = n
 held_at (Authenticated a) n = 0
 held_at (Failed f) n = 0
 held_at (Closed reason) n = 0
+held_at (Disconnected reason) n = 0
 
 abbrev pub buffered_of : {S D : Type 0} → EndpointData S D → ℕ
 buffered_of e = held_at (ending_of e) (held_by e.input)
@@ -81,6 +95,7 @@ HasUnfinished role (version ∷ before) rest Open n = n ≡ length rest
 HasUnfinished role units rest (Authenticated a) n = n ≡ 0
 HasUnfinished role units rest (Failed f) n = n ≡ 0
 HasUnfinished role units rest (Closed reason) n = n ≡ 0
+HasUnfinished role units rest (Disconnected reason) n = n ≡ 0
 
 -- the bound of turns of an endpoint
 abbrev pub turns_of : {S D : Type 0} → EndpointData S D → ℕ

@@ -1,6 +1,6 @@
 -- What an endpoint keeps, as what it has heard and said.
 
-use Rattle.std.specs.Prelude.{◌≡◌, ◌≢◌, ◌&&◌, ℕ, true, not, if◌then◌else◌, List, [], ◌∷◌, ◌++◌, length, Option, None, Some}
+use Rattle.std.specs.Prelude.{◌≡◌, ◌≢◌, ◌&&◌, ℕ, true, false, not, if◌then◌else◌, List, [], ◌∷◌, ◌++◌, length, Option, None, Some}
 use Rattle.sshwire.specs.Feeding.{StandsOpen}
 use Rattle.sshwire.specs.LineState.{Finished, held}
 use Rattle.sshneg.specs.declared.role.Role.{Role}
@@ -17,7 +17,7 @@ use Rattle.sshcore.specs.declared.table.Phase.{Phase}
 use Rattle.sshcore.specs.Brings.{IsOngoing}
 use Rattle.sshcore.specs.Counting.{number_in}
 use Rattle.sshcore.specs.Directions.{keys_in, others_of, payloads_in, version_in}
-use Rattle.sshcore.specs.Ending.{Authenticated, Closed, Ending, Failed, Open}
+use Rattle.sshcore.specs.Ending.{Authenticated, Closed, Disconnected, Ending, Failed, Open, by_owner}
 use Rattle.sshcore.specs.Exchange.{exchange_at, keys_at}
 use Rattle.sshcore.specs.Exchanged.{HasForm}
 use Rattle.sshcore.specs.History.{History}
@@ -46,6 +46,7 @@ turns_left Open (input.Packets reader) = 1
 turns_left (Authenticated a) i = 0
 turns_left (Failed f) i = 0
 turns_left (Closed reason) i = 0
+turns_left (Disconnected reason) i = 0
 
 -- The reader of what is heard: of lines, up to the version line; then of packets, with the keys and the number of the next one,
 -- and with the bytes of the unfinished one.
@@ -75,12 +76,13 @@ pub record IsInside (m : Meaning) (d : Policy) (role : Role) (party : Party) (un
   pub carries : IsCarried m d role party (version_in units) (payloads_in units) kept.phase kept.carried
   pub speaks : Speaks m role party units answers kept.sending
 
--- how an endpoint stands that has come to this end by what it heard: so, or cut off where it stood open
+-- how an endpoint stands that has come to this end by what it heard: so; or, where it stood open, cut off, or told to disconnect
 pub data StandsSo (heard_end end : Ending) : Type 0 where
   AsHeard : end ≡ heard_end → StandsSo heard_end end
   CutOff : heard_end ≡ Open → end ≡ Failed fault.Cut → StandsSo heard_end end
+  Left : (reason : ℕ) → heard_end ≡ Open → end ≡ Disconnected reason → StandsSo heard_end end
 
--- An endpoint that keeps this, with this reader, has heard and said these bytes.
+-- An endpoint that keeps this, with this reader, has heard and said these bytes; of one that left, what it said before that.
 pub record Stands (m : Meaning) (d : Policy) (role : Role) (party : Party) (kept : Kept) (i : Input) (heard_bytes said_bytes : List ℕ) : Type 0 where
   pub units : Units
   pub rest : List ℕ
@@ -91,12 +93,12 @@ pub record Stands (m : Meaning) (d : Policy) (role : Role) (party : Party) (kept
   pub ends : StandsSo heard_end kept.end
   pub inside : IsOngoing kept.end → IsInside m d role party units answers rest kept i
 
--- An endpoint that goes on from here has heard these bytes more, and said what was appended; its input wasn't cut off.
+-- An endpoint that goes on from here has heard these bytes more, and said what was appended; its owner didn't end it.
 pub record GoesOn (m : Meaning) (d : Policy) (role : Role) (party : Party) (new : Kept) (j : Input) (h s taken before after : List ℕ) : Type 0 where
   pub added : List ℕ
   pub appended : after ≡ before ++ added
   pub stands : Stands m d role party new j (h ++ taken) (s ++ added)
-  pub uncut : new.end ≢ Failed fault.Cut
+  pub uncut : by_owner new.end ≡ false
 
 -- what a step did that used these bytes, whatever was heard and said before
 abbrev pub Steps : Meaning → Policy → Role → Party → Input → Kept → Input → Kept → List ℕ → List ℕ → List ℕ → Type 0

@@ -129,6 +129,8 @@ pub enum End {
     Failed(Fault),
     /// The peer sent a DISCONNECT with this reason.
     Closed(u32),
+    /// Its owner ended it: a DISCONNECT with this reason was sent.
+    Disconnected(u32),
 }
 
 impl End {

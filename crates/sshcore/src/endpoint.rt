@@ -8,7 +8,7 @@ ghost use Rattle.sshcore.specs.Ending.{AgreedData, Authenticated, Failed, Open, 
 ghost use Rattle.sshcore.specs.Party.{client_party, server_party};
 ghost use Rattle.sshcore.specs.Brings.{IsOngoing};
 ghost use Rattle.sshcore.specs.ConfigParty.{party_of, role_of};
-ghost use Rattle.sshcore.specs.Endpoints.{After, Breaks, Cuts, Fed, HasUnfinished, Made, buffered_of, ending_of, turns_of};
+ghost use Rattle.sshcore.specs.Endpoints.{After, Breaks, Cuts, Fed, HasUnfinished, Leaves, Made, buffered_of, ending_of, turns_of};
 ghost use Rattle.sshcore.specs.Inputs.{CanRead, Steps, turns_left};
 ghost use Rattle.sshcore.specs.Directions.{payloads_in};
 ghost use Rattle.sshcore.specs.Exchange.{algorithms_at};
@@ -235,6 +235,41 @@ impl<'a, S: Suite, D: Decisions> Endpoint<'a, S, D> {
     {
         if self.is_open() {
             self.state.end = End::Failed(Fault::Cut);
+        }
+    }
+
+    /// Disconnects: an open endpoint appends to `out` a DISCONNECT with this reason and description (RFC 4253
+    /// section 11.1), and has ended as [`End::Disconnected`]. Send what was appended before the connection is
+    /// closed.
+    ///
+    /// The reason may be any number. The language tag is empty, and a description of more than 1024 bytes isn't
+    /// sent: the DISCONNECT has none then. Before NEWKEYS it goes in clear, as all that is said there.
+    ///
+    /// An endpoint that has ended doesn't change, and nothing is appended. Answers `Memory` where a growth was
+    /// refused: the endpoint has then failed, and `out` is unchanged.
+    pub fn disconnect(
+        &mut self,
+        reason: u32,
+        description: &str,
+        out: &mut Vec<u8>,
+    ) -> Result<(), Memory>
+        ensures leaves { ending_of self.old ≡ Open → OnOk result (Leaves S.meaning D.policy self.old self.new reason description.now out.old.items out.new.items) }
+        ensures memory { OnErr result ((ending_of self.new ≡ Failed fault.Memory) × (out.new.items ≡ out.old.items) × Breaks S.meaning D.policy self.old self.new [] out.old.items out.new.items) }
+        ensures ended { ending_of self.old ≢ Open → (result ≡ Ok tt) × (self.new ≡ self.old) × (out.new ≡ out.old) }
+    {
+        sshpacket::stream_law();
+        if !self.is_open() {
+            return Ok(());
+        }
+        let said = self
+            .state
+            .disconnect(&self.config, self.suite, reason, description, out);
+        match said {
+            Ok(()) => Ok(()),
+            Err(_) => {
+                self.state.end = End::Failed(Fault::Memory);
+                Err(Memory)
+            }
         }
     }
 

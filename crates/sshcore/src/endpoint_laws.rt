@@ -1,11 +1,11 @@
 //! What the layers above may rest on: what is true of each endpoint, however it was fed.
 
-ghost use Rattle.std.specs.Prelude.{◌≡◌, ◌≢◌, ◌++◌, [], true, ℕ, List};
+ghost use Rattle.std.specs.Prelude.{◌≡◌, ◌++◌, [], false, true, ℕ, List};
 ghost use Rattle.sshcore.specs.declared.end.Fault.TheVariants as fault;
 ghost use Rattle.sshcore.specs.Authenticated.{IsAuthenticated};
 ghost use Rattle.sshcore.specs.Before.{strict_at};
 ghost use Rattle.sshcore.specs.Directions.{payloads_in};
-ghost use Rattle.sshcore.specs.Ending.{AgreedData, Authenticated, Failed, Open};
+ghost use Rattle.sshcore.specs.Ending.{AgreedData, Authenticated, Disconnected, Failed, Open, by_owner};
 ghost use Rattle.sshcore.specs.Endpoints.{After, IsSameEndpoint, ending_of};
 ghost use Rattle.sshcore.specs.StrictClause.{KeepsStrict};
 ghost use Rattle.sshcore.specs.StrictSequence.{BeginsStrictly};
@@ -20,18 +20,20 @@ use sshpacket::Suite;
 /// that ended authenticated has heard (RFC 4252 section 5.1). Takes no memory.
 pub fn endpoint_law<S: Suite, D: Decisions>(one: &Endpoint<'_, S, D>, other: &Endpoint<'_, S, D>)
     // Two endpoints of one role, config and suite, and with the same decisions, each used a prefix of one input, all of it where it
-    // is open; and neither was cut off.
-    ensures joined { IsSameEndpoint one.now other.now → ending_of one.now ≢ Failed fault.Cut → ending_of other.now ≢ Failed fault.Cut
+    // is open; and neither was ended by its owner.
+    ensures joined { IsSameEndpoint one.now other.now → by_owner (ending_of one.now) ≡ false → by_owner (ending_of other.now) ≡ false
         → (h g s t x y : List ℕ) → After S.meaning D.policy one.now h s → After S.meaning D.policy other.now g t
         → h ++ x ≡ g ++ y → (ending_of one.now ≡ Open → x ≡ []) → (ending_of other.now ≡ Open → y ≡ [])
         → (h ≡ g) × (s ≡ t) × (ending_of one.now ≡ ending_of other.now) }
-    // The same of what was heard before an end of input: endpoints that were cut off used the same bytes too, and said the same.
+    // The same of what was heard before an owner's end: endpoints that were cut off, or told to disconnect, used the same bytes too, and
+    // had said the same.
     ensures joined_heard { IsSameEndpoint one.now other.now → (h g s t x y : List ℕ) (a : After S.meaning D.policy one.now h s) (b : After S.meaning D.policy other.now g t)
         → h ++ x ≡ g ++ y → (a.heard_end ≡ Open → x ≡ []) → (b.heard_end ≡ Open → y ≡ [])
         → (h ≡ g) × (s ≡ t) × (a.heard_end ≡ b.heard_end) }
-    // An endpoint stands as what it heard left it, or was cut off where that left it open.
-    ensures heard { (h s : List ℕ) (a : After S.meaning D.policy one.now h s) → ending_of one.now ≢ Failed fault.Cut → a.heard_end ≡ ending_of one.now }
+    // An endpoint stands as what it heard left it, or was ended by its owner where that left it open.
+    ensures heard { (h s : List ℕ) (a : After S.meaning D.policy one.now h s) → by_owner (ending_of one.now) ≡ false → a.heard_end ≡ ending_of one.now }
     ensures cut { (h s : List ℕ) (a : After S.meaning D.policy one.now h s) → ending_of one.now ≡ Failed fault.Cut → a.heard_end ≡ Open }
+    ensures left { (h s : List ℕ) (a : After S.meaning D.policy one.now h s) (reason : ℕ) → ending_of one.now ≡ Disconnected reason → a.heard_end ≡ Open }
     // What was heard keeps strictness, whoever sent it.
     ensures strict { (h s : List ℕ) (a : After S.meaning D.policy one.now h s) → KeepsStrict one.now.role one.now.party a.units a.heard_end }
     // What was heard let the user in, where an endpoint ended authenticated; and one that is strict was given a strict sequence first.

@@ -62,6 +62,7 @@ impl fmt::Display for End {
             End::Authenticated(_) => f.write_str("authenticated"),
             End::Failed(fault) => write!(f, "{fault}: {}", fault.words()),
             End::Closed(reason) => write!(f, "closed by the peer, reason {reason}"),
+            End::Disconnected(reason) => write!(f, "disconnected by this side, reason {reason}"),
         }
     }
 }

@@ -15,6 +15,7 @@ mod config_laws;
 mod config_parts;
 mod config_version;
 mod decisions;
+mod disconnecting;
 mod draws;
 mod end;
 mod endpoint;
@@ -52,6 +53,7 @@ pub use config_parts::{
     TRIES_LIMIT, USER_LIMIT,
 };
 pub use decisions::{Decisions, Proof};
+pub use disconnecting::DESCRIPTION_LIMIT;
 pub use draws::Draws;
 pub use end::{Agreed, End, Fault};
 pub use endpoint::Endpoint;

@@ -3,7 +3,7 @@
 use Rattle.std.specs.Prelude.{◌/◌, ◌%◌, ℕ, Bool, false, List, [], ◌∷◌, ◌++◌, codes, decimal, Option, None, Some, if◌then◌else◌, flat_map}
 use Rattle.std.specs.Fmt.{digit_glyph}
 use Rattle.sshneg.specs.Fields.{Algorithms}
-use Rattle.sshcore.specs.Ending.{AgreedData, Authenticated, Closed, Ending, Failed, Open}
+use Rattle.sshcore.specs.Ending.{AgreedData, Authenticated, Closed, Disconnected, Ending, Failed, Open}
 use Rattle.sshcore.specs.Printed.{fault_text}
 
 -- how a side stands, or how it is to end
@@ -12,6 +12,7 @@ end_text Open = codes "open"
 end_text (Authenticated agreed) = codes "authenticated " ++ (agreed.user ++ (codes " " ++ agreed.service))
 end_text (Failed fault) = codes "failed " ++ fault_text fault
 end_text (Closed reason) = codes "closed " ++ decimal reason
+end_text (Disconnected reason) = codes "disconnected " ++ decimal reason
 
 -- a line: a word, a blank, a text and an LF
 abbrev pub line : List ℕ → List ℕ → List ℕ

@@ -48,6 +48,7 @@ impl fmt::Display for EndText<'_> {
             }
             End::Failed(fault) => write!(f, "failed {fault}"),
             End::Closed(reason) => write!(f, "closed {reason}"),
+            End::Disconnected(reason) => write!(f, "disconnected {reason}"),
         }
     }
 }

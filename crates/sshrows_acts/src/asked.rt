@@ -1,54 +1,49 @@
-//! What decisions are asked.
+//! What decisions are asked, and what they are told.
 
+use crate::below_texts::{put_names, text_with};
 use crate::stop::Stop;
-use crate::texts::{put_word, same_text};
+use crate::texts::{put_word, same_text, yes_or_no};
 use crate::words::Line;
-use sshcore::{Decisions, Proof};
-use std::alloc::{AllocError, Global};
+use sshcore::{Decisions, Notice, Proof};
+use std::alloc::Global;
 use std::cell::{Cell, RefCell};
 
-/// The questions since they were judged last, in their order.
+/// What was kept since it was judged last, in its order.
 #[derive(Drop)]
-pub(crate) struct Questions {
-    /// A blank and a word for each: `host_key`, or the number of a request.
+pub(crate) struct Kept {
+    /// A blank and words for each.
     text: RefCell<String>,
     /// Whether memory was wanting for one.
     is_lost: Cell<bool>,
     alloc: Global,
 }
 
-impl Questions {
-    /// None yet.
-    pub(crate) fn new(alloc: Global) -> Questions {
-        Questions {
+impl Kept {
+    /// Nothing yet.
+    fn new(alloc: Global) -> Kept {
+        Kept {
             text: RefCell::new(String::new(alloc)),
             is_lost: Cell::new(false),
             alloc,
         }
     }
 
-    /// Keeps a question.
-    fn keep(&self, word: &str) -> Result<(), AllocError> {
+    /// Keeps words.
+    fn keep(&self, words: &str) -> Result<(), Stop> {
         match self.text.try_borrow_mut() {
-            Ok(mut text) => put_word(&mut text, word),
+            Ok(mut text) => Ok(put_word(&mut text, words)?),
             Err(_) => Ok(()),
         }
     }
 
-    /// Keeps a question on the request with this number.
-    fn keep_number(&self, request_number: u32) -> Result<(), AllocError> {
-        let word = format!(in self.alloc; "{request_number}")?;
-        self.keep(&word)
-    }
-
-    /// A question for which memory is wanting is lost, and its row isn't judged.
-    fn note(&self, kept: Result<(), AllocError>) {
+    /// What memory is wanting for is lost, and its row isn't judged.
+    fn note(&self, kept: Result<(), Stop>) {
         if kept.is_err() {
             self.is_lost.set(true);
         }
     }
 
-    /// All that were kept; none is kept behind it.
+    /// All that was kept; nothing is kept behind it.
     fn taken(&self) -> String {
         match self.text.try_replace(String::new(self.alloc)) {
             Ok(text) => text,
@@ -56,7 +51,7 @@ impl Questions {
         }
     }
 
-    /// These have to be the questions since the last call: their words with blanks between, or `nothing`.
+    /// This has to be what was kept since the last call, with blanks between, or `nothing`.
     pub(crate) fn same(
         &self,
         line: &Line<'_>,
@@ -72,24 +67,91 @@ impl Questions {
     }
 }
 
-/// Decisions whose questions are kept.
+/// What decisions were asked and told.
+#[derive(Drop)]
+pub(crate) struct Heard {
+    /// The questions: `host_key`, or the number of a request.
+    pub(crate) questions: Kept,
+    /// The notices, each with its kind and its fields; none where no line of the row judges them.
+    pub(crate) notices: Kept,
+    is_told: bool,
+}
+
+impl Heard {
+    /// Nothing yet, for a row of these lines.
+    pub(crate) fn new(alloc: Global, lines: &[Line<'_>]) -> Heard {
+        Heard {
+            questions: Kept::new(alloc),
+            notices: Kept::new(alloc),
+            is_told: lines.iter().any(|line| line.text.starts_with("told ")),
+        }
+    }
+}
+
+/// Keeps a question on the request with this number.
+fn keep_number(questions: &Kept, request_number: u32) -> Result<(), Stop> {
+    let word = format!(in questions.alloc; "{request_number}")?;
+    questions.keep(&word)
+}
+
+/// Keeps a notice.
+fn keep_notice(notices: &Kept, notice: Notice<'_>) -> Result<(), Stop> {
+    let words = words_of(notices.alloc, notice)?;
+    notices.keep(&words)
+}
+
+/// The kind of a notice and its fields.
+fn words_of(alloc: Global, notice: Notice<'_>) -> Result<String, Stop> {
+    match notice {
+        Notice::Disconnect {
+            reason,
+            description,
+            language,
+        } => {
+            let words = format!(in alloc; "disconnect {reason}")?;
+            text_with(alloc, &words, &[description, language])
+        }
+        Notice::Debug { text, language } => text_with(alloc, "debug", &[text, language]),
+        Notice::Banner { text, language } => text_with(alloc, "banner", &[text, language]),
+        Notice::Failure {
+            methods,
+            partial_success,
+        } => {
+            let mut text = String::from_str(alloc, "failure")?;
+            put_names(&mut text, methods)?;
+            put_word(&mut text, yes_or_no(partial_success))?;
+            Ok(text)
+        }
+    }
+}
+
+/// Decisions of which is kept what they are asked and told.
 #[derive(Drop)]
 pub(crate) struct Asking<'a, D: Decisions> {
     pub(crate) decisions: &'a D,
-    pub(crate) questions: &'a Questions,
+    pub(crate) heard: &'a Heard,
 }
 
 impl<D: Decisions> Decisions for Asking<'_, D> {
     ghost policy = { λ asking. D.policy asking.decisions.now };
 
     fn host_key(&self, algorithm: &str, blob: &[u8]) -> bool {
-        self.questions.note(self.questions.keep("host_key"));
+        let questions = &self.heard.questions;
+        questions.note(questions.keep("host_key"));
         self.decisions.host_key(algorithm, blob)
     }
 
     fn user(&self, request_number: u32, user: &str, service: &str, proof: &Proof<'_>) -> bool {
-        self.questions
-            .note(self.questions.keep_number(request_number));
+        let questions = &self.heard.questions;
+        questions.note(keep_number(questions, request_number));
         self.decisions.user(request_number, user, service, proof)
+    }
+
+    fn told(&self, notice: Notice<'_>) {
+        if self.heard.is_told {
+            let notices = &self.heard.notices;
+            notices.note(keep_notice(notices, notice));
+        }
+        self.decisions.told(notice);
     }
 }

@@ -1,12 +1,12 @@
 //! Rows of one endpoint.
 
-use crate::asked::{Asking, Questions};
+use crate::asked::{Asking, Heard};
 use crate::handed::judge_session;
 use crate::names::Names;
 use crate::refusals::{is_out_of_memory, refused_saying};
 use crate::stop::Stop;
-use crate::terms::{bytes_of, count_of};
-use crate::texts::{same_agreed, same_bytes, same_count, same_end, shows, wrong};
+use crate::terms::{bytes_of, count_of, text_of};
+use crate::texts::{number_of, same_agreed, same_bytes, same_count, same_end, shows, wrong};
 use crate::words::{Line, split_word};
 use sshcore::{ClientConfig, Decisions, Endpoint, ServerConfig, Session};
 use sshpacket::Suite;
@@ -18,8 +18,8 @@ use std::mem;
 #[derive(Drop)]
 struct Subject<'a, S: Suite, D: Decisions> {
     endpoint: Endpoint<'a, S, D>,
-    /// What its decisions were asked since that was last judged.
-    questions: &'a Questions,
+    /// What its decisions were asked and told since that was last judged.
+    heard: &'a Heard,
     /// What it has said since that was last judged.
     out: Vec<u8>,
     /// How many bytes it is given at once, at most.
@@ -28,7 +28,7 @@ struct Subject<'a, S: Suite, D: Decisions> {
     judged: bool,
 }
 
-/// Judges a client of this config by lines, over the suite and by these decisions, whose questions are kept.
+/// Judges a client of this config by lines, over the suite and by these decisions; what these are asked and told is kept.
 /// It is given pieces of at most so many bytes.
 pub fn judge_client<S: Suite, D: Decisions>(
     alloc: Global,
@@ -39,12 +39,9 @@ pub fn judge_client<S: Suite, D: Decisions>(
     lines: &[Line<'_>],
     piece_len: usize,
 ) -> Result<(), Stop> {
-    let questions = &Questions::new(alloc);
-    let asking = &Asking {
-        decisions,
-        questions,
-    };
-    let subject = client_of(alloc, row, config, suite, asking, questions, piece_len)?;
+    let heard = &Heard::new(alloc, lines);
+    let asking = &Asking { decisions, heard };
+    let subject = client_of(alloc, row, config, suite, asking, heard, piece_len)?;
     talk(alloc, names, row, subject, lines)
 }
 
@@ -58,12 +55,9 @@ pub fn judge_server<S: Suite, D: Decisions>(
     lines: &[Line<'_>],
     piece_len: usize,
 ) -> Result<(), Stop> {
-    let questions = &Questions::new(alloc);
-    let asking = &Asking {
-        decisions,
-        questions,
-    };
-    let subject = server_of(alloc, row, config, suite, asking, questions, piece_len)?;
+    let heard = &Heard::new(alloc, lines);
+    let asking = &Asking { decisions, heard };
+    let subject = server_of(alloc, row, config, suite, asking, heard, piece_len)?;
     talk(alloc, names, row, subject, lines)
 }
 
@@ -74,12 +68,12 @@ fn client_of<'a, S: Suite, D: Decisions>(
     config: &'a ClientConfig,
     suite: &'a S,
     decisions: &'a D,
-    questions: &'a Questions,
+    heard: &'a Heard,
     piece_len: usize,
 ) -> Result<Box<Subject<'a, S, D>>, Stop> {
     let mut out = Vec::new(alloc);
     match Endpoint::client(alloc, config, suite, decisions, &mut out) {
-        Ok(endpoint) => subject_of(alloc, endpoint, questions, out, piece_len),
+        Ok(endpoint) => subject_of(alloc, endpoint, heard, out, piece_len),
         Err(_) => Err(refused_saying(line, "no endpoint", out)),
     }
 }
@@ -91,12 +85,12 @@ fn server_of<'a, S: Suite, D: Decisions>(
     config: &'a ServerConfig,
     suite: &'a S,
     decisions: &'a D,
-    questions: &'a Questions,
+    heard: &'a Heard,
     piece_len: usize,
 ) -> Result<Box<Subject<'a, S, D>>, Stop> {
     let mut out = Vec::new(alloc);
     match Endpoint::server(alloc, config, suite, decisions, &mut out) {
-        Ok(endpoint) => subject_of(alloc, endpoint, questions, out, piece_len),
+        Ok(endpoint) => subject_of(alloc, endpoint, heard, out, piece_len),
         Err(_) => Err(refused_saying(line, "no endpoint", out)),
     }
 }
@@ -105,7 +99,7 @@ fn server_of<'a, S: Suite, D: Decisions>(
 fn subject_of<'a, S: Suite, D: Decisions>(
     alloc: Global,
     endpoint: Endpoint<'a, S, D>,
-    questions: &'a Questions,
+    heard: &'a Heard,
     out: Vec<u8>,
     piece_len: usize,
 ) -> Result<Box<Subject<'a, S, D>>, Stop> {
@@ -113,7 +107,7 @@ fn subject_of<'a, S: Suite, D: Decisions>(
         alloc,
         Subject {
             endpoint,
-            questions,
+            heard,
             out,
             piece_len,
             judged: false,
@@ -171,14 +165,19 @@ fn talk_on<S: Suite, D: Decisions>(
     finish(alloc, row, subject)
 }
 
-/// All that was said and asked has to be judged, and the end.
+/// All that was said and asked has to be judged, and the end; and all that was told, where a line judges some of it.
 fn finish<S: Suite, D: Decisions>(
     alloc: Global,
     row: &Line<'_>,
     talk: &Subject<'_, S, D>,
 ) -> Result<(), Stop> {
     same_bytes(alloc, row, "said and not judged", &[], &talk.out)?;
-    talk.questions.same(row, "asked and not judged", "nothing")?;
+    talk.heard
+        .questions
+        .same(row, "asked and not judged", "nothing")?;
+    talk.heard
+        .notices
+        .same(row, "told and not judged", "nothing")?;
     if talk.judged {
         Ok(())
     } else {
@@ -213,6 +212,12 @@ fn step<S: Suite, D: Decisions>(
             talk.endpoint.end_of_input();
             Ok(())
         }
+        "disconnect" => {
+            let (reason, terms) = split_word(rest);
+            let reason = number_of(alloc, line, reason)?;
+            let description = text_of(alloc, names, line, terms)?;
+            disconnect(alloc, line, talk, reason, &description)
+        }
         _ => look(alloc, line, talk, word, rest),
     }
 }
@@ -244,7 +249,8 @@ fn look<S: Suite, D: Decisions>(
         }
         "held" => shows(alloc, line, "held", rest, &talk.endpoint.buffered()),
         "agreed" => same_agreed(alloc, line, rest, talk.endpoint.end()),
-        "asked" => talk.questions.same(line, "asked", rest),
+        "asked" => talk.heard.questions.same(line, "asked", rest),
+        "told" => talk.heard.notices.same(line, "told", rest),
         _ => wrong(alloc, line, "line", "a word of an endpoint", word),
     }
 }
@@ -260,12 +266,27 @@ fn feed<S: Suite, D: Decisions>(
     talk.judged = false;
     match used_of(talk, piece) {
         Ok(found) => same_count(alloc, line, "used", wanted, found),
-        Err(_) => Err(refused_feed(alloc, line, talk)),
+        Err(_) => Err(refused_call(alloc, line, talk)),
     }
 }
 
-/// What stands behind a refused `feed`: how the endpoint is failed, and what it said up to there.
-fn refused_feed<S: Suite, D: Decisions>(
+/// Tells the endpoint to disconnect.
+fn disconnect<S: Suite, D: Decisions>(
+    alloc: Global,
+    line: &Line<'_>,
+    talk: &mut Subject<'_, S, D>,
+    reason: u32,
+    description: &str,
+) -> Result<(), Stop> {
+    talk.judged = false;
+    match talk.endpoint.disconnect(reason, description, &mut talk.out) {
+        Ok(()) => Ok(()),
+        Err(_) => Err(refused_call(alloc, line, talk)),
+    }
+}
+
+/// What stands behind a refused `feed` or `disconnect`: how the endpoint is failed, and what it said up to there.
+fn refused_call<S: Suite, D: Decisions>(
     alloc: Global,
     line: &Line<'_>,
     talk: &mut Subject<'_, S, D>,

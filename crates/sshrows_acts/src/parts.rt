@@ -2,7 +2,7 @@
 
 use crate::names::Names;
 use crate::stop::Stop;
-use crate::terms::bytes_of;
+use crate::terms::{bytes_of, text_of};
 use crate::texts::wrong;
 use crate::words::{Line, split_word};
 use sshcore::{Attempt, ClientParts, Credential, HostKey, ServerParts, SideParts};
@@ -128,15 +128,6 @@ fn list_in<'a>(side: &'a mut SideParts, word: &str) -> Option<&'a mut Vec<String
         "mac_cs" => Some(&mut side.mac_client_to_server),
         "mac_sc" => Some(&mut side.mac_server_to_client),
         _ => None,
-    }
-}
-
-/// The text whose bytes the terms spell.
-fn text_of(alloc: Global, names: &Names, line: &Line<'_>, terms: &str) -> Result<String, Stop> {
-    let bytes = bytes_of(alloc, names, line, terms)?;
-    match str::from_utf8(&bytes) {
-        Ok(text) => Ok(String::from_str(alloc, text)?),
-        Err(_) => wrong(alloc, line, "term", "text", terms),
     }
 }
 

@@ -7,7 +7,7 @@ use Rattle.sshwire.specs.declared.fault.Memory.{Memory}
 use Rattle.sshpacket.specs.Suite.{Meaning}
 use Rattle.sshcore.specs.declared.end.Fault.TheVariants as fault
 use Rattle.sshcore.specs.ConfigData.{ClientData, ServerData}
-use Rattle.sshcore.specs.Ending.{Authenticated, Closed, Ending, Failed, Open}
+use Rattle.sshcore.specs.Ending.{Authenticated, Closed, Disconnected, Ending, Failed, Open}
 use Rattle.sshcore.specs.Endpoints.{ending_of}
 use Rattle.sshcore.specs.Party.{Party, Policy}
 use Rattle.sshneg.specs.declared.role.Role.{Role}
@@ -141,6 +141,7 @@ module _ {S D : Type 0} (meaning : S → Meaning) (policy : D → Policy) where
         none_waits (Authenticated a) h = refl
         none_waits (Failed f) h = refl
         none_waits (Closed reason) h = refl
+        none_waits (Disconnected reason) h = refl
     none_ended count (Err e) ended takes is broken = absurd (ended broken.was_open)
 
   -- so callers see it, if n bytes were received

@@ -1,6 +1,7 @@
 -- A delivery, stated once for either role.
 
-use Rattle.std.proofs.Common.{◌≡◌, ◌≢◌, ℕ, ◌-◌, List, [], ◌∷◌, ◌++◌, length, take, drop, Option, None, sym, ap, subst, ◌∙◌, arith, length-append}
+use Rattle.std.proofs.Common.{◌≡◌, ◌≢◌, ℕ, ◌-◌, false, List, [], ◌∷◌, ◌++◌, length, take, drop, Option, None, sym, ap, subst, ◌∙◌, arith, length-append}
+use Rattle.std.proofs.lemmas.Bool.{true≢false}
 use Rattle.std.proofs.lemmas.List.{take-append-drop, take-append-le, take_all}
 use Rattle.sshneg.specs.declared.role.Role.{Role}
 use Rattle.sshpacket.specs.Parse.{Refusal}
@@ -11,9 +12,9 @@ use Rattle.sshpacket.proofs.Places.{prefix-through}
 use Rattle.sshcore.specs.declared.end.Fault.TheVariants as fault
 use Rattle.sshcore.specs.declared.input.Input.{Input}
 use Rattle.sshcore.specs.Directions.{parsers}
-use Rattle.sshcore.specs.Ending.{Ending, Failed, Open}
+use Rattle.sshcore.specs.Ending.{Ending, Failed, Open, by_owner}
 use Rattle.sshcore.specs.History.{History}
-use Rattle.sshcore.specs.Inputs.{AsHeard, CutOff, Stands, StandsSo}
+use Rattle.sshcore.specs.Inputs.{AsHeard, CutOff, Left, Stands, StandsSo}
 use Rattle.sshcore.specs.Kept.{Kept}
 use Rattle.sshcore.specs.Party.{Party, Policy}
 use Rattle.sshcore.specs.Replies.{Replies}
@@ -25,9 +26,9 @@ use Rattle.sshworld.proofs.HeadlineLemmas.{said_prefix}
 use Rattle.sshworld.proofs.LinkLemmas.{heard_all, heard_prefix}
 use Rattle.sshworld.proofs.PartLemmas.{grows}
 
--- an endpoint that stands so, and wasn't cut off, has a history
+-- an endpoint that stands so, and wasn't ended by its owner, has a history
 pub from_standing : (m : Meaning) (d : Policy) (role : Role) (party : Party) (kept : Kept) (i : Input) (h s : List ℕ)
-    → Stands m d role party kept i h s → kept.end ≢ Failed fault.Cut → HasHistory m d role party kept.end h s
+    → Stands m d role party kept i h s → by_owner kept.end ≡ false → HasHistory m d role party kept.end h s
 from_standing m d role party kept i h s a whole = record {
   units = a.units;
   rest = a.rest;
@@ -38,7 +39,8 @@ from_standing m d role party kept i h s a whole = record {
   where
     by : (e : Ending) → StandsSo e kept.end → e ≡ kept.end
     by e (AsHeard is) = sym is
-    by e (CutOff was is) = absurd (whole is)
+    by e (CutOff was is) = absurd (true≢false (sym (ap by_owner is) ∙ whole))
+    by e (Left reason was is) = absurd (true≢false (sym (ap by_owner is) ∙ whole))
 
 module _ (laws : Laws) (m : Meaning) (d : Policy) (own their : Partner) where
   -- nothing was heard of nothing

@@ -8,7 +8,7 @@ use Rattle.sshpacket.specs.Suite.{Meaning}
 use Rattle.sshcore.specs.declared.end.Fault.TheVariants as fault
 use Rattle.sshcore.specs.declared.session.Session.{Session}
 use Rattle.sshcore.specs.ConfigData.{ClientData, ServerData}
-use Rattle.sshcore.specs.Ending.{AgreedData, Authenticated, Closed, Ending, Failed, Open}
+use Rattle.sshcore.specs.Ending.{AgreedData, Authenticated, Closed, Disconnected, Ending, Failed, Open}
 use Rattle.sshcore.specs.Endpoints.{After, ending_of}
 use Rattle.sshcore.specs.Party.{Party, Policy}
 use Rattle.sshcore.specs.Sessions.{IsSession}
@@ -29,6 +29,7 @@ is_authenticated Open = inr (λ a e. cc)
 is_authenticated (Authenticated a) = inl (a, refl)
 is_authenticated (Failed f) = inr (λ a e. cc)
 is_authenticated (Closed reason) = inr (λ a e. cc)
+is_authenticated (Disconnected reason) = inr (λ a e. cc)
 
 -- where not both are, one hands over nothing
 pub not_both : (x y : Ending) (r q : Option Session) → (((a : AgreedData) → x ≢ Authenticated a) → r ≡ None) → (((a : AgreedData) → y ≢ Authenticated a) → q ≡ None)

@@ -8,7 +8,7 @@ use Rattle.sshpacket.specs.Stream.{Units}
 use Rattle.sshpacket.specs.Suite.{Meaning}
 use Rattle.sshpacket.proofs.Places.{prefix-cons, prefix-through}
 use Rattle.sshcore.specs.ConfigData.{ClientData, ServerData, version_of}
-use Rattle.sshcore.specs.Ending.{AgreedData, Authenticated, Closed, Ending, Failed, Open}
+use Rattle.sshcore.specs.Ending.{AgreedData, Authenticated, Closed, Disconnected, Ending, Failed, Open}
 use Rattle.sshcore.specs.Party.{Policy}
 use Rattle.sshworld.specs.Offered.{most_requests}
 use Rattle.sshworld.specs.Course.{Part, said_after, way_of}
@@ -56,6 +56,7 @@ open_or_not Open = inl refl
 open_or_not (Authenticated a) = inr (λ h. cc (h))
 open_or_not (Failed f) = inr (λ h. cc (h))
 open_or_not (Closed reason) = inr (λ h. cc (h))
+open_or_not (Disconnected reason) = inr (λ h. cc (h))
 
 -- two sides in their parts, each of which has heard all that the other said unless it has ended
 module _ (p q : Part) (of_client of_server : Told) (client_version server_version : List ℕ) (course : IsCourse p q)

@@ -1,13 +1,13 @@
 -- How the nodes of a world stand behind a delivery.
 
-use Rattle.std.proofs.Common.{◌≡◌, ◌≢◌, ℕ, zero, suc, ◌+◌, ◌≤◌, List, [], ◌∷◌, ◌++◌, length, take, drop, refl, sym, ap, subst, ◌∙◌, arith}
+use Rattle.std.proofs.Common.{◌≡◌, ◌≢◌, ℕ, zero, suc, ◌+◌, ◌≤◌, Bool, true, false, List, [], ◌∷◌, ◌++◌, length, take, drop, refl, sym, ap, subst, ◌∙◌, arith}
 use Rattle.std.proofs.lemmas.List.{append-nil, length-append, length-take, take-append-le}
 use Rattle.std.proofs.Math.Seq.{take-add}
 use Rattle.sshneg.specs.declared.role.Role.{Role}
 use Rattle.sshpacket.specs.Places.{IsPrefix}
 use Rattle.sshpacket.specs.Suite.{Meaning}
 use Rattle.sshcore.specs.declared.end.Fault.TheVariants as fault
-use Rattle.sshcore.specs.Ending.{Failed}
+use Rattle.sshcore.specs.Ending.{Ending, Failed, by_owner}
 use Rattle.sshcore.specs.Endpoints.{After, ending_of}
 use Rattle.sshcore.specs.History.{BrokenOff}
 use Rattle.sshcore.specs.Party.{Party, Policy}
@@ -28,6 +28,14 @@ take_within (x ∷ xs) (suc n) (suc u) h = ap (λ (q : List ℕ). x ∷ q) (take
 taken_more : (xs : List ℕ) (used moved n u : ℕ) → used ≡ moved → u ≤ n → take used xs ++ take u (take n (drop moved xs)) ≡ take (moved + u) xs
 taken_more xs used moved n u e h =
     ap (λ (q : ℕ). take q xs ++ take u (take n (drop moved xs))) e ∙ ap (λ (q : List ℕ). take moved xs ++ q) (take_within (drop moved xs) n u h) ∙ sym (take-add moved u xs)
+
+-- behind a call that doesn't end an endpoint as its owner does, its owner hasn't ended it, if not before
+still_uncut : (old new : Ending) → (by_owner new ≡ true → old ≡ new) → by_owner old ≡ false → by_owner new ≡ false
+still_uncut old new stays uncut = by (by_owner new) refl
+  where
+    by : (b : Bool) → by_owner new ≡ b → by_owner new ≡ false
+    by true e = ap by_owner (sym (stays e)) ∙ uncut
+    by false e = e
 
 module _ {S D : Type 0} (meaning : S → Meaning) (policy : D → Policy) where
   -- what was sent stays
@@ -55,7 +63,7 @@ module _ {S D : Type 0} (meaning : S → Meaning) (policy : D → Policy) where
         after = λ m. subst (λ (h : List ℕ). After meaning policy new.endpoint h new.sent.items) heard
             (subst (λ (s : List ℕ). After meaning policy new.endpoint (take old.used sent ++ take f.used (take n (drop old.moved sent))) s) (sym f.fed.appended)
             (f.fed.follows (take old.used sent) old.sent.items (s.after had)));
-        uncut = λ cut. s.uncut (f.fed.uncut (take old.used sent) old.sent.items (s.after had) cut);
+        uncut = still_uncut (ending_of old.endpoint) (ending_of new.endpoint) (f.fed.uncut (take old.used sent) old.sent.items (s.after had)) s.uncut;
       }
 
   -- the node for which memory was wanting
@@ -70,7 +78,7 @@ module _ {S D : Type 0} (meaning : S → Meaning) (policy : D → Policy) where
     moved_within = b.moved_within;
     all_used = λ o. absurd (cc (b.failed, o));
     after = λ m. absurd (m b.failed);
-    uncut = λ cut. cc (b.failed, cut);
+    uncut = ap by_owner b.failed;
   }
 
   -- The node that receives stands as before, with more that it has used and sent.
@@ -155,7 +163,7 @@ module _ {S D : Type 0} (meaning : S → Meaning) (policy : D → Policy) where
     all_used = λ o. fresh.none_used ∙ sym fresh.none_moved;
     after = λ m. subst (λ (k : ℕ). After meaning policy node.endpoint (take k sent) node.sent.items) (sym fresh.none_used)
         (subst (λ (s : List ℕ). After meaning policy node.endpoint [] s) (sym fresh.made.appended) fresh.made.begins);
-    uncut = λ cut. cc (fresh.made.is_open, cut);
+    uncut = ap by_owner fresh.made.is_open;
   }
 
   pub side_begins : (role : Role) (party : Party) (suite : S) (decisions : D) (node : Node S D)

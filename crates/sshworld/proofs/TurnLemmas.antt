@@ -8,7 +8,7 @@ use Rattle.sshpacket.specs.Places.{IsPrefix}
 use Rattle.sshpacket.specs.Suite.{IsLawful, Meaning}
 use Rattle.sshcore.specs.declared.end.Fault.TheVariants as fault
 use Rattle.sshcore.specs.ConfigData.{ClientData, ServerData}
-use Rattle.sshcore.specs.Ending.{Authenticated, Closed, Ending, Failed, Open}
+use Rattle.sshcore.specs.Ending.{Authenticated, Closed, Disconnected, Ending, Failed, Open}
 use Rattle.sshcore.specs.Party.{Policy, client_party, server_party}
 use Rattle.sshworld.specs.Offered.{most_requests}
 use Rattle.sshworld.specs.CourseHeard.{BothHear, client_partner, server_partner}
@@ -94,6 +94,7 @@ module _ (laws : Laws) (m : Meaning) (d : Policy) (lawful : IsLawful m) (c : Cli
   none_waiting (Authenticated a) sent moved not = refl
   none_waiting (Failed f) sent moved not = refl
   none_waiting (Closed reason) sent moved not = refl
+  none_waiting (Disconnected reason) sent moved not = refl
 
   -- a side that has heard all that it hears has ended
   ended_by : (own their : Partner) → HearsCourse m d their own → own.part.final ≢ Open → (half opposite : Half) → OnCourse m d own their half opposite → half.end ≢ Failed fault.Memory → opposite.end ≢ Failed fault.Memory

@@ -1,14 +1,13 @@
 -- A world stays on the course of its configs.
 
-use Rattle.std.proofs.Common.{◌≡◌, ◌≢◌, ℕ, suc, ◌+◌, ◌-◌, ◌≤◌, length, min, Result, Ok, refl, sym, ap, subst, ◌∙◌, arith}
+use Rattle.std.proofs.Common.{◌≡◌, ℕ, suc, ◌+◌, ◌-◌, ◌≤◌, false, length, min, Result, Ok, refl, sym, ap, subst, ◌∙◌, arith}
 use Rattle.std.specs.Result.{IfOk}
 use Rattle.sshwire.specs.declared.fault.Memory.{Memory}
 use Rattle.sshneg.specs.declared.role.Role.TheVariants as role
 use Rattle.sshpacket.specs.Suite.{IsLawful, Meaning}
-use Rattle.sshcore.specs.declared.end.Fault.TheVariants as fault
 use Rattle.sshcore.specs.ConfigData.{ClientData, ServerData}
 use Rattle.sshcore.specs.ConfigRules.{IsClient, IsServer}
-use Rattle.sshcore.specs.Ending.{Authenticated, Closed, Ending, Failed, Open}
+use Rattle.sshcore.specs.Ending.{Authenticated, Closed, Disconnected, Ending, Failed, Open, by_owner}
 use Rattle.sshcore.specs.Endpoints.{ending_of}
 use Rattle.sshcore.specs.Party.{Policy, client_party, server_party}
 use Rattle.sshworld.specs.Offered.{most_requests}
@@ -45,6 +44,7 @@ module _ (old new opposite : Half) (takes : TakesIn (waiting old opposite) old n
   none_at (Authenticated a) sent moved h = refl
   none_at (Failed f) sent moved h = refl
   none_at (Closed reason) sent moved h = refl
+  none_at (Disconnected reason) sent moved h = refl
 
   by_end : (e : Ending) → old.end ≡ e → waiting new opposite ≡ 0
   by_end Open h =
@@ -59,6 +59,9 @@ module _ (old new opposite : Half) (takes : TakesIn (waiting old opposite) old n
   by_end (Closed reason) h =
       let none : waiting old opposite ≡ 0 = ap (λ (q : Ending). waiting_at q (length opposite.sent) old.moved) h in
       ap (λ (q : Half). waiting q opposite) (takes.by_none none) ∙ none
+  by_end (Disconnected reason) h =
+      let none : waiting old opposite ≡ 0 = ap (λ (q : Ending). waiting_at q (length opposite.sent) old.moved) h in
+      ap (λ (q : Half). waiting q opposite) (takes.by_none none) ∙ none
 
   pub taken_all : HasTakenAll old new opposite
   taken_all = record { more_sent = takes.more_sent; none_waits = by_end old.end refl }
@@ -66,7 +69,7 @@ module _ (old new opposite : Half) (takes : TakesIn (waiting old opposite) old n
 module _ {S D : Type 0} (meaning : S → Meaning) (policy : D → Policy) (client_config : ClientData) (server_config : ServerData) (suite : S) (decisions : D) where
   -- Two nodes that are made are on their course.
   pub made_on_course : Laws → (client server : Node S D) → NodesStand meaning policy client_config server_config suite decisions client server → client.used ≡ 0 → server.used ≡ 0
-      → ending_of client.endpoint ≢ Failed fault.Cut → ending_of server.endpoint ≢ Failed fault.Cut → IsOnCourse meaning policy (seen client_config server_config suite decisions client server)
+      → by_owner (ending_of client.endpoint) ≡ false → by_owner (ending_of server.endpoint) ≡ false → IsOnCourse meaning policy (seen client_config server_config suite decisions client server)
   made_on_course laws client server s none other_none whole other_whole hear =
       begins laws (meaning suite) (policy decisions)
       (client_partner (meaning suite) (policy decisions) client_config server_config (wording_of (meaning suite) (policy decisions) client_config server_config))
@@ -77,7 +80,7 @@ module _ {S D : Type 0} (meaning : S → Meaning) (policy : D → Policy) (clien
 
   -- They stay on it, whatever one of them receives.
   pub received_on_course : Laws → IsLawful (meaning suite) → (to : Side) (own their next : Node S D) → StandAt meaning policy client_config server_config suite decisions to own their
-      → IsOnCourse meaning policy (seen_at meaning policy client_config server_config suite decisions to own their) → ending_of next.endpoint ≢ Failed fault.Cut
+      → IsOnCourse meaning policy (seen_at meaning policy client_config server_config suite decisions to own their) → by_owner (ending_of next.endpoint) ≡ false
       → Receives meaning policy their.sent.items own next → IsOnCourse meaning policy (seen_at meaning policy client_config server_config suite decisions to next their)
   received_on_course laws lawful Client own their next s on whole r hear =
       stays_on_course meaning policy laws suite decisions lawful

@@ -1,12 +1,12 @@
 -- How the nodes of a world stand.
 
-use Rattle.std.specs.Prelude.{◌≡◌, ◌≢◌, ◌≤◌, ◌+◌, ℕ, List, [], length, take, drop}
+use Rattle.std.specs.Prelude.{◌≡◌, ◌≢◌, ◌≤◌, ◌+◌, ℕ, false, List, [], length, take, drop}
 use Rattle.sshneg.specs.declared.role.Role.{Role}
 use Rattle.sshneg.specs.declared.role.Role.TheVariants as role
 use Rattle.sshpacket.specs.Suite.{Meaning}
 use Rattle.sshcore.specs.declared.end.Fault.TheVariants as fault
 use Rattle.sshcore.specs.ConfigData.{ClientData, ServerData}
-use Rattle.sshcore.specs.Ending.{Failed, Open}
+use Rattle.sshcore.specs.Ending.{Failed, Open, by_owner}
 use Rattle.sshcore.specs.Endpoints.{After, Breaks, Fed, Made, ending_of}
 use Rattle.sshcore.specs.Party.{Party, Policy, client_party, server_party}
 use Rattle.sshworld.specs.declared.node.Node.{Node}
@@ -29,7 +29,7 @@ seen client_config server_config suite decisions client server = record {
 
 module _ {S D : Type 0} (meaning : S → Meaning) (policy : D → Policy) where
   -- A node beside another that has sent these bytes: it has used what was moved to it, or what of it stands before its end; and
-  -- unless memory was wanting, its endpoint has heard what it used, and has said what it sent. Nothing cuts it off.
+  -- unless memory was wanting, its endpoint has heard what it used, and has said what it sent. No call of a world ends it as its owner may.
   pub record NodeStands (role : Role) (party : Party) (suite : S) (decisions : D) (node : Node S D) (their_sent : List ℕ) : Type 0 where
     pub is_role : node.endpoint.role ≡ role
     pub is_party : node.endpoint.party ≡ party
@@ -39,7 +39,7 @@ module _ {S D : Type 0} (meaning : S → Meaning) (policy : D → Policy) where
     pub moved_within : node.moved ≤ length their_sent
     pub all_used : ending_of node.endpoint ≡ Open → node.used ≡ node.moved
     pub after : ending_of node.endpoint ≢ Failed fault.Memory → After meaning policy node.endpoint (take node.used their_sent) node.sent.items
-    pub uncut : ending_of node.endpoint ≢ Failed fault.Cut
+    pub uncut : by_owner (ending_of node.endpoint) ≡ false
 
   -- a node that has received nothing, and has sent its first output
   pub record IsFresh (role : Role) (party : Party) (suite : S) (decisions : D) (node : Node S D) : Type 0 where

@@ -5,7 +5,7 @@ use Rattle.sshneg.specs.declared.role.Role.{Role}
 use Rattle.sshneg.specs.declared.role.Role.TheVariants as role
 use Rattle.sshcore.specs.declared.end.Fault.TheVariants as fault
 use Rattle.sshcore.specs.ConfigData.{ClientData, ServerData}
-use Rattle.sshcore.specs.Ending.{Authenticated, Closed, Ending, Failed, Open}
+use Rattle.sshcore.specs.Ending.{Authenticated, Closed, Disconnected, Ending, Failed, Open}
 use Rattle.sshcore.specs.Party.{Party, client_party, server_party}
 use Rattle.sshworld.specs.declared.side.Side.{Side}
 use Rattle.sshworld.specs.declared.side.Side.TheVariants as side
@@ -66,6 +66,7 @@ waiting_at Open sent moved = sent - moved
 waiting_at (Authenticated a) sent moved = 0
 waiting_at (Failed f) sent moved = 0
 waiting_at (Closed reason) sent moved = 0
+waiting_at (Disconnected reason) sent moved = 0
 
 abbrev pub waiting : Half → Half → ℕ
 waiting own their = waiting_at own.end (length their.sent) own.moved

@@ -1,5 +1,5 @@
-use Rattle.std.proofs.Common.{subst}
-use Rattle.sshcore.specs.Ending.{Authenticated}
+use Rattle.std.proofs.Common.{ap, subst}
+use Rattle.sshcore.specs.Ending.{Authenticated, by_owner}
 use Rattle.sshcore.specs.Endpoints.{ending_of}
 use Rattle.sshcore.specs.Replies.{Ends}
 use Rattle.sshcore.proofs.EndpointLemmas.{as_heard, authenticated_strictly, cut_open, joined_ends, joined_heard}
@@ -18,12 +18,17 @@ returns-clause-strict g c = λ h s a.
     a.history.replies.ends
 
 pub returns-clause-heard : goal.returns-clause-heard
-returns-clause-heard g c = λ h s a other. as_heard a.heard_end (ending_of c.args.one.now) a.ends other
+returns-clause-heard g c = λ h s a uncut. as_heard a.heard_end (ending_of c.args.one.now) a.ends uncut
 
 pub returns-clause-cut : goal.returns-clause-cut
-returns-clause-cut g c = λ h s a.
+returns-clause-cut g c = λ h s a cut.
     cut_open (g.S.Suite.meaning c.args.one.now.suite) (g.D.Decisions.policy c.args.one.now.decisions) c.args.one.now.role c.args.one.now.party a.units a.refusal a.heard_end
-    (ending_of c.args.one.now) a.history.replies.ends a.ends
+    (ending_of c.args.one.now) a.history.replies.ends a.ends (ap by_owner cut)
+
+pub returns-clause-left : goal.returns-clause-left
+returns-clause-left g c = λ h s a reason left.
+    cut_open (g.S.Suite.meaning c.args.one.now.suite) (g.D.Decisions.policy c.args.one.now.decisions) c.args.one.now.role c.args.one.now.party a.units a.refusal a.heard_end
+    (ending_of c.args.one.now) a.history.replies.ends a.ends (ap by_owner left)
 
 pub returns-clause-authenticated : goal.returns-clause-authenticated
 returns-clause-authenticated g c = λ h s a agreed is.

@@ -1,0 +1,239 @@
+"""What an endpoint is told that its peer says to people: by a DISCONNECT, a DEBUG with always_display, a banner and a FAILURE; and nothing
+of a message that is refused, dropped, or says nothing to people."""
+from lab import *
+from deployed_sessions import DeployedCourse, packet_of
+from disconnecting import begun, client_places, server_places
+from requests import half
+
+AL = ["client try al ssh-connection none"]
+TEXTS = {"no text": b"", "a text": b"hi", "two lines": b"a\r\nb\n", "any bytes": b"\xff\x00\x1b[2J\x80", "1025 bytes": b"t" * 1025}
+TALKS = {"strict": {}, "loose": {"strict": False}, "guessed": {"guess": True, "crossed": True},
+         "loosely guessed": {"strict": False, "guess": True, "crossed": True}}
+
+
+def debug(display, text=b"hi", language=b""):
+    return b"\x04" + bytes([display]) + string(text) + string(language)
+
+
+def banner_of(text, language=b""):
+    return b"\x35" + string(text) + string(language)
+
+
+def lists(names, partial):
+    """A FAILURE with this text and this flag."""
+    return b"\x33" + string(names) + bytes([partial])
+
+
+def told(*notices):
+    return "told " + (" ".join(notices) or "nothing")
+
+
+def of_text(kind, text, language=b""):
+    return "%s %s %s" % (kind, hexa(text), hexa(language))
+
+
+def of_failure(names, partial):
+    return "failure '%s %s" % (names, "yes" if partial else "no")
+
+
+class Place:
+    """A side that has come so far, and its peer, which goes on to say."""
+
+    def __init__(self, file, t, role, name, lines=()):
+        places = client_places(t) if role == CLIENT else server_places(t)
+        _, heard, said, self.own, questions = next(x for x in places if x[0] == name)
+        first = t.c_first if role == CLIENT else t.s_first
+        self.begun = [t.lines(), AL, *lines, begun(file, role, first, heard, said, questions)]
+        self.file, self.peer = file, peer_at(t, role, name)
+
+    def row(self, name, payloads, notices, answers=(), end="open"):
+        """Each payload in a piece of its own, then all that was told."""
+        self.file.row(name, self.begun, [feed(self.peer.say(p)) for p in payloads], says(*[self.own.say(p) for p in answers]), told(*notices),
+                      "end " + end)
+
+
+def peer_at(t, role, name):
+    """What the peer says with behind what the side has heard."""
+    peer = Half(other(role))
+    if name in ("at its making", "behind the version line"):
+        return peer
+    peer.say(t.si if role == CLIENT else t.ci)
+    if role == SERVER and t.guess:
+        peer.say(INIT)
+    if name == "behind KEXINIT":
+        return peer
+    if role == CLIENT:
+        peer.say(reply(t.hash))
+    elif t.c_init:
+        peer.say(INIT)
+    if name in ("behind the reply", "behind the share"):
+        return peer
+    peer.switch(t.sc if role == CLIENT else t.cs, t.strict)
+    if name == "behind NEWKEYS":
+        return peer
+    peer.say(service(6 if role == CLIENT else 5, "ssh-userauth"))
+    return peer
+
+
+PLACES = {CLIENT: ("behind the version line", "behind KEXINIT", "behind the reply", "behind NEWKEYS", "in authentication"),
+          SERVER: ("behind the version line", "behind KEXINIT", "behind the share", "behind NEWKEYS", "in authentication")}
+# a second attempt, which a FAILURE of `none` leads to
+BO = ["client try bo ssh-connection none"]
+
+
+def in_auth(file, t, role=CLIENT, lines=()):
+    return Place(file, t, role, "in authentication", lines)
+
+
+def rows(file):
+    for name, how in TALKS.items():
+        t = Talk(**how)
+        for role in (CLIENT, SERVER):
+            for place in PLACES[role]:
+                everywhere(file, t, role, place, "a %s %s, %s" % (role, place, name))
+    t = Talk()
+    texts(file, t)
+    failures(file, t)
+    several(file, t)
+    ended(file, t)
+    malformed(file, t)
+    useless(file, t)
+    refused(file, t)
+    dropped(file)
+    deployed(file)
+
+
+def everywhere(file, t, role, place, name):
+    """DISCONNECT is told of in each place; DEBUG where it may be shown, and is no deviation from a strict key exchange."""
+    if role == SERVER and place == "behind KEXINIT" and t.guess:
+        # the packet of the wrong guess stands before what is said here
+        return
+    Place(file, t, role, place).row(name + ": DISCONNECT", [disconnect(11, b"bye", b"en")], ["disconnect 11 627965 656e"], end="closed 11")
+    ruled = t.strict and place in ("behind KEXINIT", "behind the reply", "behind the share")
+    for display in (0, 1):
+        notices = [of_text("debug", b"hi", b"de")] if display and not ruled else []
+        Place(file, t, role, place).row("%s: DEBUG %d" % (name, display), [debug(display, b"hi", b"de")], notices, [disconnect(2)] if ruled else [],
+                                        "failed F7 4" if ruled else "open")
+
+
+def texts(file, t):
+    """The bytes of a text and of its language, as they came, of each kind."""
+    for how, text in TEXTS.items():
+        for language in (b"", b"en", b"\x00\xff"):
+            name = "%s, language %s" % (how, hexa(language))
+            for role in (CLIENT, SERVER):
+                for reason in (0, 11, 2 ** 32 - 1) if text == b"hi" else (2,):
+                    in_auth(file, t, role).row("a %s's DISCONNECT of %d, %s" % (other(role), reason, name), [disconnect(reason, text, language)],
+                                               [of_text("disconnect %d" % reason, text, language)], end="closed %d" % reason)
+                in_auth(file, t, role).row("a %s's DEBUG, %s" % (other(role), name), [debug(1, text, language)], [of_text("debug", text, language)])
+            in_auth(file, t).row("a banner, " + name, [banner_of(text, language)], [of_text("banner", text, language)])
+    # each byte but 00 is true (RFC 4251 section 5)
+    for display in range(256):
+        in_auth(file, t).row("DEBUG with always_display %02x" % display, [debug(display)], [of_text("debug", b"hi")] if display else [])
+
+
+def failures(file, t):
+    """The methods that can continue, and whether the request was good as one of several."""
+    for names in ("", "password", "password,publickey", "publickey,password,x@example.com", "none"):
+        for partial in (0, 1, 2, 255):
+            answer, end = (by_none("bo"), "open") if names == "none" else (disconnect(14), "failed F14")
+            in_auth(file, t, lines=BO).row("FAILURE of %s, %d" % (names or "nothing", partial), [lists(names, partial)], [of_failure(names, partial)],
+                                           [answer], end)
+
+
+def several(file, t):
+    """Several are told in their order, each once."""
+    heard = [(banner_of(b"a"), [of_text("banner", b"a")]), (debug(0), []), (debug(7, b"b"), [of_text("debug", b"b")]), (b"\x02" + string(b"c"), []),
+             (unimplemented(0), []), (banner_of(b"d", b"e"), [of_text("banner", b"d", b"e")])]
+    last = [(lists("none", 1), [of_failure("none", 1)]), (disconnect(3, b"f"), [of_text("disconnect 3", b"f")])]
+    payloads, notices = [p for p, _ in heard + last], [n for _, ns in heard + last for n in ns]
+    in_auth(file, t, lines=BO).row("several, one by one", payloads, notices, [by_none("bo")], "closed 3")
+    place = in_auth(file, t, lines=BO)
+    file.row("several, looked at one by one", place.begun, told(), [[feed(place.peer.say(p)), told(*ns)] for p, ns in heard],
+             feed(place.peer.say(last[0][0])), told(*last[0][1]), says(place.own.say(by_none("bo"))), "end open")
+    place = in_auth(file, t, lines=BO)
+    file.row("several in one piece", place.begun, feed(*[place.peer.say(p) for p in payloads]), says(place.own.say(by_none("bo"))), told(*notices),
+             "end closed 3")
+    for text in (b"hi", b""):
+        own = Talk(banner_text=text.decode())
+        place = Place(file, own, CLIENT, "behind NEWKEYS")
+        file.row("a banner of %d bytes in one piece with the answer before" % len(text), place.begun, feed(own.s_accept + own.s_banner),
+                 says(place.own.say(by_none())), told(of_text("banner", text)), "end open")
+
+
+def ended(file, t):
+    """Nothing is told before a message is whole, and nothing once the endpoint has ended."""
+    place = Place(file, t, SERVER, "behind KEXINIT")
+    file.row("an unfinished DISCONNECT", place.begun, feed(place.peer.say(disconnect(11))[:-1]), told(), "end open")
+    place = in_auth(file, t)
+    closing, more = place.peer.say(disconnect(3, b"f")), place.peer.say(banner_of(b"a"))
+    file.row("nothing behind a DISCONNECT", place.begun, part(len(closing), closing, more), told(of_text("disconnect 3", b"f")), "end closed 3",
+             part(0, more), told(), "end closed 3")
+    place = in_auth(file, t)
+    success, more = place.peer.say(SUCCESS), place.peer.say(debug(1))
+    file.row("nothing behind SUCCESS", place.begun, part(len(success), success, more), told(), "end authenticated al ssh-connection")
+    place = in_auth(file, t)
+    file.row("nothing behind an own DISCONNECT", place.begun, "disconnect 11 -", says(place.own.say(disconnect(11))), part(0, place.peer.say(banner_of(b"a"))),
+             told(), "end disconnected 11")
+
+
+def malformed(file, t):
+    """Nothing is told of a message that can't be read."""
+    for name, payload, roles in (("DISCONNECT", disconnect(11, b"hi"), (CLIENT, SERVER)), ("DEBUG", debug(1), (CLIENT, SERVER)),
+                                 ("banner", banner_of(b"hi"), (CLIENT,)), ("FAILURE", failure(), (CLIENT,))):
+        for how, wrong in (("cut", payload[:-1]), ("and more", payload + b"\x00"), ("alone", payload[:1])):
+            for role in roles:
+                in_auth(file, t, role).row("a %s hears a malformed %s, %s" % (role, name, how), [wrong], [], [disconnect(2)], "failed F5 %d" % payload[0])
+    in_auth(file, t).row("a client hears a FAILURE with an empty name", [lists(",a", 0)], [], [disconnect(2)], "failed F5 51")
+
+
+def useless(file, t):
+    """Nothing of a message that came where it has no use."""
+    loose = Talk(strict=False)
+    for payload in (banner_of(b"hi"), failure()):
+        n = payload[0]
+        for name, place, end in (("a server hears %d" % n, in_auth(file, t, SERVER), "failed F6 %d"),
+                                 ("a client hears %d before its service is accepted" % n, Place(file, t, CLIENT, "behind NEWKEYS"), "failed F6 %d"),
+                                 ("a client hears %d in clear" % n, Place(file, loose, CLIENT, "behind KEXINIT"), "failed F6 %d"),
+                                 ("a strict client hears %d in clear" % n, Place(file, t, CLIENT, "behind KEXINIT"), "failed F7 %d")):
+            place.row(name, [payload], [], [disconnect(2)], end % n)
+
+
+def refused(file, t):
+    """Nothing of a packet with a wrong tag. What was told before a failure stays told."""
+    for role in (CLIENT, SERVER):
+        for name, payload in (("DISCONNECT", disconnect(11, b"hi")), ("DEBUG", debug(1))):
+            place = in_auth(file, t, role)
+            wrong = bytearray(place.peer.say(payload))
+            wrong[-1] ^= 1
+            file.row("a %s hears a %s with a wrong tag" % (role, name), place.begun, feed(bytes(wrong)), says(place.own.say(disconnect(5))), told(),
+                     "end failed F4")
+        Place(file, t, role, "behind the version line").row("a %s, DEBUG before KEXINIT" % role, [debug(1), t.si if role == CLIENT else t.ci],
+                                                            [of_text("debug", b"hi")], [disconnect(2)], "failed F7 20")
+
+
+def dropped(file):
+    """In the place of a wrong guess nothing is read but DISCONNECT."""
+    for strict in (True, False):
+        t, how = Talk(strict=strict, guess=True, crossed=True), "strict" if strict else "loose"
+        c, s = Half(CLIENT), Half(SERVER)
+        s.seq = 1
+        heard = LINE + c.say(t.ci)
+        start = [t.lines(), "begin server", feed(file.short(heard)), says(file.short(t.s_first))]
+        file.row("DISCONNECT in the place of a guess, " + how, start, feed(half(c).say(disconnect(11, b"hi"))), told(of_text("disconnect 11", b"hi")),
+                 "end closed 11")
+        file.row("DEBUG in the place of a guess, " + how, start, feed(half(c).say(debug(1))), says(s.say(disconnect(2))) if strict else "says -", told(),
+                 "end failed F7 4" if strict else "end open")
+
+
+def deployed(file):
+    """The same over the algorithms that are deployed."""
+    course = DeployedCourse()
+    t, names = course.t, [line for line in course.lines if not line.startswith("allow ")]
+    heard, said = [t.s_first, t.s_reply, t.s_newkeys, t.s_accept], [t.c_first, t.c_init, t.c_newkeys, t.c_service, course.requests[0]]
+    # the server of the course has said SUCCESS besides
+    number = t.s.seq - 1
+    payloads = [banner_of(b"hi", b"en"), debug(0), debug(1, b"a"), disconnect(11, b"bye")]
+    file.row("a deployed client", names, "deployed client", feed(*heard), says(*said), asked("host_key"),
+             feed(*[packet_of(p, number + n, SEED[SERVER], t.s.keys) for n, p in enumerate(payloads)]),
+             told(of_text("banner", b"hi", b"en"), of_text("debug", b"a"), of_text("disconnect 11", b"bye")), "end closed 11")
