@@ -22,6 +22,7 @@ def rows(file):
     questions(file, t)
     notices(file, t)
     disconnecting(file, t)
+    linked(file, t)
     below(file, t)
     unjudged(file, t)
 
@@ -83,6 +84,39 @@ def disconnecting(file, t):
     file.row("no end behind a DISCONNECT", start, "end open", "disconnect 11 -", said(11))
     file.row("a description that is no text", start, "disconnect 11 ff", said(11, b"\xff"), "end disconnected 11")
     file.row("a reason that is no number", start, "disconnect x -", said(0), "end disconnected 0")
+
+
+def linked(file, t):
+    """A session that goes on as a link."""
+    al = ["client try al ssh-connection none", "allow al none"]
+    c, s = half(t.c), half(t.s)
+    asks, success = c.say(by_none()), s.say(SUCCESS)
+    session = [al, "begin client", feed(t.s_first, t.s_reply, t.s_newkeys, t.s_accept), says(t.c_first, t.c_init, t.c_newkeys, t.c_service, asks),
+               asked("host_key"), feed(success), "end authenticated al ssh-connection"]
+    link = session + ["link " + hexa(SEED[CLIENT])]
+    seals = "seals 63 %s"
+    file.row("a link of nothing", "begin client", says(t.c_first), "end open", "link " + hexa(SEED[CLIENT]), seals % hexa(packet(b"\x63", 0, SEED[CLIENT], t.cs)))
+    file.row("a link alone", link)
+    file.row("a link's seed has 31 bytes", session, "link 31*22", "sealed 0")
+    file.row("a link seals with the number before", link, seals % hexa(packet(b"\x63", c.seq - 1, SEED[CLIENT], t.cs)))
+    file.row("a link seals with the other direction's keys", link, seals % hexa(packet(b"\x63", c.seq, SEED[CLIENT], t.sc)))
+    file.row("a link pads by another seed", link, seals % hexa(packet(b"\x63", c.seq, SEED[SERVER], t.cs)))
+    file.row("a link seals no byte", link, "seals - " + hexa(packet(b"", c.seq, SEED[CLIENT], t.cs)))
+    file.row("a link refuses a payload", link, "seals 63 payload")
+    file.row("a link lends another payload", link, "opens 64 " + hexa(s.say(b"\x63")))
+    file.row("a link lends no payload", link, "opens - " + hexa(half_again(t).say(b"\x63")))
+    file.row("a link opens a wrong tag", link, "opens 63 " + hexa(half_again(t).say(b"\x63")[:-1] + b"\x00"))
+    file.row("a link refuses a right packet", link, "refuses P4 " + hexa(half_again(t).say(b"\x63")))
+    file.row("a link counts one more", link, seals % hexa(packet(b"\x63", c.seq, SEED[CLIENT], t.cs)), "sealed 2")
+    file.row("a link has opened one", link, "opened 1")
+    file.row("a link holds a byte", link, "held 1")
+
+
+def half_again(t):
+    """The server behind SUCCESS."""
+    s = half(t.s)
+    s.say(SUCCESS)
+    return s
 
 
 def below(file, t):

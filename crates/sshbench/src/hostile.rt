@@ -108,20 +108,25 @@ fn means_nothing(stream: &[u8], changed: &[u8], place: usize, change: Change) ->
 /// Whether the byte at the place is padding of a packet in clear.
 fn is_padding(stream: &[u8], place: usize) -> bool {
     let mut begin = LINE_LEN;
+    let mut found = false;
     for _ in 0..CLEAR_PACKETS {
-        let Some((length, rest)) = stream.get(begin..).unwrap_or(&[]).split_first_chunk::<4>()
-        else {
-            return false;
-        };
-        let len = usize::try_from(u32::from_be_bytes(*length)).unwrap_or(0);
-        let padding = usize::from(rest.first().copied().unwrap_or(0));
-        let end = begin.saturating_add(4).saturating_add(len);
-        if place < end {
-            return place >= end.saturating_sub(padding);
-        }
+        let (padding, end) = padding_behind(stream, begin);
+        found = found || padding <= place && place < end;
         begin = end;
     }
-    false
+    found
+}
+
+/// Where the padding of the packet in clear that begins there begins, and where it ends.
+fn padding_behind(stream: &[u8], begin: usize) -> (usize, usize) {
+    let packet = stream.get(begin..).unwrap_or(&[]);
+    let Some((length, rest)) = packet.split_first_chunk::<4>() else {
+        return (begin, begin);
+    };
+    let len = usize::try_from(u32::from_be_bytes(*length)).unwrap_or(0);
+    let padding = usize::from(rest.first().copied().unwrap_or(0));
+    let end = begin.saturating_add(4).saturating_add(len);
+    (end.saturating_sub(padding), end)
 }
 
 /// The stream with the change at the place.

@@ -36,16 +36,24 @@ pub(crate) fn print(rt: &HostRuntime, megabytes: u32) -> Result<(), Fault> {
         batch: Vec::new(alloc),
         reader: PacketReader::new(alloc),
     };
-    let mut micros: u128 = 0;
-    for number in 0..megabytes.saturating_mul(BATCHES_A_MEGABYTE) {
-        let took = long.read_batch(rt, number)?;
-        micros = micros.saturating_add(took.as_micros());
-    }
+    let read = long.read(rt, megabytes);
+    drop(long);
+    let micros = read?;
     writeln!(rt.stdout(), "{megabytes} MB read in {micros} us")?;
     Ok(())
 }
 
 impl Long {
+    /// Reads so many MB of packets, and answers how many microseconds the reading took.
+    fn read(&mut self, rt: &HostRuntime, megabytes: u32) -> Result<u128, Fault> {
+        let mut micros: u128 = 0;
+        for number in 0..megabytes.saturating_mul(BATCHES_A_MEGABYTE) {
+            let took = self.read_batch(rt, number)?;
+            micros = micros.saturating_add(took.as_micros());
+        }
+        Ok(micros)
+    }
+
     /// Makes the batch of this number and reads it, and answers how long the reading took.
     fn read_batch(&mut self, rt: &HostRuntime, number: u32) -> Result<Duration, Fault> {
         self.make_batch(rt, number.wrapping_mul(BATCH))?;
@@ -58,7 +66,8 @@ impl Long {
     fn read_pieces(&mut self) -> Result<(), Fault> {
         let mut count: u32 = 0;
         for piece in self.batch.chunks(PIECE_LEN) {
-            count = count.saturating_add(read_piece(&mut self.reader, piece, PAYLOAD_LEN)?);
+            let more = read_piece(&mut self.reader, piece, PAYLOAD_LEN)?;
+            count = count.saturating_add(more);
         }
         holds(count == BATCH)
     }

@@ -1,6 +1,6 @@
 //! Streams of packets, read in pieces.
 
-use crate::fault::Fault;
+use crate::fault::{Fault, holds};
 use sshpacket::{KeyParts, Keys, PacketReader, PacketStep, write_clear, write_sealed};
 use sshsuites::LabSuite;
 use sshwire::PAYLOAD_LIMIT;
@@ -72,50 +72,85 @@ impl Stream {
     /// So many packets.
     pub(crate) fn new(alloc: Global, load: Load, count: u32) -> Result<Stream, Fault> {
         let keys = keys(alloc)?;
-        let payload = payload(alloc, load.payload_len)?;
-        let mut bytes = Vec::new(alloc);
-        for seq in 0..count {
-            put_packet(alloc, load.sealed, &keys, seq, &payload, &mut bytes)?;
-        }
-        Ok(Stream { load, count, bytes })
+        let bytes = packets(alloc, load, count, &keys);
+        drop(keys);
+        Ok(Stream {
+            load,
+            count,
+            bytes: bytes?,
+        })
     }
 
     /// Reads all packets in pieces of so many bytes, and checks that as many payloads come as were
     /// written, each of its length.
     pub(crate) fn read(&self, alloc: Global, piece_len: usize) -> Result<(), Fault> {
-        let mut reader = PacketReader::new(alloc);
+        let mut reader = self.reader(alloc)?;
+        let count = self.count_by(&mut reader, piece_len);
+        drop(reader);
+        holds(count? == self.count)
+    }
+
+    /// A reader of the stream.
+    fn reader(&self, alloc: Global) -> Result<PacketReader, Fault> {
         if self.load.sealed {
-            reader.use_keys(keys(alloc)?, true);
+            Ok(PacketReader::with_keys(alloc, keys(alloc)?, 0))
+        } else {
+            Ok(PacketReader::new(alloc))
         }
+    }
+
+    /// Reads all packets, and answers how many there were.
+    fn count_by(&self, reader: &mut PacketReader, piece_len: usize) -> Result<u32, Fault> {
         let mut count: u32 = 0;
         for piece in self.bytes.chunks(piece_len.max(1)) {
-            let more = read_piece(&mut reader, piece, self.load.payload_len)?;
+            let more = read_piece(reader, piece, self.load.payload_len)?;
             count = count.saturating_add(more);
         }
-        if count == self.count {
-            Ok(())
-        } else {
-            Err(Fault::Otherwise)
-        }
+        Ok(count)
     }
 
-    /// Copies all bytes in pieces of so many, each behind the one before, the first behind nothing.
-    pub(crate) fn copy(&self, piece_len: usize, out: &mut Vec<u8>) -> Result<(), Fault> {
+    /// Copies all bytes in pieces of so many, the first behind nothing: each other one behind the one before, or with
+    /// `over` behind nothing too, so that the last one is left.
+    pub(crate) fn copy(
+        &self,
+        piece_len: usize,
+        over: bool,
+        out: &mut Vec<u8>,
+    ) -> Result<(), Fault> {
         out.clear();
         for piece in self.bytes.chunks(piece_len.max(1)) {
+            if over {
+                out.clear();
+            }
             out.extend_from_slice(piece)?;
         }
         Ok(())
     }
+}
 
-    /// Copies all bytes in pieces of so many, each behind nothing, so that the last one is left.
-    pub(crate) fn copy_over(&self, piece_len: usize, out: &mut Vec<u8>) -> Result<(), Fault> {
-        for piece in self.bytes.chunks(piece_len.max(1)) {
-            out.clear();
-            out.extend_from_slice(piece)?;
-        }
-        Ok(())
+/// So many packets, sealed with these keys where they are sealed.
+fn packets(alloc: Global, load: Load, count: u32, keys: &Keys) -> Result<Vec<u8>, Fault> {
+    let payload = payload(alloc, load.payload_len)?;
+    let mut bytes = Vec::new(alloc);
+    let put = put_packets(alloc, load.sealed, count, keys, &payload, &mut bytes);
+    drop(payload);
+    put?;
+    Ok(bytes)
+}
+
+/// Appends packets of the payload, numbered from 0.
+fn put_packets(
+    alloc: Global,
+    sealed: bool,
+    count: u32,
+    keys: &Keys,
+    payload: &[u8],
+    out: &mut Vec<u8>,
+) -> Result<(), Fault> {
+    for seq in 0..count {
+        put_packet(alloc, sealed, keys, seq, payload, out)?;
     }
+    Ok(())
 }
 
 /// A payload of so many bytes.
@@ -139,12 +174,12 @@ pub(crate) fn put_packet(
     if payload.is_empty() || payload.len() > PAYLOAD_LIMIT {
         return Err(Fault::Otherwise);
     }
-    if sealed {
-        write_sealed(alloc, &LabSuite, keys, seq, payload, b"seed", out)?;
+    let written = if sealed {
+        write_sealed(alloc, &LabSuite, keys, seq, payload, b"seed", out)
     } else {
-        write_clear(alloc, &LabSuite, seq, payload, b"seed", out)?;
-    }
-    Ok(())
+        write_clear(alloc, &LabSuite, seq, payload, b"seed", out)
+    };
+    Ok(written?)
 }
 
 /// Reads all of a piece, and answers how many payloads ended in it; each must have this length.
@@ -177,24 +212,21 @@ pub(crate) fn read_piece(
 /// Reads streams of packets of each length, in clear and sealed, in pieces of each length.
 pub(crate) fn check(alloc: Global) -> Result<(), Fault> {
     for payload_len in [1, 1024, 32768] {
-        let sealed = false;
-        check_load(
-            alloc,
-            Load {
-                sealed,
-                payload_len,
-            },
-        )?;
-        let sealed = true;
-        check_load(
-            alloc,
-            Load {
-                sealed,
-                payload_len,
-            },
-        )?;
+        check_way(alloc, false, payload_len)?;
+        check_way(alloc, true, payload_len)?;
     }
     Ok(())
+}
+
+/// Reads a stream of packets of this length.
+fn check_way(alloc: Global, sealed: bool, payload_len: usize) -> Result<(), Fault> {
+    check_load(
+        alloc,
+        Load {
+            sealed,
+            payload_len,
+        },
+    )
 }
 
 /// Reads a stream in pieces of each length.

@@ -45,8 +45,8 @@ impl Act {
     fn once(self, alloc: Global, stream: &Stream, out: &mut Vec<u8>) -> Result<(), Fault> {
         match self {
             Act::Read(piece_len) => stream.read(alloc, piece_len),
-            Act::Copy(piece_len) => stream.copy(piece_len, out),
-            Act::CopyOver(piece_len) => stream.copy_over(piece_len, out),
+            Act::Copy(piece_len) => stream.copy(piece_len, false, out),
+            Act::CopyOver(piece_len) => stream.copy(piece_len, true, out),
             Act::Digest(first) => holds(digest(stream) == first),
         }
     }

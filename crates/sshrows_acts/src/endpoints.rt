@@ -2,6 +2,7 @@
 
 use crate::asked::{Asking, Heard};
 use crate::handed::judge_session;
+use crate::linked::{judge_link, link_of, seed_of};
 use crate::names::Names;
 use crate::refusals::{is_out_of_memory, refused_saying};
 use crate::stop::Stop;
@@ -42,7 +43,7 @@ pub fn judge_client<S: Suite, D: Decisions>(
     let heard = &Heard::new(alloc, lines);
     let asking = &Asking { decisions, heard };
     let subject = client_of(alloc, row, config, suite, asking, heard, piece_len)?;
-    talk(alloc, names, row, subject, lines)
+    talk(alloc, names, suite, row, subject, lines)
 }
 
 /// Judges a server of this config in the same way.
@@ -58,7 +59,7 @@ pub fn judge_server<S: Suite, D: Decisions>(
     let heard = &Heard::new(alloc, lines);
     let asking = &Asking { decisions, heard };
     let subject = server_of(alloc, row, config, suite, asking, heard, piece_len)?;
-    talk(alloc, names, row, subject, lines)
+    talk(alloc, names, suite, row, subject, lines)
 }
 
 /// A client of this config.
@@ -115,34 +116,38 @@ fn subject_of<'a, S: Suite, D: Decisions>(
     )?)
 }
 
-/// Judges an endpoint by lines, and what it hands over by those from the first of a session on.
+/// Judges an endpoint by lines, what it hands over by those from the first of a session on, and what goes on with that by
+/// those from the first of a link on.
 fn talk<S: Suite, D: Decisions>(
     alloc: Global,
     names: &Names,
+    suite: &S,
     row: &Line<'_>,
     subject: Box<Subject<'_, S, D>>,
     lines: &[Line<'_>],
 ) -> Result<(), Stop> {
     let mut subject = subject;
-    let place = place_of_session(lines);
-    let steps = lines.get(..place).unwrap_or(lines);
-    let handed = lines.get(place..).unwrap_or(&[]);
+    let (lines, linked) = split_before(lines, "link");
+    let (steps, handed) = split_before(lines, "session");
     talk_on(alloc, names, row, &mut subject, steps)?;
-    if handed.is_empty() {
-        return Ok(());
-    }
+    let piece_len = subject.piece_len;
     let session = session_of(subject);
-    judge_session(alloc, &session, handed)
+    let judged = judge_session(alloc, &session, handed);
+    let seed = seed_of(alloc, names, linked);
+    let mut link = link_of(alloc, session, seed.unwrap_or([0; 32]));
+    let went_on = judge_link(alloc, names, suite, &mut link, linked, piece_len);
+    drop(link);
+    judged.and(seed.and(went_on))
 }
 
-/// The place of the first line of a session; that behind all lines where there is none.
-fn place_of_session(lines: &[Line<'_>]) -> usize {
+/// The lines before the first that begins with this word, and all from it on.
+fn split_before<'a, 'b>(lines: &'b [Line<'a>], word: &str) -> (&'b [Line<'a>], &'b [Line<'a>]) {
     for (place, line) in lines.iter().enumerate() {
-        if line.text.starts_with("session ") {
-            return place;
+        if line.head().0 == word {
+            return lines.split_at(place);
         }
     }
-    lines.len()
+    (lines, &[])
 }
 
 /// What the endpoint hands over.

@@ -19,6 +19,7 @@ mod configs;
 mod endpoints;
 mod generous;
 mod handed;
+mod linked;
 mod names;
 mod parts;
 mod refusals;
