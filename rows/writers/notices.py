@@ -1,5 +1,5 @@
-"""What an endpoint is told that its peer says to people: by a DISCONNECT, a DEBUG with always_display, a banner and a FAILURE; and nothing
-of a message that is refused, dropped, or says nothing to people."""
+"""What an endpoint is told that its peer says to people: by a line before the version line, a DISCONNECT, a DEBUG with always_display, a
+banner and a FAILURE; and nothing of a message that is refused, dropped, or says nothing to people."""
 from lab import *
 from deployed_sessions import DeployedCourse, packet_of
 from disconnecting import begun, client_places, server_places
@@ -101,6 +101,34 @@ def rows(file):
     refused(file, t)
     dropped(file)
     deployed(file)
+    lines_before(file, t)
+
+
+def lines_before(file, t):
+    """Lines before the version line: a client takes 20 at the most, a server none; the first that is one too many is told too."""
+    client, server = ["begin client", says(t.c_first)], ["begin server", says(t.s_first)]
+
+    def row(name, begun, heard, lines, end, used=None):
+        notices = told(*["line " + hexa(line) for line in lines])
+        file.row("lines before the version line: " + name, begun, part(len(heard) if used is None else used, heard), notices, "end " + end)
+
+    first = t.s_first
+    for name, line in (("a text", b"hi"), ("none in it", b""), ("any bytes", b"\xff\x1b[2J\x80"), ("a CR inside", b"a\rb"),
+                       ("253 bytes", b"l" * 253), ("SSH-, not in front", b" SSH-2.0-x"), ("SSH without a hyphen", b"SSH")):
+        row(name, client, line + b"\r\n", [line], "open")
+        row(name + ", and the version line", client, line + b"\r\n" + LINE, [line], "open")
+    row("without CR", client, b"hi\n", [b"hi"], "open")
+    row("254 bytes without CR", client, b"l" * 254 + b"\n", [b"l" * 254], "open")
+    row("two CRs", client, b"hi\r\r\n", [b"hi\r"], "open")
+    row("one that isn't ended", client, b"hi", [], "open")
+    row("255 bytes without LF", client, b"a\n" + b"l" * 255, [b"a"], "failed F1")
+    row("a NUL", client, b"a\nb\0c\n", [b"a"], "failed F1", 4)
+    row("a version line that is refused", client, b"a\nSSH-1.99-x\r\nb\n", [b"a"], "failed F1", 14)
+    twenty = [b"line %d" % n for n in range(20)]
+    row("20", client, b"".join(line + b"\r\n" for line in twenty), twenty, "open")
+    row("21", client, b"".join(line + b"\r\n" for line in twenty + [b"too many"]), twenty + [b"too many"], "failed F1")
+    row("one at a server", server, b"GET / HTTP/1.1\r\n", [b"GET / HTTP/1.1"], "failed F1")
+    file.row("lines before the version line: none behind it", client, feed(b"a\n" + first), says(t.c_init), told("line 61"), "end open")
 
 
 def everywhere(file, t, role, place, name):

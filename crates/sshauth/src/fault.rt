@@ -47,9 +47,7 @@ impl fmt::Display for Fault {
                 f,
                 "the file of --{option} hasn't the form that it needs"
             ),
-            Fault::Config(fault) => {
-                write!(f, "the settings are refused: {fault}: {}", fault.words())
-            }
+            Fault::Config(fault) => { write!(f, "the settings are refused: {fault}") }
             _ => f.write_str(text_of(self)),
         }
     }

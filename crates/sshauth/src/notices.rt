@@ -6,8 +6,8 @@ use std::alloc::{AllocError, Global};
 use std::cell::RefCell;
 use std::fmt::Write;
 
-/// What the peer has said to people, a line for each: `banner TEXT` for each line of one, `debug TEXT`, `disconnect
-/// TEXT`, and after a FAILURE `methods NAMES` for those that can continue, or `partial success, methods NAMES`.
+/// What the peer has said to people, a line for each: `line TEXT` before its version line, `banner TEXT` for each line of
+/// one, `debug TEXT`, `disconnect TEXT`, and after a FAILURE `methods NAMES` for those that can continue, or `partial success, methods NAMES`.
 ///
 /// A byte that is no printable character of ASCII stands as `\xNN` in them, so none of them moves a terminal's
 /// cursor (RFC 4251 section 9.2). A notice for which memory is wanting is left out.
@@ -80,6 +80,7 @@ fn text_of(alloc: Global, notice: Notice<'_>) -> Result<String, AllocError> {
         Notice::Disconnect { description, .. } => {
             put_lines(&mut lines, "disconnect", description)?;
         }
+        Notice::Line { text } => put_lines(&mut lines, "line", text)?,
         Notice::Debug { text, .. } => put_lines(&mut lines, "debug", text)?,
         Notice::Banner { text, .. } => put_lines(&mut lines, "banner", text)?,
         Notice::Failure {

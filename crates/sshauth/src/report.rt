@@ -14,7 +14,7 @@ impl fmt::Display for Ended<'_> {
         match self.0 {
             End::Authenticated(_) => f.write_str("authenticated"),
             End::Open => f.write_str("open"),
-            End::Failed(fault) => write!(f, "failed {fault}: {}", fault.words()),
+            End::Failed(fault) => write!(f, "failed {fault}"),
             End::Closed(reason) => write!(f, "closed {reason}: the peer has disconnected"),
             End::Disconnected(reason) => write!(f, "disconnected {reason}: by this side"),
         }

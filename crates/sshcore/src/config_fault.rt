@@ -4,11 +4,9 @@ ghost use Rattle.std.specs.Prelude.{◌≡◌};
 ghost use Rattle.sshcore.specs.declared.config_fault.ConfigFault.TheVariants as fault;
 
 use sshwire::Memory;
-use std::error::Error;
-use std::fmt;
 
 /// Why a config was refused. Where several causes hold, the one with the least number is told; all
-/// limits are profile. Prints the number behind a `C`, as `C1`.
+/// limits are profile. It prints a sentence with its code: `C1: a list of algorithms is empty`.
 #[derive(Clone, Copy, Debug, PartialEq, Eq)]
 pub enum ConfigFault {
     /// C1: a list of key exchange methods, host key algorithms, ciphers or MACs is empty.
@@ -40,28 +38,6 @@ pub enum ConfigFault {
     /// C12: a required method isn't one of the server's methods, or stands twice.
     Required,
 }
-
-impl fmt::Display for ConfigFault {
-    fn fmt<W: fmt::Write>(&self, f: &mut fmt::Formatter<W>) -> fmt::Result {
-        let text = match self {
-            ConfigFault::EmptyList => "C1",
-            ConfigFault::Name => "C2",
-            ConfigFault::ListTooLong => "C3",
-            ConfigFault::Line => "C4",
-            ConfigFault::User => "C5",
-            ConfigFault::Secret => "C6",
-            ConfigFault::Blob => "C7",
-            ConfigFault::Plan => "C8",
-            ConfigFault::Tries => "C9",
-            ConfigFault::Random => "C10",
-            ConfigFault::Memory => "C11",
-            ConfigFault::Required => "C12",
-        };
-        f.write_str(text)
-    }
-}
-
-impl Error for ConfigFault {}
 
 impl From<Memory> for ConfigFault {
     ghost from_gives = { λ _ e. e ≡ fault.Memory };

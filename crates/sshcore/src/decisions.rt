@@ -49,8 +49,8 @@ pub trait Decisions {
     fn user(&self, request_number: u32, user: &str, service: &str, proof: &Proof<'_>) -> bool
         ensures { result ≡ (policy self.now).user request_number user.now service.now (proof_of proof.now) };
 
-    /// Hears what a message of the peer says to people, before the endpoint answers the message. It can't change
-    /// what is answered. Does nothing, unless whoever decides has a body of its own.
+    /// Hears what the peer says to people, by a message before the endpoint answers that, or by a line before the
+    /// version line. It can't change what is answered. Does nothing, unless whoever decides has a body of its own.
     fn told(&self, notice: Notice<'_>) {
         let _ = notice;
     }

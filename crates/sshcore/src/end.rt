@@ -8,10 +8,9 @@ ghost use Rattle.sshcore.specs.declared.end.Fault.TheVariants as faults;
 ghost use Rattle.sshcore.specs.Printed.{fault_text};
 
 use sshneg::NoCommon;
-use std::error::Error;
 use std::fmt;
 
-/// Why an endpoint failed.
+/// Why an endpoint failed. It prints a sentence with its code: `F10: the host key isn't trusted`.
 #[derive(Clone, Copy, Debug, PartialEq, Eq)]
 pub enum Fault {
     /// F1: a line is refused: the version line, or one before it.
@@ -48,16 +47,33 @@ pub enum Fault {
     Cut,
 }
 
-impl fmt::Display for Fault {
-    ghost output = { λ fault. Some (fault_text fault) };
+/// A failure as its code, with the number or the field that some have: it prints `F10`, `F7 20` or `F8 kex`, where the
+/// failure itself prints a sentence.
+#[derive(Clone, Copy)]
+pub struct ShortFault {
+    /// The failure.
+    pub fault: Fault,
+}
+
+impl Fault {
+    /// The failure as its code, with the number or the field that some have. Takes no memory.
+    pub fn short(&self) -> ShortFault
+        ensures { result.fault ≡ self.now }
+    {
+        ShortFault { fault: *self }
+    }
+}
+
+impl fmt::Display for ShortFault {
+    ghost output = { λ short. Some (fault_text short.fault) };
 
     fn fmt<W: fmt::Write>(&self, f: &mut fmt::Formatter<W>) -> fmt::Result {
-        match self {
+        match &self.fault {
             Fault::Malformed(number) => write!(f, "F5 {number}"),
             Fault::Unexpected(number) => write!(f, "F6 {number}"),
             Fault::Strict(number) => write!(f, "F7 {number}"),
             Fault::NoCommon(field) => write!(f, "F8 {field}"),
-            _ => f.write_str(code_of(self)),
+            fault => f.write_str(code_of(fault)),
         }
     }
 }
@@ -86,8 +102,6 @@ fn code_of(fault: &Fault) -> &'static str
         Fault::Cut => "F16",
     }
 }
-
-impl Error for Fault {}
 
 /// What both sides agreed on.
 #[derive(Debug, Drop)]

@@ -5,6 +5,7 @@ ghost use Rattle.sshcore.specs.Codes.{config_code, fault_code};
 
 use crate::config_fault::ConfigFault;
 use crate::end::{End, Fault};
+use std::error::Error;
 use std::fmt;
 
 impl Fault {
@@ -55,12 +56,20 @@ impl Fault {
     }
 }
 
+impl fmt::Display for Fault {
+    fn fmt<W: fmt::Write>(&self, f: &mut fmt::Formatter<W>) -> fmt::Result {
+        write!(f, "{}: {}", self.short(), self.words())
+    }
+}
+
+impl Error for Fault {}
+
 impl fmt::Display for End {
     fn fmt<W: fmt::Write>(&self, f: &mut fmt::Formatter<W>) -> fmt::Result {
         match self {
             End::Open => f.write_str("open"),
             End::Authenticated(_) => f.write_str("authenticated"),
-            End::Failed(fault) => write!(f, "{fault}: {}", fault.words()),
+            End::Failed(fault) => write!(f, "{fault}"),
             End::Closed(reason) => write!(f, "closed by the peer, reason {reason}"),
             End::Disconnected(reason) => write!(f, "disconnected by this side, reason {reason}"),
         }
@@ -68,7 +77,7 @@ impl fmt::Display for End {
 }
 
 impl ConfigFault {
-    /// The refusal's code, `C1` to `C12`, which is all that `Display` prints. Takes no memory.
+    /// The refusal's code, `C1` to `C12`. Takes no memory.
     pub fn code(&self) -> &'static str
         ensures { result.now ≡ config_code self.now }
     {
@@ -106,3 +115,11 @@ impl ConfigFault {
         }
     }
 }
+
+impl fmt::Display for ConfigFault {
+    fn fmt<W: fmt::Write>(&self, f: &mut fmt::Formatter<W>) -> fmt::Result {
+        write!(f, "{}: {}", self.code(), self.words())
+    }
+}
+
+impl Error for ConfigFault {}

@@ -24,6 +24,7 @@ use crate::config::Config;
 use crate::decisions::Decisions;
 use crate::end::{End, Fault};
 use crate::lent::set;
+use crate::notice::tell_lines;
 use crate::state::State;
 use sshneg::Role;
 use sshpacket::{Keys, PacketFault, PacketReader, PacketStep, Suite};
@@ -100,14 +101,17 @@ impl Input {
         sshneg::markers_law();
         let alloc = state.alloc;
         match self {
-            Input::Lines(reader) => match hear_lines(reader, state, piece)? {
-                Heard::Part(used) => Ok(used),
-                Heard::Refused(used) => Ok(used),
-                Heard::Whole(used) => {
-                    *self = Input::Packets(PacketReader::new(alloc));
-                    Ok(used)
+            Input::Lines(reader) => {
+                tell_lines(decisions, reader.unfinished(), piece);
+                match hear_lines(reader, state, piece)? {
+                    Heard::Part(used) => Ok(used),
+                    Heard::Refused(used) => Ok(used),
+                    Heard::Whole(used) => {
+                        *self = Input::Packets(PacketReader::new(alloc));
+                        Ok(used)
+                    }
                 }
-            },
+            }
             Input::Packets(reader) => {
                 hear_packets(reader, state, config, suite, decisions, piece, said)
             }

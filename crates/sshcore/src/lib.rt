@@ -55,7 +55,7 @@ pub use config_parts::{
 pub use decisions::{Decisions, Proof};
 pub use disconnecting::DESCRIPTION_LIMIT;
 pub use draws::Draws;
-pub use end::{Agreed, End, Fault};
+pub use end::{Agreed, End, Fault, ShortFault};
 pub use endpoint::Endpoint;
 pub use endpoint_laws::endpoint_law;
 pub use law::{authentication_law, history_law, reached_law, saying_law, standing_law, strict_law};

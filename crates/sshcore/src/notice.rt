@@ -2,14 +2,21 @@
 
 use crate::decisions::Decisions;
 use sshmsg::Message;
-use sshwire::NameList;
+use sshwire::{LINE_LIMIT, NameList};
 
-/// What a message of the peer says to people, for a log or to be shown. It is lent out of the payload.
+/// What the peer says to people, for a log or to be shown: by a message, out of whose payload it is lent, or by a line
+/// before its version line.
 ///
 /// Texts are any bytes, as the peer sent them: whoever shows one filters control characters first (RFC 4251
 /// section 9.2). A notice has no password, key or signature.
 #[derive(Clone, Copy)]
 pub enum Notice<'a> {
+    /// A line before the version line, which a server may send (RFC 4253 section 4.2). The first that is refused, since it
+    /// is one too many, is told too; at a server it is the first of all.
+    Line {
+        /// The line, without its LF and a CR before that.
+        text: &'a [u8],
+    },
     /// The peer ends the connection (DISCONNECT, RFC 4253 section 11.1).
     Disconnect {
         /// The reason's code, as the end of the endpoint tells it too.
@@ -71,4 +78,65 @@ pub(crate) fn tell_notice<D: Decisions>(decisions: &D, message: &Message<'_>) {
         }),
         _ => {}
     }
+}
+
+/// The bytes of a line before its LF.
+#[derive(Drop)]
+struct Gathered {
+    bytes: [u8; LINE_LIMIT],
+    len: usize,
+}
+
+impl Gathered {
+    /// Appends a byte, and answers whether it fits a line.
+    fn push(&mut self, byte: u8) -> bool {
+        match self.bytes.get_mut(self.len) {
+            Some(place) => {
+                *place = byte;
+                self.len = self.len.saturating_add(1);
+                true
+            }
+            None => false,
+        }
+    }
+
+    /// The bytes so far.
+    fn text(&self) -> &[u8] {
+        self.bytes.get(..self.len).unwrap_or(&[])
+    }
+}
+
+/// The bytes of a line that has begun.
+fn gathered(begun: &[u8]) -> Gathered {
+    let mut line = Gathered {
+        bytes: [0; LINE_LIMIT],
+        len: 0,
+    };
+    for byte in begun {
+        line.push(*byte);
+    }
+    line
+}
+
+/// Tells whoever runs the endpoint the lines that end in the piece before a line that begins with `SSH-`, a NUL or the
+/// end of a line that is too long. Of the first, these bytes came before.
+pub(crate) fn tell_lines<D: Decisions>(decisions: &D, begun: &[u8], piece: &[u8]) {
+    let mut line = gathered(begun);
+    for byte in piece {
+        if *byte == b'\n' {
+            if line.text().starts_with(b"SSH-") {
+                return;
+            }
+            tell_line(decisions, line.text());
+            line.len = 0;
+        } else if *byte == 0 || !line.push(*byte) {
+            return;
+        }
+    }
+}
+
+/// Tells whoever runs the endpoint a line before the version line.
+fn tell_line<D: Decisions>(decisions: &D, line: &[u8]) {
+    let text = line.strip_suffix(b"\r").unwrap_or(line);
+    decisions.told(Notice::Line { text });
 }

@@ -46,7 +46,7 @@ impl fmt::Display for EndText<'_> {
                 let (user, service) = (&agreed.user, &agreed.service);
                 write!(f, "authenticated {user} {service}")
             }
-            End::Failed(fault) => write!(f, "failed {fault}"),
+            End::Failed(fault) => write!(f, "failed {}", fault.short()),
             End::Closed(reason) => write!(f, "closed {reason}"),
             End::Disconnected(reason) => write!(f, "disconnected {reason}"),
         }

@@ -89,10 +89,10 @@ pub enum ScenarioFault {
     #[error("scenario line {0}")]
     Line(u32),
     /// The lines give no config of a client.
-    #[error("client config {0}")]
+    #[error("client config {}", .0.code())]
     Client(ConfigFault),
     /// They give one of a client, and none of a server.
-    #[error("server config {0}")]
+    #[error("server config {}", .0.code())]
     Server(ConfigFault),
     /// A growth was refused.
     #[error("out of memory")]

@@ -111,6 +111,7 @@ fn words_of(alloc: Global, notice: Notice<'_>) -> Result<String, Stop> {
             let words = format!(in alloc; "disconnect {reason}")?;
             text_with(alloc, &words, &[description, language])
         }
+        Notice::Line { text } => text_with(alloc, "line", &[text]),
         Notice::Debug { text, language } => text_with(alloc, "debug", &[text, language]),
         Notice::Banner { text, language } => text_with(alloc, "banner", &[text, language]),
         Notice::Failure {

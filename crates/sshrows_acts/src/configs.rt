@@ -114,8 +114,8 @@ fn is_verdict(text: &str) -> bool {
 /// A config was refused, which has to be what the line says.
 fn refused(alloc: Global, line: &Line<'_>, fault: &ConfigFault) -> Result<(), Stop> {
     match line.text.strip_prefix("refused ") {
-        Some(wanted) => shows(alloc, line, "config", wanted, fault),
-        None => shows(alloc, line, "config", "accepted", fault),
+        Some(wanted) => same_text(alloc, line, "config", wanted, fault.code()),
+        None => same_text(alloc, line, "config", "accepted", fault.code()),
     }
 }
 

@@ -2,7 +2,7 @@
 
 ghost use Rattle.std.specs.Prelude.{◌≡◌, ◌≢◌, ◌-◌, ◌≤◌, ◌↔◌, ℕ, IsTrue, List, [], ◌∷◌, ◌++◌, length, drop, take, None, Ok, Err};
 ghost use Rattle.sshwire.specs.Lines.{IsUnfinished};
-ghost use Rattle.sshwire.specs.LineState.{Finished, Waits, held};
+ghost use Rattle.sshwire.specs.LineState.{Finished, Waits, held, unfinished};
 ghost use Rattle.sshwire.specs.Reading.{ReadsTo, reading};
 
 use crate::fault::WireFault;
@@ -147,6 +147,13 @@ impl LineReader {
         ensures bound { result ≤ LINE_LIMIT - 1 }
     {
         self.line.len()
+    }
+
+    /// The bytes of the unfinished line; none once the reader has answered or refused. Takes no memory.
+    pub fn unfinished(&self) -> &[u8]
+        ensures { result.now ≡ unfinished self.now.progress }
+    {
+        &self.line
     }
 
     /// Reads the next bytes behind the unfinished line that is held.
