@@ -118,7 +118,7 @@ sums x0 x1 x2 x3 x4 h0 h1 h2 h3 h4 =
 
 -- nineteen times 2^54
 abbrev folded_bound : ℕ
-folded_bound = 342273571680485376
+folded_bound = 342273571680157696
 
 dot_value : (a b : List ℕ) → AreBelow (2 ^ 54) a → AreBelow folded_bound b
     → (dot a b ≡ at_places a b) × (dot a b < 96 * 2 ^ 108)
