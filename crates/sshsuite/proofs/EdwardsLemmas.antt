@@ -1,6 +1,6 @@
 -- The code computes with points of numbers.
 
-use Rattle.std.proofs.Common.{◌≡◌, ℕ, zero, suc, ◌+◌, ◌-◌, ◌*◌, ◌%◌, inl, inr, Bool, true, false, List, refl, sym, subst, ap, ap₂, ◌∙◌, arith, cond, eqb}
+use Rattle.std.proofs.Common.{◌≡◌, ℕ, zero, suc, ◌-◌, ◌*◌, ◌%◌, inl, inr, Bool, true, false, List, refl, sym, subst, ap, ap₂, ◌∙◌, arith, cond, eqb}
 use Rattle.std.proofs.lemmas.Bool.{cases_Bool, eqb-true}
 use Rattle.std.specs.Prelude.{◌&&◌, slice_index}
 use Rattle.sshsuite.specs.Bits.{bit_at}

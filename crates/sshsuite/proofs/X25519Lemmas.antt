@@ -1,10 +1,10 @@
 -- The code computes X25519 on numbers.
 
-use Rattle.std.proofs.Common.{◌≡◌, ℕ, zero, suc, ◌-◌, ◌%◌, ◌^◌, ◌<◌, inl, inr, Bool, true, false, List, refl, sym, ap, subst, ◌∙◌, arith, cond, eqb, ltb}
+use Rattle.std.proofs.Common.{◌≡◌, ℕ, zero, suc, ◌-◌, ◌%◌, ◌^◌, ◌<◌, inl, inr, Bool, true, false, List, refl, sym, ap, subst, arith, cond, eqb, ltb}
 use Rattle.std.proofs.lemmas.Bool.{cases_Bool, eqb-true, ltb-true}
 use Rattle.std.specs.Prelude.{◌&&◌, slice_index, Option, None, Some}
 use Rattle.sshsuite.specs.Bits.{bit_at, number_of_32}
-use Rattle.sshsuite.specs.Curve25519.{affine, clamped, ladder, ladder_bit, ladder_start, ladder_step, small_of, swapped, times_first, turned, x25519}
+use Rattle.sshsuite.specs.Curve25519.{affine, clamped, ladder, ladder_bit, ladder_start, ladder_step, small_of, swapped, times_first, x25519}
 use Rattle.sshsuite.specs.FieldElement.{decode, scaled}
 use Rattle.sshsuite.specs.declared.curve25519.LadderState.{LadderState}
 use Rattle.sshsuite.proofs.WordLemmas.{AreWords}
