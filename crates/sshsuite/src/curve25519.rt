@@ -113,8 +113,8 @@ fn ladder_start(x1: Element) -> LadderState
     }
 }
 
-/// The ladder over the bits of a scalar, the highest first. The points stay in the order that the last bit said, so they
-/// are swapped once for each bit, where it isn't the one before.
+/// The ladder over the bits of a scalar, the highest first. The points stay in the order that the last bit said, so
+/// they are swapped once for each bit, where it isn't the one before.
 #[tactic(auto, using(crate::proofs::LadderLemmas::ladder_begun, crate::proofs::LadderLemmas::ladder_done))]
 fn ladder(scalar: [u8; 32], x1: Element) -> LadderState
     ensures { result ≡ ladder scalar x1 255 }

@@ -170,8 +170,8 @@ fn times_z(z: Element, q: &Summand) -> Element
     if q.is_affine { z } else { mul(z, q.z) }
 }
 
-/// The sum of a point and a summand, by the formulas of [`add_points`]: the product by 2 d was made before. The order is that
-/// in which few elements wait.
+/// The sum of a point and a summand, by the formulas of [`add_points`]: the product by 2 d was made before. The order
+/// is that in which few elements wait.
 #[inline(always)]
 #[tactic(auto, unfolding(crate::specs::Edwards25519::add_summand, crate::specs::Edwards25519::point_of_factors))]
 fn add_summand(s: Factors, q: &Summand) -> Factors

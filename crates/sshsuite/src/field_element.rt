@@ -1,7 +1,7 @@
 //! The field of 2^255 - 19 elements (RFC 7748 section 4.1), in five limbs of 51 bits, the lowest first.
 //!
-//! A limb is below 2^52, and may be a little above 2^51; one of a loose sum or difference, which isn't carried, is below
-//! 2^54. What sums and products would lose above 128 bits is lost, but by these bounds nothing is
+//! A limb is below 2^52, and may be a little above 2^51; one of a loose sum or difference, which isn't carried, is
+//! below 2^54. What sums and products would lose above 128 bits is lost, but by these bounds nothing is
 //! ([`field_law`](crate::field_law)).
 
 ghost use Rattle.std.specs.Prelude.{◌≡◌, ◌<◌, ◌+◌, ◌*◌, ◌%◌, ◌^◌, ◌==◌, if◌then◌else◌, length};
@@ -148,8 +148,8 @@ fn less(spare: u64, a: u64, b: u64) -> u64
     spare.wrapping_add(a).wrapping_sub(b)
 }
 
-/// The difference of two elements, limb by limb: it isn't carried, and goes into sums and products alone. Twice the field's
-/// size is added first, by limbs, each more than a limb that is carried.
+/// The difference of two elements, limb by limb: it isn't carried, and goes into sums and products alone. Twice the
+/// field's size is added first, by limbs, each more than a limb of a product.
 #[inline(always)]
 #[tactic(auto, unfolding(crate::specs::FieldElement::loose_difference))]
 pub(crate) fn loose_difference(a: Element, b: Element) -> Element
@@ -182,8 +182,8 @@ pub(crate) fn sub(a: Element, b: Element) -> Element
     ])
 }
 
-/// The product of two elements. What goes beyond the fifth limb counts nineteen times at the lowest. The order of the products
-/// at a place is that in which a product's limbs are there.
+/// The product of two elements. What goes beyond the fifth limb counts nineteen times at the lowest. The order of the
+/// products at a place is that in which a product's limbs are there.
 #[inline(always)]
 #[tactic(auto, unfolding(crate::specs::FieldElement::mul, crate::specs::FieldElement::carried))]
 pub(crate) fn mul(a: Element, b: Element) -> Element
