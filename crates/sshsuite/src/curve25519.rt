@@ -41,6 +41,17 @@ fn swap_where(s: LadderState, bit: u64) -> LadderState
     }
 }
 
+/// Points that are in the order of the last bit, in that of the next.
+#[inline(always)]
+#[tactic(auto, using(crate::proofs::LadderLemmas::turned_further))]
+fn swap_further(s: LadderState, last: u64, bit: u64) -> LadderState
+    requires last { last < 2 }
+    requires bit { bit < 2 }
+    ensures { result ≡ turned (turned s last) bit }
+{
+    swap_where(s, (last + bit) % 2)
+}
+
 /// The number of an element, where it is below 2^32, as that of the base point is.
 #[tactic(auto, unfolding(crate::specs::Curve25519::small_of))]
 fn small_of(x: Element) -> Option<u32>
@@ -115,7 +126,7 @@ fn ladder_start(x1: Element) -> LadderState
 
 /// The ladder over the bits of a scalar, the highest first. The points stay in the order that the last bit said, so
 /// they are swapped once for each bit, where it isn't the one before.
-#[tactic(auto, using(crate::proofs::LadderLemmas::ladder_begun, crate::proofs::LadderLemmas::ladder_done))]
+#[tactic(auto, using(crate::specs::Curve25519::ladder_none, crate::proofs::LadderLemmas::ladder_kept))]
 fn ladder(scalar: [u8; 32], x1: Element) -> LadderState
     ensures { result ≡ ladder scalar x1 255 }
 {
@@ -124,7 +135,7 @@ fn ladder(scalar: [u8; 32], x1: Element) -> LadderState
     let mut last = 0;
     for i in 0..255 {
         let bit = bit_at(&scalar, 254 - i);
-        let next = ladder_step(swap_where(state, (last + bit) % 2), x1, small);
+        let next = ladder_step(swap_further(state, last, bit), x1, small);
         state = next;
         last = bit;
     }
