@@ -6,6 +6,7 @@ ghost use Rattle.sshpacket.specs.declared.limits.TheConstants.{PACKET_LIMIT};
 ghost use Rattle.sshcore.specs.declared.end.Fault.TheVariants as fault;
 ghost use Rattle.sshcore.specs.Ending.{AgreedData, Authenticated, Failed, Open, ending};
 ghost use Rattle.sshcore.specs.Party.{client_party, server_party};
+ghost use Rattle.sshcore.specs.Before.{strict_at};
 ghost use Rattle.sshcore.specs.Brings.{IsOngoing};
 ghost use Rattle.sshcore.specs.ConfigParty.{party_of, role_of};
 ghost use Rattle.sshcore.specs.Endpoints.{After, Breaks, Cuts, Fed, HasUnfinished, Leaves, Made, buffered_of, ending_of, turns_of};
@@ -287,6 +288,21 @@ impl<'a, S: Suite, D: Decisions> Endpoint<'a, S, D> {
         ensures waits { (h s : List ℕ) (a : After S.meaning D.policy self.now h s) → ending_of self.now ≡ Open → phase_at self.now.role self.now.party.offer (payloads_in a.units) ≡ result }
     {
         self.state.phase
+    }
+
+    /// Whether both sides are strict (OpenSSH's PROTOCOL, strict key exchange); None before the peer's KEXINIT has come,
+    /// and where there is no choice. Who wants strict peers alone disconnects at `Some(false)`. Takes no memory.
+    pub fn is_strict(&self) -> Option<bool>
+        ensures some { IfSome result (λ strict. self.now.state.strict ≡ strict) }
+        ensures there { is_some result ≡ past_kexinit self.now.state.phase }
+        // For every history of an open endpoint: what both KEXINITs say.
+        ensures both { (h s : List ℕ) (a : After S.meaning D.policy self.now h s) → ending_of self.now ≡ Open
+            → IfSome result (λ strict. strict ≡ strict_at self.now.role self.now.party (payloads_in a.units)) }
+    {
+        match &self.state.algorithms {
+            Some(_) => Some(self.state.strict),
+            None => None,
+        }
     }
 
     /// The names of the algorithms that both KEXINITs choose (RFC 4253 section 7.1); None before the peer's has
