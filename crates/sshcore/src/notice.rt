@@ -107,7 +107,7 @@ impl Gathered {
 }
 
 /// The bytes of a line that has begun.
-fn gathered(begun: &[u8]) -> Gathered {
+fn line_of(begun: &[u8]) -> Gathered {
     let mut line = Gathered {
         bytes: [0; LINE_LIMIT],
         len: 0,
@@ -121,7 +121,7 @@ fn gathered(begun: &[u8]) -> Gathered {
 /// Tells whoever runs the endpoint the lines that end in the piece before a line that begins with `SSH-`, a NUL or the
 /// end of a line that is too long. Of the first, these bytes came before.
 pub(crate) fn tell_lines<D: Decisions>(decisions: &D, begun: &[u8], piece: &[u8]) {
-    let mut line = gathered(begun);
+    let mut line = line_of(begun);
     for byte in piece {
         if *byte == b'\n' {
             if line.text().starts_with(b"SSH-") {
