@@ -1,6 +1,6 @@
 -- A link tells what its reader answers, and counts the packets that it opens.
 
-use Rattle.std.proofs.Common.{◌≡◌, ◌≢◌, ◌⊎◌, inl, inr, ℕ, suc, zero, ◌+◌, ◌%◌, ◌^◌, ◌<◌, ◌≤◌, List, [], ◌∷◌, ◌++◌, length, refl, ap, ◌∙◌, Option, None, Some, Result, Ok, Err, IfOk, IfSome, arith}
+use Rattle.std.proofs.Common.{◌≡◌, ◌≢◌, ◌⊎◌, inl, inr, ℕ, suc, zero, ◌+◌, ◌<◌, List, [], ◌∷◌, ◌++◌, length, refl, ap, ◌∙◌, Option, None, Some, Result, Ok, Err, IfOk, IfSome, arith}
 use Rattle.sshpacket.specs.declared.fault.PacketFault.{PacketFault}
 use Rattle.sshpacket.specs.declared.fault.PacketFault.TheVariants.{Empty, Length, Mac, Memory, Padding}
 use Rattle.sshpacket.specs.declared.reader.PacketStep.{PacketStep}
@@ -8,7 +8,6 @@ use Rattle.sshpacket.specs.declared.reader.PacketStep.TheVariants.{More, Payload
 use Rattle.sshpacket.specs.ProtectedPacket.{Refuses}
 use Rattle.sshpacket.specs.ReaderState.{IsPayload, OnlyPacketAnswer, PacketAnswer, ReaderLeaves, ReaderState, Uses, last_used, protection_at, state}
 use Rattle.sshpacket.specs.Suite.{Meaning}
-use Rattle.sshcore.specs.declared.link_fault.LinkFault.{LinkFault}
 use Rattle.sshcore.specs.declared.link_fault.LinkFault.TheVariants as fault
 use Rattle.sshcore.specs.Linked.{Incoming, LinkLeaves, OnlyOpenAnswer, OpenAnswer, Opens, fault_by, packet_ended, told_by}
 

@@ -1,15 +1,14 @@
 -- What one link seals, the other opens; and numbers of packets one after another.
 
-use Rattle.std.proofs.Common.{◌≡◌, ◌≢◌, ◌⊎◌, ℕ, suc, zero, ◌+◌, ◌%◌, ◌^◌, ◌<◌, ◌≤◌, List, [], ◌++◌, length, take, refl, sym, ap, ◌∙◌, subst, Some, None, Option, Result, Ok, Err, arith}
+use Rattle.std.proofs.Common.{◌≡◌, ◌≢◌, ◌⊎◌, ℕ, suc, zero, ◌+◌, ◌%◌, ◌^◌, ◌<◌, List, ◌++◌, length, take, refl, sym, ap, ◌∙◌, subst, Some, Option, Result, Ok, Err, arith}
 use Rattle.std.proofs.lemmas.List.{length-append, take_at}
-use Rattle.sshwire.specs.Types.{IsBytes}
 use Rattle.sshpacket.specs.declared.reader.PacketStep.{PacketStep}
 use Rattle.sshpacket.specs.declared.reader.PacketStep.TheVariants.{More, Payload}
 use Rattle.sshpacket.specs.KeyData.{KeyData}
 use Rattle.sshpacket.specs.Parse.{Protection, protection}
 use Rattle.sshpacket.specs.ProtectedPacket.{IsProtectedPacket}
 use Rattle.sshpacket.specs.ReaderState.{ReaderState, protection_at, state}
-use Rattle.sshpacket.specs.Suite.{IsLawful, Meaning}
+use Rattle.sshpacket.specs.Suite.{Meaning}
 use Rattle.sshcore.specs.declared.link_fault.LinkFault.{LinkFault}
 use Rattle.sshcore.specs.declared.link_fault.LinkFault.TheVariants as fault
 use Rattle.sshcore.specs.declared.session.Direction.{Direction}

@@ -1,6 +1,6 @@
 -- What an endpoint does at the peer's exchange message (RFC 4253 section 8).
 
-use Rattle.std.specs.Prelude.{◌≡◌, ℕ, ◌≤◌, Bool, true, false, List, ◌++◌, length, None, Some, Ok}
+use Rattle.std.specs.Prelude.{◌≡◌, ℕ, ◌≤◌, Bool, true, false, List, ◌++◌, length, None, Ok}
 use Rattle.sshmsg.specs.Content.{Content, NewKeys, ServiceRequest}
 use Rattle.sshmsg.specs.Written.{written_message}
 use Rattle.sshneg.specs.declared.role.Role.{Role}

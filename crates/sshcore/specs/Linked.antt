@@ -10,7 +10,7 @@ use Rattle.sshpacket.specs.declared.reader.PacketStep.TheVariants.{More, Payload
 use Rattle.sshpacket.specs.KeyData.{KeyData}
 use Rattle.sshpacket.specs.Parse.{unfinished}
 use Rattle.sshpacket.specs.ProtectedPacket.{IsProtectedPacket, PacketMeans, Refuses}
-use Rattle.sshpacket.specs.ReaderState.{IsStep, PacketAnswer, ParseAnswer, ReaderLeaves, ReaderState, ReaderWaits, last_used, protection_at, state}
+use Rattle.sshpacket.specs.ReaderState.{IsStep, PacketAnswer, ReaderWaits, last_used, protection_at, state}
 use Rattle.sshpacket.specs.Suite.{Meaning}
 use Rattle.sshpacket.specs.Written.{IsWritten, written, written_sealed}
 use Rattle.sshcore.specs.declared.session.Direction.{Direction}

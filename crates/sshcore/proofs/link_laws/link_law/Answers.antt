@@ -1,4 +1,4 @@
-use Rattle.std.proofs.Common.{◌≡◌, ℕ, ◌++◌, List, length, refl, sym, ap, ◌∙◌, subst, Some, arith, [], rules}
+use Rattle.std.proofs.Common.{◌≡◌, ℕ, ◌++◌, List, length, refl, sym, subst, Some, []}
 use Rattle.std.proofs.lemmas.List.{append-nil, take_at}
 use Rattle.sshwire.specs.Types.{IsBytes}
 use Rattle.sshpacket.specs.Written.{written}

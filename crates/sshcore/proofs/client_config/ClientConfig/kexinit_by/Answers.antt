@@ -1,4 +1,4 @@
-use Rattle.std.proofs.Common.{◌≡◌, ◌≤◌, arith, length, map, rules, string_bytes}
+use Rattle.std.proofs.Common.{◌≡◌, ◌≤◌, arith, length, map, string_bytes}
 use Rattle.std.proofs.lemmas.List.{length-map}
 use Rattle.sshcore.specs.ConfigView.{client_data}
 use Rattle.sshcore.proofs.client_config.ClientConfig.kexinit_by.Goals as goal
