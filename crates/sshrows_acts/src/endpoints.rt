@@ -127,8 +127,12 @@ fn talk<S: Suite, D: Decisions>(
     lines: &[Line<'_>],
 ) -> Result<(), Stop> {
     let mut subject = subject;
-    let (lines, linked) = split_before(lines, "link");
-    let (steps, handed) = split_before(lines, "session");
+    let place = place_of(lines, "link");
+    let linked = lines.get(place..).unwrap_or(&[]);
+    let lines = lines.get(..place).unwrap_or(lines);
+    let place = place_of(lines, "session");
+    let steps = lines.get(..place).unwrap_or(lines);
+    let handed = lines.get(place..).unwrap_or(&[]);
     talk_on(alloc, names, row, &mut subject, steps)?;
     let piece_len = subject.piece_len;
     let session = session_of(subject);
@@ -140,14 +144,14 @@ fn talk<S: Suite, D: Decisions>(
     judged.and(seed.and(went_on))
 }
 
-/// The lines before the first that begins with this word, and all from it on.
-fn split_before<'a, 'b>(lines: &'b [Line<'a>], word: &str) -> (&'b [Line<'a>], &'b [Line<'a>]) {
+/// The place of the first line that begins with this word; that behind all lines where there is none.
+fn place_of(lines: &[Line<'_>], word: &str) -> usize {
     for (place, line) in lines.iter().enumerate() {
         if line.head().0 == word {
-            return lines.split_at(place);
+            return place;
         }
     }
-    (lines, &[])
+    lines.len()
 }
 
 /// What the endpoint hands over.
