@@ -12,7 +12,8 @@ use sshwire::{LINE_LIMIT, NameList};
 #[derive(Clone, Copy)]
 pub enum Notice<'a> {
     /// A line before the version line, which a server may send (RFC 4253 section 4.2). The first that is refused, since it
-    /// is one too many, is told too; at a server it is the first of all.
+    /// is one too many, is told too (at a server it is the first of all), and so are lines after a refused one that came
+    /// in the same piece: how many are told after a refusal depends on how the bytes were cut.
     Line {
         /// The line, without its LF and a CR before that.
         text: &'a [u8],
