@@ -1,13 +1,13 @@
 -- Elements compute with numbers modulo 2^255 - 19.
 
-use Rattle.std.proofs.Common.{◌≡◌, ℕ, zero, suc, ◌+◌, ◌-◌, ◌*◌, ◌/◌, ◌%◌, ◌^◌, ◌<◌, List, refl, sym, ap, ◌∙◌, arith}
+use Rattle.std.proofs.Common.{◌≡◌, ℕ, zero, suc, ◌+◌, ◌-◌, ◌*◌, ◌/◌, ◌%◌, ◌^◌, ◌<◌, ◌≤◌, List, refl, sym, ap, ◌∙◌, arith}
 use Rattle.std.proofs.Math.Nat.{pow-suc, pow-zero}
 use Rattle.std.proofs.lemmas.Nat.{pow-add}
 use Rattle.sshsuite.specs.Bits.{number_of_32}
-use Rattle.sshsuite.specs.FieldElement.{add, decode, eleventh, encode, inverse, mul, none, one, root_power, scaled, squared, squares, sub, to_50, to_250}
+use Rattle.sshsuite.specs.FieldElement.{add, decode, eleventh, encode, inverse, loose_difference, loose_sum, mul, none, one, root_power, scaled, squared, squares, sub, to_50, to_250}
 use Rattle.sshsuite.proofs.EncodingLemmas.{decode_value, encode_value}
 use Rattle.sshsuite.proofs.WordLemmas.{AreWords}
-use Rattle.sshsuite.proofs.FieldLemmas.{add_value, mul_value, scaled_value, square_value, sub_value}
+use Rattle.sshsuite.proofs.FieldLemmas.{add_value, difference_loose, mul_loose, scaled_loose, square_loose, sub_value, sum_loose, tight, wider}
 use Rattle.sshsuite.specs.FieldBytes.{bytes_of_number}
 use Rattle.sshsuite.specs.FieldNumbers.{HasNumber, minus, plus, power, reciprocal, times}
 use Rattle.sshsuite.specs.FieldValues.{AreBelow, field, value}
@@ -39,26 +39,107 @@ parted x y q r m n h k = rw (h, k) (omega arith)
 parts : (x m : ℕ) → x % field ≡ m → x ≡ field * (x / field) + m
 parts x m h = omega arith
 
-products : (x y m n : ℕ) → x % field ≡ m → y % field ≡ n → x * y % field ≡ m * n % field
+pub products : (x y m n : ℕ) → x % field ≡ m → y % field ≡ n → x * y % field ≡ m * n % field
 products x y m n h k =
     remainder (x * y) (m * n) (x / field * y + m * (y / field)) (parted x y (x / field) (y / field) m n (parts x m h) (parts y n k))
 
-pub mul_number : (a b : List ℕ) (m n : ℕ) → HasNumber a m → HasNumber b n → HasNumber (mul a b) (times m n)
+-- the limbs are below a bound, and of this number
+pub record HasBelow (k : ℕ) (a : List ℕ) (n : ℕ) : Type 0 where
+  pub below : AreBelow k a
+  pub number : value a % field ≡ n
+
+pub has_below : (k l : ℕ) (a : List ℕ) (n : ℕ) → k ≤ l → HasBelow k a n → HasBelow l a n
+has_below k l a n e h = record { below = wider k l a e h.below; number = h.number }
+
+-- limbs of a product
+abbrev pub HasTight : List ℕ → ℕ → Type 0
+HasTight = HasBelow tight
+
+-- limbs that may be a sum's or a difference's
+abbrev pub HasLoose : List ℕ → ℕ → Type 0
+HasLoose = HasBelow (2 ^ 54)
+
+-- limbs between both: one more sum or difference of them is loose
+abbrev pub HasHalf : List ℕ → ℕ → Type 0
+HasHalf = HasBelow (2 ^ 53)
+
+pub loose_number : (a : List ℕ) (n : ℕ) → HasNumber a n → HasLoose a n
+loose_number a n h = record { below = wider (2 ^ 52) (2 ^ 54) a (omega arith) h.below; number = h.number }
+
+pub tight_number : (a : List ℕ) (n : ℕ) → HasTight a n → HasNumber a n
+tight_number a n h = record { below = wider tight (2 ^ 52) a (omega arith) h.below; number = h.number }
+
+pub tight_half : (a : List ℕ) (n : ℕ) → HasTight a n → HasHalf a n
+tight_half a n h = has_below tight (2 ^ 53) a n (omega arith) h
+
+pub half_loose : (a : List ℕ) (n : ℕ) → HasHalf a n → HasLoose a n
+half_loose a n h = has_below (2 ^ 53) (2 ^ 54) a n (omega arith) h
+
+pub tight_loose : (a : List ℕ) (n : ℕ) → HasTight a n → HasLoose a n
+tight_loose a n h = half_loose a n (tight_half a n h)
+
+pub tight_by : (a : List ℕ) (m n : ℕ) → m ≡ n → HasTight a m → HasTight a n
+tight_by a m n e h = record { below = h.below; number = h.number ∙ e }
+
+sum_below : (k l top : ℕ) (a b : List ℕ) (m n : ℕ) → k + l ≤ top → top ≤ 2 ^ 54 → HasBelow k a m → HasBelow l b n → HasBelow top (loose_sum a b) (plus m n)
+unfolding plus
+sum_below k l top a b m n e t ha hb =
+    let out = sum_loose k l top a b e t ha.below hb.below in
+    record { below = out.0; number = ap (λ (x : ℕ). x % field) out.1 ∙ sums (value a) (value b) m n ha.number hb.number }
+
+-- the sum of tight limbs
+pub sum_half : (a b : List ℕ) (m n : ℕ) → HasTight a m → HasTight b n → HasHalf (loose_sum a b) (plus m n)
+sum_half a b m n h k = sum_below tight tight (2 ^ 53) a b m n (omega arith) (omega arith) h k
+
+-- the sum of two such
+pub sum_number : (a b : List ℕ) (m n : ℕ) → HasHalf a m → HasHalf b n → HasLoose (loose_sum a b) (plus m n)
+sum_number a b m n h k = sum_below (2 ^ 53) (2 ^ 53) (2 ^ 54) a b m n (omega arith) (omega arith) h k
+
+difference_below : (k top : ℕ) (a b : List ℕ) (m n : ℕ) → k + 4503599627370494 ≤ top → top ≤ 2 ^ 54 → HasBelow k a m → HasTight b n
+    → HasBelow top (loose_difference a b) (minus m n)
+unfolding minus
+difference_below k top a b m n e t ha hb =
+    let out = difference_loose k top a b e t ha.below hb.below in
+    record { below = out.0; number = differences (value (loose_difference a b)) (value a) (value b) m n out.1 ha.number hb.number }
+
+-- the difference of tight limbs
+pub difference_half : (a b : List ℕ) (m n : ℕ) → HasTight a m → HasTight b n → HasHalf (loose_difference a b) (minus m n)
+difference_half a b m n h k = difference_below tight (2 ^ 53) a b m n (omega arith) (omega arith) h k
+
+-- tight limbs subtracted of a sum
+pub difference_number : (a b : List ℕ) (m n : ℕ) → HasHalf a m → HasTight b n → HasLoose (loose_difference a b) (minus m n)
+difference_number a b m n h k = difference_below (2 ^ 53) (2 ^ 54) a b m n (omega arith) (omega arith) h k
+
+pub mul_tight : (a b : List ℕ) (m n : ℕ) → HasLoose a m → HasLoose b n → HasTight (mul a b) (times m n)
 unfolding times
-mul_number a b m n h k =
-    let out = mul_value a b h.below k.below in
+mul_tight a b m n h k =
+    let out = mul_loose a b h.below k.below in
     record { below = out.0; number = out.1 ∙ products (value a) (value b) m n h.number k.number }
 
-pub square_number : (a : List ℕ) (m : ℕ) → HasNumber a m → HasNumber (squared a) (times m m)
+-- factors in the other order
+pub exchange : (m n : ℕ) → times m n ≡ times n m
 unfolding times
-square_number a m h =
-    let out = square_value a h.below in
+exchange m n = ap (λ (k : ℕ). k % field) (other m n)
+  where
+    other : (m n : ℕ) → m * n ≡ n * m
+    other m n = omega arith
+
+pub mul_number : (a b : List ℕ) (m n : ℕ) → HasNumber a m → HasNumber b n → HasNumber (mul a b) (times m n)
+mul_number a b m n h k = tight_number (mul a b) (times m n) (mul_tight a b m n (loose_number a m h) (loose_number b n k))
+
+pub square_tight : (a : List ℕ) (m : ℕ) → HasLoose a m → HasTight (squared a) (times m m)
+unfolding times
+square_tight a m h =
+    let out = square_loose a h.below in
     record { below = out.0; number = out.1 ∙ products (value a) (value a) m m h.number h.number }
 
-pub scaled_number : (a : List ℕ) (n m : ℕ) → n < 2 ^ 32 → HasNumber a m → HasNumber (scaled a n) (times n m)
+pub square_number : (a : List ℕ) (m : ℕ) → HasNumber a m → HasNumber (squared a) (times m m)
+square_number a m h = tight_number (squared a) (times m m) (square_tight a m (loose_number a m h))
+
+pub scaled_tight : (a : List ℕ) (n m : ℕ) → n < 2 ^ 32 → HasLoose a m → HasTight (scaled a n) (times n m)
 unfolding times
-scaled_number a n m low h =
-    let out = scaled_value a n h.below low in
+scaled_tight a n m low h =
+    let out = scaled_loose a n h.below low in
     record { below = out.0; number = out.1 ∙ products n (value a) n m (omega (arith, low)) h.number }
 
 -- Powers.
@@ -148,22 +229,28 @@ inverse_number a x h =
     (raised (to_250 a) x 1809251394333065553493296640760748560207343510400633813116524750123642650623 57896044618658097711785492504343953926634992332820282019728792003956564819936 5 (to_250_power a x one) refl)
     (eleventh_power a x one) refl
 
-wider : (a : List ℕ) → AreBelow (2 ^ 51) a → AreBelow (2 ^ 52) a
-wider a h = record { l0 = omega (arith, h.l0); l1 = omega (arith, h.l1); l2 = omega (arith, h.l2); l3 = omega (arith, h.l3); l4 = omega (arith, h.l4) }
+pub decode_tight : (bytes : List ℕ) → AreWords bytes → HasTight (decode bytes) (number_of_32 bytes % 2 ^ 255 % field)
+decode_tight bytes are =
+    let out = decode_value bytes are in
+    record { below = wider (2 ^ 51) tight (decode bytes) (omega arith) out.0; number = ap (λ (n : ℕ). n % field) out.1 }
 
 pub decode_number : (bytes : List ℕ) → AreWords bytes → HasNumber (decode bytes) (number_of_32 bytes % 2 ^ 255 % field)
-decode_number bytes are =
-    let out = decode_value bytes are in
-    record { below = wider (decode bytes) out.0; number = ap (λ (n : ℕ). n % field) out.1 }
+decode_number bytes are = tight_number (decode bytes) (number_of_32 bytes % 2 ^ 255 % field) (decode_tight bytes are)
 
 pub encode_number : (a : List ℕ) (n : ℕ) → HasNumber a n → encode a ≡ bytes_of_number n
 encode_number a n h = encode_value a h.below ∙ ap bytes_of_number h.number
 
+pub none_tight : HasTight none 0
+none_tight = record { below = record { l0 = omega arith; l1 = omega arith; l2 = omega arith; l3 = omega arith; l4 = omega arith }; number = refl }
+
+pub one_tight : HasTight one 1
+one_tight = record { below = record { l0 = omega arith; l1 = omega arith; l2 = omega arith; l3 = omega arith; l4 = omega arith }; number = refl }
+
 pub none_number : HasNumber none 0
-none_number = record { below = record { l0 = omega arith; l1 = omega arith; l2 = omega arith; l3 = omega arith; l4 = omega arith }; number = refl }
+none_number = tight_number none 0 none_tight
 
 pub one_number : HasNumber one 1
-one_number = record { below = record { l0 = omega arith; l1 = omega arith; l2 = omega arith; l3 = omega arith; l4 = omega arith }; number = refl }
+one_number = tight_number one 1 one_tight
 
 -- the power of which a square root is made: (p - 5) / 8
 pub root_power_number : (a : List ℕ) (x : ℕ) → HasNumber a x → HasNumber (root_power a) (power x 7237005577332262213973186563042994240829374041602535252466099000494570602493)

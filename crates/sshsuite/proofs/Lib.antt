@@ -4,6 +4,7 @@ pub mod LimbLemmas
 pub mod FieldLemmas
 pub mod EncodingLemmas
 pub mod FieldNumberLemmas
+pub mod LadderLemmas
 pub mod X25519Lemmas
 pub mod EdwardsLemmas
 pub mod DecodingLemmas

@@ -16,7 +16,7 @@ pub record AreFolded (k : ℕ) (a b : List ℕ) (c0 c1 c2 c3 c4 : ℕ) : Type 0 
   pub p3 : c3 ≡ slice_index a 0 * slice_index b 3 + slice_index a 1 * slice_index b 2 + slice_index a 2 * slice_index b 1 + slice_index a 3 * slice_index b 0 + k * (slice_index a 4 * slice_index b 4)
   pub p4 : c4 ≡ slice_index a 0 * slice_index b 4 + slice_index a 1 * slice_index b 3 + slice_index a 2 * slice_index b 2 + slice_index a 3 * slice_index b 1 + slice_index a 4 * slice_index b 0
 
-moved : (k x y s : ℕ) → s ≡ k * y → x * s ≡ k * (x * y)
+pub moved : (k x y s : ℕ) → s ≡ k * y → x * s ≡ k * (x * y)
 moved k x y s e = rw e (omega arith)
 
 -- by a sum of products that is right for factors below these bounds

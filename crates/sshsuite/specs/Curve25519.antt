@@ -1,39 +1,54 @@
 -- The function X25519 (RFC 7748 section 5), in the order of its steps.
 
 use Rattle.std.proofs.Common.{◌≡◌, add-one, refl}
-use Rattle.std.specs.Prelude.{ℕ, zero, suc, ◌+◌, ◌-◌, ◌%◌, ◌==◌, List, ◌∷◌, slice_index, slice_set, if◌then◌else◌, replicate}
+use Rattle.std.specs.Prelude.{ℕ, zero, suc, ◌+◌, ◌-◌, ◌%◌, ◌^◌, ◌==◌, ◌&&◌, nat_lt, List, ◌∷◌, slice_index, slice_set, if◌then◌else◌, Option, None, Some, replicate}
 use Rattle.sshsuite.specs.Bits.{bit_at}
-use Rattle.sshsuite.specs.FieldElement.{add, decode, encode, inverse, mul, none, one, scaled, squared, sub}
+use Rattle.sshsuite.specs.FieldElement.{decode, encode, inverse, loose_difference, loose_sum, mul, none, one, scaled, squared}
 use Rattle.sshsuite.specs.declared.curve25519.LadderState.{LadderState}
 
 -- the two points in the other order
 abbrev pub swapped : LadderState → LadderState
 swapped r = record { x2 = r.x3; z2 = r.z3; x3 = r.x2; z3 = r.z2 }
 
+-- the same points, in the other order where the bit is 1
+abbrev pub turned : LadderState → ℕ → LadderState
+turned r bit = if bit == 1 then swapped r else r
+
 -- (486662 - 2) / 4
 abbrev pub a24 : ℕ
 a24 = 121665
 
+-- the number of an element, where it is below 2^32
+unfoldable pub small_of : List ℕ → Option ℕ
+small_of x =
+    if slice_index x 1 == 0 && (slice_index x 2 == 0 && (slice_index x 3 == 0 && (slice_index x 4 == 0 && nat_lt (slice_index x 0) (2 ^ 32)))) then Some (slice_index x 0)
+    else None
+
+-- the product by the coordinate, which is by its number where that is small
+unfoldable pub times_first : List ℕ → Option ℕ → List ℕ → List ℕ
+times_first x1 None a = mul x1 a
+times_first x1 (Some n) a = scaled a n
+
 -- the first point doubled, and the sum of both, whose difference has this coordinate
-unfoldable pub ladder_step : LadderState → List ℕ → LadderState
-ladder_step r x1 =
-    let a = add r.x2 r.z2 in
-    let b = sub r.x2 r.z2 in
+unfoldable pub ladder_step : LadderState → List ℕ → Option ℕ → LadderState
+ladder_step r x1 small =
+    let a = loose_sum r.x2 r.z2 in
+    let b = loose_difference r.x2 r.z2 in
     let aa = squared a in
     let bb = squared b in
-    let e = sub aa bb in
-    let da = mul (sub r.x3 r.z3) a in
-    let cb = mul (add r.x3 r.z3) b in
+    let e = loose_difference aa bb in
+    let da = mul (loose_difference r.x3 r.z3) a in
+    let cb = mul b (loose_sum r.x3 r.z3) in
     record {
       x2 = mul aa bb;
-      z2 = mul e (add aa (scaled e a24));
-      x3 = squared (add da cb);
-      z3 = mul x1 (squared (sub da cb));
+      z2 = mul e (loose_sum aa (scaled e a24));
+      x3 = squared (loose_sum da cb);
+      z3 = times_first x1 small (squared (loose_difference da cb));
     }
 
 -- one bit of the ladder: a step on the points, in the other order where the bit is 1
 unfoldable pub ladder_bit : LadderState → List ℕ → ℕ → LadderState
-ladder_bit r x1 bit = if bit == 1 then swapped (ladder_step (swapped r) x1) else ladder_step r x1
+ladder_bit r x1 bit = turned (ladder_step (turned r bit) x1 (small_of x1)) bit
 
 -- a scalar of these bytes: the three lowest bits and the highest are left out, and bit 254 is set
 unfoldable pub clamped : List ℕ → List ℕ

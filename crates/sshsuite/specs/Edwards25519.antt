@@ -4,8 +4,10 @@ use Rattle.std.proofs.Common.{◌≡◌, add-one, refl}
 use Rattle.std.specs.Prelude.{ℕ, zero, suc, ◌+◌, ◌-◌, ◌*◌, ◌/◌, ◌%◌, ◌^◌, ◌==◌, ◌&&◌, nat_lt, Bool, List, [], ◌∷◌, slice_index, slice_set, if◌then◌else◌, Option, None, Some, replicate}
 use Rattle.std.specs.Str.{bytes_eq}
 use Rattle.sshsuite.specs.Bits.{bit_at, number_of_32}
-use Rattle.sshsuite.specs.FieldElement.{add, decode, encode, inverse, mul, none, one, root_power, squared, sub}
+use Rattle.sshsuite.specs.FieldElement.{add, decode, encode, inverse, loose_difference, loose_sum, mul, none, one, root_power, squared, sub}
+use Rattle.sshsuite.specs.declared.edwards25519.Factors.{Factors}
 use Rattle.sshsuite.specs.declared.edwards25519.Point.{Point}
+use Rattle.sshsuite.specs.declared.edwards25519.Summand.{Summand}
 
 abbrev pub d : List ℕ
 d = 929955233495203 ∷ 466365720129213 ∷ 1662059464998953 ∷ 2033849074728123 ∷ 1442794654840575 ∷ []
@@ -17,8 +19,9 @@ twice_d = 1859910466990425 ∷ 932731440258426 ∷ 1072319116312658 ∷ 18158983
 abbrev pub root : List ℕ
 root = 1718705420411056 ∷ 234908883556509 ∷ 2233514472574048 ∷ 2117202627021982 ∷ 765476049583133 ∷ []
 
-abbrev pub neutral : Point
-neutral = record { x = none; y = one; z = one; t = none }
+-- the neutral element
+abbrev pub neutral_factors : Factors
+neutral_factors = record { e = none; f = one; g = one; h = one }
 
 -- the base point
 abbrev pub base_point : Point
@@ -29,8 +32,9 @@ base_point = record {
   t = 1841354044333475 ∷ 16398895984059 ∷ 755974180946558 ∷ 900171276175154 ∷ 1821297809914039 ∷ [];
 }
 
-unfoldable pub point_of_factors : List ℕ → List ℕ → List ℕ → List ℕ → Point
-point_of_factors e f g h = record { x = mul e f; y = mul g h; z = mul f g; t = mul e h }
+-- the point of factors of its coordinates
+unfoldable pub point_of_factors : Factors → Point
+point_of_factors s = record { x = mul s.e s.f; y = mul s.g s.h; z = mul s.g s.f; t = mul s.e s.h }
 
 unfoldable pub add_points : Point → Point → Point
 add_points p q =
@@ -39,33 +43,58 @@ add_points p q =
     let c = mul (mul p.t twice_d) q.t in
     let zz = mul p.z q.z in
     let dd = add zz zz in
-    point_of_factors (sub b a) (sub dd c) (add dd c) (add b a)
+    point_of_factors (record { e = sub b a; f = sub dd c; g = add dd c; h = add b a })
 
-unfoldable pub double : Point → Point
-double p =
-    let a = squared p.x in
-    let b = squared p.y in
-    let zz = squared p.z in
-    let c = add zz zz in
-    let h = add a b in
-    let e = sub h (squared (add p.x p.y)) in
-    let g = sub a b in
-    point_of_factors e (add c g) g h
+-- the limbs are those of 1
+unfoldable pub is_one : List ℕ → Bool
+is_one a = slice_index a 0 == 1 && (slice_index a 1 == 0 && (slice_index a 2 == 0 && (slice_index a 3 == 0 && slice_index a 4 == 0)))
+
+-- what of a point goes into sums with it
+unfoldable pub summand_of : Point → Summand
+summand_of p = record { plus = add p.y p.x; minus = sub p.y p.x; z = p.z; t = mul p.t twice_d; is_affine = is_one p.z }
+
+-- the product of an element and the z of a summand, which isn't made where that is 1
+unfoldable pub times_z : List ℕ → Summand → List ℕ
+times_z z q = if q.is_affine then z else mul z q.z
+
+-- the sum of a point and a summand
+unfoldable pub add_summand : Factors → Summand → Factors
+add_summand s q =
+    let p = point_of_factors s in
+    let a = mul (loose_difference p.y p.x) q.minus in
+    let b = mul (loose_sum p.y p.x) q.plus in
+    let c = mul p.t q.t in
+    let zz = times_z p.z q in
+    let dd = loose_sum zz zz in
+    record { e = loose_difference b a; f = loose_difference dd c; g = loose_sum dd c; h = loose_sum b a }
+
+-- twice a point
+unfoldable pub double : Factors → Factors
+double s =
+    let x = mul s.e s.f in
+    let y = mul s.g s.h in
+    let z = mul s.g s.f in
+    let a = squared x in
+    let b = squared y in
+    let zz = squared z in
+    let h = loose_sum a b in
+    let g = loose_difference a b in
+    record { e = loose_difference h (squared (loose_sum x y)); f = loose_sum (loose_sum zz zz) g; g = g; h = h }
 
 unfoldable pub negate : Point → Point
 negate p = record { x = sub none p.x; y = p.y; z = p.z; t = sub none p.t }
 
 -- twice the first, and the second where the bit is 1
-unfoldable pub double_and_add : Point → Point → ℕ → Point
-double_and_add sum p bit = let twice = double sum in if bit == 1 then add_points twice p else twice
+unfoldable pub double_and_add : Factors → Summand → ℕ → Factors
+double_and_add sum q bit = let twice = double sum in if bit == 1 then add_summand twice q else twice
 
 -- the multiply of the point by the first bits of the number, the highest first
-unfoldable pub multiply_to : List ℕ → Point → ℕ → Point
-multiply_to bytes p zero = neutral
-multiply_to bytes p (suc n) = double_and_add (multiply_to bytes p n) p (bit_at bytes (255 - n))
+unfoldable pub multiply_to : List ℕ → Summand → ℕ → Factors
+multiply_to bytes q zero = neutral_factors
+multiply_to bytes q (suc n) = double_and_add (multiply_to bytes q n) q (bit_at bytes (255 - n))
 
 unfoldable pub multiply : List ℕ → Point → Point
-multiply bytes p = multiply_to bytes p 256
+multiply bytes p = point_of_factors (multiply_to bytes (summand_of p) 256)
 
 -- y, with the lowest bit of x as the highest
 unfoldable pub with_sign : List ℕ → List ℕ → List ℕ
@@ -112,10 +141,10 @@ decode_point bytes =
     else None
 
 -- steps of the loop
-pub multiply_none : (bytes : List ℕ) (p : Point) → multiply_to bytes p 0 ≡ neutral
+pub multiply_none : (bytes : List ℕ) (q : Summand) → multiply_to bytes q 0 ≡ neutral_factors
 unfolding multiply_to
-multiply_none bytes p = refl
+multiply_none bytes q = refl
 
-pub multiply_more : (bytes : List ℕ) (p : Point) (n : ℕ) → multiply_to bytes p (n + 1) ≡ double_and_add (multiply_to bytes p n) p (bit_at bytes (255 - n))
+pub multiply_more : (bytes : List ℕ) (q : Summand) (n : ℕ) → multiply_to bytes q (n + 1) ≡ double_and_add (multiply_to bytes q n) q (bit_at bytes (255 - n))
 unfolding multiply_to
-multiply_more bytes p n = rw (add-one n) refl
+multiply_more bytes q n = rw (add-one n) refl

@@ -12,16 +12,29 @@ dot a b =
     add128 (add128 (add128 (add128 (mul128 (slice_index a 0) (slice_index b 0)) (mul128 (slice_index a 1) (slice_index b 1)))
     (mul128 (slice_index a 2) (slice_index b 2))) (mul128 (slice_index a 3) (slice_index b 3))) (mul128 (slice_index a 4) (slice_index b 4))
 
+-- what is carried out of a sum
+abbrev pub above : ℕ → ℕ
+above c = c / 2 ^ 51 % 2 ^ 64
+
+-- the sum at a place, with what is carried out of the one before it
+abbrev pub with_carry : ℕ → ℕ → ℕ
+with_carry c before = add128 c (above before)
+
+-- the limbs of five sums, each with what is carried out of the one before it
+unfoldable pub limbs_of : List ℕ → List ℕ
+limbs_of sums =
+    let d0 = add64 (slice_index sums 0 % 2 ^ 51) (mul64 (above (slice_index sums 4)) 19) in
+    d0 % 2 ^ 51 ∷ add64 (slice_index sums 1 % 2 ^ 51) (d0 / 2 ^ 51) ∷ slice_index sums 2 % 2 ^ 51 ∷ slice_index sums 3 % 2 ^ 51 ∷ slice_index sums 4 % 2 ^ 51 ∷ []
+
 -- the limbs of five sums
 unfoldable pub carried : List ℕ → List ℕ
 carried sums =
     let c0 = slice_index sums 0 in
-    let c1 = add128 (slice_index sums 1) (c0 / 2 ^ 51) in
-    let c2 = add128 (slice_index sums 2) (c1 / 2 ^ 51) in
-    let c3 = add128 (slice_index sums 3) (c2 / 2 ^ 51) in
-    let c4 = add128 (slice_index sums 4) (c3 / 2 ^ 51) in
-    let d0 = add128 (c0 % 2 ^ 51) (mul128 (c4 / 2 ^ 51) 19) in
-    d0 % 2 ^ 51 ∷ add128 (c1 % 2 ^ 51) (d0 / 2 ^ 51) % 2 ^ 52 ∷ c2 % 2 ^ 51 ∷ c3 % 2 ^ 51 ∷ c4 % 2 ^ 51 ∷ []
+    let c1 = with_carry (slice_index sums 1) c0 in
+    let c2 = with_carry (slice_index sums 2) c1 in
+    let c3 = with_carry (slice_index sums 3) c2 in
+    let c4 = with_carry (slice_index sums 4) c3 in
+    limbs_of (c0 ∷ c1 ∷ c2 ∷ c3 ∷ c4 ∷ [])
 
 -- the limbs of five sums that are hardly more than limbs, by one pass of carries
 unfoldable pub carried_once : List ℕ → List ℕ
@@ -33,14 +46,25 @@ carried_once sums =
     let c4 = add64 (slice_index sums 4) (c3 / 2 ^ 51) in
     add64 (c0 % 2 ^ 51) (mul64 (c4 / 2 ^ 51) 19) ∷ c1 % 2 ^ 51 ∷ c2 % 2 ^ 51 ∷ c3 % 2 ^ 51 ∷ c4 % 2 ^ 51 ∷ []
 
+-- the sum, limb by limb: it isn't carried
+unfoldable pub loose_sum : List ℕ → List ℕ → List ℕ
+loose_sum a b =
+    add64 (slice_index a 0) (slice_index b 0) ∷ add64 (slice_index a 1) (slice_index b 1) ∷ add64 (slice_index a 2) (slice_index b 2)
+    ∷ add64 (slice_index a 3) (slice_index b 3) ∷ add64 (slice_index a 4) (slice_index b 4) ∷ []
+
 unfoldable pub add : List ℕ → List ℕ → List ℕ
-add a b =
-    carried_once (add64 (slice_index a 0) (slice_index b 0) ∷ add64 (slice_index a 1) (slice_index b 1) ∷ add64 (slice_index a 2) (slice_index b 2)
-    ∷ add64 (slice_index a 3) (slice_index b 3) ∷ add64 (slice_index a 4) (slice_index b 4) ∷ [])
+add a b = carried_once (loose_sum a b)
 
 -- a limb more than any, less a limb
 unfoldable pub less : ℕ → ℕ → ℕ → ℕ
 less spare a b = (add64 spare a + 2 ^ 64 - b) % 2 ^ 64
+
+-- the difference, limb by limb, and twice the field's size: it isn't carried
+unfoldable pub loose_difference : List ℕ → List ℕ → List ℕ
+loose_difference a b =
+    less 4503599627370458 (slice_index a 0) (slice_index b 0) ∷ less 4503599627370494 (slice_index a 1) (slice_index b 1)
+    ∷ less 4503599627370494 (slice_index a 2) (slice_index b 2) ∷ less 4503599627370494 (slice_index a 3) (slice_index b 3)
+    ∷ less 4503599627370494 (slice_index a 4) (slice_index b 4) ∷ []
 
 unfoldable pub sub : List ℕ → List ℕ → List ℕ
 sub a b =
@@ -51,6 +75,11 @@ sub a b =
 -- what goes beyond the fifth limb counts nineteen times at the lowest
 unfoldable pub mul : List ℕ → List ℕ → List ℕ
 mul a b =
+    let a0 = slice_index a 0 in
+    let a1 = slice_index a 1 in
+    let a2 = slice_index a 2 in
+    let a3 = slice_index a 3 in
+    let a4 = slice_index a 4 in
     let b0 = slice_index b 0 in
     let b1 = slice_index b 1 in
     let b2 = slice_index b 2 in
@@ -60,8 +89,9 @@ mul a b =
     let s2 = mul64 b2 19 in
     let s3 = mul64 b3 19 in
     let s4 = mul64 b4 19 in
-    carried (dot a (b0 ∷ s4 ∷ s3 ∷ s2 ∷ s1 ∷ []) ∷ dot a (b1 ∷ b0 ∷ s4 ∷ s3 ∷ s2 ∷ []) ∷ dot a (b2 ∷ b1 ∷ b0 ∷ s4 ∷ s3 ∷ [])
-    ∷ dot a (b3 ∷ b2 ∷ b1 ∷ b0 ∷ s4 ∷ []) ∷ dot a (b4 ∷ b3 ∷ b2 ∷ b1 ∷ b0 ∷ []) ∷ [])
+    carried (dot (a3 ∷ a2 ∷ a1 ∷ a0 ∷ a4 ∷ []) (s2 ∷ s3 ∷ s4 ∷ b0 ∷ s1 ∷ []) ∷ dot (a4 ∷ a3 ∷ a2 ∷ a1 ∷ a0 ∷ []) (s2 ∷ s3 ∷ s4 ∷ b0 ∷ b1 ∷ [])
+    ∷ dot (a0 ∷ a4 ∷ a3 ∷ a2 ∷ a1 ∷ []) (b2 ∷ s3 ∷ s4 ∷ b0 ∷ b1 ∷ []) ∷ dot (a1 ∷ a0 ∷ a4 ∷ a3 ∷ a2 ∷ []) (b2 ∷ b3 ∷ s4 ∷ b0 ∷ b1 ∷ [])
+    ∷ dot (a2 ∷ a1 ∷ a0 ∷ a4 ∷ a3 ∷ []) (b2 ∷ b3 ∷ b4 ∷ b0 ∷ b1 ∷ []) ∷ [])
 
 -- the sum of three products
 unfoldable pub three : ℕ → ℕ → ℕ → ℕ → ℕ → ℕ → ℕ
@@ -81,7 +111,7 @@ squared a =
     let s3 = mul64 a3 19 in
     let s4 = mul64 a4 19 in
     let r4 = mul64 a4 38 in
-    carried (three a0 a0 a1 r4 t2 s3 ∷ three t0 a1 a2 r4 a3 s3 ∷ three t0 a2 a1 a1 a3 r4 ∷ three t0 a3 t1 a2 a4 s4 ∷ three t0 a4 t1 a3 a2 a2 ∷ [])
+    carried (three t2 s3 a0 a0 a1 r4 ∷ three a3 s3 a2 r4 t0 a1 ∷ three a3 r4 t0 a2 a1 a1 ∷ three a4 s4 t0 a3 t1 a2 ∷ three a2 a2 t0 a4 t1 a3 ∷ [])
 
 -- so many times the element
 unfoldable pub scaled : List ℕ → ℕ → List ℕ

@@ -50,3 +50,15 @@ times_more bytes b n = rw (add-one n) (step (number_to bytes n * b) (bit_at byte
   where
     step : (x y z : ℕ) → z ≡ 2 * x + y → (2 * (x % order) + y) % order ≡ z % order
     step x y z e = omega arith
+
+pub from_none : (bytes : List ℕ) → 0 ≡ number_to bytes 0 % order
+unfolding number_to
+from_none bytes = omega arith
+
+pub from_more : (bytes : List ℕ) (n : ℕ)
+    → (2 * (number_to bytes n % order) + bit_at bytes (8 * length bytes - 1 - n)) % order ≡ number_to bytes (n + 1) % order
+unfolding number_to
+from_more bytes n = rw (add-one n) (step (number_to bytes n) (bit_at bytes (8 * length bytes - 1 - n)))
+  where
+    step : (x y : ℕ) → (2 * (x % order) + y) % order ≡ (2 * x + y) % order
+    step x y = omega arith

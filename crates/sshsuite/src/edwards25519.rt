@@ -1,11 +1,12 @@
 //! Points of the curve edwards25519 (RFC 8032 section 5.1), in extended coordinates (section 5.1.4).
 
 ghost use Rattle.std.specs.Prelude.{◌≡◌, ◌<◌, ◌==◌, if◌then◌else◌, length};
-ghost use Rattle.sshsuite.specs.Edwards25519.{add_points, decode_point, double, double_and_add, encode_point, is_canonical, multiply, negate, point_of_factors, point_with, root_by, square_root_of_ratio, with_sign};
+ghost use Rattle.sshsuite.specs.Edwards25519.{add_points, add_summand, decode_point, double, double_and_add, encode_point, is_canonical, is_one, multiply, multiply_to, negate, neutral_factors, point_of_factors, point_with, root_by, square_root_of_ratio, summand_of, times_z, with_sign};
 
 use crate::bits::{bit_at, word_at};
 use crate::field_element::{
-    Element, ONE, ZERO, add, decode, encode, inverse, mul, root_power, select_element, square, sub,
+    Element, ONE, ZERO, add, decode, encode, inverse, loose_difference, loose_sum, mul, root_power,
+    select_element, square, sub,
 };
 
 /// A point, by extended homogeneous coordinates.
@@ -15,6 +16,29 @@ pub(crate) struct Point {
     y: Element,
     z: Element,
     t: Element,
+}
+
+/// A point, by factors of its coordinates: x is e f, y is g h, z is f g, and t is e h.
+#[derive(Clone, Copy)]
+pub(crate) struct Factors {
+    e: Element,
+    f: Element,
+    g: Element,
+    h: Element,
+}
+
+/// What of a point goes into sums with it.
+#[derive(Clone, Copy)]
+pub(crate) struct Summand {
+    /// y + x
+    plus: Element,
+    /// y - x
+    minus: Element,
+    z: Element,
+    /// 2 d t
+    t: Element,
+    /// Whether z is 1, so that no product by it has to be made. It is no secret which point it is.
+    is_affine: bool,
 }
 
 /// 2^63.
@@ -48,11 +72,11 @@ const ROOT: Element = [
 ];
 
 /// The neutral element.
-const NEUTRAL: Point = Point {
-    x: ZERO,
-    y: ONE,
-    z: ONE,
-    t: ZERO,
+const NEUTRAL: Factors = Factors {
+    e: ZERO,
+    f: ONE,
+    g: ONE,
+    h: ONE,
 };
 
 /// The base point B.
@@ -81,15 +105,16 @@ pub(crate) const BASE_POINT: Point = Point {
     ],
 };
 
-/// The point of the four factors of its coordinates.
+/// The point of these factors.
 #[tactic(auto, unfolding(crate::specs::Edwards25519::point_of_factors))]
-fn point_of_factors(e: Element, f: Element, g: Element, h: Element) -> Point
-    ensures { result ≡ point_of_factors e f g h }
+fn point_of_factors(s: Factors) -> Point
+    ensures { result ≡ point_of_factors s }
 {
+    let Factors { e, f, g, h } = s;
     Point {
         x: mul(e, f),
         y: mul(g, h),
-        z: mul(f, g),
+        z: mul(g, f),
         t: mul(e, h),
     }
 }
@@ -104,22 +129,90 @@ pub(crate) fn add_points(p: Point, q: Point) -> Point
     let c = mul(mul(p.t, TWICE_D), q.t);
     let zz = mul(p.z, q.z);
     let d = add(zz, zz);
-    point_of_factors(sub(b, a), sub(d, c), add(d, c), add(b, a))
+    point_of_factors(Factors {
+        e: sub(b, a),
+        f: sub(d, c),
+        g: add(d, c),
+        h: add(b, a),
+    })
 }
 
-/// Twice the point (RFC 8032 section 5.1.4).
-#[tactic(auto, unfolding(crate::specs::Edwards25519::double))]
-fn double(p: Point) -> Point
-    ensures { result ≡ double p }
+/// Whether the limbs are those of 1.
+#[tactic(auto, unfolding(crate::specs::Edwards25519::is_one))]
+fn is_one(a: Element) -> bool
+    ensures { result ≡ is_one a }
 {
-    let a = square(p.x);
-    let b = square(p.y);
-    let zz = square(p.z);
-    let c = add(zz, zz);
-    let h = add(a, b);
-    let e = sub(h, square(add(p.x, p.y)));
-    let g = sub(a, b);
-    point_of_factors(e, add(c, g), g, h)
+    let [a0, a1, a2, a3, a4] = a;
+    a0 == 1 && (a1 == 0 && (a2 == 0 && (a3 == 0 && a4 == 0)))
+}
+
+/// What of the point goes into sums with it.
+#[tactic(auto, unfolding(crate::specs::Edwards25519::summand_of))]
+fn summand_of(p: Point) -> Summand
+    ensures { result ≡ summand_of p }
+{
+    let Point { x, y, z, t } = p;
+    Summand {
+        plus: add(y, x),
+        minus: sub(y, x),
+        z,
+        t: mul(t, TWICE_D),
+        is_affine: is_one(z),
+    }
+}
+
+/// The product of an element and the z of a summand.
+#[inline(always)]
+#[tactic(auto, unfolding(crate::specs::Edwards25519::times_z))]
+fn times_z(z: Element, q: &Summand) -> Element
+    ensures { result ≡ times_z z q.now }
+{
+    if q.is_affine { z } else { mul(z, q.z) }
+}
+
+/// The sum of a point and a summand, by the formulas of [`add_points`]: the product by 2 d was made before. The order
+/// is that in which few elements wait.
+#[inline(always)]
+#[tactic(auto, unfolding(crate::specs::Edwards25519::add_summand, crate::specs::Edwards25519::point_of_factors))]
+fn add_summand(s: Factors, q: &Summand) -> Factors
+    ensures { result ≡ add_summand s q.now }
+{
+    let Factors { e, f, g, h } = s;
+    let t = mul(e, h);
+    let zz = times_z(mul(g, f), q);
+    let d = loose_sum(zz, zz);
+    let c = mul(t, q.t);
+    let (less_c, more_c) = (loose_difference(d, c), loose_sum(d, c));
+    let y = mul(g, h);
+    let x = mul(e, f);
+    let b = mul(loose_sum(y, x), q.plus);
+    let a = mul(loose_difference(y, x), q.minus);
+    Factors {
+        e: loose_difference(b, a),
+        f: less_c,
+        g: more_c,
+        h: loose_sum(b, a),
+    }
+}
+
+/// Twice the point (RFC 8032 section 5.1.4). Its t isn't made, since it isn't needed.
+#[inline(always)]
+#[tactic(auto, unfolding(crate::specs::Edwards25519::double))]
+fn double(s: Factors) -> Factors
+    ensures { result ≡ double s }
+{
+    let Factors { e, f, g, h } = s;
+    let zz = square(mul(g, f));
+    let x = mul(e, f);
+    let a = square(x);
+    let y = mul(g, h);
+    let both = square(loose_sum(x, y));
+    let b = square(y);
+    let g = loose_difference(a, b);
+    let f = loose_sum(loose_sum(zz, zz), g);
+    let h = loose_sum(a, b);
+    let e = loose_difference(h, both);
+    Factors { e, f, g, h }
 }
 
 /// The point's opposite.
@@ -133,38 +226,39 @@ pub(crate) fn negate(p: Point) -> Point
 }
 
 /// The second point where the bit is 1, else the first.
-fn select_point(p: Point, q: Point, bit: u64) -> Point
+#[inline(always)]
+fn select_factors(s: Factors, r: Factors, bit: u64) -> Factors
     requires { bit < 2 }
-    ensures { result ≡ (if bit == 1 then q else p) }
+    ensures { result ≡ (if bit == 1 then r else s) }
 {
-    let Point { x, y, z, t } = p;
-    Point {
-        x: select_element(x, q.x, bit),
-        y: select_element(y, q.y, bit),
-        z: select_element(z, q.z, bit),
-        t: select_element(t, q.t, bit),
+    let Factors { e, f, g, h } = s;
+    Factors {
+        e: select_element(e, r.e, bit),
+        f: select_element(f, r.f, bit),
+        g: select_element(g, r.g, bit),
+        h: select_element(h, r.h, bit),
     }
 }
 
 /// Twice the first, and the second where the bit is 1. The sum is made in either case.
 #[tactic(auto, unfolding(crate::specs::Edwards25519::double_and_add))]
-fn double_and_add(sum: Point, p: Point, bit: u64) -> Point
+fn double_and_add(sum: Factors, q: &Summand, bit: u64) -> Factors
     requires { bit < 2 }
-    ensures { result ≡ double_and_add sum p bit }
+    ensures { result ≡ double_and_add sum q.now bit }
 {
     let twice = double(sum);
-    select_point(twice, add_points(twice, p), bit)
+    select_factors(twice, add_summand(twice, q), bit)
 }
 
 /// The same of a bit that is public: where it is 0 no sum is made, so the time tells the bit.
 #[tactic(auto, unfolding(crate::specs::Edwards25519::double_and_add))]
-fn double_and_add_public(sum: Point, p: Point, bit: u64) -> Point
+fn double_and_add_public(sum: Factors, q: &Summand, bit: u64) -> Factors
     requires { bit < 2 }
-    ensures { result ≡ double_and_add sum p bit }
+    ensures { result ≡ double_and_add sum q.now bit }
 {
     let twice = double(sum);
     if bit == 1 {
-        add_points(twice, p)
+        add_summand(twice, q)
     } else {
         twice
     }
@@ -176,12 +270,13 @@ pub(crate) fn multiply(bytes: &[u8], p: Point) -> Point
     requires { length bytes.now ≡ 32 }
     ensures { result ≡ multiply bytes.now p }
 {
+    let q = summand_of(p);
     let mut sum = NEUTRAL;
     for i in 0..256 {
-        let next = double_and_add(sum, p, bit_at(bytes, 255 - i));
+        let next = double_and_add(sum, &q, bit_at(bytes, 255 - i));
         sum = next;
     }
-    sum
+    point_of_factors(sum)
 }
 
 /// The same of bytes and a point that are public, as all is of which a signature is verified: its time tells
@@ -191,12 +286,13 @@ pub(crate) fn multiply_public(bytes: &[u8], p: Point) -> Point
     requires { length bytes.now ≡ 32 }
     ensures { result ≡ multiply bytes.now p }
 {
+    let q = summand_of(p);
     let mut sum = NEUTRAL;
     for i in 0..256 {
-        let next = double_and_add_public(sum, p, bit_at(bytes, 255 - i));
+        let next = double_and_add_public(sum, &q, bit_at(bytes, 255 - i));
         sum = next;
     }
-    sum
+    point_of_factors(sum)
 }
 
 /// The bytes of y, with the lowest bit of x as the highest.

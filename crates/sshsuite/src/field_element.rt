@@ -1,11 +1,12 @@
 //! The field of 2^255 - 19 elements (RFC 7748 section 4.1), in five limbs of 51 bits, the lowest first.
 //!
-//! A limb is below 2^52, and may be a little above 2^51. What sums and products would lose above 128 bits is
-//! lost, but by that bound nothing is ([`field_law`](crate::field_law)).
+//! A limb is below 2^52, and may be a little above 2^51; one of a loose sum or difference, which isn't carried, is
+//! below 2^54. What sums and products would lose above 128 bits is lost, but by these bounds nothing is
+//! ([`field_law`](crate::field_law)).
 
 ghost use Rattle.std.specs.Prelude.{◌≡◌, ◌<◌, ◌+◌, ◌*◌, ◌%◌, ◌^◌, ◌==◌, if◌then◌else◌, length};
 ghost use Rattle.sshsuite.specs.Limbs.{mul128};
-ghost use Rattle.sshsuite.specs.FieldElement.{add, canonical, carried, carried_once, decode, dot, eleventh, encode, inverse, less, mul, packed, root_power, scaled, squared, squares, sub, three, to_250, to_50};
+ghost use Rattle.sshsuite.specs.FieldElement.{above, add, canonical, carried, carried_once, decode, dot, eleventh, encode, inverse, less, limbs_of, loose_difference, loose_sum, mul, packed, root_power, scaled, squared, squares, sub, three, to_250, to_50, with_carry};
 
 use crate::bits::{bytes_of_words, word_at};
 use crate::constant_time::select;
@@ -23,6 +24,9 @@ const RADIX: u64 = 0x8000000000000;
 /// The same, for sums.
 const WIDE_RADIX: u128 = 0x8000000000000;
 
+/// 2^64.
+const WORD: u128 = 0x10000000000000000;
+
 /// The product of two limbs.
 #[inline(always)]
 fn product(a: u64, b: u64) -> u128
@@ -39,11 +43,46 @@ fn dot(a: Element, b: Element) -> u128
 {
     let [a0, a1, a2, a3, a4] = a;
     let [b0, b1, b2, b3, b4] = b;
-    product(a0, b0)
-        .wrapping_add(product(a1, b1))
-        .wrapping_add(product(a2, b2))
-        .wrapping_add(product(a3, b3))
-        .wrapping_add(product(a4, b4))
+    let (p0, p1, p2) = (product(a0, b0), product(a1, b1), product(a2, b2));
+    let front = p0.wrapping_add(p1).wrapping_add(p2);
+    let (p3, p4) = (product(a3, b3), product(a4, b4));
+    front.wrapping_add(p3).wrapping_add(p4)
+}
+
+/// What is carried out of a sum: a word of it.
+#[inline(always)]
+fn above(sum: u128) -> u64
+    ensures { result ≡ above sum }
+{
+    (sum / WIDE_RADIX % WORD) as u64
+}
+
+/// What a sum leaves at its place.
+#[inline(always)]
+fn below(sum: u128) -> u64
+    ensures { result ≡ sum % 2 ^ 51 }
+{
+    (sum % WIDE_RADIX) as u64
+}
+
+/// The sum at a place, with what is carried out of the one before it.
+#[inline(always)]
+fn with_carry(sum: u128, before: u128) -> u128
+    ensures { result ≡ with_carry sum before }
+{
+    sum.wrapping_add(u128::from(above(before)))
+}
+
+/// The limbs of five sums, each with what is carried out of the one before it.
+#[inline(always)]
+#[tactic(auto, unfolding(crate::specs::FieldElement::limbs_of))]
+fn limbs_of(sums: [u128; 5]) -> Element
+    ensures { result ≡ limbs_of sums }
+{
+    let [c0, c1, c2, c3, c4] = sums;
+    let d0 = below(c0).wrapping_add(above(c4).wrapping_mul(19));
+    let d1 = below(c1).wrapping_add(d0 / RADIX);
+    [d0 % RADIX, d1, below(c2), below(c3), below(c4)]
 }
 
 /// The limbs of five sums.
@@ -53,19 +92,11 @@ fn carried(sums: [u128; 5]) -> Element
     ensures { result ≡ carried sums }
 {
     let [c0, c1, c2, c3, c4] = sums;
-    let c1 = c1.wrapping_add(c0 / WIDE_RADIX);
-    let c2 = c2.wrapping_add(c1 / WIDE_RADIX);
-    let c3 = c3.wrapping_add(c2 / WIDE_RADIX);
-    let c4 = c4.wrapping_add(c3 / WIDE_RADIX);
-    let d0 = (c0 % WIDE_RADIX).wrapping_add((c4 / WIDE_RADIX).wrapping_mul(19));
-    let d1 = (c1 % WIDE_RADIX).wrapping_add(d0 / WIDE_RADIX);
-    [
-        (d0 % WIDE_RADIX) as u64,
-        (d1 % 0x10000000000000) as u64,
-        (c2 % WIDE_RADIX) as u64,
-        (c3 % WIDE_RADIX) as u64,
-        (c4 % WIDE_RADIX) as u64,
-    ]
+    let c1 = with_carry(c1, c0);
+    let c2 = with_carry(c2, c1);
+    let c3 = with_carry(c3, c2);
+    let c4 = with_carry(c4, c3);
+    limbs_of([c0, c1, c2, c3, c4])
 }
 
 /// The limbs of five sums below 2^56: for these one pass of carries is enough.
@@ -83,20 +114,29 @@ fn carried_once(sums: [u64; 5]) -> Element
     [c0, c1 % RADIX, c2 % RADIX, c3 % RADIX, c4 % RADIX]
 }
 
-/// The sum of two elements.
-#[tactic(auto, unfolding(crate::specs::FieldElement::add))]
-pub(crate) fn add(a: Element, b: Element) -> Element
-    ensures { result ≡ add a b }
+/// The sum of two elements, limb by limb: it isn't carried, and goes into sums and products alone.
+#[inline(always)]
+#[tactic(auto, unfolding(crate::specs::FieldElement::loose_sum))]
+pub(crate) fn loose_sum(a: Element, b: Element) -> Element
+    ensures { result ≡ loose_sum a b }
 {
     let [a0, a1, a2, a3, a4] = a;
     let [b0, b1, b2, b3, b4] = b;
-    carried_once([
+    [
         a0.wrapping_add(b0),
         a1.wrapping_add(b1),
         a2.wrapping_add(b2),
         a3.wrapping_add(b3),
         a4.wrapping_add(b4),
-    ])
+    ]
+}
+
+/// The sum of two elements.
+#[tactic(auto, unfolding(crate::specs::FieldElement::add))]
+pub(crate) fn add(a: Element, b: Element) -> Element
+    ensures { result ≡ add a b }
+{
+    carried_once(loose_sum(a, b))
 }
 
 /// A limb more than any, less a limb.
@@ -106,6 +146,24 @@ fn less(spare: u64, a: u64, b: u64) -> u64
     ensures { result ≡ less spare a b }
 {
     spare.wrapping_add(a).wrapping_sub(b)
+}
+
+/// The difference of two elements, limb by limb: it isn't carried, and goes into sums and products alone. Twice the
+/// field's size is added first, by limbs, each more than a limb of a product.
+#[inline(always)]
+#[tactic(auto, unfolding(crate::specs::FieldElement::loose_difference))]
+pub(crate) fn loose_difference(a: Element, b: Element) -> Element
+    ensures { result ≡ loose_difference a b }
+{
+    let [a0, a1, a2, a3, a4] = a;
+    let [b0, b1, b2, b3, b4] = b;
+    [
+        less(4503599627370458, a0, b0),
+        less(4503599627370494, a1, b1),
+        less(4503599627370494, a2, b2),
+        less(4503599627370494, a3, b3),
+        less(4503599627370494, a4, b4),
+    ]
 }
 
 /// The difference of two elements. Four times the field's size is added first, by limbs, each more than any limb.
@@ -124,21 +182,23 @@ pub(crate) fn sub(a: Element, b: Element) -> Element
     ])
 }
 
-/// The product of two elements. What goes beyond the fifth limb counts nineteen times at the lowest.
-#[tactic(auto, unfolding(crate::specs::FieldElement::mul))]
+/// The product of two elements. What goes beyond the fifth limb counts nineteen times at the lowest. The order of the
+/// products at a place is that in which a product's limbs are there.
+#[inline(always)]
+#[tactic(auto, unfolding(crate::specs::FieldElement::mul, crate::specs::FieldElement::carried))]
 pub(crate) fn mul(a: Element, b: Element) -> Element
     ensures { result ≡ mul a b }
 {
+    let [a0, a1, a2, a3, a4] = a;
     let [b0, b1, b2, b3, b4] = b;
     let (s1, s2) = (b1.wrapping_mul(19), b2.wrapping_mul(19));
     let (s3, s4) = (b3.wrapping_mul(19), b4.wrapping_mul(19));
-    carried([
-        dot(a, [b0, s4, s3, s2, s1]),
-        dot(a, [b1, b0, s4, s3, s2]),
-        dot(a, [b2, b1, b0, s4, s3]),
-        dot(a, [b3, b2, b1, b0, s4]),
-        dot(a, [b4, b3, b2, b1, b0]),
-    ])
+    let c0 = dot([a3, a2, a1, a0, a4], [s2, s3, s4, b0, s1]);
+    let c1 = with_carry(dot([a4, a3, a2, a1, a0], [s2, s3, s4, b0, b1]), c0);
+    let c2 = with_carry(dot([a0, a4, a3, a2, a1], [b2, s3, s4, b0, b1]), c1);
+    let c3 = with_carry(dot([a1, a0, a4, a3, a2], [b2, b3, s4, b0, b1]), c2);
+    let c4 = with_carry(dot([a2, a1, a0, a4, a3], [b2, b3, b4, b0, b1]), c3);
+    limbs_of([c0, c1, c2, c3, c4])
 }
 
 /// The sum of three products.
@@ -147,13 +207,14 @@ pub(crate) fn mul(a: Element, b: Element) -> Element
 fn three(first: (u64, u64), second: (u64, u64), third: (u64, u64)) -> u128
     ensures { result ≡ three first.0 first.1 second.0 second.1 third.0 third.1 }
 {
-    product(first.0, first.1)
-        .wrapping_add(product(second.0, second.1))
-        .wrapping_add(product(third.0, third.1))
+    let (p0, p1) = (product(first.0, first.1), product(second.0, second.1));
+    let p2 = product(third.0, third.1);
+    p0.wrapping_add(p1).wrapping_add(p2)
 }
 
 /// The product of an element and itself: each product of two limbs is made once, and counts twice.
-#[tactic(auto, unfolding(crate::specs::FieldElement::squared))]
+#[inline(always)]
+#[tactic(auto, unfolding(crate::specs::FieldElement::squared, crate::specs::FieldElement::carried))]
 pub(crate) fn square(a: Element) -> Element
     ensures { result ≡ squared a }
 {
@@ -164,16 +225,16 @@ pub(crate) fn square(a: Element) -> Element
         a4.wrapping_mul(19),
         a4.wrapping_mul(38),
     );
-    carried([
-        three((a0, a0), (a1, r4), (t2, s3)),
-        three((t0, a1), (a2, r4), (a3, s3)),
-        three((t0, a2), (a1, a1), (a3, r4)),
-        three((t0, a3), (t1, a2), (a4, s4)),
-        three((t0, a4), (t1, a3), (a2, a2)),
-    ])
+    let c0 = three((t2, s3), (a0, a0), (a1, r4));
+    let c1 = with_carry(three((a3, s3), (a2, r4), (t0, a1)), c0);
+    let c2 = with_carry(three((a3, r4), (t0, a2), (a1, a1)), c1);
+    let c3 = with_carry(three((a4, s4), (t0, a3), (t1, a2)), c2);
+    let c4 = with_carry(three((a2, a2), (t0, a4), (t1, a3)), c3);
+    limbs_of([c0, c1, c2, c3, c4])
 }
 
 /// So many times the element.
+#[inline(always)]
 #[tactic(auto, unfolding(crate::specs::FieldElement::scaled))]
 pub(crate) fn scale(a: Element, n: u32) -> Element
     ensures { result ≡ scaled a n }

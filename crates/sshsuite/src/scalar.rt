@@ -20,6 +20,9 @@ const ORDER_HIGH: u128 = 0x10000000000000000000000000000000;
 /// The lower half of L.
 const ORDER_LOW: u128 = 0x14def9dea2f79cd65812631a5cf5d3ed;
 
+/// 2^127.
+const HIGHEST_BIT: u128 = 0x80000000000000000000000000000000;
+
 /// 1 where the first is less than the second, else 0.
 #[inline(always)]
 fn is_less(a: u128, b: u128) -> u128
@@ -108,12 +111,31 @@ fn times(bytes: &[u8], b: Scalar) -> Scalar
     product
 }
 
+/// Twice the number, and the bit.
+fn double_and_bit(a: Scalar, bit: u64) -> Scalar
+    requires bit { bit < 2 }
+    requires a { number a < order }
+    ensures { number result ≡ (2 * number a + bit) % order }
+{
+    reduced(Scalar {
+        high: a.high * 2 + a.low / HIGHEST_BIT,
+        low: a.low % HIGHEST_BIT * 2 + u128::from(bit),
+    })
+}
+
 /// The number of these bytes, the lowest first.
+#[tactic(auto, using(crate::specs::Scalar::from_none, crate::specs::Scalar::from_more), unfolding(crate::specs::Scalar::number_in))]
 pub(crate) fn scalar_from(bytes: &[u8]) -> Scalar
     requires { length bytes.now ≤ 64 }
     ensures { number result ≡ number_in bytes.now % order }
 {
-    times(bytes, Scalar { high: 0, low: 1 })
+    let bits = 8 * bytes.len();
+    let mut sum = Scalar { high: 0, low: 0 };
+    for i in 0..bits {
+        let next = double_and_bit(sum, bit_at(bytes, bits - 1 - i));
+        sum = next;
+    }
+    sum
 }
 
 /// The number of these bytes times the second, and the third.
