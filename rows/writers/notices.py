@@ -105,7 +105,7 @@ def rows(file):
 
 
 def lines_before(file, t):
-    """Lines before the version line: a client takes 20 at the most, a server none; the first that is one too many is told too."""
+    """Lines before the version line: a client takes 20 at the most, a server none; the one that is one too many is told too, as the last."""
     client, server = ["begin client", says(t.c_first)], ["begin server", says(t.s_first)]
 
     def row(name, begun, heard, lines, end, used=None):
@@ -127,6 +127,10 @@ def lines_before(file, t):
     twenty = [b"line %d" % n for n in range(20)]
     row("20", client, b"".join(line + b"\r\n" for line in twenty), twenty, "open")
     row("21", client, b"".join(line + b"\r\n" for line in twenty + [b"too many"]), twenty + [b"too many"], "failed F1")
+    ended = b"".join(line + b"\r\n" for line in twenty + [b"too many"])
+    row("two behind the 21st", client, ended + b"b\r\nc\r\n", twenty + [b"too many"], "failed F1", len(ended))
+    row("255 bytes, LF, and a line", client, b"a\n" + b"l" * 255 + b"\nb\n", [b"a"], "failed F1", 257)
+    row("three at a server", server, b"GET / HTTP/1.1\r\nHost: a\r\n\r\n", [b"GET / HTTP/1.1"], "failed F1", 16)
     row("one at a server", server, b"GET / HTTP/1.1\r\n", [b"GET / HTTP/1.1"], "failed F1")
     file.row("lines before the version line: none behind it", client, feed(b"a\n" + first), says(t.c_init), told("line 61"), "end open")
 

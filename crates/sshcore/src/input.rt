@@ -24,7 +24,7 @@ use crate::config::Config;
 use crate::decisions::Decisions;
 use crate::end::{End, Fault};
 use crate::lent::set;
-use crate::notice::tell_lines;
+use crate::notice::{line_of, tell_lines};
 use crate::state::State;
 use sshneg::Role;
 use sshpacket::{Keys, PacketFault, PacketReader, PacketStep, Suite};
@@ -102,8 +102,10 @@ impl Input {
         let alloc = state.alloc;
         match self {
             Input::Lines(reader) => {
-                tell_lines(decisions, reader.unfinished(), piece);
-                match hear_lines(reader, state, piece)? {
+                let begun = line_of(reader.unfinished());
+                let heard = hear_lines(reader, state, piece)?;
+                tell_lines(decisions, begun, piece.get(..heard.used()).unwrap_or(&[]));
+                match heard {
                     Heard::Part(used) => Ok(used),
                     Heard::Refused(used) => Ok(used),
                     Heard::Whole(used) => {
@@ -126,6 +128,17 @@ pub(crate) enum Heard {
     Part(usize),
     Refused(usize),
     Whole(usize),
+}
+
+impl Heard {
+    /// The bytes used.
+    fn used(self) -> usize
+        ensures { result ≡ used_by self }
+    {
+        match self {
+            Heard::Part(used) | Heard::Refused(used) | Heard::Whole(used) => used,
+        }
+    }
 }
 
 /// Reads on up to the end of the version line; fails as `Version` where a line is refused.

@@ -11,9 +11,8 @@ use sshwire::{LINE_LIMIT, NameList};
 /// section 9.2). A notice has no password, key or signature.
 #[derive(Clone, Copy)]
 pub enum Notice<'a> {
-    /// A line before the version line, which a server may send (RFC 4253 section 4.2). The first that is refused, since it
-    /// is one too many, is told too (at a server it is the first of all), and so are lines after a refused one that came
-    /// in the same piece: how many are told after a refusal depends on how the bytes were cut.
+    /// A line before the version line, which a server may send (RFC 4253 section 4.2). The one that is refused since it is
+    /// one too many is told too, as the last (at a server it is the first); no other refused line is.
     Line {
         /// The line, without its LF and a CR before that.
         text: &'a [u8],
@@ -82,22 +81,18 @@ pub(crate) fn tell_notice<D: Decisions>(decisions: &D, message: &Message<'_>) {
 }
 
 /// The bytes of a line before its LF.
-#[derive(Drop)]
-struct Gathered {
+#[derive(Clone, Copy)]
+pub(crate) struct Gathered {
     bytes: [u8; LINE_LIMIT],
     len: usize,
 }
 
 impl Gathered {
-    /// Appends a byte, and answers whether it fits a line.
-    fn push(&mut self, byte: u8) -> bool {
-        match self.bytes.get_mut(self.len) {
-            Some(place) => {
-                *place = byte;
-                self.len = self.len.saturating_add(1);
-                true
-            }
-            None => false,
+    /// Appends a byte where it fits a line.
+    fn push(&mut self, byte: u8) {
+        if let Some(place) = self.bytes.get_mut(self.len) {
+            *place = byte;
+            self.len = self.len.saturating_add(1);
         }
     }
 
@@ -108,7 +103,7 @@ impl Gathered {
 }
 
 /// The bytes of a line that has begun.
-fn line_of(begun: &[u8]) -> Gathered {
+pub(crate) fn line_of(begun: &[u8]) -> Gathered {
     let mut line = Gathered {
         bytes: [0; LINE_LIMIT],
         len: 0,
@@ -119,19 +114,16 @@ fn line_of(begun: &[u8]) -> Gathered {
     line
 }
 
-/// Tells whoever runs the endpoint the lines that end in the piece before a line that begins with `SSH-`, a NUL or the
-/// end of a line that is too long. Of the first, these bytes came before.
-pub(crate) fn tell_lines<D: Decisions>(decisions: &D, begun: &[u8], piece: &[u8]) {
-    let mut line = line_of(begun);
-    for byte in piece {
-        if *byte == b'\n' {
-            if line.text().starts_with(b"SSH-") {
-                return;
-            }
+/// Tells whoever runs the endpoint the lines that end in these bytes, which were taken, but one that begins with `SSH-`:
+/// it is the version line, or refused. Of the first, the line came before.
+pub(crate) fn tell_lines<D: Decisions>(decisions: &D, begun: Gathered, taken: &[u8]) {
+    let mut line = begun;
+    for byte in taken {
+        if *byte != b'\n' {
+            line.push(*byte);
+        } else if !line.text().starts_with(b"SSH-") {
             tell_line(decisions, line.text());
             line.len = 0;
-        } else if *byte == 0 || !line.push(*byte) {
-            return;
         }
     }
 }

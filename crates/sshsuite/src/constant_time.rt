@@ -25,6 +25,15 @@ pub(crate) fn select_wide(a: u128, b: u128, bit: u128) -> u128
     a ^ (0u128.wrapping_sub(bit) & (a ^ b))
 }
 
+/// As `select_wide`, where the bit comes of a comparison. It isn't inlined: a compiler that saw both might make a branch of them.
+#[inline(never)]
+pub(crate) fn select_compared(a: u128, b: u128, bit: u128) -> u128
+    requires { bit < 2 }
+    ensures { result ≡ (if bit == 1 then b else a) }
+{
+    select_wide(a, b, bit)
+}
+
 /// Whether as many bytes are the same, in a time that doesn't tell where they differ.
 #[tactic(auto, using(crate::proofs::ConstantTimeLemmas::differences_none, crate::proofs::ConstantTimeLemmas::differences_more))]
 pub(crate) fn is_equal(a: &[u8], b: &[u8]) -> bool

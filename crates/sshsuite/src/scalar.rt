@@ -5,7 +5,7 @@ ghost use Rattle.sshsuite.specs.Bits.{number_of_32};
 ghost use Rattle.sshsuite.specs.Scalar.{bytes_of_halves, encode_scalar, number, number_in, order};
 
 use crate::bits::{bit_at, word_at};
-use crate::constant_time::select_wide;
+use crate::constant_time::select_compared;
 
 /// A number below 2^256, in two halves.
 #[derive(Clone, Copy)]
@@ -58,8 +58,8 @@ fn select_scalar(a: Scalar, b: Scalar, bit: u128) -> Scalar
 {
     let Scalar { high, low } = a;
     Scalar {
-        high: select_wide(high, b.high, bit),
-        low: select_wide(low, b.low, bit),
+        high: select_compared(high, b.high, bit),
+        low: select_compared(low, b.low, bit),
     }
 }
 
