@@ -17,7 +17,7 @@ MOVES = {NO_VALUE, 'the receiver failed F15 for good, the other as it was'}
 ROWS = {
     'datatypes': [('list 7a6c69622c6e6f6e65', {'V7, the reader as it was'}), ('puts list 7a6c69622c6e6f6e65', {VECTOR}),
                   ('puts of each kind', {VECTOR})],
-    'hearing': [('lines take 20 others of 20', {'V7 for good'})],
+    'line_reader': [('lines take 20 others of 20', {'V7 for good'})],
     'sealing': [('packet lab in clear of 1, number 0', {'P5 for good', VECTOR}), ('packet lab c of 17, number 0', {'P5 for good', VECTOR}),
                 ('packet second c of 17, number 0', {'P5 for good', VECTOR})],
     'messages': [('message mpint 330000001270617373776f72642c7075626c69636b657900', {NO_VALUE, VECTOR}),
@@ -44,9 +44,9 @@ class Row:
             lines = text.read().split('\n')
         starts = [place for place, line in enumerate(lines) if line.startswith('row ')]
         begin = lines.index(f'row {name}')
-        behind = [place for place in starts if place > begin]
+        after = [place for place in starts if place > begin]
         self.name, self.stands = name, stands
-        row = lines[begin:behind[0] if behind else len(lines)]
+        row = lines[begin:after[0] if after else len(lines)]
         # of the bytes that are named for all rows those that this one tells of
         shared = [line for line in lines[:starts[0]] if '$' + line.split(' ')[1] in ' '.join(row)]
         self.lines = shared + row
@@ -68,7 +68,7 @@ class Row:
         fronts = [front] + [front := front + packet for packet in self.packets(wanted)]
         return said in fronts
 
-    def stand_behind(self, answer):
+    def stand_after(self, answer):
         """What the answer tells that stands behind a refused call: '' where nothing was judged, None where it may not be."""
         if answer == UNJUDGED:
             return ''

@@ -1,12 +1,12 @@
 """Hostile use of a session over the algorithms that are deployed: packets put in before NEWKEYS, the input that ends behind each byte,
-each cut into two pieces, and bits flipped: each bit behind NEWKEYS, and one of each byte before. hearer.py works out what has to come of
+each cut into two pieces, and bits flipped: each bit behind NEWKEYS, and one of each byte before. receiver.py works out what has to come of
 it, with the suite of deployed.py."""
 import functools
 
 from lab import *
 import deployed
 from auth import LET_IN
-from hearer import FORMS, Hearer
+from receiver import FORMS, Receiver
 from hostile import Session, cuts, flipped, injected, truncated
 
 CIPHER = "chacha20-poly1305@openssh.com"
@@ -34,14 +34,14 @@ def packet_of(payload, seq, seed, keys):
 class DeployedHalf(Half):
     """What one side writes."""
 
-    def say(self, payload):
+    def send(self, payload):
         p = packet_of(payload, self.seq, SEED[self.role], self.keys)
         self.seq += 1
-        self.said += p
+        self.sent += p
         return p
 
 
-class DeployedHearer(Hearer):
+class DeployedReceiver(Receiver):
     """An end over the deployed algorithms."""
 
     FORMS = {**FORMS, 30: "s", 31: "sss"}
@@ -93,16 +93,16 @@ class DeployedTalk:
         self.strict, c, s = True, DeployedHalf(CLIENT), DeployedHalf(SERVER)
         self.c, self.s = c, s
         self.ci, self.si = offer(CLIENT), offer(SERVER)
-        c.said = s.said = LINE
-        c.say(self.ci)
-        s.say(self.si)
-        self.c_first, self.s_first = c.said, s.said
+        c.sent = s.sent = LINE
+        c.send(self.ci)
+        s.send(self.si)
+        self.c_first, self.s_first = c.sent, s.sent
         k = deployed.shared(RANDOM[CLIENT], SHARE[SERVER])
         self.hash = sha(*(string(x) for x in (LINE[:-2], LINE[:-2], self.ci, self.si, KEY, SHARE[CLIENT], SHARE[SERVER], k)))
-        self.c_init, self.s_reply = c.say(DeployedHearer.INIT), s.say(DeployedHearer.reply(self.hash))
-        self.s_newkeys = s.switch(DeployedHearer.keys_of(SERVER, k, self.hash), True)
-        self.c_newkeys = c.switch(DeployedHearer.keys_of(CLIENT, k, self.hash), True)
-        self.c_service, self.s_accept = c.say(service(5, "ssh-userauth")), s.say(service(6, "ssh-userauth"))
+        self.c_init, self.s_reply = c.send(DeployedReceiver.INIT), s.send(DeployedReceiver.reply(self.hash))
+        self.s_newkeys = s.switch(DeployedReceiver.keys_of(SERVER, k, self.hash), True)
+        self.c_newkeys = c.switch(DeployedReceiver.keys_of(CLIENT, k, self.hash), True)
+        self.c_service, self.s_accept = c.send(service(5, "ssh-userauth")), s.send(service(6, "ssh-userauth"))
 
 
 class DeployedCourse:
@@ -114,7 +114,7 @@ class DeployedCourse:
         for side in ("client", "server"):
             names += [(side, "kex " + deployed.METHOD), (side, "cipher_cs " + CIPHER), (side, "cipher_sc " + CIPHER)]
         self.lines = ["%s %s" % pair for pair in names] + ["client try al ssh-connection none", "allow al none"]
-        self.requests, self.answers, self.asked = [t.c.say(by_none())], [t.s.say(SUCCESS)], [[1]]
+        self.requests, self.answers, self.asked = [t.c.send(by_none())], [t.s.send(SUCCESS)], [[1]]
 
     def agreed(self):
         return "agreed %s %s %s %s m m none none yes %s" % (deployed.METHOD, deployed.ALGORITHM, CIPHER, CIPHER, self.t.hash.hex())
@@ -122,13 +122,13 @@ class DeployedCourse:
 
 class DeployedSession(Session):
     """The session as one role hears it."""
-    hearer = DeployedHearer
+    receiver = DeployedReceiver
 
     def __init__(self, file, role, course):
         super().__init__(file, role, "deployed", course)
         self.begin = self.begin[:-1] + ["deployed " + role]
-        ear = DeployedHearer(role, True, self.heard)
-        assert (ear.own.said, ear.end) == (self.says, LET_IN)
+        ear = DeployedReceiver(role, True, self.received)
+        assert (ear.own.sent, ear.end) == (self.says, LET_IN)
 
 
 def rows(file):
@@ -144,9 +144,9 @@ def rows(file):
 def all_fronts(file, s):
     """The input ends behind each byte up to where truncated of hostile.py begins, and from there on."""
     for count in range(sum(len(unit) for unit, _, _ in s.turns[:4 if s.role == SERVER else 3]) + 1):
-        ear = DeployedHearer(s.role, True, s.heard[:count])
-        file.row("%s %s, the input ends behind %d" % (s.role, s.name, count), s.begin, "feed %s:0:%d" % (s.hears, count),
-                 s.said(ear.own.said), asked(*ear.asked) if ear.asked else [], "held %d" % ear.held, "end open", "cut", "end failed F16")
+        ear = DeployedReceiver(s.role, True, s.received[:count])
+        file.row("%s %s, the input ends behind %d" % (s.role, s.name, count), s.begin, "feed %s:0:%d" % (s.receives, count),
+                 s.sent(ear.own.sent), asked(*ear.asked) if ear.asked else [], "held %d" % ear.held, "end open", "cut", "end failed F16")
     truncated(file, s)
 
 
@@ -154,10 +154,10 @@ def flips(file, s):
     """Nothing but a length that the stream doesn't reach leaves the side open behind NEWKEYS; before, padding alone means nothing."""
     sealed, nothing, at = sum(len(unit) for unit, _, _ in s.turns[:3]), set(), len(LINE)
     while at < sealed:
-        end = at + 4 + int.from_bytes(s.heard[at:at + 4], "big")
-        nothing, at = nothing | set(range(end - s.heard[at + 4], end)), end
-    for place in range(len(s.heard)):
+        end = at + 4 + int.from_bytes(s.received[at:at + 4], "big")
+        nothing, at = nothing | set(range(end - s.received[at + 4], end)), end
+    for place in range(len(s.received)):
         for bit in range(8) if place >= sealed else [place % 8]:
-            end = flipped(file, s, "%s %s, bit %d of byte %d" % (s.role, s.name, bit, place), s.heard, place, bit)
+            end = flipped(file, s, "%s %s, bit %d of byte %d" % (s.role, s.name, bit, place), s.received, place, bit)
             assert (end == LET_IN) == (place in nothing)
             assert place < sealed or end in ("failed F2", "failed F4", "open")

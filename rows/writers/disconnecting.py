@@ -27,61 +27,61 @@ def ended(reason, more):
 def client_places(t):
     """Up to where a client has come, what it has heard for that, what it has said to it, how it goes on to say, and what it is asked."""
     c = Half(CLIENT)
-    c.say(t.ci)
+    c.send(t.ci)
     if t.guess:
-        c.say(INIT)
+        c.send(INIT)
     yield "at its making", [], [], half(c), []
     yield "behind the version line", [LINE], [], half(c), []
     yield "within KEXINIT", [t.s_first[:-1]], [], half(c), []
     if t.c_init:
-        c.say(INIT)
+        c.send(INIT)
     yield "behind KEXINIT", [t.s_first], [t.c_init], half(c), []
     c.switch(t.cs, t.strict)
-    c.say(service(5, "ssh-userauth"))
-    said = [t.c_init, t.c_newkeys, t.c_service]
-    yield "behind the reply", [t.s_first, t.s_reply], said, half(c), ["host_key"]
-    yield "behind NEWKEYS", [t.s_first, t.s_reply, t.s_newkeys], said, half(c), ["host_key"]
-    request_ = c.say(by_none())
-    heard = [t.s_first, t.s_reply, t.s_newkeys, t.s_accept]
-    yield "in authentication", heard, said + [request_], half(c), ["host_key"]
+    c.send(service(5, "ssh-userauth"))
+    sent = [t.c_init, t.c_newkeys, t.c_service]
+    yield "behind the reply", [t.s_first, t.s_reply], sent, half(c), ["host_key"]
+    yield "behind NEWKEYS", [t.s_first, t.s_reply, t.s_newkeys], sent, half(c), ["host_key"]
+    request_ = c.send(by_none())
+    received = [t.s_first, t.s_reply, t.s_newkeys, t.s_accept]
+    yield "in authentication", received, sent + [request_], half(c), ["host_key"]
     s = half(t.s)
-    yield "within an answer", heard + [s.say(b"\x35" + string(b"hi") + string(b""))[:-1]], said + [request_], half(c), ["host_key"]
+    yield "within an answer", received + [s.send(b"\x35" + string(b"hi") + string(b""))[:-1]], sent + [request_], half(c), ["host_key"]
 
 
 def server_places(t):
     """The same of a server."""
     s = Half(SERVER)
-    s.say(t.si)
+    s.send(t.si)
     yield "at its making", [], [], half(s), []
     yield "within the version line", [LINE[:-1]], [], half(s), []
     yield "behind the version line", [LINE], [], half(s), []
     if t.c_init:
         yield "behind KEXINIT", [t.c_first], [], half(s), []
-    s.say(reply(t.hash))
+    s.send(reply(t.hash))
     s.switch(t.sc, t.strict)
-    said = [t.s_reply, t.s_newkeys]
-    yield "behind the share", [t.c_first, t.c_init], said, half(s), []
-    yield "behind NEWKEYS", [t.c_first, t.c_init, t.c_newkeys], said, half(s), []
-    heard = [t.c_first, t.c_init, t.c_newkeys, t.c_service]
-    accept = s.say(service(6, "ssh-userauth"))
-    yield "in authentication", heard, said + [accept], half(s), []
+    sent = [t.s_reply, t.s_newkeys]
+    yield "behind the share", [t.c_first, t.c_init], sent, half(s), []
+    yield "behind NEWKEYS", [t.c_first, t.c_init, t.c_newkeys], sent, half(s), []
+    received = [t.c_first, t.c_init, t.c_newkeys, t.c_service]
+    accept = s.send(service(6, "ssh-userauth"))
+    yield "in authentication", received, sent + [accept], half(s), []
     c = half(t.c)
-    refused = s.say(failure())
-    yield "behind a refused request", heard + [c.say(by_none())], said + [accept, refused], half(s), [1]
+    refused = s.send(failure())
+    yield "behind a refused request", received + [c.send(by_none())], sent + [accept, refused], half(s), [1]
 
 
-def begun(file, role, first, heard, said, questions):
+def begun(file, role, first, received, sent, questions):
     """An endpoint up to one of these places."""
-    return ["begin " + role, [feed(file.short(*heard))] if heard else [], says(file.short(first, *said)), asked(*questions) if questions else []]
+    return ["begin " + role, [feed(file.short(*received))] if received else [], says(file.short(first, *sent)), asked(*questions) if questions else []]
 
 
 def rows(file):
     for name, how in TALKS.items():
         t = Talk(**how)
         for role, places, first in ((CLIENT, client_places, t.c_first), (SERVER, server_places, t.s_first)):
-            for place, heard, said, own, questions in places(t):
-                file.row("a %s %s, %s" % (role, place, name), t.lines(), AL, begun(file, role, first, heard, said, questions), "end open",
-                         told(11, BYE), says(own.say(disconnect(11, BYE))), ended(11, LINE))
+            for place, received, sent, own, questions in places(t):
+                file.row("a %s %s, %s" % (role, place, name), t.lines(), AL, begun(file, role, first, received, sent, questions), "end open",
+                         told(11, BYE), says(own.send(disconnect(11, BYE))), ended(11, LINE))
     reasons(file)
     descriptions(file)
     over(file)
@@ -92,16 +92,16 @@ def rows(file):
 def both(file, t, sealed):
     """Each side at its making, or in authentication where packets are sealed."""
     for role, places in ((CLIENT, client_places), (SERVER, server_places)):
-        place, heard, said, own, questions = next(x for x in places(t) if x[0] == ("in authentication" if sealed else "at its making"))
+        place, received, sent, own, questions = next(x for x in places(t) if x[0] == ("in authentication" if sealed else "at its making"))
         first = t.c_first if role == CLIENT else t.s_first
-        yield role, own, begun(file, role, first, heard, said, questions)
+        yield role, own, begun(file, role, first, received, sent, questions)
 
 
 def reasons(file):
     """Any reason is taken."""
     for reason in REASONS:
         for role, own, start in both(file, Talk(), True):
-            file.row("a %s, reason %d" % (role, reason), AL, start, told(reason), says(own.say(disconnect(reason))), "end disconnected %d" % reason)
+            file.row("a %s, reason %d" % (role, reason), AL, start, told(reason), says(own.send(disconnect(reason))), "end disconnected %d" % reason)
 
 
 def descriptions(file):
@@ -110,11 +110,11 @@ def descriptions(file):
     texts.update({"with control characters": b"\x00\x07\r\n\x1b[0m\x7f", "of two lines": b"a\r\nb", "beyond ASCII": "\u00e4\u20ac\U0001f512".encode(),
                   "of 1024 bytes, two for each character": "\u00e4".encode() * 512, "of 1025 bytes, two for most characters": b"x" + "\u00e4".encode() * 512})
     for how, text in texts.items():
-        sent = text if len(text) <= LIMIT else b""
+        sent_text = text if len(text) <= LIMIT else b""
         for sealed in (False, True):
             for role, own, start in both(file, Talk(), sealed):
                 file.row("a %s, a description %s, %s" % (role, how, "sealed" if sealed else "in clear"), AL, start, told(11, text),
-                         says(own.say(disconnect(11, sent))), "end disconnected 11")
+                         says(own.send(disconnect(11, sent_text))), "end disconnected 11")
 
 
 def over(file):
@@ -123,15 +123,15 @@ def over(file):
     for role, own, start in both(file, t, True):
         peer = half(t.s if role == CLIENT else t.c)
         nothing = [told(11, BYE), "says -"]
-        file.row("a %s that is told of a DISCONNECT" % role, AL, start, feed(peer.say(disconnect(2))), "end closed 2", nothing, "end closed 2", "session none")
+        file.row("a %s that is told of a DISCONNECT" % role, AL, start, feed(peer.send(disconnect(2))), "end closed 2", nothing, "end closed 2", "session none")
         file.row("a %s whose input has ended" % role, AL, start, "cut", nothing, "end failed F16", "session none")
-        wrong = bytearray(half(t.s if role == CLIENT else t.c).say(NEWKEYS))
+        wrong = bytearray(half(t.s if role == CLIENT else t.c).send(NEWKEYS))
         wrong[-1] ^= 1
-        file.row("a %s that has failed" % role, AL, start, feed(bytes(wrong)), says(half(own).say(disconnect(5))), "end failed F4", nothing, "end failed F4")
+        file.row("a %s that has failed" % role, AL, start, feed(bytes(wrong)), says(half(own).send(disconnect(5))), "end failed F4", nothing, "end failed F4")
         if role == CLIENT:
-            last, answers, questions = half(t.s).say(SUCCESS), [], []
+            last, answers, questions = half(t.s).send(SUCCESS), [], []
         else:
-            last, answers, questions = half(t.c).say(by_none()), [half(own).say(SUCCESS)], [1]
+            last, answers, questions = half(t.c).send(by_none()), [half(own).send(SUCCESS)], [1]
         numbers = ((t.s.seq + 1, own.seq) if role == CLIENT else (t.c.seq + 1, own.seq + 1))
         file.row("a %s that is authenticated" % role, AL, "allow al none", start, feed(last), says(*answers), asked(*questions) if questions else [], nothing,
                  "end authenticated al ssh-connection",
@@ -147,10 +147,10 @@ def over(file):
 def closing(t, role):
     """What a side says that is told to disconnect where its peer goes on to hear."""
     if role == CLIENT:
-        return half(t.c).say(disconnect(11, BYE))
+        return half(t.c).send(disconnect(11, BYE))
     s = half(t.s)
     s.seq = 0
-    return s.say(disconnect(11, BYE))
+    return s.send(disconnect(11, BYE))
 
 
 def deployed(file):
@@ -158,15 +158,15 @@ def deployed(file):
     course = DeployedCourse()
     t, names = course.t, [line for line in course.lines if not line.startswith("allow ")]
     request_, answer = course.requests[0], course.answers[0]
-    for role, heard, said, own, questions in (
+    for role, received, sent, own, questions in (
             (CLIENT, [t.s_first, t.s_reply, t.s_newkeys, t.s_accept], [t.c_first, t.c_init, t.c_newkeys, t.c_service, request_], t.c, ["host_key"]),
             (SERVER, [t.c_first, t.c_init, t.c_newkeys, t.c_service], [t.s_first, t.s_reply, t.s_newkeys, t.s_accept], t.s, [])):
         # the server of the course has said SUCCESS besides
         number = own.seq if role == CLIENT else own.seq - 1
         for text in (b"", BYE, b"x" * LIMIT, b"x" * (LIMIT + 1)):
-            sent = text if len(text) <= LIMIT else b""
-            file.row("a deployed %s, a description of %d bytes" % (role, len(text)), names, "deployed " + role, feed(*heard), says(*said),
-                     asked(*questions) if questions else [], told(11, text), says(packet_of(disconnect(11, sent), number, SEED[role], own.keys)),
+            sent_text = text if len(text) <= LIMIT else b""
+            file.row("a deployed %s, a description of %d bytes" % (role, len(text)), names, "deployed " + role, feed(*received), says(*sent),
+                     asked(*questions) if questions else [], told(11, text), says(packet_of(disconnect(11, sent_text), number, SEED[role], own.keys)),
                      "end disconnected 11", part(0, answer if role == CLIENT else request_), "end disconnected 11", "session none")
 
 
@@ -174,8 +174,8 @@ def words(file):
     """Of two words the first holds. Behind packets that are told one by one memory may be wanting (scripts/memory_rows.py)."""
     t = Talk()
     for role, own, start in both(file, t, False):
-        file.row("a %s is told twice" % role, AL, start, told(11, BYE), told(2), says(own.say(disconnect(11, BYE))), "end disconnected 11")
+        file.row("a %s is told twice" % role, AL, start, told(11, BYE), told(2), says(own.send(disconnect(11, BYE))), "end disconnected 11")
     for role, places, first in ((CLIENT, client_places, t.c_first), (SERVER, server_places, t.s_first)):
-        _, heard, said, own, questions = next(x for x in places(t) if x[0] == "in authentication")
-        file.row("a %s in authentication, packet by packet" % role, AL, "begin " + role, feed(*heard), says(first, *said),
-                 asked(*questions) if questions else [], told(11, BYE), says(own.say(disconnect(11, BYE))), "end disconnected 11")
+        _, received, sent, own, questions = next(x for x in places(t) if x[0] == "in authentication")
+        file.row("a %s in authentication, packet by packet" % role, AL, "begin " + role, feed(*received), says(first, *sent),
+                 asked(*questions) if questions else [], told(11, BYE), says(own.send(disconnect(11, BYE))), "end disconnected 11")

@@ -1,9 +1,9 @@
 """Hostile use of whole sessions: packets put in, streams cut off or into pieces, and each bit of them flipped. What has to come of it
-is worked out by hearer.py, or by the pieces of the session itself; no program is asked."""
+is worked out by receiver.py, or by the pieces of the session itself; no program is asked."""
 from lab import *
 from auth import COURSES, Course, LET_IN
-from hearer import Hearer
-from limits import let_in
+from receiver import Receiver
+from limits import accepted
 
 # the numbers that UNIMPLEMENTED answers (RFC 4253 section 11.4; which these are is profile)
 UNKNOWN = {*range(8, 20), *range(22, 30), *range(32, 50), *range(54, 60), *range(61, 80)}
@@ -23,21 +23,21 @@ COUNTS = {(SERVER, "strict"): (88, 737, 12, 1094, 437, 7, 16, 102, 7, 0, 44, 200
 
 class Session:
     """A whole session as one role hears it: each unit, what is said for it, and what that asks."""
-    hearer = Hearer
+    receiver = Receiver
 
     def __init__(self, file, role, name, course):
         t, self.role, self.course, self.name = course.t, role, course, name
         c, s = [t.c_init, t.c_newkeys + t.c_service] + course.requests, [t.s_reply + t.s_newkeys, t.s_accept] + course.answers
         if role == SERVER:
             units, self.first, questions = [t.c_first, t.c_init, t.c_newkeys, t.c_service] + course.requests, t.s_first, course.asked
-            said, asks = [b"", s[0], b""] + s[1:], [[], [], [], []] + questions
+            sent, asks = [b"", s[0], b""] + s[1:], [[], [], [], []] + questions
         else:
             units, self.first = [t.s_first, t.s_reply, t.s_newkeys, t.s_accept] + course.answers, t.c_first
-            said, asks = c[:2] + [b""] + c[2:] + [b""], [[], ["host_key"], [], []] + [[]] * len(course.answers)
-        self.turns = list(zip(units, said, asks))
-        self.heard, self.says = b"".join(units), self.first + b"".join(said)
-        self.marks = [len(self.first + b"".join(said[:n])) for n in range(len(said) + 1)]
-        self.hears = file.name("%s-%s" % (other(role), name), self.heard)
+            sent, asks = c[:2] + [b""] + c[2:] + [b""], [[], ["host_key"], [], []] + [[]] * len(course.answers)
+        self.turns = list(zip(units, sent, asks))
+        self.received, self.says = b"".join(units), self.first + b"".join(sent)
+        self.marks = [len(self.first + b"".join(sent[:n])) for n in range(len(sent) + 1)]
+        self.receives = file.name("%s-%s" % (other(role), name), self.received)
         self.own = file.name("%s-%s" % (role, name), self.says)
         self.is_strict, self.is_willing = course.t.strict, course.t.strict or role == SERVER
         lines = [line for line in course.lines if not line.startswith(other(role)) and (role == SERVER or not line.startswith("allow"))]
@@ -45,17 +45,17 @@ class Session:
 
     def by(self, count):
         """What is said and asked by the first bytes, past the first unit, and how many of them are held."""
-        said, asks, rest = self.first, [], count
+        sent, asks, rest = self.first, [], count
         for unit, answer, questions in self.turns:
             if rest < len(unit):
-                return said, asks, rest
-            said, asks, rest = said + answer, asks + questions, rest - len(unit)
-        return said, asks, 0
+                return sent, asks, rest
+            sent, asks, rest = sent + answer, asks + questions, rest - len(unit)
+        return sent, asks, 0
 
     def whole(self):
-        return ["says " + self.own, asked(*self.by(len(self.heard))[1]), "end " + LET_IN]
+        return ["says " + self.own, asked(*self.by(len(self.received))[1]), "end " + LET_IN]
 
-    def said(self, data):
+    def sent(self, data):
         """Terms for what is said: answers as the session has them by the name, and what stands behind those."""
         same = max(n for n in self.marks if data[:n] == self.says[:n])
         return says(self.own if same == len(self.says) else "%s:0:%d" % (self.own, same), data[same:])
@@ -65,7 +65,7 @@ def rows(file):
     simple, loose, both = (Course(COURSES[name], how) for name, how in (("simplest", {}), ("simplest", {"strict": False}), ("both", {})))
     for role in (SERVER, CLIENT):
         strict, loosely, twice = (Session(file, role, name, course) for name, course in (("strict", simple), ("loose", loose), ("both", both)))
-        assert [len(x.heard) for x in (strict, loosely, twice)] == {SERVER: [343, 311, 519], CLIENT: [391, 391, 463]}[role]
+        assert [len(x.received) for x in (strict, loosely, twice)] == {SERVER: [343, 311, 519], CLIENT: [391, 391, 463]}[role]
         for session in (strict, loosely):
             injected(file, session)
             flips(file, session)
@@ -80,12 +80,12 @@ def rows(file):
 
 def judged(file, name, session, terms_, data):
     """A row of a stream that is heard as far as it goes. Where the end is open, the input ends behind it."""
-    ear = session.hearer(session.role, session.is_willing, data)
+    ear = session.receiver(session.role, session.is_willing, data)
     if ear.end == LET_IN:
-        assert ear.own.said == session.says
-    heard = feed(*terms_) if ear.used + ear.held == len(data) else part(ear.used, *terms_)
+        assert ear.own.sent == session.says
+    received = feed(*terms_) if ear.used + ear.held == len(data) else part(ear.used, *terms_)
     closing = ["held %d" % ear.held, "cut", "end failed F16"] if ear.end == "open" else []
-    file.row(name, session.begin, heard, session.said(ear.own.said), asked(*ear.asked) if ear.asked else [], "end " + ear.end,
+    file.row(name, session.begin, received, session.sent(ear.own.sent), asked(*ear.asked) if ear.asked else [], "end " + ear.end,
              [session.course.agreed()] if ear.end == LET_IN else [], closing)
     return ear.end
 
@@ -115,8 +115,8 @@ def injected(file, s):
                    "open" if not s.is_strict else "failed F7 %d" % (n if place else 20)) for n in whole]
         for name, put, wanted in cases:
             end = judged(file, "%s %s, %s in front of packet %d" % (s.role, s.name, name, place), s,
-                         ["%s:0:%d" % (s.hears, at), put, "%s:%d:%d" % (s.hears, at, first + second + third)],
-                         s.heard[:at] + bytes.fromhex(put.replace("10*00", "00" * 10)) + s.heard[at:first + second + third])
+                         ["%s:0:%d" % (s.receives, at), put, "%s:%d:%d" % (s.receives, at, first + second + third)],
+                         s.received[:at] + bytes.fromhex(put.replace("10*00", "00" * 10)) + s.received[at:first + second + third])
             assert end == wanted
 
 
@@ -125,9 +125,9 @@ def flips(file, s):
     ends = []
     nothing = {place for start, end in PADDING[s.role, s.name] for place in range(start, end)}
     sealed = sum(len(unit) for unit, _, _ in s.turns[:3])
-    for place in range(len(s.heard) if s.is_strict else sealed):
+    for place in range(len(s.received) if s.is_strict else sealed):
         for bit in range(8):
-            end = flipped(file, s, "%s %s, bit %d of byte %d" % (s.role, s.name, bit, place), s.heard, place, bit)
+            end = flipped(file, s, "%s %s, bit %d of byte %d" % (s.role, s.name, bit, place), s.received, place, bit)
             assert (end == LET_IN) == (place in nothing)
             # behind NEWKEYS a packet is refused by its length or its tag; byte 262 of the client's is the last of its first tag
             assert place < sealed or end in ("failed F2", "failed F4", "open")
@@ -138,8 +138,8 @@ def flips(file, s):
 
 def flipped(file, s, name, data, place, bit):
     byte = bytes([data[place] ^ 1 << bit])
-    front = ["%s:0:%d" % (s.hears, place)] if data is s.heard else [data[:place]]
-    back = ["%s:%d" % (s.hears, place + 1)] if data is s.heard else [data[place + 1:len(data) - len(s.heard)], s.hears]
+    front = ["%s:0:%d" % (s.receives, place)] if data is s.received else [data[:place]]
+    back = ["%s:%d" % (s.receives, place + 1)] if data is s.received else [data[place + 1:len(data) - len(s.received)], s.receives]
     return judged(file, name, s, front + [byte] + back, data[:place] + byte + data[place + 1:])
 
 
@@ -149,7 +149,7 @@ def other_line(file, s):
     line = b"RSH-J *\r\n"
     for place in range(len(line)):
         for bit in range(8):
-            end = flipped(file, s, "%s, bit %d of byte %d of a line before" % (s.role, bit, place), line + s.heard, place, bit)
+            end = flipped(file, s, "%s, bit %d of byte %d of a line before" % (s.role, bit, place), line + s.received, place, bit)
             assert (end == LET_IN) == ((place, bit) not in ((0, 0), (5, 5)) and place != 8)
 
 
@@ -160,31 +160,31 @@ def unread(file, s):
     for place in range(len(offer) - 5, len(offer)):
         for bit in range(8):
             changed = offer[:place] + bytes([offer[place] ^ 1 << bit]) + offer[place + 1:]
-            let_in(file, "%s, bit %d of byte %d of a KEXINIT, sent so" % (s.role, bit, place), s.role, changed)
+            accepted(file, "%s, bit %d of byte %d of a KEXINIT, sent so" % (s.role, bit, place), s.role, changed)
 
 
 def truncated(file, s):
     """The input ends behind each byte past the fronts that endpoint.py has, which are the same in each session: a server's up to
     SERVICE_REQUEST, a client's up to NEWKEYS."""
-    for count in range(sum(len(unit) for unit, _, _ in s.turns[:4 if s.role == SERVER else 3]) + 1, len(s.heard)):
-        said, asks, held = s.by(count)
+    for count in range(sum(len(unit) for unit, _, _ in s.turns[:4 if s.role == SERVER else 3]) + 1, len(s.received)):
+        sent, asks, held = s.by(count)
         if s.name == "strict":
-            ear = Hearer(s.role, True, s.heard[:count])
-            assert (ear.own.said, ear.asked, ear.held) == (said, asks, held)
-        file.row("%s %s, the input ends behind %d" % (s.role, s.name, count), s.begin, "feed %s:0:%d" % (s.hears, count), s.said(said),
-                 asked(*asks) if asks else [], "held %d" % held, "end open", "cut", "end failed F16", "held 0", "part 0 %s:%d" % (s.hears, count),
+            ear = Receiver(s.role, True, s.received[:count])
+            assert (ear.own.sent, ear.asked, ear.held) == (sent, asks, held)
+        file.row("%s %s, the input ends behind %d" % (s.role, s.name, count), s.begin, "feed %s:0:%d" % (s.receives, count), s.sent(sent),
+                 asked(*asks) if asks else [], "held %d" % held, "end open", "cut", "end failed F16", "held 0", "part 0 %s:%d" % (s.receives, count),
                  "end failed F16")
-    file.row("%s %s, whole" % (s.role, s.name), s.begin, "feed " + s.hears, s.whole(), s.course.agreed(), "cut", "end " + LET_IN)
+    file.row("%s %s, whole" % (s.role, s.name), s.begin, "feed " + s.receives, s.whole(), s.course.agreed(), "cut", "end " + LET_IN)
 
 
 def cuts(file, s):
-    for at in range(1, len(s.heard)):
-        file.row("%s %s, cut at %d" % (s.role, s.name, at), s.begin, "feed %s:0:%d" % (s.hears, at), "feed %s:%d" % (s.hears, at), s.whole())
+    for at in range(1, len(s.received)):
+        file.row("%s %s, cut at %d" % (s.role, s.name, at), s.begin, "feed %s:0:%d" % (s.receives, at), "feed %s:%d" % (s.receives, at), s.whole())
 
 
 def three_pieces(file, s):
     """Each cut into three pieces whose places are among the first 120."""
     for at in range(1, 120):
         for then in range(at + 1, 121):
-            file.row("%s, cut at %d and %d" % (s.role, at, then), s.begin, "feed %s:0:%d" % (s.hears, at),
-                     "feed %s:%d:%d" % (s.hears, at, then), "feed %s:%d" % (s.hears, then), s.whole())
+            file.row("%s, cut at %d and %d" % (s.role, at, then), s.begin, "feed %s:0:%d" % (s.receives, at),
+                     "feed %s:%d:%d" % (s.receives, at, then), "feed %s:%d" % (s.receives, then), s.whole())

@@ -36,7 +36,7 @@ def rows(file):
 def course(file, name, plan, allowed, lines, made, answers, user="al", service_name="ssh-connection", **how):
     end = "authenticated %s %s" % (user, service_name)
     own = Course((plan, allowed, lines, made, answers, end, end), how)
-    both(file, name, own, len(own.t.c.said) + len(own.t.s.said))
+    both(file, name, own, len(own.t.c.sent) + len(own.t.s.sent))
 
 
 def configs(file):
@@ -207,12 +207,12 @@ def offers(file):
             for name, names in (("a name of 64 bytes first", ["n" * 64, first]), ("a name of 64 bytes last", [first, "n" * 64]),
                                 ("1001 bytes", ["n" * 64] * 15 + ["n" * (25 - len(first)), first])):
                 text = ",".join(x for x in names + marks if x)
-                let_in(file, "%s hears %s in %s" % (role, name, field), role, offer(peer, {place: text}))
+                accepted(file, "%s hears %s in %s" % (role, name, field), role, offer(peer, {place: text}))
             fill = CLEAR - len(offer(peer, {place: ",".join([first] + marks)}))
             text = ",".join(x for x in [first] + marks if x) + ",n" * (fill // 2)
             text = text if first else text[1:]
             if place in (0, 1, 3, 8):
-                let_in(file, "%s hears %d bytes in %s" % (role, len(text), field), role, offer(peer, {place: text}))
+                accepted(file, "%s hears %d bytes in %s" % (role, len(text), field), role, offer(peer, {place: text}))
             t = Talk()
             text = ",".join(x for x in [first] + marks + ["n" * 65] if x)
             start, own = (t.c_first, CLIENT) if role == CLIENT else (t.s_first, SERVER)
@@ -221,16 +221,16 @@ def offers(file):
                      "end failed F5 20")
 
 
-def let_in(file, name, role, theirs):
+def accepted(file, name, role, theirs):
     """The endpoint hears this KEXINIT, and all that follows."""
     t = Talk(offers=(None, theirs) if role == CLIENT else (theirs, None))
     c, s = half(t.c), half(t.s)
-    request_, success = c.say(by_none()), s.say(SUCCESS)
+    request_, success = c.send(by_none()), s.send(SUCCESS)
     if role == CLIENT:
-        heard, said = [t.s_first, t.s_reply, t.s_newkeys, t.s_accept, success], [t.c_first, t.c_init, t.c_newkeys, t.c_service, request_]
+        received, sent = [t.s_first, t.s_reply, t.s_newkeys, t.s_accept, success], [t.c_first, t.c_init, t.c_newkeys, t.c_service, request_]
     else:
-        heard, said = [t.c_first, t.c_init, t.c_newkeys, t.c_service, request_], [t.s_first, t.s_reply, t.s_newkeys, t.s_accept, success]
-    file.row(name, AL, "allow al none", "begin " + role, feed(*squeezed(heard[0])), feed(*heard[1:]), says(*said),
+        received, sent = [t.c_first, t.c_init, t.c_newkeys, t.c_service, request_], [t.s_first, t.s_reply, t.s_newkeys, t.s_accept, success]
+    file.row(name, AL, "allow al none", "begin " + role, feed(*squeezed(received[0])), feed(*received[1:]), says(*sent),
              asked("host_key" if role == CLIENT else 1), "end " + LET_IN, "agreed a h c c m m none none yes " + t.hash.hex())
 
 
@@ -257,12 +257,12 @@ def replies(file):
         c, s = Half(CLIENT), Half(SERVER)
         c.seq, s.seq = 2, 1
         k = shared(RANDOM[CLIENT], share(RANDOM[SERVER]))
-        heard = s.say(payload)
+        received = s.send(payload)
         newkeys = s.switch(keys_of(SERVER, k, h), True)
-        said = c.switch(keys_of(CLIENT, k, h), True) + c.say(service(5, "ssh-userauth"))
+        sent = c.switch(keys_of(CLIENT, k, h), True) + c.send(service(5, "ssh-userauth"))
         file.row("a host key of %d bytes in a reply" % size, AL, "begin client", feed(t.s_first), says(t.c_first, t.c_init),
-                 feed(*squeezed(heard)), says(said), asked("host_key"), feed(newkeys, s.say(service(6, "ssh-userauth"))), says(c.say(by_none())),
-                 feed(s.say(SUCCESS)), "end " + LET_IN)
+                 feed(*squeezed(received)), says(sent), asked("host_key"), feed(newkeys, s.send(service(6, "ssh-userauth"))), says(c.send(by_none())),
+                 feed(s.send(SUCCESS)), "end " + LET_IN)
     t = Talk()
     for size in (33, 4096, 4097, 4627, CLEAR - len(reply(bytes(32), b""))):
         payload = reply(t.hash, (sign("h", b"\x00", t.hash) + b"\x55" * size)[:size])
@@ -287,9 +287,9 @@ def packets(file):
     for t, right, wrong, block in ((eight, (12, 34964), (11, 4, 34965, 34972), 8), (sixteen, (12, 28, 34956), (20, 34964, 34972), 16)):
         for role in (CLIENT, SERVER):
             keys, own = (t.sc, t.cs) if role == CLIENT else (t.cs, t.sc)
-            heard = [t.s_first, t.s_reply, t.s_newkeys] if role == CLIENT else [t.c_first, t.c_init, t.c_newkeys]
-            said = [t.c_first, t.c_init, t.c_newkeys, t.c_service] if role == CLIENT else [t.s_first, t.s_reply, t.s_newkeys]
-            begun = [t.lines(), "begin " + role, feed(*heard), says(*said), asked("host_key") if role == CLIENT else []]
+            received = [t.s_first, t.s_reply, t.s_newkeys] if role == CLIENT else [t.c_first, t.c_init, t.c_newkeys]
+            sent = [t.c_first, t.c_init, t.c_newkeys, t.c_service] if role == CLIENT else [t.s_first, t.s_reply, t.s_newkeys]
+            begun = [t.lines(), "begin " + role, feed(*received), says(*sent), asked("host_key") if role == CLIENT else []]
             name = "%s with blocks of %d" % (role, block)
             for n in right:
                 file.row("%s, a packet of %d" % (name, n), begun, feed(raw(n, 5, ignore(n, 5), keys)), "says -", "held 0", "end open")
@@ -309,9 +309,9 @@ def pieces(file):
     file.shared.append("bytes big " + " ".join(x if isinstance(x, str) else x.hex() for x in squeezed(big) if x))
     many = ["$big"] * 30
     for role in (CLIENT, SERVER):
-        heard, said, end = session(t, role, 30)
+        received, sent, end = session(t, role, 30)
         file.row("a %s hears a piece of a mebibyte" % role, t.lines(), AL, "allow al none", "begin " + role,
-                 feed(heard[0], *many, *heard[1:]), says(*said), asked("host_key" if role == CLIENT else 1), "held 0", "end " + end,
+                 feed(received[0], *many, *received[1:]), says(*sent), asked("host_key" if role == CLIENT else 1), "held 0", "end " + end,
                  part(0, *many), "end " + end)
         file.row("a %s hears a mebibyte behind its end" % role, t.lines(), AL, "allow al none", "begin " + role,
                  part(sum(map(len, session(t, role, 0)[0])), *session(t, role, 0)[0], *many), says(*session(t, role, 0)[1]),
@@ -319,8 +319,8 @@ def pieces(file):
     answers(file, t)
     strict = Talk()
     lines = b"".join(letters(254, n).encode() + b"\n" for n in range(20))
-    heard, said, end = session(strict, CLIENT, 0)
-    file.row("a client hears 20 lines of 255 bytes", AL, "begin client", feed(lines, *heard), says(*said), asked("host_key"), "end " + end)
+    received, sent, end = session(strict, CLIENT, 0)
+    file.row("a client hears 20 lines of 255 bytes", AL, "begin client", feed(lines, *received), says(*sent), asked("host_key"), "end " + end)
     for line in (b"x" * 254 + b"\n", b"\n"):
         file.row("a client refuses a line more, of %d bytes" % len(line), AL, "begin client", says(strict.c_first), feed(lines, line[:-1]), "end open",
                  part(1, line[-1:], LINE), "end failed F1")
@@ -332,12 +332,12 @@ def session(t, role, more):
     c.seq = s.seq = 1
     peer = s if role == CLIENT else c
     peer.seq += more
-    init = c.say(INIT)
-    answer = s.say(reply(t.hash)) + s.switch(t.sc, t.strict)
-    newkeys = c.switch(t.cs, t.strict) + c.say(service(5, "ssh-userauth"))
-    accept = s.say(service(6, "ssh-userauth"))
-    request_ = c.say(by_none())
-    success = s.say(SUCCESS)
+    init = c.send(INIT)
+    answer = s.send(reply(t.hash)) + s.switch(t.sc, t.strict)
+    newkeys = c.switch(t.cs, t.strict) + c.send(service(5, "ssh-userauth"))
+    accept = s.send(service(6, "ssh-userauth"))
+    request_ = c.send(by_none())
+    success = s.send(SUCCESS)
     client, server = [t.c_first, init, newkeys, request_], [t.s_first, answer, accept, success]
     return (server, client, LET_IN) if role == CLIENT else (client, server, LET_IN)
 
@@ -346,12 +346,12 @@ def answers(file, t):
     """Numbers without meaning in clear, all in one piece: each is told of."""
     for role in (CLIENT, SERVER):
         own, first = Half(role), t.c_first if role == CLIENT else t.s_first
-        heard = [t.s_first] if role == CLIENT else [t.c_first]
-        own.seq, own.said = 1, b""
+        received = [t.s_first] if role == CLIENT else [t.c_first]
+        own.seq, own.sent = 1, b""
         if role == CLIENT:
-            own.say(INIT)
+            own.send(INIT)
         for n in range(1000):
-            own.say(unimplemented(1 + n))
+            own.send(unimplemented(1 + n))
         piece = packet(b"\x28", 1, SEED[other(role)])
-        file.row("a %s tells of a thousand packets" % role, t.lines(), "begin " + role, feed(*heard, "1000*" + piece.hex()), says(first, own.said),
+        file.row("a %s tells of a thousand packets" % role, t.lines(), "begin " + role, feed(*received, "1000*" + piece.hex()), says(first, own.sent),
                  "end open")

@@ -41,14 +41,14 @@ class Place:
 
     def __init__(self, file, t, role, name, lines=()):
         places = client_places(t) if role == CLIENT else server_places(t)
-        _, heard, said, self.own, questions = next(x for x in places if x[0] == name)
+        _, received, sent, self.own, questions = next(x for x in places if x[0] == name)
         first = t.c_first if role == CLIENT else t.s_first
-        self.begun = [t.lines(), AL, *lines, begun(file, role, first, heard, said, questions)]
+        self.begun = [t.lines(), AL, *lines, begun(file, role, first, received, sent, questions)]
         self.file, self.peer = file, peer_at(t, role, name)
 
     def row(self, name, payloads, notices, answers=(), end="open"):
         """Each payload in a piece of its own, then all that was told."""
-        self.file.row(name, self.begun, [feed(self.peer.say(p)) for p in payloads], says(*[self.own.say(p) for p in answers]), told(*notices),
+        self.file.row(name, self.begun, [feed(self.peer.send(p)) for p in payloads], says(*[self.own.send(p) for p in answers]), told(*notices),
                       "end " + end)
 
 
@@ -57,21 +57,21 @@ def peer_at(t, role, name):
     peer = Half(other(role))
     if name in ("at its making", "behind the version line"):
         return peer
-    peer.say(t.si if role == CLIENT else t.ci)
+    peer.send(t.si if role == CLIENT else t.ci)
     if role == SERVER and t.guess:
-        peer.say(INIT)
+        peer.send(INIT)
     if name == "behind KEXINIT":
         return peer
     if role == CLIENT:
-        peer.say(reply(t.hash))
+        peer.send(reply(t.hash))
     elif t.c_init:
-        peer.say(INIT)
+        peer.send(INIT)
     if name in ("behind the reply", "behind the share"):
         return peer
     peer.switch(t.sc if role == CLIENT else t.cs, t.strict)
     if name == "behind NEWKEYS":
         return peer
-    peer.say(service(6 if role == CLIENT else 5, "ssh-userauth"))
+    peer.send(service(6 if role == CLIENT else 5, "ssh-userauth"))
     return peer
 
 
@@ -108,9 +108,9 @@ def lines_before(file, t):
     """Lines before the version line: a client takes 20 at the most, a server none; the one that is one too many is told too, as the last."""
     client, server = ["begin client", says(t.c_first)], ["begin server", says(t.s_first)]
 
-    def row(name, begun, heard, lines, end, used=None):
+    def row(name, begun, received, lines, end, used=None):
         notices = told(*["line " + hexa(line) for line in lines])
-        file.row("lines before the version line: " + name, begun, part(len(heard) if used is None else used, heard), notices, "end " + end)
+        file.row("lines before the version line: " + name, begun, part(len(received) if used is None else used, received), notices, "end " + end)
 
     first = t.s_first
     for name, line in (("a text", b"hi"), ("none in it", b""), ("any bytes", b"\xff\x1b[2J\x80"), ("a CR inside", b"a\rb"),
@@ -175,37 +175,37 @@ def failures(file, t):
 
 def several(file, t):
     """Several are told in their order, each once."""
-    heard = [(banner_of(b"a"), [of_text("banner", b"a")]), (debug(0), []), (debug(7, b"b"), [of_text("debug", b"b")]), (b"\x02" + string(b"c"), []),
+    received = [(banner_of(b"a"), [of_text("banner", b"a")]), (debug(0), []), (debug(7, b"b"), [of_text("debug", b"b")]), (b"\x02" + string(b"c"), []),
              (unimplemented(0), []), (banner_of(b"d", b"e"), [of_text("banner", b"d", b"e")])]
     last = [(lists("none", 1), [of_failure("none", 1)]), (disconnect(3, b"f"), [of_text("disconnect 3", b"f")])]
-    payloads, notices = [p for p, _ in heard + last], [n for _, ns in heard + last for n in ns]
+    payloads, notices = [p for p, _ in received + last], [n for _, ns in received + last for n in ns]
     in_auth(file, t, lines=BO).row("several, one by one", payloads, notices, [by_none("bo")], "closed 3")
     place = in_auth(file, t, lines=BO)
-    file.row("several, looked at one by one", place.begun, told(), [[feed(place.peer.say(p)), told(*ns)] for p, ns in heard],
-             feed(place.peer.say(last[0][0])), told(*last[0][1]), says(place.own.say(by_none("bo"))), "end open")
+    file.row("several, looked at one by one", place.begun, told(), [[feed(place.peer.send(p)), told(*ns)] for p, ns in received],
+             feed(place.peer.send(last[0][0])), told(*last[0][1]), says(place.own.send(by_none("bo"))), "end open")
     place = in_auth(file, t, lines=BO)
-    file.row("several in one piece", place.begun, feed(*[place.peer.say(p) for p in payloads]), says(place.own.say(by_none("bo"))), told(*notices),
+    file.row("several in one piece", place.begun, feed(*[place.peer.send(p) for p in payloads]), says(place.own.send(by_none("bo"))), told(*notices),
              "end closed 3")
     for text in (b"hi", b""):
         own = Talk(banner_text=text.decode())
         place = Place(file, own, CLIENT, "behind NEWKEYS")
         file.row("a banner of %d bytes in one piece with the answer before" % len(text), place.begun, feed(own.s_accept + own.s_banner),
-                 says(place.own.say(by_none())), told(of_text("banner", text)), "end open")
+                 says(place.own.send(by_none())), told(of_text("banner", text)), "end open")
 
 
 def ended(file, t):
     """Nothing is told before a message is whole, and nothing once the endpoint has ended."""
     place = Place(file, t, SERVER, "behind KEXINIT")
-    file.row("an unfinished DISCONNECT", place.begun, feed(place.peer.say(disconnect(11))[:-1]), told(), "end open")
+    file.row("an unfinished DISCONNECT", place.begun, feed(place.peer.send(disconnect(11))[:-1]), told(), "end open")
     place = in_auth(file, t)
-    closing, more = place.peer.say(disconnect(3, b"f")), place.peer.say(banner_of(b"a"))
+    closing, more = place.peer.send(disconnect(3, b"f")), place.peer.send(banner_of(b"a"))
     file.row("nothing behind a DISCONNECT", place.begun, part(len(closing), closing, more), told(of_text("disconnect 3", b"f")), "end closed 3",
              part(0, more), told(), "end closed 3")
     place = in_auth(file, t)
-    success, more = place.peer.say(SUCCESS), place.peer.say(debug(1))
+    success, more = place.peer.send(SUCCESS), place.peer.send(debug(1))
     file.row("nothing behind SUCCESS", place.begun, part(len(success), success, more), told(), "end authenticated al ssh-connection")
     place = in_auth(file, t)
-    file.row("nothing behind an own DISCONNECT", place.begun, "disconnect 11 -", says(place.own.say(disconnect(11))), part(0, place.peer.say(banner_of(b"a"))),
+    file.row("nothing behind an own DISCONNECT", place.begun, "disconnect 11 -", says(place.own.send(disconnect(11))), part(0, place.peer.send(banner_of(b"a"))),
              told(), "end disconnected 11")
 
 
@@ -236,9 +236,9 @@ def refused(file, t):
     for role in (CLIENT, SERVER):
         for name, payload in (("DISCONNECT", disconnect(11, b"hi")), ("DEBUG", debug(1))):
             place = in_auth(file, t, role)
-            wrong = bytearray(place.peer.say(payload))
+            wrong = bytearray(place.peer.send(payload))
             wrong[-1] ^= 1
-            file.row("a %s hears a %s with a wrong tag" % (role, name), place.begun, feed(bytes(wrong)), says(place.own.say(disconnect(5))), told(),
+            file.row("a %s hears a %s with a wrong tag" % (role, name), place.begun, feed(bytes(wrong)), says(place.own.send(disconnect(5))), told(),
                      "end failed F4")
         Place(file, t, role, "behind the version line").row("a %s, DEBUG before KEXINIT" % role, [debug(1), t.si if role == CLIENT else t.ci],
                                                             [of_text("debug", b"hi")], [disconnect(2)], "failed F7 20")
@@ -250,11 +250,11 @@ def dropped(file):
         t, how = Talk(strict=strict, guess=True, crossed=True), "strict" if strict else "loose"
         c, s = Half(CLIENT), Half(SERVER)
         s.seq = 1
-        heard = LINE + c.say(t.ci)
-        start = [t.lines(), "begin server", feed(file.short(heard)), says(file.short(t.s_first))]
-        file.row("DISCONNECT in the place of a guess, " + how, start, feed(half(c).say(disconnect(11, b"hi"))), told(of_text("disconnect 11", b"hi")),
+        received = LINE + c.send(t.ci)
+        start = [t.lines(), "begin server", feed(file.short(received)), says(file.short(t.s_first))]
+        file.row("DISCONNECT in the place of a guess, " + how, start, feed(half(c).send(disconnect(11, b"hi"))), told(of_text("disconnect 11", b"hi")),
                  "end closed 11")
-        file.row("DEBUG in the place of a guess, " + how, start, feed(half(c).say(debug(1))), says(s.say(disconnect(2))) if strict else "says -", told(),
+        file.row("DEBUG in the place of a guess, " + how, start, feed(half(c).send(debug(1))), says(s.send(disconnect(2))) if strict else "says -", told(),
                  "end failed F7 4" if strict else "end open")
 
 
@@ -262,10 +262,10 @@ def deployed(file):
     """The same over the algorithms that are deployed."""
     course = DeployedCourse()
     t, names = course.t, [line for line in course.lines if not line.startswith("allow ")]
-    heard, said = [t.s_first, t.s_reply, t.s_newkeys, t.s_accept], [t.c_first, t.c_init, t.c_newkeys, t.c_service, course.requests[0]]
+    received, sent = [t.s_first, t.s_reply, t.s_newkeys, t.s_accept], [t.c_first, t.c_init, t.c_newkeys, t.c_service, course.requests[0]]
     # the server of the course has said SUCCESS besides
     number = t.s.seq - 1
     payloads = [banner_of(b"hi", b"en"), debug(0), debug(1, b"a"), disconnect(11, b"bye")]
-    file.row("a deployed client", names, "deployed client", feed(*heard), says(*said), asked("host_key"),
+    file.row("a deployed client", names, "deployed client", feed(*received), says(*sent), asked("host_key"),
              feed(*[packet_of(p, number + n, SEED[SERVER], t.s.keys) for n, p in enumerate(payloads)]),
              told(of_text("banner", b"hi", b"en"), of_text("debug", b"a"), of_text("disconnect 11", b"bye")), "end closed 11")

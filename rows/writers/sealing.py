@@ -63,7 +63,7 @@ def rows(file):
             paddings(file, suite, keys, name, start)
             if keys:
                 tags(file, suite, keys, name, start)
-        behind(file, suite)
+        after(file, suite)
         one_piece(file, suite)
 
 
@@ -163,7 +163,7 @@ def runs(data):
     return "%s 32768*07 %s" % (front.hex(), back.hex())
 
 
-def behind(file, suite):
+def after(file, suite):
     keys = keys_for("c")
     for reset in ("yes", "no"):
         one = 0 if reset == "yes" else 2

@@ -30,8 +30,8 @@ def rows(file):
 def questions(file, t):
     """What decisions are asked: too few questions, too many, others, or none that is judged."""
     client = ["begin client", feed(t.s_first, t.s_reply), says(t.c_first, t.c_init, t.c_newkeys, t.c_service)]
-    server = ["begin server", feed(t.c_first, t.c_init, t.c_newkeys, t.c_service, half(t.c).say(by_none())),
-              says(t.s_first, t.s_reply, t.s_newkeys, t.s_accept, half(t.s).say(failure()))]
+    server = ["begin server", feed(t.c_first, t.c_init, t.c_newkeys, t.c_service, half(t.c).send(by_none())),
+              says(t.s_first, t.s_reply, t.s_newkeys, t.s_accept, half(t.s).send(failure()))]
     for side, lines, wrong in ((CLIENT, client, ("nothing", "1", "host_key host_key")), (SERVER, server, ("nothing", "2", "host_key", "1 1"))):
         file.row("a %s's question isn't judged" % side, lines, "end open")
         for what in wrong:
@@ -41,56 +41,56 @@ def questions(file, t):
 def notices(file, t):
     """What an endpoint is told: too few notices, too many, others, or one that no line judges."""
     client = ["begin client", feed(t.s_first, t.s_reply, t.s_newkeys, t.s_accept)]
-    said = says(t.c_first, t.c_init, t.c_newkeys, t.c_service, half(t.c).say(disconnect(14)))
-    in_auth = ["client try al ssh-connection none", client, says(t.c_first, t.c_init, t.c_newkeys, t.c_service, half(t.c).say(by_none())), asked("host_key")]
+    sent = says(t.c_first, t.c_init, t.c_newkeys, t.c_service, half(t.c).send(disconnect(14)))
+    in_auth = ["client try al ssh-connection none", client, says(t.c_first, t.c_init, t.c_newkeys, t.c_service, half(t.c).send(by_none())), asked("host_key")]
     s = half(t.s)
-    hi, there = s.say(banner("hi")), s.say(banner("there"))
-    file.row("a notice of nothing", client, said, asked("host_key"), "told banner 6869 -", "end failed F14")
+    hi, there = s.send(banner("hi")), s.send(banner("there"))
+    file.row("a notice of nothing", client, sent, asked("host_key"), "told banner 6869 -", "end failed F14")
     for what in ("nothing", "banner 6868 -", "banner 6869 6869", "debug 6869 -", "banner 6869 - banner 6869 -"):
         file.row("a banner is said to be told as %s" % what, in_auth, feed(hi), "told " + what, "end open")
     file.row("two banners are told in another order", in_auth, feed(hi, there), "told banner 7468657265 - banner 6869 -", "end open")
     file.row("a banner behind the last that is judged", in_auth, "told nothing", feed(hi), "end open")
-    file.row("a DEBUG that isn't to be shown is told", in_auth, feed(half(t.s).say(b"\x04\x00" + string("hi") + string(""))), "told debug 6869 -", "end open")
+    file.row("a DEBUG that isn't to be shown is told", in_auth, feed(half(t.s).send(b"\x04\x00" + string("hi") + string(""))), "told debug 6869 -", "end open")
     c = half(t.c)
-    c.say(by_none())
-    answered = [in_auth, feed(half(t.s).say(failure())), says(c.say(disconnect(14)))]
+    c.send(by_none())
+    answered = [in_auth, feed(half(t.s).send(failure())), says(c.send(disconnect(14)))]
     for what in ("failure 'password,publickey yes", "failure 'publickey,password no", "failure 'password no"):
         file.row("a FAILURE is said to be told as %s" % what, answered, "told " + what, "end failed F14")
     for what in ("disconnect 11 - -", "disconnect 2 6279 -"):
-        file.row("a DISCONNECT is said to be told as %s" % what, in_auth, feed(half(t.s).say(disconnect(2))), "told " + what, "end closed 2")
+        file.row("a DISCONNECT is said to be told as %s" % what, in_auth, feed(half(t.s).send(disconnect(2))), "told " + what, "end closed 2")
 
 
 def disconnecting(file, t):
     """An endpoint that is told to disconnect."""
     start = ["begin client", says(t.c_first)]
 
-    def said(reason, text=b"", number=1):
+    def sent(reason, text=b"", number=1):
         return says(packet(disconnect(reason, text), number, SEED[CLIENT]))
 
-    file.row("one that disconnects stands open", start, "disconnect 11 -", said(11), "end open")
-    file.row("one that disconnects ends by another reason", start, "disconnect 11 -", said(11), "end disconnected 12")
-    file.row("one that disconnects is closed", start, "disconnect 11 -", said(11), "end closed 11")
-    file.row("a DISCONNECT of another reason is said", start, "disconnect 11 -", said(12), "end disconnected 11")
-    file.row("a DISCONNECT with the number before is said", start, "disconnect 11 -", said(11, number=0), "end disconnected 11")
+    file.row("one that disconnects stands open", start, "disconnect 11 -", sent(11), "end open")
+    file.row("one that disconnects ends by another reason", start, "disconnect 11 -", sent(11), "end disconnected 12")
+    file.row("one that disconnects is closed", start, "disconnect 11 -", sent(11), "end closed 11")
+    file.row("a DISCONNECT of another reason is said", start, "disconnect 11 -", sent(12), "end disconnected 11")
+    file.row("a DISCONNECT with the number before is said", start, "disconnect 11 -", sent(11, number=0), "end disconnected 11")
     file.row("a DISCONNECT isn't judged", start, "disconnect 11 -", "end disconnected 11")
     file.row("nothing is said by one that disconnects", start, "disconnect 11 -", "says -", "end disconnected 11")
-    file.row("another description is said", start, "disconnect 11 62", said(11, b"c"), "end disconnected 11")
-    file.row("a description of 1024 bytes isn't said", start, "disconnect 11 1024*78", said(11), "end disconnected 11")
-    file.row("a description of 1025 bytes is said", start, "disconnect 11 1025*78", said(11, b"x" * 1025), "end disconnected 11")
-    file.row("the front of a longer description is said", start, "disconnect 11 1025*78", said(11, b"x" * 1024), "end disconnected 11")
-    file.row("one that has ended says a DISCONNECT", start, "cut", "disconnect 11 -", said(11), "end failed F16")
+    file.row("another description is said", start, "disconnect 11 62", sent(11, b"c"), "end disconnected 11")
+    file.row("a description of 1024 bytes isn't said", start, "disconnect 11 1024*78", sent(11), "end disconnected 11")
+    file.row("a description of 1025 bytes is said", start, "disconnect 11 1025*78", sent(11, b"x" * 1025), "end disconnected 11")
+    file.row("the front of a longer description is said", start, "disconnect 11 1025*78", sent(11, b"x" * 1024), "end disconnected 11")
+    file.row("one that has ended says a DISCONNECT", start, "cut", "disconnect 11 -", sent(11), "end failed F16")
     file.row("one that has ended disconnects", start, "cut", "disconnect 11 -", "end disconnected 11")
-    file.row("one that disconnected uses bytes", start, "disconnect 11 -", said(11), feed(LINE), "end disconnected 11")
-    file.row("no end behind a DISCONNECT", start, "end open", "disconnect 11 -", said(11))
-    file.row("a description that is no text", start, "disconnect 11 ff", said(11, b"\xff"), "end disconnected 11")
-    file.row("a reason that is no number", start, "disconnect x -", said(0), "end disconnected 0")
+    file.row("one that disconnected uses bytes", start, "disconnect 11 -", sent(11), feed(LINE), "end disconnected 11")
+    file.row("no end behind a DISCONNECT", start, "end open", "disconnect 11 -", sent(11))
+    file.row("a description that is no text", start, "disconnect 11 ff", sent(11, b"\xff"), "end disconnected 11")
+    file.row("a reason that is no number", start, "disconnect x -", sent(0), "end disconnected 0")
 
 
 def linked(file, t):
     """A session that goes on as a link."""
     al = ["client try al ssh-connection none", "allow al none"]
     c, s = half(t.c), half(t.s)
-    asks, success = c.say(by_none()), s.say(SUCCESS)
+    asks, success = c.send(by_none()), s.send(SUCCESS)
     session = [al, "begin client", feed(t.s_first, t.s_reply, t.s_newkeys, t.s_accept), says(t.c_first, t.c_init, t.c_newkeys, t.c_service, asks),
                asked("host_key"), feed(success), "end authenticated al ssh-connection"]
     link = session + ["link " + hexa(SEED[CLIENT])]
@@ -103,10 +103,10 @@ def linked(file, t):
     file.row("a link pads by another seed", link, seals % hexa(packet(b"\x63", c.seq, SEED[SERVER], t.cs)))
     file.row("a link seals no byte", link, "seals - " + hexa(packet(b"", c.seq, SEED[CLIENT], t.cs)))
     file.row("a link refuses a payload", link, "seals 63 payload")
-    file.row("a link lends another payload", link, "opens 64 " + hexa(s.say(b"\x63")))
-    file.row("a link lends no payload", link, "opens - " + hexa(half_again(t).say(b"\x63")))
-    file.row("a link opens a wrong tag", link, "opens 63 " + hexa(half_again(t).say(b"\x63")[:-1] + b"\x00"))
-    file.row("a link refuses a right packet", link, "refuses P4 " + hexa(half_again(t).say(b"\x63")))
+    file.row("a link lends another payload", link, "opens 64 " + hexa(s.send(b"\x63")))
+    file.row("a link lends no payload", link, "opens - " + hexa(half_again(t).send(b"\x63")))
+    file.row("a link opens a wrong tag", link, "opens 63 " + hexa(half_again(t).send(b"\x63")[:-1] + b"\x00"))
+    file.row("a link refuses a right packet", link, "refuses P4 " + hexa(half_again(t).send(b"\x63")))
     file.row("a link counts one more", link, seals % hexa(packet(b"\x63", c.seq, SEED[CLIENT], t.cs)), "sealed 2")
     file.row("a link has opened one", link, "opened 1")
     file.row("a link holds a byte", link, "held 1")
@@ -115,7 +115,7 @@ def linked(file, t):
 def half_again(t):
     """The server behind SUCCESS."""
     s = half(t.s)
-    s.say(SUCCESS)
+    s.send(SUCCESS)
     return s
 
 

@@ -23,8 +23,8 @@ unfoldable pub first_word : List ℕ → List ℕ
 first_word text = before_first is_blank (unblanked text)
 
 -- what stands behind it
-unfoldable pub behind_word : List ℕ → List ℕ
-behind_word text = drop (position_or_len is_blank (unblanked text)) (unblanked text)
+unfoldable pub after_word : List ℕ → List ℕ
+after_word text = drop (position_or_len is_blank (unblanked text)) (unblanked text)
 
 -- names with `@`, `#`, `|` or `!` are no plain names: a marked line, a comment, a hashed name, a name that isn't meant
 abbrev pub is_mark : ℕ → Bool
@@ -35,15 +35,15 @@ abbrev pub is_named : List ℕ → List ℕ → Bool
 is_named names host = not (list_any is_mark names) && list_any (λ name. bytes_eq name host) (slice_split (λ byte. byte == 44) names)
 
 -- a key of the one algorithm, `ssh-ed25519 DIGITS`, at the front of a text: its digits
-abbrev pub digits_behind : List ℕ → Option (List ℕ)
-digits_behind text = if bytes_eq (first_word text) (codes "ssh-ed25519") then Some (first_word (behind_word text)) else None
+abbrev pub digits_after : List ℕ → Option (List ℕ)
+digits_after text = if bytes_eq (first_word text) (codes "ssh-ed25519") then Some (first_word (after_word text)) else None
 
 -- the digits of a line that is looked for: a key alone, a key behind names that have the host, or one behind `@revoked`
 -- and names
 abbrev pub digits_in : KeyLine → List ℕ → Option (List ℕ)
-digits_in line.Authorized text = digits_behind text
-digits_in (line.Known host) text = if is_named (first_word text) host.now then digits_behind (behind_word text) else None
-digits_in line.Revoked text = if bytes_eq (first_word text) (codes "@revoked") then digits_behind (behind_word (behind_word text)) else None
+digits_in line.Authorized text = digits_after text
+digits_in (line.Known host) text = if is_named (first_word text) host.now then digits_after (after_word text) else None
+digits_in line.Revoked text = if bytes_eq (first_word text) (codes "@revoked") then digits_after (after_word (after_word text)) else None
 
 -- the bytes that digits of base64 spell (RFC 4648 section 4), if they spell some
 abbrev pub spelled : List ℕ → Option (List ℕ)

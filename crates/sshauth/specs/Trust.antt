@@ -3,7 +3,7 @@
 use Rattle.std.specs.Prelude.{ℕ, ◌&&◌, Bool, false, true, List, Option, None, Some, option_map, string_bytes}
 use Rattle.std.specs.List.{list_any}
 use Rattle.std.specs.Str.{bytes_eq}
-use Rattle.sshcore.specs.Party.{KeyProof, NoProof, PasswordProof, Policy, ProofData}
+use Rattle.sshcore.specs.EndpointParts.{DecisionsData, KeyProof, NoProof, PasswordProof, ProofData}
 use Rattle.sshauth.specs.declared.trust.Trust.{Trust}
 
 -- the blob is one of the keys
@@ -22,14 +22,14 @@ proves trust (PasswordProof password) = is_own (option_map (λ v. v.items) trust
 proves trust (KeyProof algorithm blob) = is_trusted trust blob
 
 -- a host key is trusted that is one of the keys; one user is let in, by the password or by one of the keys
-abbrev pub trust_policy : Trust → Policy
+abbrev pub trust_policy : Trust → DecisionsData
 trust_policy trust = record {
   host_key = λ algorithm blob. is_trusted trust blob;
   user = λ number user service proof. bytes_eq (string_bytes trust.user) user && proves trust proof;
 }
 
 -- any host key will do, and no user is let in
-abbrev pub any_host_policy : {A : Type 0} → A → Policy
+abbrev pub any_host_policy : {A : Type 0} → A → DecisionsData
 any_host_policy looking = record {
   host_key = λ algorithm blob. true;
   user = λ number user service proof. false;

@@ -1,7 +1,7 @@
 //! One channel of a session, by messages made by hand, to show that the session goes on (RFC 4254).
 
 use crate::fault::Fault;
-use crate::report::{say, say_number};
+use crate::report::{tell, tell_number};
 use crate::session_stream::SessionStream;
 use sshcore::Session;
 use sshwire::{Memory, Reader, WireFault, put_boolean, put_string, put_u32};
@@ -49,7 +49,7 @@ const BY_APPLICATION: u32 = 11;
 pub(crate) fn ask(
     rt: &HostRuntime,
     session: Box<Session>,
-    behind: Vec<u8>,
+    after: Vec<u8>,
     command: Option<&str>,
 ) -> Result<(), Fault> {
     let Some(command) = command else {
@@ -58,16 +58,20 @@ pub(crate) fn ask(
     if command.len() > COMMAND_LIMIT {
         return Err(Fault::Words);
     }
-    let mut stream = SessionStream::new(rt, session, behind)?;
+    let mut stream = SessionStream::new(rt, session, after)?;
     stream.send(rt, &open(rt.alloc())?)?;
-    hear_server(rt, &mut stream, command)
+    receive_server(rt, &mut stream, command)
 }
 
 /// Hears what a server says until its channel is closed, or its input ends.
-fn hear_server(rt: &HostRuntime, stream: &mut SessionStream, command: &str) -> Result<(), Fault> {
+fn receive_server(
+    rt: &HostRuntime,
+    stream: &mut SessionStream,
+    command: &str,
+) -> Result<(), Fault> {
     for _ in 0..u64::MAX {
         let Some(payload) = stream.receive(rt)? else {
-            say(rt, "the input ended");
+            tell(rt, "the input ended");
             return Ok(());
         };
         if let Some(reply) = reply_to_server(rt, &payload, command)? {
@@ -116,7 +120,7 @@ fn reply_besides(
     reader: &mut Reader<'_>,
 ) -> Result<Option<Vec<u8>>, Fault> {
     if number == KEXINIT {
-        say(rt, "the peer asks for new keys, which this program hasn't");
+        tell(rt, "the peer asks for new keys, which this program hasn't");
         return Err(Fault::Session);
     }
     if number != GLOBAL_REQUEST {
@@ -135,35 +139,31 @@ fn tell_status(rt: &HostRuntime, reader: &mut Reader<'_>) -> Result<(), Fault> {
     reader.u32()?;
     if reader.string()? == b"exit-status".as_slice() {
         reader.boolean()?;
-        say_number(rt, "exit status", reader.u32()?);
+        tell_number(rt, "exit status", reader.u32()?);
     }
     Ok(())
 }
 
 /// A server's: takes one session, says a line to whatever it is asked to do, and closes.
-pub(crate) fn answer(
-    rt: &HostRuntime,
-    session: Box<Session>,
-    behind: Vec<u8>,
-) -> Result<(), Fault> {
-    let mut stream = SessionStream::new(rt, session, behind)?;
+pub(crate) fn answer(rt: &HostRuntime, session: Box<Session>, after: Vec<u8>) -> Result<(), Fault> {
+    let mut stream = SessionStream::new(rt, session, after)?;
     let mut theirs = 0;
     for _ in 0..u64::MAX {
         let Some(payload) = stream.receive(rt)? else {
-            say(rt, "the input ended");
+            tell(rt, "the input ended");
             return Ok(());
         };
         if payload.first() == Some(&DISCONNECT) {
-            say(rt, "the peer has disconnected");
+            tell(rt, "the peer has disconnected");
             return Ok(());
         }
-        hear_client(rt, &mut stream, &payload, &mut theirs)?;
+        receive_client(rt, &mut stream, &payload, &mut theirs)?;
     }
     Ok(())
 }
 
 /// Answers one message of the client.
-fn hear_client(
+fn receive_client(
     rt: &HostRuntime,
     stream: &mut SessionStream,
     payload: &[u8],
@@ -179,7 +179,7 @@ fn hear_client(
             *theirs = reader.u32()?;
             stream.send(rt, &confirmation(rt.alloc(), *theirs)?)
         }
-        REQUEST => hear_request(rt, stream, &mut reader, *theirs),
+        REQUEST => receive_request(rt, stream, &mut reader, *theirs),
         _ => match reply_besides(rt, *number, &mut reader)? {
             Some(reply) => stream.send(rt, &reply),
             None => Ok(()),
@@ -188,7 +188,7 @@ fn hear_client(
 }
 
 /// Answers a request on the channel.
-fn hear_request(
+fn receive_request(
     rt: &HostRuntime,
     stream: &mut SessionStream,
     reader: &mut Reader<'_>,

@@ -13,12 +13,12 @@ use std::alloc::Global;
 pub(crate) struct ClearStream {
     lines: LineReader,
     packets: PacketReader,
-    pub(crate) said: Said,
+    pub(crate) sent: Sent,
 }
 
 /// What a side has said in clear.
 #[derive(Drop)]
-pub(crate) struct Said {
+pub(crate) struct Sent {
     /// Its version line.
     pub(crate) version: Option<VersionLine>,
     /// The payload of its first KEXINIT.
@@ -35,7 +35,7 @@ impl ClearStream {
         ClearStream {
             lines: LineReader::new(alloc, other_lines),
             packets: PacketReader::new(alloc),
-            said: Said {
+            sent: Sent {
                 version: None,
                 kexinit: None,
                 host_key: None,
@@ -45,13 +45,13 @@ impl ClearStream {
     }
 
     /// Reads all of a piece.
-    pub(crate) fn hear_all(&mut self, alloc: Global, piece: &[u8]) -> Result<(), Fault> {
+    pub(crate) fn receive_all(&mut self, alloc: Global, piece: &[u8]) -> Result<(), Fault> {
         let mut rest = piece;
         for _ in 0..u64::MAX {
             if rest.is_empty() {
                 break;
             }
-            let used = self.hear(alloc, rest)?;
+            let used = self.receive(alloc, rest)?;
             rest = rest.get(used..).unwrap_or(&[]);
         }
         Ok(())
@@ -59,16 +59,16 @@ impl ClearStream {
 
     /// Reads of a piece the lines up to the version line, or one packet, and answers how many bytes these are: all
     /// where more is to come, behind NEWKEYS, and where they are refused.
-    pub(crate) fn hear(&mut self, alloc: Global, piece: &[u8]) -> Result<usize, Fault> {
+    pub(crate) fn receive(&mut self, alloc: Global, piece: &[u8]) -> Result<usize, Fault> {
         if !self.lines.is_done() {
-            return self.hear_lines(piece);
+            return self.receive_lines(piece);
         }
-        if self.said.new_keys {
+        if self.sent.new_keys {
             return Ok(piece.len());
         }
         match self.packets.next(&DeployedSuite, piece) {
             Ok(PacketStep::Payload { payload, used, .. }) => {
-                self.said.keep(alloc, payload)?;
+                self.sent.keep(alloc, payload)?;
                 Ok(used)
             }
             Ok(PacketStep::More) => Ok(piece.len()),
@@ -78,13 +78,13 @@ impl ClearStream {
     }
 
     /// Reads lines.
-    fn hear_lines(&mut self, piece: &[u8]) -> Result<usize, Fault> {
+    fn receive_lines(&mut self, piece: &[u8]) -> Result<usize, Fault> {
         if self.lines.is_done() {
             return Ok(piece.len());
         }
         match self.lines.feed(piece) {
             Ok(LineStep::Done { version, used }) => {
-                self.said.version = Some(version);
+                self.sent.version = Some(version);
                 Ok(used)
             }
             Ok(LineStep::More) => Ok(piece.len()),
@@ -94,7 +94,7 @@ impl ClearStream {
     }
 }
 
-impl Said {
+impl Sent {
     /// Keeps what is told of a payload. One that can't be read is for the endpoint to refuse.
     fn keep(&mut self, alloc: Global, payload: &[u8]) -> Result<(), Fault> {
         match read_exchange(alloc, payload, ShareForm::OctetString) {

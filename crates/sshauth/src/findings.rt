@@ -1,6 +1,6 @@
 //! What a probe tells of a server, as text.
 
-use crate::clear_stream::Said;
+use crate::clear_stream::Sent;
 use crate::fault::Fault;
 use crate::report::Ended;
 use base64::engine::general_purpose::{STANDARD, STANDARD_NO_PAD};
@@ -23,8 +23,8 @@ pub(crate) struct Findings<'a> {
     pub(crate) host: &'a str,
     /// Whether the probe was willing to be strict.
     pub(crate) strict: bool,
-    pub(crate) ours: &'a Said,
-    pub(crate) theirs: &'a Said,
+    pub(crate) ours: &'a Sent,
+    pub(crate) theirs: &'a Sent,
     /// The server's public host key, whose signature was verified.
     pub(crate) host_key: &'a Option<Vec<u8>>,
     /// What the server has said to people, a line for each.

@@ -3,7 +3,7 @@
 ghost use Rattle.std.specs.Prelude.{◌≡◌, ◌==◌, IfOk, false, map, not, option_map, position};
 ghost use Rattle.std.specs.List.{list_any, slice_split};
 ghost use Rattle.std.specs.Str.{bytes_eq};
-ghost use Rattle.sshauth.specs.KeyLines.{are_revoked, behind_word, digits_behind, digits_in, first_word, is_blank, is_mark, is_named, key_in, keys_in, unblanked};
+ghost use Rattle.sshauth.specs.KeyLines.{after_word, are_revoked, digits_after, digits_in, first_word, is_blank, is_mark, is_named, key_in, keys_in, unblanked};
 
 use crate::fault::Fault;
 use crate::identity::base64_of;
@@ -100,22 +100,22 @@ fn key_in(
 fn digits_in<'a>(kind: KeyLine<'_>, line: &'a [u8]) -> Option<&'a [u8]>
     ensures { option_map (λ digits. digits.now) result ≡ digits_in kind.entry line.now }
 {
-    let (word, behind) = cut_word(line);
+    let (word, after) = cut_word(line);
     match kind {
-        KeyLine::Authorized => digits_behind(line),
-        KeyLine::Known(host) if is_named(word, host) => digits_behind(behind),
-        KeyLine::Revoked if word == REVOKED => digits_behind(cut_word(behind).1),
+        KeyLine::Authorized => digits_after(line),
+        KeyLine::Known(host) if is_named(word, host) => digits_after(after),
+        KeyLine::Revoked if word == REVOKED => digits_after(cut_word(after).1),
         _ => None,
     }
 }
 
 /// The digits of a key of the algorithm, where the text begins with such a key.
-fn digits_behind(text: &[u8]) -> Option<&[u8]>
-    ensures { option_map (λ digits. digits.now) result ≡ digits_behind text.now }
+fn digits_after(text: &[u8]) -> Option<&[u8]>
+    ensures { option_map (λ digits. digits.now) result ≡ digits_after text.now }
 {
-    let (algorithm, behind) = cut_word(text);
+    let (algorithm, after) = cut_word(text);
     if algorithm == ALGORITHM {
-        Some(cut_word(behind).0)
+        Some(cut_word(after).0)
     } else {
         None
     }
@@ -150,10 +150,10 @@ fn is_mark(byte: u8) -> bool
 }
 
 /// The first word of a text, and what stands behind it. No word is an empty one.
-#[tactic(auto, unfolding(crate::specs::KeyLines::first_word, crate::specs::KeyLines::behind_word))]
+#[tactic(auto, unfolding(crate::specs::KeyLines::first_word, crate::specs::KeyLines::after_word))]
 fn cut_word(text: &[u8]) -> (&[u8], &[u8])
     ensures word { result.0.now ≡ first_word text.now }
-    ensures behind { result.1.now ≡ behind_word text.now }
+    ensures after { result.1.now ≡ after_word text.now }
 {
     let text = unblanked(text);
     match first_blank(text) {

@@ -21,7 +21,7 @@ mod trust;
 mod words;
 
 use crate::fault::Fault;
-use crate::settings::{Role, Settings};
+use crate::settings::{Job, Settings};
 use std::env;
 use std::io::Write;
 use std::process::ExitCode;
@@ -43,9 +43,9 @@ fn run(rt: &HostRuntime) -> Result<bool, Fault> {
     let matches = words::matches_of(rt.alloc(), &words)?;
     let settings = words::settings_of(&matches)?;
     match settings.role {
-        Role::Client => talk::client(rt, &settings),
-        Role::Server => talk::server(rt, &settings),
-        Role::Probe => probe::probe(rt, &settings),
+        Job::Client => talk::client(rt, &settings),
+        Job::Server => talk::server(rt, &settings),
+        Job::Probe => probe::probe(rt, &settings),
     }
 }
 

@@ -93,7 +93,7 @@ fn look(
     let carried = carry(rt, &mut endpoint, out, &mut looked);
     found(rt, settings, &looked, endpoint.end(), &notices.taken())?;
     carried?;
-    Ok(looked.theirs.said.kexinit.is_some())
+    Ok(looked.theirs.sent.kexinit.is_some())
 }
 
 /// Tells what both sides have said, and how the endpoint ended.
@@ -110,8 +110,8 @@ fn found(
     let findings = Findings {
         host,
         strict: settings.strict,
-        ours: &looked.ours.said,
-        theirs: &looked.theirs.said,
+        ours: &looked.ours.sent,
+        theirs: &looked.theirs.sent,
         host_key: &looked.host_key,
         notices,
         end,
@@ -137,7 +137,7 @@ fn carry(
     out: Vec<u8>,
     looked: &mut Looked,
 ) -> Result<(), Fault> {
-    looked.ours.hear_all(rt.alloc(), &out)?;
+    looked.ours.receive_all(rt.alloc(), &out)?;
     let mut out = out;
     let mut chunk = [0u8; CHUNK];
     for _ in 0..u64::MAX {
@@ -171,16 +171,16 @@ fn give(
         if rest.is_empty() {
             break;
         }
-        let used = looked.theirs.hear(rt.alloc(), rest)?;
-        let (unit, behind) = rest.split_at_checked(used).unwrap_or((rest, &[]));
+        let used = looked.theirs.receive(rt.alloc(), rest)?;
+        let (unit, after) = rest.split_at_checked(used).unwrap_or((rest, &[]));
         let mut reply = Vec::new(rt.alloc());
         endpoint.feed(unit, &mut reply)?;
-        looked.ours.hear_all(rt.alloc(), &reply)?;
-        if looked.ours.said.new_keys && looked.host_key.is_none() {
-            looked.host_key = looked.theirs.said.host_key.take();
+        looked.ours.receive_all(rt.alloc(), &reply)?;
+        if looked.ours.sent.new_keys && looked.host_key.is_none() {
+            looked.host_key = looked.theirs.sent.host_key.take();
         }
         out.extend_from_slice(&reply)?;
-        rest = behind;
+        rest = after;
     }
     Ok(())
 }

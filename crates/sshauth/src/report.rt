@@ -64,11 +64,11 @@ fn methods_of(accepted: &Option<Accepted>) -> &'static str {
 }
 
 /// Says a line.
-pub(crate) fn say(rt: &HostRuntime, text: &str) {
+pub(crate) fn tell(rt: &HostRuntime, text: &str) {
     let _ = writeln!(rt.stderr(), "{text}");
 }
 
 /// Says a line with a number.
-pub(crate) fn say_number(rt: &HostRuntime, text: &str, number: u32) {
+pub(crate) fn tell_number(rt: &HostRuntime, text: &str, number: u32) {
     let _ = writeln!(rt.stderr(), "{text} {number}");
 }

@@ -20,13 +20,13 @@ impl SessionStream {
     pub(crate) fn new(
         rt: &HostRuntime,
         session: Box<Session>,
-        behind: Vec<u8>,
+        after: Vec<u8>,
     ) -> Result<SessionStream, Fault> {
         let seed = random(rt)?;
         let link = Box::into_inner(session).into_link(rt.alloc(), seed);
         Ok(SessionStream {
             link,
-            waiting: behind,
+            waiting: after,
         })
     }
 

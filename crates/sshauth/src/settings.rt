@@ -2,7 +2,7 @@
 
 /// Which side the program is.
 #[derive(Clone, Copy)]
-pub(crate) enum Role {
+pub(crate) enum Job {
     Client,
     Server,
     /// A client that only looks at a server.
@@ -12,7 +12,7 @@ pub(crate) enum Role {
 /// What the words say, each as it stands.
 #[derive(Clone, Copy)]
 pub(crate) struct Settings<'a> {
-    pub(crate) role: Role,
+    pub(crate) role: Job,
     /// The user who is to be authenticated, or who may be.
     pub(crate) user: &'a str,
     /// A client's private key, a file of OpenSSH's form.

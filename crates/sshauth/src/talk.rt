@@ -24,8 +24,8 @@ pub(crate) fn client(rt: &HostRuntime, settings: &Settings<'_>) -> Result<bool, 
     let config = client_config(rt, settings)?;
     let trust = client_trust(rt, settings)?;
     match client_session(rt, &config, &trust)? {
-        Some((session, behind)) => {
-            channel::ask(rt, session, behind, settings.exec)?;
+        Some((session, after)) => {
+            channel::ask(rt, session, after, settings.exec)?;
             Ok(true)
         }
         None => Ok(false),
@@ -37,8 +37,8 @@ pub(crate) fn server(rt: &HostRuntime, settings: &Settings<'_>) -> Result<bool, 
     let config = server_config(rt, settings)?;
     let trust = server_trust(rt, settings)?;
     match server_session(rt, &config, &trust)? {
-        Some((session, behind)) => {
-            channel::answer(rt, session, behind)?;
+        Some((session, after)) => {
+            channel::answer(rt, session, after)?;
             Ok(true)
         }
         None => Ok(false),
@@ -92,13 +92,13 @@ fn hand_over(
     out: Vec<u8>,
     notices: &Notices,
 ) -> Result<Handed, Fault> {
-    let (mut endpoint, mut behind) = (endpoint, Vec::new(rt.alloc()));
-    carry(rt, &mut endpoint, out, notices, &mut behind)?;
+    let (mut endpoint, mut after) = (endpoint, Vec::new(rt.alloc()));
+    carry(rt, &mut endpoint, out, notices, &mut after)?;
     report::end(rt, endpoint.end());
     match endpoint.into_session() {
         Some(session) => {
             report::authenticated(rt, &session);
-            Ok(Some((Box::new(rt.alloc(), session)?, behind)))
+            Ok(Some((Box::new(rt.alloc(), session)?, after)))
         }
         None => Ok(None),
     }
@@ -110,7 +110,7 @@ fn carry(
     endpoint: &mut SuiteEndpoint<'_>,
     out: Vec<u8>,
     notices: &Notices,
-    behind: &mut Vec<u8>,
+    after: &mut Vec<u8>,
 ) -> Result<(), Fault> {
     let mut out = out;
     let mut chunk = [0u8; CHUNK];
@@ -127,7 +127,7 @@ fn carry(
         }
         let piece = chunk.get(..count).unwrap_or(&[]);
         let used = endpoint.feed(piece, &mut out)?;
-        behind.extend_from_slice(&piece[used..])?;
+        after.extend_from_slice(&piece[used..])?;
         report::notices(rt, notices);
     }
     Ok(())

@@ -1,7 +1,7 @@
 //! Whom the program trusts.
 
 ghost use Rattle.std.specs.Prelude.{◌≡◌, option_map};
-ghost use Rattle.sshcore.specs.PartyView.{proof_of};
+ghost use Rattle.sshcore.specs.EndpointPartsView.{proof_data};
 ghost use Rattle.sshauth.specs.Trust.{is_own, is_trusted, proves, trust_policy};
 
 use sshcore::{Decisions, Proof};
@@ -41,7 +41,7 @@ fn is_trusted(trust: &Trust, blob: &[u8]) -> bool
 
 /// Whether the proof lets the user in.
 fn proves(trust: &Trust, proof: &Proof<'_>) -> bool
-    ensures { result ≡ proves trust.now (proof_of proof.now) }
+    ensures { result ≡ proves trust.now (proof_data proof.now) }
 {
     match proof {
         Proof::None => false,

@@ -1,7 +1,7 @@
 //! The program's words, read with `clap`.
 
 use crate::fault::Fault;
-use crate::settings::{Role, Settings};
+use crate::settings::{Job, Settings};
 use clap::error::ErrorKind;
 use clap::{Arg, ArgAction, ArgMatches, Command};
 use std::alloc::{AllocError, Global};
@@ -92,15 +92,15 @@ fn with_options<'a>(
 /// What the words say.
 pub(crate) fn settings_of<'a>(matches: &ArgMatches<'a>) -> Result<Settings<'a>, Fault> {
     match matches.subcommand() {
-        Some(("client", found)) => settings_in(Role::Client, found),
-        Some(("server", found)) => settings_in(Role::Server, found),
-        Some(("probe", found)) => settings_in(Role::Probe, found),
+        Some(("client", found)) => settings_in(Job::Client, found),
+        Some(("server", found)) => settings_in(Job::Server, found),
+        Some(("probe", found)) => settings_in(Job::Probe, found),
         _ => Err(Fault::Words),
     }
 }
 
 /// What the words of one side say. An option that it doesn't have has no value.
-fn settings_in<'a>(role: Role, found: &ArgMatches<'a>) -> Result<Settings<'a>, Fault> {
+fn settings_in<'a>(role: Job, found: &ArgMatches<'a>) -> Result<Settings<'a>, Fault> {
     let Some(user) = user_of(role, found.get_str("user")) else {
         return Err(Fault::Words);
     };
@@ -128,10 +128,10 @@ fn settings_in<'a>(role: Role, found: &ArgMatches<'a>) -> Result<Settings<'a>, F
 }
 
 /// The user, whom a client and a server have to name.
-fn user_of(role: Role, word: Option<&str>) -> Option<&str> {
+fn user_of(role: Job, word: Option<&str>) -> Option<&str> {
     match role {
-        Role::Client | Role::Server => word,
-        Role::Probe => Some(word.unwrap_or("nobody")),
+        Job::Client | Job::Server => word,
+        Job::Probe => Some(word.unwrap_or("nobody")),
     }
 }
 

@@ -17,7 +17,7 @@ use std::alloc::Global;
 pub(crate) struct Whims {
     trusts: bool,
     /// Whether requests are let in, but one.
-    lets_in: bool,
+    accepts: bool,
     /// The number of the one request that isn't let in; 0 is none.
     denied: u32,
 }
@@ -27,21 +27,21 @@ impl Whims {
     pub(crate) fn drawn(rng: &mut SplitMix64) -> Whims {
         Whims {
             trusts: below(rng, 8) != 0,
-            lets_in: below(rng, 8) > 1,
+            accepts: below(rng, 8) > 1,
             denied: below(rng, 4),
         }
     }
 }
 
 impl Decisions for Whims {
-    ghost policy = { λ whims. record { host_key = λ _ _. whims.trusts; user = λ number _ _ _. whims.lets_in && not (number == whims.denied) } };
+    ghost policy = { λ whims. record { host_key = λ _ _. whims.trusts; user = λ number _ _ _. whims.accepts && not (number == whims.denied) } };
 
     fn host_key(&self, _algorithm: &str, _blob: &[u8]) -> bool {
         self.trusts
     }
 
     fn user(&self, request_number: u32, _user: &str, _service: &str, _proof: &Proof<'_>) -> bool {
-        self.lets_in && request_number != self.denied
+        self.accepts && request_number != self.denied
     }
 }
 

@@ -52,37 +52,37 @@ fn place_below(rng: &mut SplitMix64, count: usize) -> usize {
 /// Hears so many changed streams, and answers how many were authenticated since what was changed means nothing.
 pub(crate) fn streams(alloc: Global, rng: &mut SplitMix64, count: u32) -> Result<u32, Fault> {
     let lab = Lab::new(alloc, Reach::User)?;
-    let said = talk(alloc, &lab, WHOLE)?;
-    let mut unheard = 0u32;
+    let sent = talk(alloc, &lab, WHOLE)?;
+    let mut unnoticed = 0u32;
     for _ in 0..count {
         let authenticated = if flag(rng) {
-            at_server(alloc, rng, &lab, &said.client)?
+            at_server(alloc, rng, &lab, &sent.client)?
         } else {
-            at_client(alloc, rng, &lab, &said.server)?
+            at_client(alloc, rng, &lab, &sent.server)?
         };
-        unheard = unheard.saturating_add(u32::from(authenticated));
+        unnoticed = unnoticed.saturating_add(u32::from(authenticated));
     }
-    Ok(unheard)
+    Ok(unnoticed)
 }
 
 /// Has a fresh server hear the stream with one change.
 fn at_server(alloc: Global, rng: &mut SplitMix64, lab: &Lab, stream: &[u8]) -> Result<bool, Fault> {
     let mut endpoint = server_in(alloc, lab, &mut Vec::new(alloc))?;
-    let heard = hear(alloc, rng, &mut endpoint, stream);
+    let received = receive(alloc, rng, &mut endpoint, stream);
     drop(endpoint);
-    heard
+    received
 }
 
 /// The same of a client.
 fn at_client(alloc: Global, rng: &mut SplitMix64, lab: &Lab, stream: &[u8]) -> Result<bool, Fault> {
     let mut endpoint = client_in(alloc, lab, &mut Vec::new(alloc))?;
-    let heard = hear(alloc, rng, &mut endpoint, stream);
+    let received = receive(alloc, rng, &mut endpoint, stream);
     drop(endpoint);
-    heard
+    received
 }
 
 /// Has the endpoint hear the stream with one change, and answers whether it was authenticated: only where that means nothing.
-fn hear(
+fn receive(
     alloc: Global,
     rng: &mut SplitMix64,
     endpoint: &mut LabEndpoint<'_>,
@@ -110,7 +110,7 @@ fn is_padding(stream: &[u8], place: usize) -> bool {
     let mut begin = LINE_LEN;
     let mut found = false;
     for _ in 0..CLEAR_PACKETS {
-        let (padding, end) = padding_behind(stream, begin);
+        let (padding, end) = padding_after(stream, begin);
         found = found || padding <= place && place < end;
         begin = end;
     }
@@ -118,7 +118,7 @@ fn is_padding(stream: &[u8], place: usize) -> bool {
 }
 
 /// Where the padding of the packet in clear that begins there begins, and where it ends.
-fn padding_behind(stream: &[u8], begin: usize) -> (usize, usize) {
+fn padding_after(stream: &[u8], begin: usize) -> (usize, usize) {
     let packet = stream.get(begin..).unwrap_or(&[]);
     let Some((length, rest)) = packet.split_first_chunk::<4>() else {
         return (begin, begin);

@@ -39,10 +39,10 @@ pub(crate) fn print(rt: &HostRuntime, count: u32, seed: u32) -> Result<(), Fault
         "{count} sessions ended as predicted: {authenticated} authenticated, {otherwise} otherwise"
     )?;
     let streams = count.saturating_mul(STREAMS);
-    let unheard = hostile::streams(alloc, &mut rng, streams)?;
+    let unnoticed = hostile::streams(alloc, &mut rng, streams)?;
     writeln!(
         rt.stdout(),
-        "{streams} changed streams, none authenticated but {unheard} that mean the same"
+        "{streams} changed streams, none authenticated but {unnoticed} that mean the same"
     )?;
     Ok(())
 }

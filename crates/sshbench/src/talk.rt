@@ -128,7 +128,7 @@ impl Lab {
 
 /// What both sides said.
 #[derive(Drop)]
-pub(crate) struct Said {
+pub(crate) struct Sent {
     pub(crate) client: Vec<u8>,
     pub(crate) server: Vec<u8>,
 }
@@ -140,9 +140,9 @@ pub(crate) type LabEndpoint<'a> = Endpoint<'a, LabSuite, LabDecisions>;
 pub(crate) fn client_in<'a>(
     alloc: Global,
     lab: &'a Lab,
-    said: &mut Vec<u8>,
+    sent: &mut Vec<u8>,
 ) -> Result<Box<LabEndpoint<'a>>, Fault> {
-    let endpoint = Endpoint::client(alloc, &lab.client, &LabSuite, &lab.decisions, said)?;
+    let endpoint = Endpoint::client(alloc, &lab.client, &LabSuite, &lab.decisions, sent)?;
     Ok(Box::new(alloc, endpoint)?)
 }
 
@@ -150,9 +150,9 @@ pub(crate) fn client_in<'a>(
 pub(crate) fn server_in<'a>(
     alloc: Global,
     lab: &'a Lab,
-    said: &mut Vec<u8>,
+    sent: &mut Vec<u8>,
 ) -> Result<Box<LabEndpoint<'a>>, Fault> {
-    let endpoint = Endpoint::server(alloc, &lab.server, &LabSuite, &lab.decisions, said)?;
+    let endpoint = Endpoint::server(alloc, &lab.server, &LabSuite, &lab.decisions, sent)?;
     Ok(Box::new(alloc, endpoint)?)
 }
 
@@ -160,38 +160,38 @@ pub(crate) fn server_in<'a>(
 #[derive(Drop)]
 struct Talker<'a> {
     endpoint: Box<LabEndpoint<'a>>,
-    said: Vec<u8>,
+    sent: Vec<u8>,
     given: usize,
 }
 
 impl<'a> Talker<'a> {
     /// The client at its making.
     fn client(alloc: Global, lab: &'a Lab) -> Result<Talker<'a>, Fault> {
-        let mut said = Vec::new(alloc);
-        let endpoint = client_in(alloc, lab, &mut said)?;
+        let mut sent = Vec::new(alloc);
+        let endpoint = client_in(alloc, lab, &mut sent)?;
         Ok(Talker {
             endpoint,
-            said,
+            sent,
             given: 0,
         })
     }
 
     /// The server at its making.
     fn server(alloc: Global, lab: &'a Lab) -> Result<Talker<'a>, Fault> {
-        let mut said = Vec::new(alloc);
-        let endpoint = server_in(alloc, lab, &mut said)?;
+        let mut sent = Vec::new(alloc);
+        let endpoint = server_in(alloc, lab, &mut sent)?;
         Ok(Talker {
             endpoint,
-            said,
+            sent,
             given: 0,
         })
     }
 
     /// Gives it what the other has said since, in pieces of so many bytes; it has to use all.
-    fn hear(&mut self, other: &[u8], piece_len: usize) -> Result<(), Fault> {
+    fn receive(&mut self, other: &[u8], piece_len: usize) -> Result<(), Fault> {
         let rest = other.get(self.given..).unwrap_or(&[]);
         for piece in rest.chunks(piece_len.max(1)) {
-            if self.endpoint.feed(piece, &mut self.said)? != piece.len() {
+            if self.endpoint.feed(piece, &mut self.sent)? != piece.len() {
                 return Err(Fault::Otherwise);
             }
         }
@@ -201,20 +201,20 @@ impl<'a> Talker<'a> {
 }
 
 /// Makes both endpoints and lets them talk, in pieces of so many bytes, as far as the lab has them come.
-pub(crate) fn talk(alloc: Global, lab: &Lab, piece_len: usize) -> Result<Said, Fault> {
+pub(crate) fn talk(alloc: Global, lab: &Lab, piece_len: usize) -> Result<Sent, Fault> {
     let mut client = Talker::client(alloc, lab)?;
     let mut server = Talker::server(alloc, lab)?;
     for _ in 0..lab.reach.turns() {
-        server.hear(&client.said, piece_len)?;
-        client.hear(&server.said, piece_len)?;
+        server.receive(&client.sent, piece_len)?;
+        client.receive(&server.sent, piece_len)?;
     }
     if lab
         .reach
         .is_reached(client.endpoint.end(), server.endpoint.end())
     {
-        Ok(Said {
-            client: client.said,
-            server: server.said,
+        Ok(Sent {
+            client: client.sent,
+            server: server.sent,
         })
     } else {
         Err(Fault::Otherwise)
@@ -232,13 +232,13 @@ pub(crate) fn check(alloc: Global, reach: Reach) -> Result<(), Fault> {
 /// The same of endpoints that are made of this.
 fn check_in(alloc: Global, lab: &Lab) -> Result<(), Fault> {
     let whole = talk(alloc, lab, WHOLE)?;
-    let same = is_said(alloc, lab, &whole);
+    let same = is_sent(alloc, lab, &whole);
     drop(whole);
     same
 }
 
 /// Whether this is said by single bytes.
-fn is_said(alloc: Global, lab: &Lab, whole: &Said) -> Result<(), Fault> {
+fn is_sent(alloc: Global, lab: &Lab, whole: &Sent) -> Result<(), Fault> {
     let bytes = talk(alloc, lab, 1)?;
     holds(whole.client == bytes.client && whole.server == bytes.server)
 }

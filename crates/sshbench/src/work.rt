@@ -70,7 +70,7 @@ impl Work<'_> {
             Work::Read(payload, len) => read_only(alloc, payload, len),
             Work::Own(payload) => own(alloc, payload),
             Work::Packets(stream, act) => act.once(alloc, stream, out),
-            Work::Talk(lab, piece_len) => say(alloc, lab, piece_len),
+            Work::Talk(lab, piece_len) => send(alloc, lab, piece_len),
         }
     }
 
@@ -84,7 +84,7 @@ impl Work<'_> {
 }
 
 /// Lets two endpoints talk.
-fn say(alloc: Global, lab: &Lab, piece_len: usize) -> Result<(), Fault> {
+fn send(alloc: Global, lab: &Lab, piece_len: usize) -> Result<(), Fault> {
     talk(alloc, lab, piece_len)?;
     Ok(())
 }

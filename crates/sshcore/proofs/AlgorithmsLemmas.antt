@@ -1,7 +1,7 @@
 -- The names that stand at the positions of a choice.
 
 use Rattle.std.proofs.Common.{◌≡◌, ℕ, List, Option, Some, refl}
-use Rattle.sshneg.specs.Fields.{Algorithms}
+use Rattle.sshneg.specs.Fields.{AlgorithmsData}
 
 -- what stands at a place is one name
 pub one_at : {x y : List ℕ} (o : Option (List ℕ)) → o ≡ Some x → o ≡ Some y → x ≡ y
@@ -9,7 +9,7 @@ one_at o e f = cc
 
 pub same_algorithms : {kex kex₂ host_key host_key₂ c1 d1 c2 d2 m1 n1 m2 n2 p1 q1 p2 q2 : List ℕ}
     → kex ≡ kex₂ → host_key ≡ host_key₂ → c1 ≡ d1 → c2 ≡ d2 → m1 ≡ n1 → m2 ≡ n2 → p1 ≡ q1 → p2 ≡ q2
-    → ◌≡◌ {A = Algorithms} record {
+    → ◌≡◌ {A = AlgorithmsData} record {
       kex = kex;
       host_key = host_key;
       encryption_client_to_server = c1;

@@ -2,33 +2,33 @@
 
 use Rattle.std.proofs.Common.{◌≡◌, ℕ, Bool, true, false, cond, List, [], ◌∷◌, refl}
 use Rattle.std.specs.Prelude.{◌&&◌}
-use Rattle.sshmsg.specs.Content.{Content, Method, NoMethod, OtherMethod, Password, PasswordChange, PublicKey, PublicKeyQuery, UserauthFailure, UserauthPkOk, UserauthSuccess}
+use Rattle.sshmsg.specs.MessageData.{MessageData, MethodData, NoMethod, OtherMethod, Password, PasswordChange, PublicKey, PublicKeyQuery, UserauthFailure, UserauthPkOk, UserauthSuccess}
 use Rattle.sshmsg.specs.Written.{written_message}
 use Rattle.sshneg.specs.ChoiceReadings.{is_in}
-use Rattle.sshpacket.specs.Suite.{Meaning}
+use Rattle.sshpacket.specs.Suite.{SuiteData}
 use Rattle.sshcore.specs.declared.end.Fault.TheVariants as fault
 use Rattle.sshcore.specs.Attempts.{agreed_by}
-use Rattle.sshcore.specs.Ending.{Authenticated, Reply, fails, goes}
+use Rattle.sshcore.specs.EndData.{Authenticated, Reply, fails, goes}
 use Rattle.sshcore.specs.Known.{Known}
-use Rattle.sshcore.specs.Party.{Party, Policy}
-use Rattle.sshcore.specs.Requests.{completes, is_good, is_last_try, method_reply, more_reply, request_reply, tried_reply, would_do}
+use Rattle.sshcore.specs.EndpointParts.{ConfigData, DecisionsData}
+use Rattle.sshcore.specs.Requests.{completes, is_last_try, is_successful, method_reply, more_reply, request_reply, tried_reply, would_do}
 
 -- what tells that a request ends nothing: a FAILURE, or a PK_OK to a query whose key would do
-pub data IsRefusal (d : Policy) (party : Party) (known : Known) (user service : List ℕ) (x : Content) : Type 0 where
+pub data IsRefusal (d : DecisionsData) (party : ConfigData) (known : Known) (user service : List ℕ) (x : MessageData) : Type 0 where
   Refused : (partial : Bool) → x ≡ UserauthFailure party.methods partial → IsRefusal d party known user service x
   Confirmed : (algorithm key : List ℕ) → would_do d party known user service algorithm key ≡ true → x ≡ UserauthPkOk algorithm key → IsRefusal d party known user service x
 
 -- For a service that the server doesn't have; good, so that all required methods are reached; the last that is granted; or one
 -- more, and it is told so.
-pub data IsAnswered (m : Meaning) (d : Policy) (party : Party) (known : Known) (user service : List ℕ) (method : Method) (r : Reply) : Type 0 where
+pub data IsAnswered (m : SuiteData) (d : DecisionsData) (party : ConfigData) (known : Known) (user service : List ℕ) (method : MethodData) (r : Reply) : Type 0 where
   Elsewhere : is_in party.services service ≡ false → r ≡ fails fault.Service → IsAnswered m d party known user service method r
-  Succeeds : is_in party.services service ≡ true → is_good m d party known user service method ≡ true → completes party known user service method true ≡ true
+  Succeeds : is_in party.services service ≡ true → is_successful m d party known user service method ≡ true → completes party known user service method true ≡ true
       → r ≡ record { answers = written_message UserauthSuccess ∷ []; end = Authenticated (agreed_by known user service) } → IsAnswered m d party known user service method r
   Last : is_last_try party known ≡ true → r ≡ fails fault.TooManyTries → IsAnswered m d party known user service method r
-  More : (x : Content) → IsRefusal d party known user service x → is_last_try party known ≡ false → r ≡ goes (written_message x ∷ []) → IsAnswered m d party known user service method r
+  More : (x : MessageData) → IsRefusal d party known user service x → is_last_try party known ≡ false → r ≡ goes (written_message x ∷ []) → IsAnswered m d party known user service method r
 
-module _ (m : Meaning) (d : Policy) (party : Party) (known : Known) (user service : List ℕ) (method : Method) where
-  by_more : (x : Content) → IsRefusal d party known user service x → (last : Bool) → is_last_try party known ≡ last
+module _ (m : SuiteData) (d : DecisionsData) (party : ConfigData) (known : Known) (user service : List ℕ) (method : MethodData) where
+  by_more : (x : MessageData) → IsRefusal d party known user service x → (last : Bool) → is_last_try party known ≡ last
       → IsAnswered m d party known user service method (cond last (fails fault.TooManyTries) (goes (written_message x ∷ [])))
   by_more x is true e = Last e refl
   by_more x is false e = More x is e refl
@@ -38,18 +38,18 @@ module _ (m : Meaning) (d : Policy) (party : Party) (known : Known) (user servic
   by_query algorithm key true e = by_more (UserauthPkOk algorithm key) (Confirmed algorithm key e refl) (is_last_try party known) refl
   by_query algorithm key false e = by_more (UserauthFailure party.methods false) (Refused false refl) (is_last_try party known) refl
 
-  by_tried : is_in party.services service ≡ true → (good done : Bool) → is_good m d party known user service method ≡ good → completes party known user service method good ≡ done
-      → IsAnswered m d party known user service method (cond (good && done) (record { answers = written_message UserauthSuccess ∷ []; end = Authenticated (agreed_by known user service) })
-      (more_reply party known (UserauthFailure party.methods good)))
+  by_tried : is_in party.services service ≡ true → (successful done : Bool) → is_successful m d party known user service method ≡ successful → completes party known user service method successful ≡ done
+      → IsAnswered m d party known user service method (cond (successful && done) (record { answers = written_message UserauthSuccess ∷ []; end = Authenticated (agreed_by known user service) })
+      (more_reply party known (UserauthFailure party.methods successful)))
   by_tried has true true e f = Succeeds has e f refl
   by_tried has true false e f = by_more (UserauthFailure party.methods true) (Refused true refl) (is_last_try party known) refl
   by_tried has false done e f = by_more (UserauthFailure party.methods false) (Refused false refl) (is_last_try party known) refl
 
-  by_method : is_in party.services service ≡ true → IsAnswered m d party known user service method (tried_reply party known user service method (is_good m d party known user service method))
-  by_method has = by_tried has (is_good m d party known user service method) (completes party known user service method (is_good m d party known user service method)) refl refl
+  by_method : is_in party.services service ≡ true → IsAnswered m d party known user service method (tried_reply party known user service method (is_successful m d party known user service method))
+  by_method has = by_tried has (is_successful m d party known user service method) (completes party known user service method (is_successful m d party known user service method)) refl refl
 
-module _ (m : Meaning) (d : Policy) (party : Party) (known : Known) (user service : List ℕ) where
-  each_method : is_in party.services service ≡ true → (method : Method) → IsAnswered m d party known user service method (method_reply m d party known user service method)
+module _ (m : SuiteData) (d : DecisionsData) (party : ConfigData) (known : Known) (user service : List ℕ) where
+  each_method : is_in party.services service ≡ true → (method : MethodData) → IsAnswered m d party known user service method (method_reply m d party known user service method)
   each_method has NoMethod = by_method m d party known user service NoMethod has
   each_method has (Password password) = by_method m d party known user service (Password password) has
   each_method has (PasswordChange old new) = by_method m d party known user service (PasswordChange old new) has
@@ -58,7 +58,7 @@ module _ (m : Meaning) (d : Policy) (party : Party) (known : Known) (user servic
       by_query m d party known user service (PublicKeyQuery algorithm key) algorithm key (would_do d party known user service algorithm key) refl
   each_method has (OtherMethod name fields) = by_method m d party known user service (OtherMethod name fields) has
 
-  pub answered : (method : Method) → IsAnswered m d party known user service method (request_reply m d party known user service method)
+  pub answered : (method : MethodData) → IsAnswered m d party known user service method (request_reply m d party known user service method)
   unfolding request_reply
   answered method = by (is_in party.services service) refl
     where

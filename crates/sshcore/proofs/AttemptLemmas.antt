@@ -8,22 +8,22 @@ use Rattle.std.proofs.lemmas.List.{take_rest}
 use Rattle.sshmsg.specs.Numbers.{kind}
 use Rattle.sshmsg.specs.Written.{written_message}
 use Rattle.sshneg.specs.ChoiceReadings.{is_in}
-use Rattle.sshpacket.specs.Suite.{Meaning}
+use Rattle.sshpacket.specs.Suite.{SuiteData}
 use Rattle.sshcore.specs.declared.config_parts.Attempt as attempt_parts
 use Rattle.sshcore.specs.declared.end.Fault.TheVariants as fault
 use Rattle.sshmsg.specs.declared.numbers.TheConstants.{SSH_MSG_USERAUTH_PK_OK}
 use Rattle.sshcore.specs.Attempts.{attempt_reply, confirmed_by, is_asked, request_of, success_by}
-use Rattle.sshcore.specs.ConfigData.{Attempt, ByKey, ByNothing, ByPassword, Proving}
+use Rattle.sshcore.specs.ConfigParts.{AttemptData, ByKey, ByNothing, ByPassword, CredentialData}
 use Rattle.sshcore.specs.ConfigRules.{IsAttempt}
-use Rattle.sshcore.specs.ConfigView.{attempt_of, proving_of}
-use Rattle.sshcore.specs.Ending.{fails, goes}
-use Rattle.sshcore.specs.Kept.{left_of}
+use Rattle.sshcore.specs.ConfigView.{attempt_data, credential_data}
+use Rattle.sshcore.specs.EndData.{fails, goes}
+use Rattle.sshcore.specs.StateData.{left_of}
 use Rattle.sshcore.specs.Known.{Known}
-use Rattle.sshcore.specs.Plan.{behind_query, confirmed, first_made, next_behind, next_listed, proving_name, unasked}
+use Rattle.sshcore.specs.Plan.{after_query, confirmed, first_made, next_after, next_listed, proving_name, unasked}
 
 -- whether the method of an attempt is listed
 abbrev pub is_listed : List (List ℕ) → attempt_parts.Attempt → Bool
-is_listed listed a = is_in listed (proving_name (proving_of a.credential))
+is_listed listed a = is_in listed (proving_name (credential_data a.credential))
 
 -- a number more, as the next one
 one_more : (n : ℕ) → 1 + n ≡ suc n
@@ -31,7 +31,7 @@ one_more n = omega arith
 
 -- the attempts from the first one on whose method is listed
 listed_from : (listed : List (List ℕ)) (attempts : List attempt_parts.Attempt)
-    → map attempt_of (drop (position_or_len (is_listed listed) attempts) attempts) ≡ next_listed listed (map attempt_of attempts)
+    → map attempt_data (drop (position_or_len (is_listed listed) attempts) attempts) ≡ next_listed listed (map attempt_data attempts)
 unfolding next_listed
 listed_from listed [] = refl
 listed_from listed (a ∷ later) = elim (cases_Bool (is_listed listed a)) [
@@ -41,7 +41,7 @@ listed_from listed (a ∷ later) = elim (cases_Bool (is_listed listed a)) [
 
 -- none is listed
 listed_none : (listed : List (List ℕ)) (attempts : List attempt_parts.Attempt) → length attempts ≤ position_or_len (is_listed listed) attempts
-    → ◌≡◌ {A = List Attempt} [] (next_listed listed (map attempt_of attempts))
+    → ◌≡◌ {A = List AttemptData} [] (next_listed listed (map attempt_data attempts))
 unfolding next_listed
 listed_none listed [] far = refl
 listed_none listed (a ∷ later) far = elim (cases_Bool (is_listed listed a)) [
@@ -63,24 +63,24 @@ no_place false p e = refl
 module _ (listed : List (List ℕ)) (attempts : List attempt_parts.Attempt) (found : Option ℕ)
     (finds : found ≡ cond (ltb (position_or_len (is_listed listed) attempts) (length attempts)) (Some (position_or_len (is_listed listed) attempts)) None) where
   -- the attempts from the first one on whose method is listed
-  pub listed_at : (place : ℕ) → found ≡ Some place → map attempt_of (take (length attempts - place) (drop place attempts)) ≡ next_listed listed (map attempt_of attempts)
+  pub listed_at : (place : ℕ) → found ≡ Some place → map attempt_data (take (length attempts - place) (drop place attempts)) ≡ next_listed listed (map attempt_data attempts)
   listed_at place is =
       let at : position_or_len (is_listed listed) attempts ≡ place = some_place _ _ place (sym finds ∙ is) in
-      ap (map attempt_of) (take_rest attempts place) ∙ ap (λ (k : ℕ). map attempt_of (drop k attempts)) (sym at) ∙ listed_from listed attempts
+      ap (map attempt_data) (take_rest attempts place) ∙ ap (λ (k : ℕ). map attempt_data (drop k attempts)) (sym at) ∙ listed_from listed attempts
 
   -- none is
-  pub listed_nowhere : found ≡ None → ◌≡◌ {A = List Attempt} [] (next_listed listed (map attempt_of attempts))
+  pub listed_nowhere : found ≡ None → ◌≡◌ {A = List AttemptData} [] (next_listed listed (map attempt_data attempts))
   listed_nowhere is = listed_none listed attempts (ltb-false _ _ (no_place _ (position_or_len (is_listed listed) attempts) (sym finds ∙ is)))
 
 -- nothing stands behind no attempts
-pub none_behind : (listed : List (List ℕ)) (attempts : List attempt_parts.Attempt) → length attempts ≡ 0
-    → map attempt_of attempts ≡ next_listed listed (drop 1 (map attempt_of attempts))
+pub none_after : (listed : List (List ℕ)) (attempts : List attempt_parts.Attempt) → length attempts ≡ 0
+    → map attempt_data attempts ≡ next_listed listed (drop 1 (map attempt_data attempts))
 unfolding next_listed
-none_behind listed [] e = refl
-none_behind listed (a ∷ later) e = absurd cc
+none_after listed [] e = refl
+none_after listed (a ∷ later) e = absurd cc
 
 -- the attempts that are left are accepted ones
-left_accepted : (listed : List (List ℕ)) (attempts : List Attempt) → AllByRecursion IsAttempt attempts → AllByRecursion IsAttempt (next_listed listed attempts)
+left_accepted : (listed : List (List ℕ)) (attempts : List AttemptData) → AllByRecursion IsAttempt attempts → AllByRecursion IsAttempt (next_listed listed attempts)
 unfolding next_listed
 left_accepted listed [] all = tt
 left_accepted listed (a ∷ later) (is, all) = elim (cases_Bool (is_in listed (proving_name a.proving))) [
@@ -88,103 +88,103 @@ left_accepted listed (a ∷ later) (is, all) = elim (cases_Bool (is_in listed (p
   | inr off ↦ rw off (left_accepted listed later all)
 ]
 
-behind_accepted : (attempts : List Attempt) → AllByRecursion IsAttempt attempts → AllByRecursion IsAttempt (drop 1 attempts)
-behind_accepted [] all = tt
-behind_accepted (a ∷ later) (is, all) = all
+after_accepted : (attempts : List AttemptData) → AllByRecursion IsAttempt attempts → AllByRecursion IsAttempt (drop 1 attempts)
+after_accepted [] all = tt
+after_accepted (a ∷ later) (is, all) = all
 
-pub next_accepted : (listed : List (List ℕ)) (attempts left : List Attempt) → AllByRecursion IsAttempt attempts → left ≡ next_listed listed (drop 1 attempts)
+pub next_accepted : (listed : List (List ℕ)) (attempts left : List AttemptData) → AllByRecursion IsAttempt attempts → left ≡ next_listed listed (drop 1 attempts)
     → AllByRecursion IsAttempt left
-next_accepted listed attempts left all is = rw is (left_accepted listed (drop 1 attempts) (behind_accepted attempts all))
+next_accepted listed attempts left all is = rw is (left_accepted listed (drop 1 attempts) (after_accepted attempts all))
 
 -- none is left, and one is
 pub first_none : (attempts : List attempt_parts.Attempt) (first : Option (Bor attempt_parts.Attempt)) → option_copied first ≡ slice_get attempts 0 → first ≡ None
-    → map attempt_of attempts ≡ []
+    → map attempt_data attempts ≡ []
 first_none [] first at is = refl
 first_none (a ∷ later) first at is = let bad : None ≡ Some a = ap option_copied (sym is) ∙ at in absurd cc
 
 pub first_some : (attempts : List attempt_parts.Attempt) (first : Option (Bor attempt_parts.Attempt)) (a : Bor attempt_parts.Attempt)
-    → option_copied first ≡ slice_get attempts 0 → first ≡ Some a → map attempt_of attempts ≡ attempt_of a.now ∷ map attempt_of (drop 1 attempts)
+    → option_copied first ≡ slice_get attempts 0 → first ≡ Some a → map attempt_data attempts ≡ attempt_data a.now ∷ map attempt_data (drop 1 attempts)
 first_some [] first a at is = let bad : Some a.now ≡ None = ap option_copied (sym is) ∙ at in absurd cc
 first_some (x ∷ later) first a at is =
     let same : Some a.now ≡ Some x = ap option_copied (sym is) ∙ at in
     let here : a.now ≡ x = cc in
-    ap (λ (y : attempt_parts.Attempt). attempt_of y ∷ map attempt_of later) (sym here)
+    ap (λ (y : attempt_parts.Attempt). attempt_data y ∷ map attempt_data later) (sym here)
 
 -- a request is no NEWKEYS
-pub quiet_request : (m : Meaning) (session : List ℕ) (a : Attempt) → (kind (request_of m session a) == 21) ≡ false
+pub quiet_request : (m : SuiteData) (session : List ℕ) (a : AttemptData) → (kind (request_of m session a) == 21) ≡ false
 unfolding written_message
 quiet_request m session a = refl
 
 -- what is left, of which the first attempt may be confirmed
-pub left_none : (b : Bool) (attempts : List Attempt) → attempts ≡ [] → left_of b attempts ≡ []
+pub left_none : (b : Bool) (attempts : List AttemptData) → attempts ≡ [] → left_of b attempts ≡ []
 left_none true attempts e = rw e refl
 left_none false attempts e = e
 
-pub left_some : (b : Bool) (attempts : List Attempt) (a : Attempt) (later : List Attempt) → attempts ≡ a ∷ later → left_of b attempts ≡ first_made b a ∷ later
+pub left_some : (b : Bool) (attempts : List AttemptData) (a : AttemptData) (later : List AttemptData) → attempts ≡ a ∷ later → left_of b attempts ≡ first_made b a ∷ later
 left_some true attempts a later e = rw e refl
 left_some false attempts a later e = e
 
 -- behind a FAILURE it is the same
-pub left_next : (b : Bool) (listed : List (List ℕ)) (attempts : List Attempt) → next_behind listed attempts ≡ next_behind listed (left_of b attempts)
+pub left_next : (b : Bool) (listed : List (List ℕ)) (attempts : List AttemptData) → next_after listed attempts ≡ next_after listed (left_of b attempts)
 left_next true listed [] = refl
 left_next true listed (a ∷ later) = refl
 left_next false listed attempts = refl
 
 -- and at SUCCESS
-pub left_success : (b : Bool) (known : Known) (attempts : List Attempt) (a : Attempt) (later : List Attempt) → attempts ≡ a ∷ later
+pub left_success : (b : Bool) (known : Known) (attempts : List AttemptData) (a : AttemptData) (later : List AttemptData) → attempts ≡ a ∷ later
     → success_by known (a ∷ later) ≡ success_by known (left_of b attempts)
 left_success true known attempts a later e = rw e refl
 left_success false known attempts a later e = rw e refl
 
 -- at PK_OK: none is left, the key isn't the one that was asked about, and it is
-module _ (m : Meaning) (known : Known) (algorithm key : List ℕ) (b : Bool) (attempts : List Attempt) where
+module _ (m : SuiteData) (known : Known) (algorithm key : List ℕ) (b : Bool) (attempts : List AttemptData) where
   pub none_asked : attempts ≡ [] → fails (fault.Unexpected SSH_MSG_USERAUTH_PK_OK) ≡ confirmed_by m known algorithm key (left_of b attempts)
   none_asked e = ap (confirmed_by m known algorithm key) (sym (left_none b attempts e))
 
-  module _ (a : Attempt) (later : List Attempt) (e : attempts ≡ a ∷ later) where
+  module _ (a : AttemptData) (later : List AttemptData) (e : attempts ≡ a ∷ later) where
     pub other_asked : is_asked m (first_made b a).proving algorithm key ≡ false
         → fails (fault.Unexpected SSH_MSG_USERAUTH_PK_OK) ≡ confirmed_by m known algorithm key (left_of b attempts)
     other_asked off = let made : fails (fault.Unexpected SSH_MSG_USERAUTH_PK_OK) ≡ confirmed_by m known algorithm key (first_made b a ∷ later) = rw off refl in
         made ∙ ap (confirmed_by m known algorithm key) (sym (left_some b attempts a later e))
 
     pub this_asked : b ≡ false → is_asked m a.proving algorithm key ≡ true
-        → goes (request_of m known.session (behind_query a) ∷ []) ≡ confirmed_by m known algorithm key (left_of b attempts)
-    this_asked none on = let made : goes (request_of m known.session (behind_query a) ∷ []) ≡ confirmed_by m known algorithm key (a ∷ later) = rw on refl in
+        → goes (request_of m known.session (after_query a) ∷ []) ≡ confirmed_by m known algorithm key (left_of b attempts)
+    this_asked none on = let made : goes (request_of m known.session (after_query a) ∷ []) ≡ confirmed_by m known algorithm key (a ∷ later) = rw on refl in
         made ∙ ap (confirmed_by m known algorithm key) (sym e) ∙ rw none refl
 
 -- what is left once the query is confirmed, if it wasn't before
-pub left_confirmed : (b : Bool) (attempts : List Attempt) → left_of true attempts ≡ confirmed (left_of b attempts)
+pub left_confirmed : (b : Bool) (attempts : List AttemptData) → left_of true attempts ≡ confirmed (left_of b attempts)
 left_confirmed b [] = elim (cases_Bool b) [
   | inl is ↦ rw is refl
   | inr not ↦ rw not refl
 ]
 left_confirmed false (a ∷ later) = refl
-left_confirmed true (a ∷ later) = ap (λ (p : Proving). record a { proving = p } ∷ later) (twice a.proving) where
-  twice : (p : Proving) → unasked p ≡ unasked (unasked p)
+left_confirmed true (a ∷ later) = ap (λ (p : CredentialData). record a { proving = p } ∷ later) (twice a.proving) where
+  twice : (p : CredentialData) → unasked p ≡ unasked (unasked p)
   twice ByNothing = refl
   twice (ByPassword password) = refl
   twice (ByKey name secret ask) = refl
 
 -- the attempt itself asks nothing
-pub unasked_off : (m : Meaning) (a : Attempt) (algorithm key : List ℕ) → is_asked m (behind_query a).proving algorithm key ≡ false
+pub unasked_off : (m : SuiteData) (a : AttemptData) (algorithm key : List ℕ) → is_asked m (after_query a).proving algorithm key ≡ false
 unasked_off m a algorithm key = off a.proving where
-  off : (p : Proving) → is_asked m (unasked p) algorithm key ≡ false
+  off : (p : CredentialData) → is_asked m (unasked p) algorithm key ≡ false
   off ByNothing = refl
   off (ByPassword password) = refl
   off (ByKey name secret ask) = refl
 
-pub asked_off : (m : Meaning) (b : Bool) (a : Attempt) (algorithm key : List ℕ) → b ≡ true → is_asked m (first_made b a).proving algorithm key ≡ false
+pub asked_off : (m : SuiteData) (b : Bool) (a : AttemptData) (algorithm key : List ℕ) → b ≡ true → is_asked m (first_made b a).proving algorithm key ≡ false
 asked_off m b a algorithm key e = rw e (unasked_off m a algorithm key)
 
-pub asked_other : (m : Meaning) (b : Bool) (a : Attempt) (algorithm key : List ℕ) → b ≡ false → is_asked m a.proving algorithm key ≡ false
+pub asked_other : (m : SuiteData) (b : Bool) (a : AttemptData) (algorithm key : List ℕ) → b ≡ false → is_asked m a.proving algorithm key ≡ false
     → is_asked m (first_made b a).proving algorithm key ≡ false
 asked_other m b a algorithm key e off = rw e off
 
 -- what an answer to a query comes to, by whether it is about the key that was asked about
-module _ (m : Meaning) (known : Known) (algorithm key : List ℕ) where
-  pub asked_so : (b : Bool) (attempts : List Attempt) (a : Attempt) (later : List Attempt) → attempts ≡ a ∷ later → b ≡ false → (asked : Bool) → asked ≡ is_asked m a.proving algorithm key
+module _ (m : SuiteData) (known : Known) (algorithm key : List ℕ) where
+  pub asked_so : (b : Bool) (attempts : List AttemptData) (a : AttemptData) (later : List AttemptData) → attempts ≡ a ∷ later → b ≡ false → (asked : Bool) → asked ≡ is_asked m a.proving algorithm key
       → (if asked then attempt_reply m known.session (confirmed (left_of b attempts)) else fails (fault.Unexpected SSH_MSG_USERAUTH_PK_OK)) ≡ confirmed_by m known algorithm key (left_of b attempts)
   asked_so b attempts a later e none true on =
-      ap (λ (l : List Attempt). attempt_reply m known.session (confirmed l)) (left_some b attempts a later e ∙ ap (λ (c : Bool). first_made c a ∷ later) none)
+      ap (λ (l : List AttemptData). attempt_reply m known.session (confirmed l)) (left_some b attempts a later e ∙ ap (λ (c : Bool). first_made c a ∷ later) none)
       ∙ this_asked m known algorithm key b attempts a later e none (sym on)
   asked_so b attempts a later e none false off = other_asked m known algorithm key b attempts a later e (asked_other m b a algorithm key none (sym off))

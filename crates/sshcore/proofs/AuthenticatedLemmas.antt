@@ -6,7 +6,7 @@ use Rattle.std.specs.Str.{bytes_eq}
 use Rattle.std.proofs.lemmas.Bool.{not-true, true≢false}
 use Rattle.sshwire.specs.declared.share_form.ShareForm.TheVariants.{Mpint}
 use Rattle.sshmsg.specs.declared.fault.MsgFault.{MsgFault}
-use Rattle.sshmsg.specs.Content.{Content, Disconnect, KexEcdhInit, KexEcdhReply, KexInit, KexdhInit, KexdhReply, Method, NewKeys, Offer, ServiceAccept, ServiceRequest, UserauthFailure, UserauthPkOk, UserauthRequest, UserauthSuccess}
+use Rattle.sshmsg.specs.MessageData.{Disconnect, KexEcdhInit, KexEcdhReply, KexInit, KexInitData, KexdhInit, KexdhReply, MessageData, MethodData, NewKeys, ServiceAccept, ServiceRequest, UserauthFailure, UserauthPkOk, UserauthRequest, UserauthSuccess}
 use Rattle.sshmsg.specs.Messages.{message_in}
 use Rattle.sshmsg.specs.Numbers.{kind}
 use Rattle.sshmsg.specs.Written.{method_name, written_message}
@@ -16,31 +16,31 @@ use Rattle.sshneg.specs.declared.role.Role.TheVariants.{Server}
 use Rattle.sshneg.specs.ChoiceReadings.{is_in}
 use Rattle.sshneg.specs.Derivations.{ExchangeData}
 use Rattle.sshneg.specs.ExchangeEnd.{exchange_hash}
-use Rattle.sshneg.specs.Fields.{Algorithms}
+use Rattle.sshneg.specs.Fields.{AlgorithmsData}
 use Rattle.sshpacket.specs.Parse.{Refusal}
 use Rattle.sshpacket.specs.Stream.{Units}
-use Rattle.sshpacket.specs.Suite.{Meaning, ResponseData}
+use Rattle.sshpacket.specs.Suite.{ResponseData, SuiteData}
 use Rattle.sshcore.specs.declared.end.Fault.TheVariants as fault
 use Rattle.sshcore.specs.declared.table.Line.{Line}
 use Rattle.sshcore.specs.declared.table.Line.TheVariants as line
 use Rattle.sshcore.specs.declared.table.Phase.{Phase}
 use Rattle.sshcore.specs.declared.table.Phase.TheVariants as phase
 use Rattle.sshcore.specs.Attempts.{agreed_by, attempt_reply, confirmed_by, is_asked, request_of, success_by}
-use Rattle.sshcore.specs.Authenticated.{IsAuthenticated, IsLetIn, LetsIn, WasLetIn}
+use Rattle.sshcore.specs.Authenticated.{AcceptsUser, IsAcceptedUser, IsAuthenticated, WasAccepted}
 use Rattle.sshcore.specs.Before.{count_kept, expects_guess, kept, stood, strict_at, strict_towards}
-use Rattle.sshcore.specs.ConfigData.{Attempt}
+use Rattle.sshcore.specs.ConfigParts.{AttemptData}
 use Rattle.sshcore.specs.Counting.{number_in}
 use Rattle.sshcore.specs.Directions.{payloads_in, version_in}
-use Rattle.sshcore.specs.Ending.{AgreedData, Authenticated, Closed, Disconnected, Ending, Failed, Open, Reply, by_owner, fails, goes}
+use Rattle.sshcore.specs.EndData.{AgreedData, Authenticated, Closed, Disconnected, EndData, Failed, Open, Reply, by_owner, fails, goes}
 use Rattle.sshcore.specs.Exchange.{answer_with, choice_with, exchange_with}
 use Rattle.sshcore.specs.Known.{Known, known_at, waits_at}
-use Rattle.sshcore.specs.Party.{Party, Policy}
+use Rattle.sshcore.specs.EndpointParts.{ConfigData, DecisionsData}
 use Rattle.sshcore.specs.Phases.{leaving, past_newkeys, phase_at}
-use Rattle.sshcore.specs.Plan.{behind_query, next_behind}
+use Rattle.sshcore.specs.Plan.{after_query, next_after}
 use Rattle.sshcore.specs.Replies.{Ends, end_at, ended, goes_on, line_reply, read_reply, refusal_reply}
-use Rattle.sshcore.specs.Reached.{Reached, Tried, are_reached, is_complete, nothing_reached, reached_after, reached_behind}
-use Rattle.sshcore.specs.Requests.{completes, is_good, request_reply}
-use Rattle.sshcore.specs.Tries.{is_good_at, session_known, tried_at, tried_in, tried_place, tried_with}
+use Rattle.sshcore.specs.Reached.{ReachedData, Tried, are_reached, is_complete, nothing_reached, reached_after, reached_after_one}
+use Rattle.sshcore.specs.Requests.{completes, is_successful, request_reply}
+use Rattle.sshcore.specs.Tries.{is_successful_at, session_known, tried_at, tried_in, tried_place, tried_with}
 use Rattle.sshcore.specs.Standing.{Tied}
 use Rattle.sshcore.specs.Table.{line_by}
 use Rattle.sshcore.specs.Work.{answered_by, banner_by, chosen_reply, init_reply, kexinit_reply, reply_reply, signed_by, userauth, work}
@@ -54,15 +54,15 @@ use Rattle.sshcore.proofs.StrictLaws.{begun_none, past_parts, stands}
 use Rattle.sshcore.proofs.StrictSteps.{line_is}
 
 -- neither authenticated nor ended by its owner
-abbrev is_early : Ending → Bool
+abbrev is_early : EndData → Bool
 is_early (Authenticated a) = false
 is_early end = not (by_owner end)
 
-abbrev pub IsEarly : Ending → Type 0
+abbrev pub IsEarly : EndData → Type 0
 IsEarly end = is_early end ≡ true
 
 -- an early end isn't its owner's
-pub early_uncut : (end : Ending) → IsEarly end → by_owner end ≡ false
+pub early_uncut : (end : EndData) → IsEarly end → by_owner end ≡ false
 early_uncut Open h = refl
 early_uncut (Authenticated a) h = refl
 early_uncut (Failed f) h = not-true (by_owner (Failed f)) h
@@ -75,20 +75,20 @@ early_cond false r o x y = y
 
 -- How the reply to a message ends: early; or authenticated, by a good request for a service that the server has, or by a SUCCESS
 -- where an attempt was made.
-pub data WorkEnds (m : Meaning) (d : Policy) (party : Party) (known : Known) (c : Content) (end : Ending) : Type 0 where
+pub data WorkEnds (m : SuiteData) (d : DecisionsData) (party : ConfigData) (known : Known) (c : MessageData) (end : EndData) : Type 0 where
   Early : IsEarly end → WorkEnds m d party known c end
-  Requested : (user service : List ℕ) (method : Method) → c ≡ UserauthRequest user service method → is_in party.services service ≡ true
-      → is_good m d party known user service method ≡ true → completes party known user service method true ≡ true
+  Requested : (user service : List ℕ) (method : MethodData) → c ≡ UserauthRequest user service method → is_in party.services service ≡ true
+      → is_successful m d party known user service method ≡ true → completes party known user service method true ≡ true
       → end ≡ Authenticated (agreed_by known user service) → WorkEnds m d party known c end
-  Succeeded : (made : Attempt) (later : List Attempt) → c ≡ UserauthSuccess → known.left ≡ made ∷ later
+  Succeeded : (made : AttemptData) (later : List AttemptData) → c ≡ UserauthSuccess → known.left ≡ made ∷ later
       → end ≡ Authenticated (agreed_by known made.user made.service) → WorkEnds m d party known c end
 
-module _ (m : Meaning) (d : Policy) (role : Role) (party : Party) where
-  early_chosen : (peer : Offer) (r : Result Algorithms NoCommon) → IsEarly (chosen_reply m role party peer r).end
+module _ (m : SuiteData) (d : DecisionsData) (role : Role) (party : ConfigData) where
+  early_chosen : (peer : KexInitData) (r : Result AlgorithmsData NoCommon) → IsEarly (chosen_reply m role party peer r).end
   early_chosen peer (Ok a) = refl
   early_chosen peer (Err f) = refl
 
-  early_kexinit : (known : Known) (peer : Offer) → IsEarly (kexinit_reply m role party known peer).end
+  early_kexinit : (known : Known) (peer : KexInitData) → IsEarly (kexinit_reply m role party known peer).end
   unfolding kexinit_reply
   early_kexinit known peer =
       early_cond (strict_towards role party.strict (Some peer) && not known.first) (fails (fault.Strict 20)) (chosen_reply m role party peer (choice_with m role party.offer (Some peer)))
@@ -98,7 +98,7 @@ module _ (m : Meaning) (d : Policy) (role : Role) (party : Party) where
   early_answered known x None = refl
   early_answered known x (Some answer) = refl
 
-  early_init : (known : Known) (c : Content) → IsEarly (init_reply m role party known c).end
+  early_init : (known : Known) (c : MessageData) → IsEarly (init_reply m role party known c).end
   unfolding init_reply
   early_init known c = early_answered known (exchange_with m role party known.algorithms known.version known.kexinit (Ok c)) (answer_with m role party known.algorithms (Ok c))
 
@@ -108,39 +108,39 @@ module _ (m : Meaning) (d : Policy) (role : Role) (party : Party) where
       early_cond (m.verify known.algorithms.host_key x.host_key (exchange_hash m known.algorithms.kex x) signature)
       (goes (written_message NewKeys ∷ written_message (ServiceRequest userauth) ∷ [])) (fails fault.Signature) refl refl
 
-  early_reply : (known : Known) (c : Content) (signature : List ℕ) → IsEarly (reply_reply m d role party known c signature).end
+  early_reply : (known : Known) (c : MessageData) (signature : List ℕ) → IsEarly (reply_reply m d role party known c signature).end
   unfolding reply_reply
   early_reply known c signature =
       let x = exchange_with m role party known.algorithms known.version known.kexinit (Ok c) in
       let answer = answer_with m role party known.algorithms (Ok c) in
       early_cond (d.host_key known.algorithms.host_key x.host_key) (signed_by m known x signature answer) (fails fault.HostKey) (early_signed known x signature answer) refl
 
-  early_attempt : (session : List ℕ) (left : List Attempt) → IsEarly (attempt_reply m session left).end
+  early_attempt : (session : List ℕ) (left : List AttemptData) → IsEarly (attempt_reply m session left).end
   early_attempt session [] = refl
   early_attempt session (a ∷ later) = refl
 
   -- a request is answered by whether the service is unknown, the request good, and the try the last
-  request_ends : (known : Known) (user service : List ℕ) (method : Method)
+  request_ends : (known : Known) (user service : List ℕ) (method : MethodData)
       → WorkEnds m d party known (UserauthRequest user service method) (request_reply m d party known user service method).end
   request_ends known user service method = by (answered m d party known user service method)
     where
       by : IsAnswered m d party known user service method (request_reply m d party known user service method)
           → WorkEnds m d party known (UserauthRequest user service method) (request_reply m d party known user service method).end
       by (Elsewhere has is) = Early (ap (λ (r : Reply). is_early r.end) is)
-      by (Succeeds has good done is) = Requested user service method refl has good done (ap (λ (r : Reply). r.end) is)
+      by (Succeeds has successful done is) = Requested user service method refl has successful done (ap (λ (r : Reply). r.end) is)
       by (Last last is) = Early (ap (λ (r : Reply). is_early r.end) is)
       by (More x refusal more is) = Early (ap (λ (r : Reply). is_early r.end) is)
 
-  success_ends : (known : Known) (left : List Attempt) → known.left ≡ left → WorkEnds m d party known UserauthSuccess (success_by known left).end
+  success_ends : (known : Known) (left : List AttemptData) → known.left ≡ left → WorkEnds m d party known UserauthSuccess (success_by known left).end
   success_ends known [] e = Early refl
   success_ends known (a ∷ later) e = Succeeded a later refl e refl
 
-  early_confirmed : (known : Known) (algorithm key : List ℕ) (left : List Attempt) → IsEarly (confirmed_by m known algorithm key left).end
+  early_confirmed : (known : Known) (algorithm key : List ℕ) (left : List AttemptData) → IsEarly (confirmed_by m known algorithm key left).end
   early_confirmed known algorithm key [] = refl
   early_confirmed known algorithm key (a ∷ later) =
-      early_cond (is_asked m a.proving algorithm key) (goes (request_of m known.session (behind_query a) ∷ [])) (fails (fault.Unexpected 60)) refl refl
+      early_cond (is_asked m a.proving algorithm key) (goes (request_of m known.session (after_query a) ∷ [])) (fails (fault.Unexpected 60)) refl refl
 
-  pub work_ends : (known : Known) (c : Content) → WorkEnds m d party known c (work m d role party known c).end
+  pub work_ends : (known : Known) (c : MessageData) → WorkEnds m d party known c (work m d role party known c).end
   unfolding work
   work_ends known (Disconnect reason description language) = Early refl
   work_ends known (KexInit peer) = Early (early_kexinit known peer)
@@ -153,7 +153,7 @@ module _ (m : Meaning) (d : Policy) (role : Role) (party : Party) where
   work_ends known (ServiceAccept service) =
       Early (early_cond (bytes_eq service userauth) (attempt_reply m known.session known.left) (fails (fault.Unexpected 6)) (early_attempt known.session known.left) refl)
   work_ends known (UserauthRequest user service method) = request_ends known user service method
-  work_ends known (UserauthFailure listed partial) = Early (early_attempt known.session (next_behind listed known.left))
+  work_ends known (UserauthFailure listed partial) = Early (early_attempt known.session (next_after listed known.left))
   work_ends known UserauthSuccess = success_ends known known.left refl
   work_ends known (UserauthPkOk algorithm key) = Early (early_confirmed known algorithm key known.left)
   work_ends known _ = Early refl
@@ -166,36 +166,36 @@ same_agreed : (x y : AgreedData) → Authenticated x ≡ Authenticated y → x �
 same_agreed x y e = cc
 
 -- what lets in the user that is agreed on
-lets_in : (m : Meaning) (d : Policy) (party : Party) (known : Known) (tried : List Tried) (payload user service : List ℕ) (method : Method) (a : AgreedData) → agreed_by known user service ≡ a
+accepts : (m : SuiteData) (d : DecisionsData) (party : ConfigData) (known : Known) (tried : List Tried) (payload user service : List ℕ) (method : MethodData) (a : AgreedData) → agreed_by known user service ≡ a
     → message_in known.shares payload ≡ Ok (UserauthRequest user service method) → is_in party.services service ≡ true
-    → is_good m d party known user service method ≡ true → are_reached party.required user service (tried ++ tried_with user service method true ∷ []) ≡ true
-    → LetsIn m d party known tried payload a
-lets_in m d party known tried payload user service method a e requests has good reached =
-    subst (LetsIn m d party known tried payload) e (record { method = method; requests = requests; has_service = has; good = good; reached = reached })
+    → is_successful m d party known user service method ≡ true → are_reached party.required user service (tried ++ tried_with user service method true ∷ []) ≡ true
+    → AcceptsUser m d party known tried payload a
+accepts m d party known tried payload user service method a e requests has successful reached =
+    subst (AcceptsUser m d party known tried payload) e (record { method = method; requests = requests; has_service = has; successful = successful; reached = reached })
 
-was_let_in : (known : Known) (payload : List ℕ) (made : Attempt) (later : List Attempt) (a : AgreedData) → agreed_by known made.user made.service ≡ a
-    → message_in known.shares payload ≡ Ok UserauthSuccess → known.left ≡ made ∷ later → WasLetIn known payload a
-was_let_in known payload made later a e succeeds left =
-    subst (WasLetIn known payload) e (record { succeeds = succeeds; made = made; later = later; left_are = left; user_is = refl; service_is = refl })
+was_accepted : (known : Known) (payload : List ℕ) (made : AttemptData) (later : List AttemptData) (a : AgreedData) → agreed_by known made.user made.service ≡ a
+    → message_in known.shares payload ≡ Ok UserauthSuccess → known.left ≡ made ∷ later → WasAccepted known payload a
+was_accepted known payload made later a e succeeds left =
+    subst (WasAccepted known payload) e (record { succeeds = succeeds; made = made; later = later; left_are = left; user_is = refl; service_is = refl })
 
 -- an endpoint that agreed on this at a payload in this phase
-record Agrees (m : Meaning) (d : Policy) (role : Role) (party : Party) (p : Phase) (guess : Bool) (known : Known) (tried : List Tried) (payload : List ℕ) (a : AgreedData) : Type 0 where
+record Agrees (m : SuiteData) (d : DecisionsData) (role : Role) (party : ConfigData) (p : Phase) (guess : Bool) (known : Known) (tried : List Tried) (payload : List ℕ) (a : AgreedData) : Type 0 where
   at : p ≡ phase.Auth
   none_due : guess ≡ false
   leaves : kind payload ≡ leaving role phase.Auth
   agreed_is : a ≡ agreed_by known a.user a.service
-  let_in : IsLetIn m d role party known tried payload a
+  accepted_user : IsAcceptedUser m d role party known tried payload a
 
 pub none_refused : (r : Option Refusal) (a : AgreedData) → Authenticated a ≡ (refusal_reply r).end → ⊥
 none_refused None a e = cc
 none_refused (Some r) a e = cc
 
-module _ (below : Below) (m : Meaning) (d : Policy) (role : Role) (party : Party) where
+module _ (below : Below) (m : SuiteData) (d : DecisionsData) (role : Role) (party : ConfigData) where
   -- a good request is read at a server, and a SUCCESS at a client
-  requested : (p : Phase) (guess : Bool) (known : Known) (tried : List Tried) (payload user service : List ℕ) (method : Method) (a : AgreedData) → Reads role p guess (kind payload)
-      → message_in known.shares payload ≡ Ok (UserauthRequest user service method) → is_in party.services service ≡ true → is_good m d party known user service method ≡ true
+  requested : (p : Phase) (guess : Bool) (known : Known) (tried : List Tried) (payload user service : List ℕ) (method : MethodData) (a : AgreedData) → Reads role p guess (kind payload)
+      → message_in known.shares payload ≡ Ok (UserauthRequest user service method) → is_in party.services service ≡ true → is_successful m d party known user service method ≡ true
       → completes party known user service method true ≡ true → known.reached ≡ reached_after nothing_reached tried → agreed_by known user service ≡ a → Agrees m d role party p guess known tried payload a
-  requested p guess known tried payload user service method a r requests has good done kept e =
+  requested p guess known tried payload user service method a r requests has successful done kept e =
       let is : kind payload ≡ 50 = below.numbers known.shares payload (UserauthRequest user service method) requests in
       let at = user_request_read role p guess (subst (Reads role p guess) is r) in
       record {
@@ -203,12 +203,12 @@ module _ (below : Below) (m : Meaning) (d : Policy) (role : Role) (party : Party
         none_due = at.none_due;
         leaves = is ∙ ap (λ side. leaving side phase.Auth) (sym at.side_is);
         agreed_is = agrees_by known user service a e;
-        let_in = subst (λ (side : Role). IsLetIn m d side party known tried payload a) (sym at.side_is) (lets_in m d party known tried payload user service method a e requests has good
+        accepted_user = subst (λ (side : Role). IsAcceptedUser m d side party known tried payload a) (sym at.side_is) (accepts m d party known tried payload user service method a e requests has successful
             (complete_sound tried (tried_with user service method true) (method_name method) refl party.required
-            (ap (λ (q : Reached). is_complete party.required (reached_behind q (tried_with user service method true))) (sym kept) ∙ done)));
+            (ap (λ (q : ReachedData). is_complete party.required (reached_after_one q (tried_with user service method true))) (sym kept) ∙ done)));
       }
 
-  succeeded : (p : Phase) (guess : Bool) (known : Known) (tried : List Tried) (payload : List ℕ) (made : Attempt) (later : List Attempt) (a : AgreedData) → Reads role p guess (kind payload)
+  succeeded : (p : Phase) (guess : Bool) (known : Known) (tried : List Tried) (payload : List ℕ) (made : AttemptData) (later : List AttemptData) (a : AgreedData) → Reads role p guess (kind payload)
       → message_in known.shares payload ≡ Ok UserauthSuccess → known.left ≡ made ∷ later → agreed_by known made.user made.service ≡ a → Agrees m d role party p guess known tried payload a
   succeeded p guess known tried payload made later a r succeeds left e =
       let is : kind payload ≡ 52 = below.numbers known.shares payload UserauthSuccess succeeds in
@@ -218,20 +218,20 @@ module _ (below : Below) (m : Meaning) (d : Policy) (role : Role) (party : Party
         none_due = at.none_due;
         leaves = is ∙ ap (λ side. leaving side phase.Auth) (sym at.side_is);
         agreed_is = agrees_by known made.user made.service a e;
-        let_in = subst (λ (side : Role). IsLetIn m d side party known tried payload a) (sym at.side_is) (was_let_in known payload made later a e succeeds left);
+        accepted_user = subst (λ (side : Role). IsAcceptedUser m d side party known tried payload a) (sym at.side_is) (was_accepted known payload made later a e succeeds left);
       }
 
   -- a message that is read
   by_read : (p : Phase) (strict guess waits : Bool) (known : Known) (tried : List Tried) (payload : List ℕ) → known.reached ≡ reached_after nothing_reached tried → line_by role p strict guess waits (kind payload) ≡ line.Reads → (a : AgreedData)
-      → (r : Result Content MsgFault) → message_in known.shares payload ≡ r → (read_reply m d role party known (kind payload) r).end ≡ Authenticated a
+      → (r : Result MessageData MsgFault) → message_in known.shares payload ≡ r → (read_reply m d role party known (kind payload) r).end ≡ Authenticated a
       → Agrees m d role party p guess known tried payload a
   by_read p strict guess waits known tried payload kept reads_it a (Err f) e end = absurd cc
   by_read p strict guess waits known tried payload kept reads_it a (Ok c) e end = by (work_ends m d role party known c)
     where
       by : WorkEnds m d party known c (work m d role party known c).end → Agrees m d role party p guess known tried payload a
       by (Early h) = absurd (true≢false (sym h ∙ ap is_early end))
-      by (Requested user service method same has good done is) = requested p guess known tried payload user service method a (reads role p strict waits (kind payload) guess reads_it)
-          (e ∙ ap Ok same) has good done kept (same_agreed (agreed_by known user service) a (sym is ∙ end))
+      by (Requested user service method same has successful done is) = requested p guess known tried payload user service method a (reads role p strict waits (kind payload) guess reads_it)
+          (e ∙ ap Ok same) has successful done kept (same_agreed (agreed_by known user service) a (sym is ∙ end))
       by (Succeeded made later same left is) = succeeded p guess known tried payload made later a (reads role p strict waits (kind payload) guess reads_it)
           (e ∙ ap Ok same) left (same_agreed (agreed_by known made.user made.service) a (sym is ∙ end))
 
@@ -279,13 +279,13 @@ module _ (below : Below) (m : Meaning) (d : Policy) (role : Role) (party : Party
         stays_in_auth = ap (λ (l : Units). phase_at role party.offer (payloads_in l)) units_are
             ∙ tied_phase role party.offer (before ++ last ∷ []) phase.Auth (stays_tied version before last f.0 f.1.tied a (sym is));
         agrees = at.agreed_is;
-        let_in = at.let_in;
+        accepted_user = at.accepted_user;
       }
 
-  one_tried : (session : List ℕ) (n : ℕ) (payload user service : List ℕ) (method : Method) → message_in Mpint payload ≡ Ok (UserauthRequest user service method)
-      → is_good_at m d party session n user service method ≡ true → tried_in m d party session n payload ≡ tried_with user service method true ∷ []
+  one_tried : (session : List ℕ) (n : ℕ) (payload user service : List ℕ) (method : MethodData) → message_in Mpint payload ≡ Ok (UserauthRequest user service method)
+      → is_successful_at m d party session n user service method ≡ true → tried_in m d party session n payload ≡ tried_with user service method true ∷ []
   unfolding tried_in
-  one_tried session n payload user service method read good = rw (read, good) refl
+  one_tried session n payload user service method read successful = rw (read, successful) refl
 
   tried_here : (version : List ℕ) (before : Units) (payload : List ℕ) → kept role party.offer 50 before payload ≡ true
       → tried_place m d role party version before payload ≡ tried_in m d party (session_known m role party version before) (count_kept role party.offer 50 before + 1) payload
@@ -293,22 +293,22 @@ module _ (below : Below) (m : Meaning) (d : Policy) (role : Role) (party : Party
 
   -- at a server, the requests end with the one that lets in
   tried_last : (version : List ℕ) (before : Units) (last : List ℕ) (p : Phase) → Tied role party.offer before p → (a : AgreedData) → end_at m d role party (version ∷ before) last ≡ Authenticated a → role ≡ Server
-      → (method : Method) × (tried_at m d role party version (before ++ last ∷ []) ≡ tried_at m d role party version before ++ tried_with a.user a.service method true ∷ [])
+      → (method : MethodData) × (tried_at m d role party version (before ++ last ∷ []) ≡ tried_at m d role party version before ++ tried_with a.user a.service method true ∷ [])
   tried_last version before last p t a end server =
       let at = at_last version before last p t a end in
       let known : Known = known_at m d role party version before in
-      let r : LetsIn m d party known (tried_at m d role party version before) last a = subst (λ (side : Role). IsLetIn m d side party known (tried_at m d role party version before) last a) server at.let_in in
+      let r : AcceptsUser m d party known (tried_at m d role party version before) last a = subst (λ (side : Role). IsAcceptedUser m d side party known (tried_at m d role party version before) last a) server at.accepted_user in
       let is : kind last ≡ 50 = below.numbers known.shares last (UserauthRequest a.user a.service r.method) r.requests in
       let read : message_in Mpint last ≡ Ok (UserauthRequest a.user a.service r.method) = below.alike Mpint known.shares last (λ q. omega (arith, q, is)) (λ q. omega (arith, q, is)) ∙ r.requests in
       let here : kept role party.offer 50 before last ≡ true = kept_free role party.offer before last 50 at.none_due ∙ rw is refl in (
         r.method,
         tried_push m d role party version before last
             ∙ ap (λ (l : List Tried). tried_at m d role party version before ++ l) (tried_here version before last here
-            ∙ one_tried (session_known m role party version before) (count_kept role party.offer 50 before + 1) last a.user a.service r.method read r.good),
+            ∙ one_tried (session_known m role party version before) (count_kept role party.offer 50 before + 1) last a.user a.service r.method read r.successful),
       )
 
   pub ends_tried : (units : Units) (refusal : Option Refusal) (a : AgreedData) → Ends m d role party units refusal (Authenticated a) → role ≡ Server
-      → (tried : List Tried) × (method : Method) × (tried_at m d role party (version_in units) (payloads_in units) ≡ tried ++ tried_with a.user a.service method true ∷ [])
+      → (tried : List Tried) × (method : MethodData) × (tried_at m d role party (version_in units) (payloads_in units) ≡ tried ++ tried_with a.user a.service method true ∷ [])
   ends_tried units refusal a (goes_on stays is) server = absurd (none_refused refusal a is)
   ends_tried units refusal a (ended [] last units_are stays is shut none) server = absurd cc
   ends_tried units refusal a (ended (version ∷ before) last units_are stays is shut none) server =
@@ -317,5 +317,5 @@ module _ (below : Below) (m : Meaning) (d : Policy) (role : Role) (party : Party
       (tried_at m d role party version before, x.0, ap (λ (l : Units). tried_at m d role party (version_in l) (payloads_in l)) units_are ∙ x.1)
 
 -- an endpoint in phase auth has heard NEWKEYS
-pub auth_switched : (role : Role) (own : Offer) (payloads : Units) → phase_at role own payloads ≡ phase.Auth → stood role own 21 payloads ≡ true
+pub auth_switched : (role : Role) (own : KexInitData) (payloads : Units) → phase_at role own payloads ≡ phase.Auth → stood role own 21 payloads ≡ true
 auth_switched role own payloads at = (past_parts _ _ _ _ (ap past_newkeys at)).1

@@ -4,9 +4,9 @@ use Rattle.std.proofs.Common.{◌≡◌, ℕ, Bool, true, false, List, [], ◌�
 use Rattle.std.proofs.lemmas.Bool.{true≢false}
 use Rattle.sshneg.specs.declared.role.Role.{Role}
 use Rattle.sshneg.specs.Markers.{other}
-use Rattle.sshpacket.specs.KeyData.{KeyData}
+use Rattle.sshpacket.specs.KeysData.{KeysData}
 use Rattle.sshpacket.specs.Places.{flat_places}
-use Rattle.sshpacket.specs.Suite.{Meaning}
+use Rattle.sshpacket.specs.Suite.{SuiteData}
 use Rattle.sshcore.specs.declared.input.Input.{Input}
 use Rattle.sshcore.specs.declared.input.Input.TheVariants as input
 use Rattle.sshcore.specs.declared.table.Phase.{Phase}
@@ -14,74 +14,74 @@ use Rattle.sshcore.specs.declared.table.Phase.TheVariants as phase
 use Rattle.sshcore.specs.Before.{strict_at}
 use Rattle.sshcore.specs.Brings.{Gives}
 use Rattle.sshcore.specs.Directions.{preamble_of, spells}
-use Rattle.sshcore.specs.Ending.{Open, goes}
+use Rattle.sshcore.specs.EndData.{Open, goes}
 use Rattle.sshcore.specs.Exchange.{keys_at}
 use Rattle.sshcore.specs.History.{History}
-use Rattle.sshcore.specs.Inputs.{AsHeard, Begins, IsInput, Stands, pending_at}
-use Rattle.sshcore.specs.Kept.{Kept, begun}
+use Rattle.sshcore.specs.Inputs.{AsReceived, Begins, EndpointStands, IsInput, pending_at}
+use Rattle.sshcore.specs.StateData.{StateData, begun}
 use Rattle.sshcore.specs.Known.{Known}
-use Rattle.sshcore.specs.Output.{Sending, Speaks, said_from}
-use Rattle.sshcore.specs.Party.{Party, Policy}
+use Rattle.sshcore.specs.Output.{Sending, Speaks, sent_from}
+use Rattle.sshcore.specs.EndpointParts.{ConfigData, DecisionsData}
 use Rattle.sshcore.specs.Phases.{past_exchange, past_kexinit}
 use Rattle.sshcore.specs.Standing.{Sits}
 use Rattle.sshcore.specs.Work.{making}
 use Rattle.sshcore.proofs.Below.{Below}
-use Rattle.sshcore.proofs.FeedLemmas.{clear_before, none_said}
+use Rattle.sshcore.proofs.FeedLemmas.{clear_before, none_sent}
 use Rattle.sshcore.proofs.HistoryLemmas as history
 use Rattle.sshcore.proofs.HistoryLemmas.{Streams}
 use Rattle.sshcore.proofs.KeyedLemmas.{still_making}
-use Rattle.sshcore.proofs.OutputLemmas.{said_quiet}
-use Rattle.sshcore.proofs.PlanLemmas.{no_good_key}
-use Rattle.sshcore.proofs.SayingLemmas as saying
+use Rattle.sshcore.proofs.OutputLemmas.{sent_quiet}
+use Rattle.sshcore.proofs.PlanLemmas.{no_successful_key}
+use Rattle.sshcore.proofs.SendingLemmas as sending_lemmas
 use Rattle.sshcore.proofs.StandingLemmas as standing
 
-first_input : (m : Meaning) (role : Role) (party : Party) (i : Input) → Begins role i → IsInput m role party [] [] i
+first_input : (m : SuiteData) (role : Role) (party : ConfigData) (i : Input) → Begins role i → IsInput m role party [] [] i
 first_input m role party (input.Lines reader) b = (refl, b.0)
 first_input m role party (input.Packets reader) b = absurd b
 
 -- nothing was said, and nothing is sealed
-speaks_first : (m : Meaning) (role : Role) (party : Party) → Speaks m role party [] [] (record { keys = None; number = 0 })
+speaks_first : (m : SuiteData) (role : Role) (party : ConfigData) → Speaks m role party [] [] (record { keys = None; number = 0 })
 speaks_first m role party =
-    let none = saying.none_said (strict_at role party []) in
+    let none = sending_lemmas.none_sent (strict_at role party []) in
     record { keys = rw none.0 refl; number = sym none.1 }
 
 not_past : (p : Phase) → p ≡ phase.KexInit → past_kexinit p ≡ true → ⊥
 not_past p e past = true≢false (sym past ∙ ap past_kexinit e)
 
-module _ (below : Below) (streams : Streams) (m : Meaning) (d : Policy) (role : Role) (party : Party) (new : Kept) (i : Input) (lines said : List ℕ) (strict : Bool) (next : KeyData) where
-  pub begins_stands : new ≡ record (begun party) { sending = new.sending } → Gives m party.seed strict next (begun party) new lines said (goes (making m role party)) → lines ≡ preamble_of party → Begins role i
-      → Stands m d role party new i [] said
+module _ (below : Below) (streams : Streams) (m : SuiteData) (d : DecisionsData) (role : Role) (party : ConfigData) (new : StateData) (i : Input) (lines sent : List ℕ) (strict : Bool) (next : KeysData) where
+  pub begins_stands : new ≡ record (begun party) { sending = new.sending } → Gives m party.seed strict next (begun party) new lines sent (goes (making m role party)) → lines ≡ preamble_of party → Begins role i
+      → EndpointStands m d role party new i [] sent
   begins_stands is gives lines_are reads =
       let first = making m role party in
-      let spoken = said_quiet m role party [] strict next [] first (record { keys = None; number = 0 }) (none_said first (still_making m role party)) (speaks_first m role party) in
-      let bytes : said ≡ flat_places (spells m role party []) [] (party.version ∷ first) =
-      gives.says ∙ ap (λ (l : List ℕ). l ++ said_from m party.seed strict next (record { keys = None; number = 0 }) first) lines_are
+      let spoken = sent_quiet m role party [] strict next [] first (record { keys = None; number = 0 }) (none_sent first (still_making m role party)) (speaks_first m role party) in
+      let bytes : sent ≡ flat_places (spells m role party []) [] (party.version ∷ first) =
+      gives.output ∙ ap (λ (l : List ℕ). l ++ sent_from m party.seed strict next (record { keys = None; number = 0 }) first) lines_are
       ∙ ap (λ (l : List ℕ). preamble_of party ++ l) spoken.0 in
       let begin = history.begins below streams m d role party gives.fits in
       let speaks : Speaks m role party [] first new.sending = subst (λ (o : Sending). Speaks m role party [] first o) (sym gives.sends) spoken.1 in
-      let phase_is : new.phase ≡ phase.KexInit = ap (λ (k : Kept). k.phase) is in
+      let phase_is : new.phase ≡ phase.KexInit = ap (λ (k : StateData). k.phase) is in
       record {
         units = [];
         rest = [];
         refusal = None;
         answers = first;
-        heard_end = Open;
+        received_end = Open;
         history = subst (λ (l : List ℕ). History m d role party [] [] None first Open [] l) (sym bytes) begin;
-        ends = AsHeard (ap (λ (k : Kept). k.end) is);
+        ends = AsReceived (ap (λ (k : StateData). k.end) is);
         inside = λ o. record {
           sits = subst (λ (p : Phase). Sits m d role party [] [] p new.guess new.known) (sym phase_is)
-              (subst (λ (b : Bool). Sits m d role party [] [] phase.KexInit b new.known) (sym (ap (λ (k : Kept). k.guess) is))
-              (subst (λ (k : Known). Sits m d role party [] [] phase.KexInit false k) (sym (ap (λ (k : Kept). k.known) is)) (standing.begins m d role party [])));
+              (subst (λ (b : Bool). Sits m d role party [] [] phase.KexInit b new.known) (sym (ap (λ (k : StateData). k.guess) is))
+              (subst (λ (k : Known). Sits m d role party [] [] phase.KexInit false k) (sym (ap (λ (k : StateData). k.known) is)) (standing.begins m d role party [])));
           form = record {
             form = λ past. absurd (not_past new.phase phase_is past);
             clear = λ not. clear_before m role party [] first phase.KexInit new.sending ((standing.begins m d role party []).tied.exchange) speaks begin.keyed refl;
           };
           reads = first_input m role party i reads;
           carries = record {
-            pending = ap (λ (k : Kept). k.carried.pending) is ∙ ap (λ (p : Phase). pending_at p (keys_at m role party [] [] (other role))) (sym phase_is);
+            pending = ap (λ (k : StateData). k.carried.pending) is ∙ ap (λ (p : Phase). pending_at p (keys_at m role party [] [] (other role))) (sym phase_is);
             own_version = λ past. absurd (true≢false (sym past ∙ ap past_exchange phase_is));
             host_key = λ past. absurd (true≢false (sym past ∙ ap past_exchange phase_is));
-            user_key = ap (λ (k : Kept). k.carried.user_key) is ∙ sym (no_good_key m d role party []);
+            user_key = ap (λ (k : StateData). k.carried.user_key) is ∙ sym (no_successful_key m d role party []);
           };
           speaks = speaks;
         };

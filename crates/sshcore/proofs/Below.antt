@@ -3,7 +3,7 @@
 use Rattle.std.proofs.Common.{◌≡◌, ◌≢◌, ℕ, true, List, Ok}
 use Rattle.std.specs.Prelude.{◌↔◌}
 use Rattle.sshwire.specs.declared.share_form.ShareForm.{ShareForm}
-use Rattle.sshmsg.specs.Content.{Content, Offer}
+use Rattle.sshmsg.specs.MessageData.{KexInitData, MessageData}
 use Rattle.sshmsg.specs.Messages.{message_in}
 use Rattle.sshmsg.specs.Numbers.{kind, number_of}
 use Rattle.sshneg.specs.Markers.{IsRightGuess}
@@ -11,8 +11,8 @@ use Rattle.sshneg.specs.Strictness.{is_right_guess}
 
 pub record Below : Type 0 where
   -- a payload begins with the number of its message
-  pub numbers : (form : ShareForm) (payload : List ℕ) (c : Content) → message_in form payload ≡ Ok c → kind payload ≡ number_of c
+  pub numbers : (form : ShareForm) (payload : List ℕ) (c : MessageData) → message_in form payload ≡ Ok c → kind payload ≡ number_of c
   -- the form of shares decides how 30 and 31 are read, and nothing else
   pub alike : (form other : ShareForm) (payload : List ℕ) → kind payload ≢ 30 → kind payload ≢ 31 → message_in form payload ≡ message_in other payload
   -- the test of a guess decides whether it is right
-  pub right : (client server : Offer) → (is_right_guess client server ≡ true) ↔ IsRightGuess client server
+  pub right : (client server : KexInitData) → (is_right_guess client server ≡ true) ↔ IsRightGuess client server

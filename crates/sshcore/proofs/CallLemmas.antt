@@ -6,20 +6,20 @@ use Rattle.std.proofs.lemmas.List.{append-nil, length-drop}
 use Rattle.std.proofs.Math.Seq.{take-add, take-length}
 use Rattle.std.specs.Result.{OnErr}
 use Rattle.sshneg.specs.declared.role.Role.{Role}
-use Rattle.sshpacket.specs.KeyData.{KeyData}
-use Rattle.sshpacket.specs.Suite.{Meaning}
+use Rattle.sshpacket.specs.KeysData.{KeysData}
+use Rattle.sshpacket.specs.Suite.{SuiteData}
 use Rattle.sshcore.specs.Brings.{Gives}
-use Rattle.sshcore.specs.Ending.{Open, by_owner, disconnects, ending, parting}
-use Rattle.sshcore.specs.Endpoints.{After, Breaks, Fed, IsSameEndpoint, Leaves, ending_of}
+use Rattle.sshcore.specs.EndData.{Open, by_owner, disconnects, end_data, parting}
+use Rattle.sshcore.specs.Endpoints.{Breaks, EndpointAfter, Fed, IsSameEndpoint, Leaves, endpoint_end}
 use Rattle.sshcore.specs.EndpointData.{EndpointData}
 use Rattle.sshcore.specs.History.{BrokenOff}
 use Rattle.sshcore.specs.declared.input.Input.{Input}
 use Rattle.sshcore.specs.declared.state.State.{State}
-use Rattle.sshcore.specs.Inputs.{Stands, Steps}
-use Rattle.sshcore.specs.Kept.{kept_of}
-use Rattle.sshcore.specs.Output.{said_from}
-use Rattle.sshcore.specs.Party.{Party, Policy}
-use Rattle.sshcore.proofs.FeedLemmas.{SaidMore, said_last, stands_left}
+use Rattle.sshcore.specs.Inputs.{EndpointStands, Steps}
+use Rattle.sshcore.specs.StateData.{state_data}
+use Rattle.sshcore.specs.Output.{sent_from}
+use Rattle.sshcore.specs.EndpointParts.{ConfigData, DecisionsData}
+use Rattle.sshcore.proofs.FeedLemmas.{SentMore, sent_last, stands_left}
 use Rattle.sshcore.proofs.HistoryLemmas.{broken}
 
 -- what is behind a place, as code cuts it out
@@ -32,22 +32,22 @@ on_err (Err e) p = p
 
 module _ {S D : Type 0} where
   pub same_none : (e : EndpointData S D) → IsSameEndpoint e e
-  same_none e = record { same_role = refl; same_party = refl; same_suite = refl; same_decisions = refl }
+  same_none e = record { same_role = refl; same_config = refl; same_suite = refl; same_decisions = refl }
 
   pub same_then : (old mid new : EndpointData S D) → IsSameEndpoint old mid → IsSameEndpoint mid new → IsSameEndpoint old new
   same_then old mid new a b = record {
     same_role = b.same_role ∙ a.same_role;
-    same_party = b.same_party ∙ a.same_party;
+    same_config = b.same_config ∙ a.same_config;
     same_suite = b.same_suite ∙ a.same_suite;
     same_decisions = b.same_decisions ∙ a.same_decisions;
   }
 
-module _ {S D : Type 0} (meaning : S → Meaning) (policy : D → Policy) where
+module _ {S D : Type 0} (meaning : S → SuiteData) (policy : D → DecisionsData) where
   pub fed_none : (e : EndpointData S D) (out : List ℕ) → Fed meaning policy e e [] out out
   fed_none e out = record {
     added = [];
     appended = sym (append-nil out);
-    follows = λ h s a. subst (λ (x : List ℕ). After meaning policy e x (s ++ [])) (sym (append-nil h)) (subst (λ (x : List ℕ). After meaning policy e h x) (sym (append-nil s)) a);
+    follows = λ h s a. subst (λ (x : List ℕ). EndpointAfter meaning policy e x (s ++ [])) (sym (append-nil h)) (subst (λ (x : List ℕ). EndpointAfter meaning policy e h x) (sym (append-nil s)) a);
     uncut = λ h s a owned. refl;
     same = same_none e;
   }
@@ -56,10 +56,10 @@ module _ {S D : Type 0} (meaning : S → Meaning) (policy : D → Policy) where
   fed_then old mid new t u o0 o1 o2 f g = record {
     added = f.added ++ g.added;
     appended = g.appended ∙ ap (λ (x : List ℕ). x ++ g.added) f.appended ∙ append_assoc o0 f.added g.added;
-    follows = λ h s a. subst (λ (x : List ℕ). After meaning policy new x (s ++ (f.added ++ g.added))) (append_assoc h t u)
-        (subst (λ (x : List ℕ). After meaning policy new ((h ++ t) ++ u) x) (append_assoc s f.added g.added) (g.follows (h ++ t) (s ++ f.added) (f.follows h s a)));
+    follows = λ h s a. subst (λ (x : List ℕ). EndpointAfter meaning policy new x (s ++ (f.added ++ g.added))) (append_assoc h t u)
+        (subst (λ (x : List ℕ). EndpointAfter meaning policy new ((h ++ t) ++ u) x) (append_assoc s f.added g.added) (g.follows (h ++ t) (s ++ f.added) (f.follows h s a)));
     uncut = λ h s a owned.
-        let stays : ending_of mid ≡ ending_of new = g.uncut (h ++ t) (s ++ f.added) (f.follows h s a) owned in
+        let stays : endpoint_end mid ≡ endpoint_end new = g.uncut (h ++ t) (s ++ f.added) (f.follows h s a) owned in
         f.uncut h s a (ap by_owner stays ∙ owned) ∙ stays;
     same = same_then old mid new f.same g.same;
   }
@@ -76,14 +76,14 @@ module _ {S D : Type 0} (meaning : S → Meaning) (policy : D → Policy) where
     appended = sym (append-nil out);
     follows = λ h s a. subst (λ (x : List ℕ). BrokenOff (meaning e.suite) (policy e.decisions) e.role e.party x (s ++ [])) (sym (append-nil h))
         (subst (λ (x : List ℕ). BrokenOff (meaning e.suite) (policy e.decisions) e.role e.party h x) (sym (append-nil s))
-        (broken (meaning e.suite) (policy e.decisions) e.role e.party a.units a.rest a.refusal a.answers a.heard_end h s a.history));
+        (broken (meaning e.suite) (policy e.decisions) e.role e.party a.units a.rest a.refusal a.answers a.received_end h s a.history));
     same = same;
   }
 
-  broken_as : (m n : Meaning) (d c : Policy) (r q : Role) (p o : Party) (h k s t : List ℕ) → m ≡ n → d ≡ c → r ≡ q → p ≡ o → h ≡ k → s ≡ t → BrokenOff m d r p h s → BrokenOff n c q o k t
+  broken_as : (m n : SuiteData) (d c : DecisionsData) (r q : Role) (p o : ConfigData) (h k s t : List ℕ) → m ≡ n → d ≡ c → r ≡ q → p ≡ o → h ≡ k → s ≡ t → BrokenOff m d r p h s → BrokenOff n c q o k t
   broken_as m n d c r q p o h k s t em ed er ep eh es x =
-      subst (λ (m : Meaning). BrokenOff m c q o k t) em (subst (λ (d : Policy). BrokenOff m d q o k t) ed (subst (λ (r : Role). BrokenOff m d r o k t) er
-      (subst (λ (p : Party). BrokenOff m d r p k t) ep (subst (λ (h : List ℕ). BrokenOff m d r p h t) eh (subst (λ (s : List ℕ). BrokenOff m d r p h s) es x)))))
+      subst (λ (m : SuiteData). BrokenOff m c q o k t) em (subst (λ (d : DecisionsData). BrokenOff m d q o k t) ed (subst (λ (r : Role). BrokenOff m d r o k t) er
+      (subst (λ (p : ConfigData). BrokenOff m d r p k t) ep (subst (λ (h : List ℕ). BrokenOff m d r p h t) eh (subst (λ (s : List ℕ). BrokenOff m d r p h s) es x)))))
 
   -- memory is wanted behind what went well
   pub breaks_then : (old mid new : EndpointData S D) (piece : List ℕ) (n : ℕ) (o0 o1 o2 : List ℕ) → n ≤ length piece → Fed meaning policy old mid (take n piece) o0 o1
@@ -98,7 +98,7 @@ module _ {S D : Type 0} (meaning : S → Meaning) (policy : D → Policy) where
         appended = b.appended ∙ ap (λ (x : List ℕ). x ++ b.added) f.appended ∙ append_assoc o0 f.added b.added;
         follows = λ h s a. broken_as (meaning mid.suite) (meaning old.suite) (policy mid.decisions) (policy old.decisions) mid.role old.role mid.party old.party
             ((h ++ take n piece) ++ take b.used (drop n piece)) (h ++ take (n + b.used) piece) ((s ++ f.added) ++ b.added) (s ++ (f.added ++ b.added))
-            (ap meaning f.same.same_suite) (ap policy f.same.same_decisions) f.same.same_role f.same.same_party
+            (ap meaning f.same.same_suite) (ap policy f.same.same_decisions) f.same.same_role f.same.same_config
             (append_assoc h (take n piece) (take b.used (drop n piece)) ∙ ap (λ (x : List ℕ). h ++ x) (sym (take-add n b.used piece)))
             (append_assoc s f.added b.added)
             (b.follows (h ++ take n piece) (s ++ f.added) (f.follows h s a));
@@ -106,31 +106,31 @@ module _ {S D : Type 0} (meaning : S → Meaning) (policy : D → Policy) where
       }
 
   -- a step of what an endpoint keeps is a call that used these bytes
-  pub fed_by : (role : Role) (party : Party) (suite : S) (decisions : D) (i j : Input) (x y : State) (taken before after : List ℕ)
-      → (added : List ℕ) × (after ≡ before ++ added) × Steps (meaning suite) (policy decisions) role party i (kept_of x) j (kept_of y) taken [] added
+  pub fed_by : (role : Role) (party : ConfigData) (suite : S) (decisions : D) (i j : Input) (x y : State) (taken before after : List ℕ)
+      → (added : List ℕ) × (after ≡ before ++ added) × Steps (meaning suite) (policy decisions) role party i (state_data x) j (state_data y) taken [] added
       → Fed meaning policy (record { role = role; party = party; suite = suite; decisions = decisions; input = i; state = x })
       (record { role = role; party = party; suite = suite; decisions = decisions; input = j; state = y }) taken before after
   fed_by role party suite decisions i j x y taken before after step = record {
     added = step.0;
     appended = step.1;
     follows = λ h s a. let g = step.2 h s a in
-        subst (λ (l : List ℕ). Stands (meaning suite) (policy decisions) role party (kept_of y) j (h ++ taken) (s ++ l)) (sym g.appended) g.stands;
+        subst (λ (l : List ℕ). EndpointStands (meaning suite) (policy decisions) role party (state_data y) j (h ++ taken) (s ++ l)) (sym g.appended) g.stands;
     uncut = λ h s a owned. absurd (true≢false (sym owned ∙ (step.2 h s a).uncut));
-    same = record { same_role = refl; same_party = refl; same_suite = refl; same_decisions = refl };
+    same = record { same_role = refl; same_config = refl; same_suite = refl; same_decisions = refl };
   }
 
   -- what was said for its owner, at an endpoint that stood open, is a call that ended it
-  pub leaves_by : SaidMore → (role : Role) (party : Party) (suite : S) (decisions : D) (i : Input) (x y : State) (reason : ℕ) (description before after : List ℕ) (strict : Bool) (next : KeyData)
-      → ending x.end ≡ Open → Gives (meaning suite) party.seed strict next (kept_of x) (kept_of y) before after (disconnects reason description)
+  pub leaves_by : SentMore → (role : Role) (party : ConfigData) (suite : S) (decisions : D) (i : Input) (x y : State) (reason : ℕ) (description before after : List ℕ) (strict : Bool) (next : KeysData)
+      → end_data x.end ≡ Open → Gives (meaning suite) party.seed strict next (state_data x) (state_data y) before after (disconnects reason description)
       → Leaves meaning policy (record { role = role; party = party; suite = suite; decisions = decisions; input = i; state = x })
       (record { role = role; party = party; suite = suite; decisions = decisions; input = i; state = y }) reason description before after
   leaves_by more role party suite decisions i x y reason description before after strict next is gives = record {
     left = gives.ends;
-    added = said_from (meaning suite) party.seed strict next (kept_of x).sending (parting reason description ∷ []);
-    appended = gives.says;
-    follows = λ h s a. stands_left (meaning suite) (policy decisions) role party (kept_of x) i h s is a (kept_of y) reason gives.ends;
-    said = λ h s a. said_last (meaning suite) (policy decisions) role party (kept_of x) i h s is a more reason description strict next;
-    same = record { same_role = refl; same_party = refl; same_suite = refl; same_decisions = refl };
+    added = sent_from (meaning suite) party.seed strict next (state_data x).sending (parting reason description ∷ []);
+    appended = gives.output;
+    follows = λ h s a. stands_left (meaning suite) (policy decisions) role party (state_data x) i h s is a (state_data y) reason gives.ends;
+    sent = λ h s a. sent_last (meaning suite) (policy decisions) role party (state_data x) i h s is a more reason description strict next;
+    same = record { same_role = refl; same_config = refl; same_suite = refl; same_decisions = refl };
   }
 
   -- and one that wanted memory said nothing

@@ -9,15 +9,15 @@ use Rattle.sshcore.specs.declared.config_fault.ConfigFault.TheVariants as fault
 use Rattle.sshcore.specs.declared.config_parts.Attempt as attempt_parts
 use Rattle.sshcore.specs.declared.config_parts.ClientParts.{ClientParts}
 use Rattle.sshcore.specs.declared.config_parts.ServerParts.{ServerParts}
-use Rattle.sshcore.specs.ConfigData.{Attempt}
+use Rattle.sshcore.specs.ConfigParts.{AttemptData}
 use Rattle.sshcore.specs.ConfigRules.{ClientRule, HasBytes, IsClient, IsLeastBroken, IsServer, ServerRule}
 use Rattle.sshcore.specs.ConfigTests.{client_test, refusal, server_test}
-use Rattle.sshcore.specs.ConfigView.{attempt_of, client_data, server_data, side_data}
+use Rattle.sshcore.specs.ConfigView.{attempt_data, client_data, server_data, side_data}
 use Rattle.sshcore.proofs.ConfigJudged.{NameLaw, VersionLaw, client_decided, server_decided}
 use Rattle.sshcore.proofs.ConfigLeast.{all_kept, refused}
 
 -- a user's name is a String
-users_utf8 : (plan : List attempt_parts.Attempt) → AllByRecursion (λ (a : Attempt). IsUtf8 a.user) (map attempt_of plan)
+users_utf8 : (plan : List attempt_parts.Attempt) → AllByRecursion (λ (a : AttemptData). IsUtf8 a.user) (map attempt_data plan)
 users_utf8 [] = tt
 users_utf8 (a ∷ plan) = (IsUtf8-string_bytes a.user, users_utf8 plan)
 

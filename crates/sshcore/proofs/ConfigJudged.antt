@@ -25,10 +25,10 @@ use Rattle.sshcore.specs.declared.config_parts.Credential.TheVariants as credent
 use Rattle.sshcore.specs.declared.config_parts.HostKey as host_key_parts
 use Rattle.sshcore.specs.declared.config_parts.ServerParts.{ServerParts}
 use Rattle.sshcore.specs.declared.config_parts.SideParts.{SideParts}
-use Rattle.sshcore.specs.ConfigData.{Attempt, HostKey, key_algorithms}
+use Rattle.sshcore.specs.ConfigParts.{AttemptData, HostKeyData, key_algorithms}
 use Rattle.sshcore.specs.ConfigRules.{AreDistinct, ClientRule, HasLengths, HasShortKey, HasShortPassword, IsListed, IsUnmarked, IsNamed, IsNotice, IsNoticeByte, IsShortList, IsSome, ServerRule, lists_of}
 use Rattle.sshcore.specs.ConfigTests.{are_distinct, are_methods, are_names, are_notices, are_required, client_test, has_lengths, has_short_key, has_short_password, host_keys_are_named, host_keys_are_short, is_attempt_named, is_listed, is_named, is_notice, is_notice_byte, is_short_banner, is_some, lists_are_names, lists_are_short, lists_are_some, server_test, text_is_short}
-use Rattle.sshcore.specs.ConfigView.{attempt_of, client_data, host_key_of, proving_of, server_data, side_data}
+use Rattle.sshcore.specs.ConfigView.{attempt_data, client_data, credential_data, host_key_data, server_data, side_data}
 
 -- of a list that is seen as data
 each_decided : {X Y : Type 0} (test : X → Bool) (P : Y → Type 0) (view : X → Y) → ((x : X) → Decides (test x) (P (view x)))
@@ -103,17 +103,17 @@ lists_named_decided law side host_keys b h =
     (names_decided law side.encryption_server_to_client.items) (names_decided law side.mac_client_to_server.items)
     (names_decided law side.mac_server_to_client.items)
 
-named_decided : NameLaw → (c : Credential) → Decides (is_named c) (IsNamed (proving_of c))
+named_decided : NameLaw → (c : Credential) → Decides (is_named c) (IsNamed (credential_data c))
 named_decided law credential.None = true_decided
 named_decided law (credential.Password password) = true_decided
 named_decided law (credential.PublicKey algorithm private_key ask) = law (string_bytes algorithm)
 
-password_decided : (c : Credential) → Decides (has_short_password c) (HasShortPassword (proving_of c))
+password_decided : (c : Credential) → Decides (has_short_password c) (HasShortPassword (credential_data c))
 password_decided credential.None = true_decided
 password_decided (credential.Password password) = leb_decided (length password.items) 1024
 password_decided (credential.PublicKey algorithm private_key ask) = true_decided
 
-key_decided : (c : Credential) → Decides (has_short_key c) (HasShortKey (proving_of c))
+key_decided : (c : Credential) → Decides (has_short_key c) (HasShortKey (credential_data c))
 key_decided credential.None = true_decided
 key_decided (credential.Password password) = true_decided
 key_decided (credential.PublicKey algorithm private_key ask) = leb_decided (length private_key.items) 8192
@@ -132,40 +132,40 @@ client_decided names versions parts fault.EmptyList =
 client_decided names versions parts fault.Name =
     three _ _ _ (lists_named_decided names parts.side (map string_bytes parts.server_host_key_algorithms.items) _ (names_decided names parts.server_host_key_algorithms.items))
     (methods_decided parts.side.kex_algorithms.items)
-    (each_decided is_attempt_named (λ (a : Attempt). IsName a.service × IsNamed a.proving) attempt_of
+    (each_decided is_attempt_named (λ (a : AttemptData). IsName a.service × IsNamed a.proving) attempt_data
     (λ a. Decides-and _ _ (names (string_bytes a.service)) (named_decided names a.credential)) parts.plan.items)
 client_decided names versions parts fault.ListTooLong =
     lists_short_decided parts.side (map string_bytes parts.server_host_key_algorithms.items) _ (short_decided (map string_bytes parts.server_host_key_algorithms.items))
 client_decided names versions parts fault.Line = versions _
 client_decided names versions parts fault.User =
-    each_decided (λ (a : attempt_parts.Attempt). leb (length (string_bytes a.user)) 255) (λ (a : Attempt). length a.user ≤ 255) attempt_of
+    each_decided (λ (a : attempt_parts.Attempt). leb (length (string_bytes a.user)) 255) (λ (a : AttemptData). length a.user ≤ 255) attempt_data
     (λ a. leb_decided (length (string_bytes a.user)) 255) parts.plan.items
 client_decided names versions parts fault.Secret =
-    each_decided (λ (a : attempt_parts.Attempt). has_short_password a.credential) (λ (a : Attempt). HasShortPassword a.proving) attempt_of
+    each_decided (λ (a : attempt_parts.Attempt). has_short_password a.credential) (λ (a : AttemptData). HasShortPassword a.proving) attempt_data
     (λ a. password_decided a.credential) parts.plan.items
 client_decided names versions parts fault.Blob =
-    each_decided (λ (a : attempt_parts.Attempt). has_short_key a.credential) (λ (a : Attempt). HasShortKey a.proving) attempt_of
+    each_decided (λ (a : attempt_parts.Attempt). has_short_key a.credential) (λ (a : AttemptData). HasShortKey a.proving) attempt_data
     (λ a. key_decided a.credential) parts.plan.items
 client_decided names versions parts fault.Plan =
-    count_decided attempt_of parts.plan.items 64
+    count_decided attempt_data parts.plan.items 64
 client_decided names versions parts fault.Tries = true_decided
 client_decided names versions parts fault.Random = lengths_decided parts.side
 client_decided names versions parts fault.Memory = true_decided
 client_decided names versions parts fault.Required = true_decided
 
-pub host_keys_mapped : (keys : List host_key_parts.HostKey) → key_algorithms (map host_key_of keys) ≡ map (λ (k : host_key_parts.HostKey). string_bytes k.algorithm) keys
+pub host_keys_mapped : (keys : List host_key_parts.HostKey) → key_algorithms (map host_key_data keys) ≡ map (λ (k : host_key_parts.HostKey). string_bytes k.algorithm) keys
 host_keys_mapped [] = refl
 host_keys_mapped (key ∷ keys) = ap (λ names. string_bytes key.algorithm ∷ names) (host_keys_mapped keys)
 
-host_keys_named_decided : NameLaw → (keys : List host_key_parts.HostKey) → Decides (host_keys_are_named keys) (AreNames (key_algorithms (map host_key_of keys)))
+host_keys_named_decided : NameLaw → (keys : List host_key_parts.HostKey) → Decides (host_keys_are_named keys) (AreNames (key_algorithms (map host_key_data keys)))
 host_keys_named_decided law keys =
     rw (host_keys_mapped keys) (each_decided (λ (k : host_key_parts.HostKey). is_name (string_bytes k.algorithm)) IsName
     (λ (k : host_key_parts.HostKey). string_bytes k.algorithm) (λ k. law (string_bytes k.algorithm)) keys)
 
-host_keys_some_decided : (keys : List host_key_parts.HostKey) → Decides (is_some keys) (IsSome (key_algorithms (map host_key_of keys)))
+host_keys_some_decided : (keys : List host_key_parts.HostKey) → Decides (is_some keys) (IsSome (key_algorithms (map host_key_data keys)))
 host_keys_some_decided keys = rw (host_keys_mapped keys) (some_decided (λ (k : host_key_parts.HostKey). string_bytes k.algorithm) keys)
 
-host_keys_short_decided : (keys : List host_key_parts.HostKey) → Decides (host_keys_are_short keys) (IsShortList (key_algorithms (map host_key_of keys)))
+host_keys_short_decided : (keys : List host_key_parts.HostKey) → Decides (host_keys_are_short keys) (IsShortList (key_algorithms (map host_key_data keys)))
 host_keys_short_decided keys = rw (host_keys_mapped keys) (short_decided (map (λ (k : host_key_parts.HostKey). string_bytes k.algorithm) keys))
 
 -- of nine facts in a row, where the first six are one test
@@ -223,23 +223,23 @@ notices_decided lines = each_decided (λ line. is_notice line.items) IsNotice (�
 
 pub server_decided : NameLaw → VersionLaw → (parts : ServerParts) (code : ConfigFault) → Decides (server_test parts code) (ServerRule code (server_data parts))
 server_decided names versions parts fault.EmptyList =
-    lists_some_decided parts.side (key_algorithms (map host_key_of parts.host_keys.items)) _ (host_keys_some_decided parts.host_keys.items)
+    lists_some_decided parts.side (key_algorithms (map host_key_data parts.host_keys.items)) _ (host_keys_some_decided parts.host_keys.items)
 server_decided names versions parts fault.Name =
-    four _ _ _ _ (three_more _ _ _ _ (lists_named_decided names parts.side (key_algorithms (map host_key_of parts.host_keys.items)) _
+    four _ _ _ _ (three_more _ _ _ _ (lists_named_decided names parts.side (key_algorithms (map host_key_data parts.host_keys.items)) _
     (host_keys_named_decided names parts.host_keys.items)) (names_decided names parts.services.items) (names_decided names parts.methods.items)
     (names_decided names parts.required.items))
     (methods_decided parts.side.kex_algorithms.items)
     (each_decided (λ name. is_listed (string_bytes name)) IsListed string_bytes (λ name. listed_decided (string_bytes name)) parts.methods.items)
     (each_decided (λ name. is_listed (string_bytes name)) IsListed string_bytes (λ name. listed_decided (string_bytes name)) parts.required.items)
 server_decided names versions parts fault.ListTooLong =
-    three_more _ _ _ _ (lists_short_decided parts.side (key_algorithms (map host_key_of parts.host_keys.items)) _ (host_keys_short_decided parts.host_keys.items))
+    three_more _ _ _ _ (lists_short_decided parts.side (key_algorithms (map host_key_data parts.host_keys.items)) _ (host_keys_short_decided parts.host_keys.items))
     (short_decided (map string_bytes parts.services.items)) (short_decided (map string_bytes parts.methods.items)) (short_decided (map string_bytes parts.required.items))
 server_decided names versions parts fault.Line =
     three _ _ _ (versions _) (count_decided (λ line. line.items) parts.notice_lines.items 20) (notices_decided parts.notice_lines.items)
 server_decided names versions parts fault.User = true_decided
 server_decided names versions parts fault.Secret = true_decided
 server_decided names versions parts fault.Blob =
-    Decides-and _ _ (each_decided (λ (k : host_key_parts.HostKey). leb (length k.private_key.items) 8192) (λ (k : HostKey). length k.secret ≤ 8192) host_key_of
+    Decides-and _ _ (each_decided (λ (k : host_key_parts.HostKey). leb (length k.private_key.items) 8192) (λ (k : HostKeyData). length k.secret ≤ 8192) host_key_data
     (λ k. leb_decided (length k.private_key.items) 8192) parts.host_keys.items)
     (banner_decided (option_map (λ text. text.items) parts.banner))
 server_decided names versions parts fault.Plan = true_decided

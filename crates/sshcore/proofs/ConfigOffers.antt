@@ -7,14 +7,14 @@ use Rattle.std.proofs.lemmas.List.Sums.{sum_by-append, sum_by-cons}
 use Rattle.std.proofs.lemmas.Bool.{both_ways}
 use Rattle.std.proofs.lemmas.List.{length-map}
 use Rattle.sshwire.specs.Types.{AreNames, IsName, names_body}
-use Rattle.sshmsg.specs.Content.{Content, KexInit}
+use Rattle.sshmsg.specs.MessageData.{KexInit, MessageData}
 use Rattle.sshmsg.specs.Lengths.{payload_length}
 use Rattle.sshmsg.specs.Written.{IsNameList, IsOffer, written_message}
 use Rattle.sshneg.specs.declared.role.Role.{Role}
 use Rattle.sshneg.specs.declared.role.Role.TheVariants.{Client, Server}
 use Rattle.sshneg.specs.Markers.{is_marker, strict_marker}
 use Rattle.sshcore.specs.declared.config_fault.ConfigFault.TheVariants as fault
-use Rattle.sshcore.specs.ConfigData.{ClientData, HostKey, ServerData, SideData, key_algorithms, client_offer, own_marker, server_offer, side_offer}
+use Rattle.sshcore.specs.ConfigParts.{ClientData, HostKeyData, ServerData, SideData, key_algorithms, client_offer, own_marker, server_offer, side_offer}
 use Rattle.sshcore.specs.ConfigRules.{FitsKexInit, HasLengths, IsClient, IsUnmarked, IsServer, IsShortList, all_server_lists, lists_of}
 use Rattle.sshcore.proofs.ConfigJudged.{NameLaw}
 use Rattle.sshcore.proofs.ConfigLemmas.{BodyLaw}
@@ -101,7 +101,7 @@ offer_formed body law role side host_keys guess each short lengths = record {
 }
 
 abbrev pub LengthLaw : Type 0
-LengthLaw = (m : Content) → length (written_message m) ≡ payload_length m
+LengthLaw = (m : MessageData) → length (written_message m) ≡ payload_length m
 
 offer_fits : BodyLaw → LengthLaw → (role : Role) (side : SideData) (host_keys : List (List ℕ)) (guess : Bool)
     → AllByRecursion IsShortList (lists_of side host_keys) → HasLengths side
@@ -177,5 +177,5 @@ server_few body server is =
     let short = first_lists IsShortList server (is.keeps fault.ListTooLong) in
     let few : length (key_algorithms server.host_keys) ≤ 1001 = few_names body (key_algorithms server.host_keys) short.1.0 in (
       fits_kexinit body server.side (key_algorithms server.host_keys) short (is.keeps fault.Random),
-      rw (length-map server.host_keys (λ (k : HostKey). k.algorithm)) at few,
+      rw (length-map server.host_keys (λ (k : HostKeyData). k.algorithm)) at few,
     )

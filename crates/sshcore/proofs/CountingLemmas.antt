@@ -10,7 +10,7 @@ use Rattle.sshpacket.specs.Stream.{Units}
 use Rattle.sshpacket.proofs.Places.{after-push}
 use Rattle.sshcore.specs.Before.{kept, offered, since, stood, strict_at}
 use Rattle.sshcore.specs.Counting.{number_by, number_in}
-use Rattle.sshcore.specs.Party.{Party}
+use Rattle.sshcore.specs.EndpointParts.{ConfigData}
 use Rattle.sshcore.proofs.GuessLemmas.{strict_push}
 use Rattle.sshcore.proofs.PhaseLemmas.{stood_push}
 
@@ -26,7 +26,7 @@ pub switched : (strict : Bool) (all : ℕ) → number_by true strict 0 (all + 1)
 switched true all = refl
 switched false all = mod_more all
 
-module _ (role : Role) (party : Party) (before : Units) (payload : List ℕ) where
+module _ (role : Role) (party : ConfigData) (before : Units) (payload : List ℕ) where
   since_on : stood role party.offer 21 before ≡ true → since role party.offer 21 (before ++ payload ∷ []) ≡ since role party.offer 21 before + 1
   unfolding since stood
   since_on on =

@@ -5,72 +5,72 @@ use Rattle.std.proofs.lemmas.Bool.{true≢false}
 use Rattle.sshneg.specs.declared.role.Role.{Role}
 use Rattle.sshpacket.specs.Parse.{Refusal}
 use Rattle.sshpacket.specs.Stream.{Units}
-use Rattle.sshpacket.specs.Suite.{Meaning}
+use Rattle.sshpacket.specs.Suite.{SuiteData}
 use Rattle.sshcore.specs.Authenticated.{IsAuthenticated}
 use Rattle.sshcore.specs.Before.{strict_at}
 use Rattle.sshcore.specs.Directions.{payloads_in}
-use Rattle.sshcore.specs.Ending.{AgreedData, Ending, Open, by_owner}
+use Rattle.sshcore.specs.EndData.{AgreedData, EndData, Open, by_owner}
 use Rattle.sshcore.specs.EndpointData.{EndpointData}
-use Rattle.sshcore.specs.Endpoints.{After, IsSameEndpoint, ending_of}
+use Rattle.sshcore.specs.Endpoints.{EndpointAfter, IsSameEndpoint, endpoint_end}
 use Rattle.sshcore.specs.History.{History, IsOneHistory}
-use Rattle.sshcore.specs.Inputs.{AsHeard, CutOff, Left, StandsSo}
-use Rattle.sshcore.specs.Party.{Party, Policy}
+use Rattle.sshcore.specs.Inputs.{AsReceived, CutOff, Left, StandsSo}
+use Rattle.sshcore.specs.EndpointParts.{ConfigData, DecisionsData}
 use Rattle.sshcore.specs.Phases.{past_newkeys}
 use Rattle.sshcore.specs.Replies.{Ends}
 use Rattle.sshcore.specs.StrictClause.{KeepsStrict}
 use Rattle.sshcore.specs.StrictSequence.{BeginsStrictly}
-use Rattle.sshcore.proofs.UncutLemmas.{uncut_heard}
+use Rattle.sshcore.proofs.UncutLemmas.{uncut_received}
 
 -- an endpoint that its owner didn't end stands as it heard
-pub as_heard : (heard_end end : Ending) → StandsSo heard_end end → by_owner end ≡ false → heard_end ≡ end
-as_heard heard_end end (AsHeard e) uncut = sym e
-as_heard heard_end end (CutOff h e) uncut = absurd (true≢false (sym (ap by_owner e) ∙ uncut))
-as_heard heard_end end (Left reason h e) uncut = absurd (true≢false (sym (ap by_owner e) ∙ uncut))
+pub as_received : (received_end end : EndData) → StandsSo received_end end → by_owner end ≡ false → received_end ≡ end
+as_received received_end end (AsReceived e) uncut = sym e
+as_received received_end end (CutOff h e) uncut = absurd (true≢false (sym (ap by_owner e) ∙ uncut))
+as_received received_end end (Left reason h e) uncut = absurd (true≢false (sym (ap by_owner e) ∙ uncut))
 
-module _ (m : Meaning) (d : Policy) (role : Role) (party : Party) where
+module _ (m : SuiteData) (d : DecisionsData) (role : Role) (party : ConfigData) where
   -- an endpoint that its owner ended stood open
-  pub cut_open : (units : Units) (r : Option Refusal) (heard_end end : Ending) → Ends m d role party units r heard_end → StandsSo heard_end end → by_owner end ≡ true → heard_end ≡ Open
-  cut_open units r heard_end end e (AsHeard same) owned = absurd (true≢false (sym (ap by_owner (sym same) ∙ owned) ∙ uncut_heard m d role party units r heard_end e))
-  cut_open units r heard_end end e (CutOff is_open is) owned = is_open
-  cut_open units r heard_end end e (Left reason is_open is) owned = is_open
+  pub cut_open : (units : Units) (r : Option Refusal) (received_end end : EndData) → Ends m d role party units r received_end → StandsSo received_end end → by_owner end ≡ true → received_end ≡ Open
+  cut_open units r received_end end e (AsReceived same) owned = absurd (true≢false (sym (ap by_owner (sym same) ∙ owned) ∙ uncut_received m d role party units r received_end e))
+  cut_open units r received_end end e (CutOff is_open is) owned = is_open
+  cut_open units r received_end end e (Left reason is_open is) owned = is_open
 
 -- the law of histories' clause of joined inputs
 abbrev pub Joined : Type 0
-Joined = (m : Meaning) (d : Policy) (role : Role) (party : Party) (units other_units : Units) (rest other_rest : List ℕ) (r other_r : Option Refusal) (answers other_answers : Units)
-    (end other_end : Ending) (h g s t x y : List ℕ) → History m d role party units rest r answers end h s → History m d role party other_units other_rest other_r other_answers other_end g t
+Joined = (m : SuiteData) (d : DecisionsData) (role : Role) (party : ConfigData) (units other_units : Units) (rest other_rest : List ℕ) (r other_r : Option Refusal) (answers other_answers : Units)
+    (end other_end : EndData) (h g s t x y : List ℕ) → History m d role party units rest r answers end h s → History m d role party other_units other_rest other_r other_answers other_end g t
     → h ++ x ≡ g ++ y → (end ≡ Open → x ≡ []) → (other_end ≡ Open → y ≡ [])
     → (h ≡ g) × IsOneHistory units other_units rest other_rest r other_r answers other_answers end other_end s t
 
-module _ {S D : Type 0} (meaning : S → Meaning) (policy : D → Policy) where
+module _ {S D : Type 0} (meaning : S → SuiteData) (policy : D → DecisionsData) where
   -- what another endpoint of the same config has heard and said is a history of this one's
-  same_history : (one other : EndpointData S D) → IsSameEndpoint one other → (units : Units) (rest : List ℕ) (r : Option Refusal) (answers : Units) (end : Ending) (h s : List ℕ)
+  same_history : (one other : EndpointData S D) → IsSameEndpoint one other → (units : Units) (rest : List ℕ) (r : Option Refusal) (answers : Units) (end : EndData) (h s : List ℕ)
       → History (meaning other.suite) (policy other.decisions) other.role other.party units rest r answers end h s
       → History (meaning one.suite) (policy one.decisions) one.role one.party units rest r answers end h s
   same_history one other same units rest r answers end h s a =
       subst (λ (v : S). History (meaning v) (policy one.decisions) one.role one.party units rest r answers end h s) same.same_suite
       (subst (λ (v : D). History (meaning other.suite) (policy v) one.role one.party units rest r answers end h s) same.same_decisions
       (subst (λ (v : Role). History (meaning other.suite) (policy other.decisions) v one.party units rest r answers end h s) same.same_role
-      (subst (λ (v : Party). History (meaning other.suite) (policy other.decisions) other.role v units rest r answers end h s) same.same_party a)))
+      (subst (λ (v : ConfigData). History (meaning other.suite) (policy other.decisions) other.role v units rest r answers end h s) same.same_config a)))
 
   -- endpoints that were given one input used the same bytes of it, and said and came to the same by them
-  pub joined_heard : Joined → (one other : EndpointData S D) → IsSameEndpoint one other → (h g s t x y : List ℕ) → (a : After meaning policy one h s) → (b : After meaning policy other g t)
-      → h ++ x ≡ g ++ y → (a.heard_end ≡ Open → x ≡ []) → (b.heard_end ≡ Open → y ≡ []) → (h ≡ g) × (s ≡ t) × (a.heard_end ≡ b.heard_end)
-  joined_heard law one other same h g s t x y a b e f k =
-      let j = law (meaning one.suite) (policy one.decisions) one.role one.party a.units b.units a.rest b.rest a.refusal b.refusal a.answers b.answers a.heard_end b.heard_end h g s t x y
-      a.history (same_history one other same b.units b.rest b.refusal b.answers b.heard_end g t b.history) e f k in
-      (j.0, j.1.same_said, j.1.same_end)
+  pub joined_received : Joined → (one other : EndpointData S D) → IsSameEndpoint one other → (h g s t x y : List ℕ) → (a : EndpointAfter meaning policy one h s) → (b : EndpointAfter meaning policy other g t)
+      → h ++ x ≡ g ++ y → (a.received_end ≡ Open → x ≡ []) → (b.received_end ≡ Open → y ≡ []) → (h ≡ g) × (s ≡ t) × (a.received_end ≡ b.received_end)
+  joined_received law one other same h g s t x y a b e f k =
+      let j = law (meaning one.suite) (policy one.decisions) one.role one.party a.units b.units a.rest b.rest a.refusal b.refusal a.answers b.answers a.received_end b.received_end h g s t x y
+      a.history (same_history one other same b.units b.rest b.refusal b.answers b.received_end g t b.history) e f k in
+      (j.0, j.1.same_sent, j.1.same_end)
 
   -- and where neither was ended by its owner, they end the same
-  pub joined_ends : Joined → (one other : EndpointData S D) → IsSameEndpoint one other → by_owner (ending_of one) ≡ false → by_owner (ending_of other) ≡ false → (h g s t x y : List ℕ)
-      → After meaning policy one h s → After meaning policy other g t → h ++ x ≡ g ++ y → (ending_of one ≡ Open → x ≡ []) → (ending_of other ≡ Open → y ≡ [])
-      → (h ≡ g) × (s ≡ t) × (ending_of one ≡ ending_of other)
+  pub joined_ends : Joined → (one other : EndpointData S D) → IsSameEndpoint one other → by_owner (endpoint_end one) ≡ false → by_owner (endpoint_end other) ≡ false → (h g s t x y : List ℕ)
+      → EndpointAfter meaning policy one h s → EndpointAfter meaning policy other g t → h ++ x ≡ g ++ y → (endpoint_end one ≡ Open → x ≡ []) → (endpoint_end other ≡ Open → y ≡ [])
+      → (h ≡ g) × (s ≡ t) × (endpoint_end one ≡ endpoint_end other)
   joined_ends law one other same p q h g s t x y a b e f k =
-      let one_end = as_heard a.heard_end (ending_of one) a.ends p in
-      let other_end = as_heard b.heard_end (ending_of other) b.ends q in
-      let j = joined_heard law one other same h g s t x y a b e (λ o. f (sym one_end ∙ o)) (λ o. k (sym other_end ∙ o)) in
+      let one_end = as_received a.received_end (endpoint_end one) a.ends p in
+      let other_end = as_received b.received_end (endpoint_end other) b.ends q in
+      let j = joined_received law one other same h g s t x y a b e (λ o. f (sym one_end ∙ o)) (λ o. k (sym other_end ∙ o)) in
       (j.0, j.1, sym one_end ∙ j.2 ∙ other_end)
 
 -- an endpoint that ended authenticated was in phase auth, so a strict one was given a strict sequence first
-pub authenticated_strictly : (m : Meaning) (d : Policy) (role : Role) (party : Party) (units : Units) (g : AgreedData) (end : Ending) → KeepsStrict role party units end
+pub authenticated_strictly : (m : SuiteData) (d : DecisionsData) (role : Role) (party : ConfigData) (units : Units) (g : AgreedData) (end : EndData) → KeepsStrict role party units end
     → IsAuthenticated m d role party units g → strict_at role party (payloads_in units) ≡ true → BeginsStrictly role party.offer (payloads_in units)
 authenticated_strictly m d role party units g end keeps is strict = keeps.sequence strict (ap past_newkeys is.stays_in_auth)

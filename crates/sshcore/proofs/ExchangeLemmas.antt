@@ -5,35 +5,35 @@ use Rattle.std.specs.Prelude.{◌&&◌, nat_lt, option_map}
 use Rattle.sshwire.specs.Types.{IsBytes}
 use Rattle.sshwire.specs.declared.share_form.ShareForm.{ShareForm}
 use Rattle.sshwire.specs.declared.share_form.ShareForm.TheVariants.{Hybrid, Mpint, OctetString}
-use Rattle.sshmsg.specs.Content.{Content, NewKeys, ServiceRequest}
+use Rattle.sshmsg.specs.MessageData.{MessageData, NewKeys, ServiceRequest}
 use Rattle.sshmsg.specs.Numbers.{kind}
 use Rattle.sshmsg.specs.Written.{written_message}
 use Rattle.sshneg.specs.declared.role.Role.{Role}
 use Rattle.sshneg.specs.declared.role.Role.TheVariants.{Client, Server}
 use Rattle.sshneg.specs.Derivations.{ExchangeData}
 use Rattle.sshneg.specs.ExchangeEnd.{exchange_by, exchange_hash}
-use Rattle.sshneg.specs.Fields.{Algorithms}
+use Rattle.sshneg.specs.Fields.{AlgorithmsData}
 use Rattle.sshneg.specs.Markers.{other}
-use Rattle.sshpacket.specs.KeyData.{KeyData}
+use Rattle.sshpacket.specs.KeysData.{KeysData}
 use Rattle.sshpacket.specs.Stream.{Units}
 use Rattle.sshpacket.specs.declared.limits.TheConstants.{SHARE_LIMIT}
 use Rattle.sshpacket.specs.declared.suite.Response.{Response}
-use Rattle.sshpacket.specs.Suite.{FitsShare, FitsShared, Meaning, ResponseData, response_data}
+use Rattle.sshpacket.specs.Suite.{FitsShare, FitsShared, ResponseData, SuiteData, response_data}
 use Rattle.sshcore.specs.declared.end.Fault.{Fault}
 use Rattle.sshcore.specs.declared.end.Fault.TheVariants as fault
 use Rattle.sshcore.specs.declared.table.Phase.TheVariants as phase
 use Rattle.sshcore.specs.Brings.{Gives, IsOngoing, StandsAt}
 use Rattle.sshcore.specs.Directions.{spelled_by}
-use Rattle.sshcore.specs.Ending.{Ending, Failed, Open, Reply, fails, goes}
+use Rattle.sshcore.specs.EndData.{EndData, Failed, Open, Reply, fails, goes}
 use Rattle.sshcore.specs.Exchange.{exchange_with, host_key_read, keys_by, secret_of, share_read}
-use Rattle.sshcore.specs.Exchanged.{Accepts, AnswersInit, HasForm, HearsExchange, IsSigned, JudgesReply, Refuses, StandsBehind, client_shares, exchange_of_message, exchanged, kex_keys, server_shares}
+use Rattle.sshcore.specs.Exchanged.{Accepts, AnswersInit, HasForm, IsSigned, JudgesReply, ReceivesExchange, Refuses, StandsAfter, client_shares, exchange_of_message, exchanged, kex_keys, server_shares}
 use Rattle.sshcore.specs.History.{AllFit, FitsPacket}
-use Rattle.sshcore.specs.Kept.{Kept, with_exchange}
-use Rattle.sshcore.specs.Output.{Sending, sending_from, said_from, with_newkeys, with_packet}
-use Rattle.sshcore.specs.Party.{Party, Policy}
+use Rattle.sshcore.specs.StateData.{StateData, with_exchange}
+use Rattle.sshcore.specs.Output.{Sending, sending_from, sent_from, with_newkeys, with_packet}
+use Rattle.sshcore.specs.EndpointParts.{ConfigData, DecisionsData}
 use Rattle.sshcore.specs.Phases.{past_exchange, past_kexinit}
 use Rattle.sshcore.specs.Work.{answered_by, init_reply, reply_in, reply_reply, signed_by, userauth}
-use Rattle.sshcore.proofs.OutputLemmas.{said_switch, said_two}
+use Rattle.sshcore.proofs.OutputLemmas.{sent_switch, sent_two}
 
 -- a share and a shared number in their form are short
 pub share_short : (form : ShareForm) (share : List ℕ) → FitsShare form share → length share ≤ SHARE_LIMIT
@@ -110,33 +110,33 @@ reply_kind OctetString host_key share signature = refl
 reply_kind Hybrid host_key share signature = refl
 
 -- the keys of an exchange, by its shared number and its hash
-keys_of_exchange : (m : Meaning) (a : Algorithms) (x : ExchangeData) (role : Role) → kex_keys m a x.shared (exchange_hash m a.kex x) role ≡ keys_by m a x role
+keys_of_exchange : (m : SuiteData) (a : AlgorithmsData) (x : ExchangeData) (role : Role) → kex_keys m a x.shared (exchange_hash m a.kex x) role ≡ keys_by m a x role
 keys_of_exchange m a x Client = refl
 keys_of_exchange m a x Server = refl
 
 -- what has failed doesn't go on
-not_ongoing : (end : Ending) (f : Fault) → end ≡ Failed f → IsOngoing end → ⊥
+not_ongoing : (end : EndData) (f : Fault) → end ≡ Failed f → IsOngoing end → ⊥
 not_ongoing end f e (inl on) = cc
 not_ongoing end f e (inr (a, on)) = cc
 
-module _ (m : Meaning) (role : Role) (party : Party) (old new : Kept) (before after : List ℕ) (message : Content) where
+module _ (m : SuiteData) (role : Role) (party : ConfigData) (old new : StateData) (before after : List ℕ) (message : MessageData) where
   -- by what is hashed and what is replied
-  hears : (x : ExchangeData) (r : Reply) → exchange_of_message m role party old.known message ≡ x
+  receives : (x : ExchangeData) (r : Reply) → exchange_of_message m role party old.known message ≡ x
       → Gives m party.seed old.known.strict (keys_by m old.known.algorithms x role) old new before after r
       → new.carried ≡ with_exchange party (keys_by m old.known.algorithms x (other role)) x.host_key old.carried
       → StandsAt new phase.NewKeys old.guess (record old.known { session = exchange_hash m old.known.algorithms.kex x })
-      → HearsExchange m role party old new before after message r
-  hears x r e gives carries stands = record {
+      → ReceivesExchange m role party old new before after message r
+  receives x r e gives carries stands = record {
     gives = subst (λ (y : ExchangeData). Gives m party.seed old.known.strict (keys_by m old.known.algorithms y role) old new before after r) (sym e) gives;
     carries = λ _. subst (λ (y : ExchangeData). new.carried ≡ with_exchange party (keys_by m old.known.algorithms y (other role)) y.host_key old.carried) (sym e) carries;
     stands = λ _. subst (λ (y : ExchangeData). StandsAt new phase.NewKeys old.guess (record old.known { session = exchange_hash m old.known.algorithms.kex y })) (sym e) stands;
   }
 
   -- a failure, whatever is hashed
-  hears_failure : (f : Fault) (r : Reply) → r ≡ fails f
-      → ((strict : Bool) (next : KeyData) → Gives m party.seed strict next old new before after (fails f))
-      → HearsExchange m role party old new before after message r
-  hears_failure f r e gives =
+  receives_failure : (f : Fault) (r : Reply) → r ≡ fails f
+      → ((strict : Bool) (next : KeysData) → Gives m party.seed strict next old new before after (fails f))
+      → ReceivesExchange m role party old new before after message r
+  receives_failure f r e gives =
       let x : ExchangeData = exchange_of_message m role party old.known message in
       let given : Gives m party.seed old.known.strict (keys_by m old.known.algorithms x role) old new before after (fails f) = gives old.known.strict (keys_by m old.known.algorithms x role) in
       record {
@@ -146,27 +146,27 @@ module _ (m : Meaning) (role : Role) (party : Party) (old new : Kept) (before af
       }
 
   -- where it goes on it stands behind the exchange, with these answers said
-  hears_on : (x : ExchangeData) (hash : List ℕ) (o : Sending) (answers : Units) → exchange_of_message m role party old.known message ≡ x
-      → hash ≡ exchange_hash m old.known.algorithms.kex x → old.end ≡ Open → StandsBehind m role party old new x.host_key x.shared hash o
-      → after ≡ before ++ said_from m party.seed old.known.strict (keys_by m old.known.algorithms x role) old.sending answers
+  receives_on : (x : ExchangeData) (hash : List ℕ) (o : Sending) (answers : Units) → exchange_of_message m role party old.known message ≡ x
+      → hash ≡ exchange_hash m old.known.algorithms.kex x → old.end ≡ Open → StandsAfter m role party old new x.host_key x.shared hash o
+      → after ≡ before ++ sent_from m party.seed old.known.strict (keys_by m old.known.algorithms x role) old.sending answers
       → o ≡ sending_from old.known.strict (keys_by m old.known.algorithms x role) old.sending answers → AllFit answers
-      → HearsExchange m role party old new before after message (goes answers)
-  hears_on x hash o answers e is ongoing stands says sends fits =
+      → ReceivesExchange m role party old new before after message (goes answers)
+  receives_on x hash o answers e is ongoing stands output sends fits =
       let keys : kex_keys m old.known.algorithms x.shared hash (other role) ≡ keys_by m old.known.algorithms x (other role) =
       ap (λ (h : List ℕ). kex_keys m old.known.algorithms x.shared h (other role)) is ∙ keys_of_exchange m old.known.algorithms x (other role) in
-      hears x (goes answers) e (record {
-        ends = ap (λ (k : Kept). k.end) stands.kept ∙ ongoing;
-        says = says;
-        sends = ap (λ (k : Kept). k.sending) stands.kept ∙ sends;
+      receives x (goes answers) e (record {
+        ends = ap (λ (k : StateData). k.end) stands.kept ∙ ongoing;
+        output = output;
+        sends = ap (λ (k : StateData). k.sending) stands.kept ∙ sends;
         fits = fits;
-      }) (ap (λ (k : Kept). k.carried) stands.kept ∙ ap (λ (k : KeyData). with_exchange party k x.host_key old.carried) keys) (record {
-        phase_is = ap (λ (k : Kept). k.phase) stands.kept;
-        guess_is = ap (λ (k : Kept). k.guess) stands.kept;
-        known_is = ap (λ (k : Kept). k.known) stands.kept ∙ ap (λ (h : List ℕ). record old.known { session = h }) is;
+      }) (ap (λ (k : StateData). k.carried) stands.kept ∙ ap (λ (k : KeysData). with_exchange party k x.host_key old.carried) keys) (record {
+        phase_is = ap (λ (k : StateData). k.phase) stands.kept;
+        guess_is = ap (λ (k : StateData). k.guess) stands.kept;
+        known_is = ap (λ (k : StateData). k.known) stands.kept ∙ ap (λ (h : List ℕ). record old.known { session = h }) is;
       })
 
 -- A server, that hears this share.
-module _ (m : Meaning) (party : Party) (old new : Kept) (before after : List ℕ) (message : Content) (share : List ℕ) (read : share_read (Ok message) ≡ share) where
+module _ (m : SuiteData) (party : ConfigData) (old new : StateData) (before after : List ℕ) (message : MessageData) (share : List ℕ) (read : share_read (Ok message) ≡ share) where
   -- what it hashes, once it has answered
   hashed_server : (answer : ResponseData) → m.respond old.known.algorithms.kex party.random share ≡ Some answer
       → exchange_of_message m Server party old.known message ≡ exchanged Server party old.known (server_shares m party old.known share answer)
@@ -181,21 +181,21 @@ module _ (m : Meaning) (party : Party) (old new : Kept) (before after : List ℕ
 
   -- where there is no shared number it fails
   pub init_fails : m.respond old.known.algorithms.kex party.random share ≡ None
-      → ((strict : Bool) (next : KeyData) → Gives m party.seed strict next old new before after (fails fault.Exchange))
-      → HearsExchange m Server party old new before after message (init_reply m Server party old.known message)
+      → ((strict : Bool) (next : KeysData) → Gives m party.seed strict next old new before after (fails fault.Exchange))
+      → ReceivesExchange m Server party old new before after message (init_reply m Server party old.known message)
   unfolding init_reply
-  init_fails none gives = hears_failure m Server party old new before after message fault.Exchange (init_reply m Server party old.known message) (rw (read, none) refl) gives
+  init_fails none gives = receives_failure m Server party old new before after message fault.Exchange (init_reply m Server party old.known message) (rw (read, none) refl) gives
 
   -- else it answers
   answers_as_server : (answer : ResponseData) (hash host_key reply : List ℕ) → m.respond old.known.algorithms.kex party.random share ≡ Some answer
       → old.end ≡ Open → old.phase ≡ phase.Exchange → HasForm m old
       → IsSigned m Server party old.known share answer hash host_key reply → AnswersInit m Server party old new host_key answer.shared hash reply before after
-      → HearsExchange m Server party old new before after message (init_reply m Server party old.known message)
-  answers_as_server answer hash host_key reply given ongoing at form signed said =
-      let a : Algorithms = old.known.algorithms in
+      → ReceivesExchange m Server party old new before after message (init_reply m Server party old.known message)
+  answers_as_server answer hash host_key reply given ongoing at form signed sent =
+      let a : AlgorithmsData = old.known.algorithms in
       let secret : List ℕ = secret_of party.host_keys a.host_key in
       let x : ExchangeData = exchanged Server party old.known (server_shares m party old.known share answer) in
-      let next : KeyData = keys_by m a x Server in
+      let next : KeysData = keys_by m a x Server in
       let keys : kex_keys m a answer.shared hash Server ≡ next = ap (λ (h : List ℕ). kex_keys m a answer.shared h Server) signed.hash_is ∙ keys_of_exchange m a x Server in
       let same : reply ≡ written_message (reply_in old.known.shares x.host_key answer.share (m.sign a.host_key secret (exchange_hash m a.kex x))) =
       signed.reply_is
@@ -205,26 +205,26 @@ module _ (m : Meaning) (party : Party) (old new : Kept) (before after : List ℕ
       init_is answer given ∙ ap (λ (p : List ℕ). goes (p ∷ written_message NewKeys ∷ [])) (sym same) in
       let quiet : (kind reply == 21) ≡ false =
       ap (λ (p : List ℕ). kind p == 21) signed.reply_is ∙ reply_kind (m.share_form a.kex) x.host_key answer.share (m.sign a.host_key secret hash) in
-      let two = said_two m party.seed old.known.strict next old.sending reply (written_message NewKeys) quiet newkeys_kind (form.clear (ap past_exchange at)) in
-      subst (λ (r : Reply). HearsExchange m Server party old new before after message r) (sym is)
-      (hears_on m Server party old new before after message x hash (with_newkeys old.known.strict (kex_keys m a answer.shared hash Server) (with_packet old.sending))
-      (reply ∷ written_message NewKeys ∷ []) (hashed_server answer given) signed.hash_is ongoing (subst (λ (h : List ℕ). StandsBehind m Server party old new h answer.shared hash (with_newkeys old.known.strict (kex_keys m a answer.shared hash Server) (with_packet old.sending))) signed.host_key_is said.stands)
-      (said.says ∙ append_assoc before (spelled_by m old.sending.keys party.seed old.sending.number reply)
+      let two = sent_two m party.seed old.known.strict next old.sending reply (written_message NewKeys) quiet newkeys_kind (form.clear (ap past_exchange at)) in
+      subst (λ (r : Reply). ReceivesExchange m Server party old new before after message r) (sym is)
+      (receives_on m Server party old new before after message x hash (with_newkeys old.known.strict (kex_keys m a answer.shared hash Server) (with_packet old.sending))
+      (reply ∷ written_message NewKeys ∷ []) (hashed_server answer given) signed.hash_is ongoing (subst (λ (h : List ℕ). StandsAfter m Server party old new h answer.shared hash (with_newkeys old.known.strict (kex_keys m a answer.shared hash Server) (with_packet old.sending))) signed.host_key_is sent.stands)
+      (sent.output ∙ append_assoc before (spelled_by m old.sending.keys party.seed old.sending.number reply)
       (spelled_by m old.sending.keys party.seed (with_packet old.sending).number (written_message NewKeys)) ∙ ap (λ (l : List ℕ). before ++ l) (sym two.0))
-      (ap (λ (k : KeyData). with_newkeys old.known.strict k (with_packet old.sending)) keys ∙ sym two.1)
+      (ap (λ (k : KeysData). with_newkeys old.known.strict k (with_packet old.sending)) keys ∙ sym two.1)
       (signed.fits, (newkeys_fits, tt)))
 
   pub init_answers : (role : Role) (answer : ResponseData) (shared hash host_key reply : List ℕ) → role ≡ Server → shared ≡ answer.shared
       → m.respond old.known.algorithms.kex party.random share ≡ Some answer → old.end ≡ Open → old.phase ≡ phase.Exchange → HasForm m old
       → IsSigned m role party old.known share answer hash host_key reply → AnswersInit m role party old new host_key shared hash reply before after
-      → HearsExchange m Server party old new before after message (init_reply m Server party old.known message)
-  init_answers role answer shared hash host_key reply is same given ongoing at form signed said =
+      → ReceivesExchange m Server party old new before after message (init_reply m Server party old.known message)
+  init_answers role answer shared hash host_key reply is same given ongoing at form signed sent =
       answers_as_server answer hash host_key reply given ongoing at form (subst (λ (r : Role). IsSigned m r party old.known share answer hash host_key reply) is signed)
       (subst (λ (l : List ℕ). AnswersInit m Server party old new host_key l hash reply before after) same
-      (subst (λ (r : Role). AnswersInit m r party old new host_key shared hash reply before after) is said))
+      (subst (λ (r : Role). AnswersInit m r party old new host_key shared hash reply before after) is sent))
 
 -- A client, that hears this host key and share.
-module _ (m : Meaning) (d : Policy) (party : Party) (old new : Kept) (before after : List ℕ) (message : Content) (host_key share signature : List ℕ)
+module _ (m : SuiteData) (d : DecisionsData) (party : ConfigData) (old new : StateData) (before after : List ℕ) (message : MessageData) (host_key share signature : List ℕ)
     (read : share_read (Ok message) ≡ share) (told : host_key_read (Ok message) ≡ host_key) where
   -- what it hashes, once it has made the shared number
   hashed_client : (shared : List ℕ) → m.shared old.known.algorithms.kex party.random share ≡ Some shared
@@ -241,49 +241,49 @@ module _ (m : Meaning) (d : Policy) (party : Party) (old new : Kept) (before aft
 
   -- it fails where it doesn't trust the host key
   pub reply_distrusts : d.host_key old.known.algorithms.host_key host_key ≡ false
-      → ((strict : Bool) (next : KeyData) → Gives m party.seed strict next old new before after (fails fault.HostKey))
-      → HearsExchange m Client party old new before after message (reply_reply m d Client party old.known message signature)
+      → ((strict : Bool) (next : KeysData) → Gives m party.seed strict next old new before after (fails fault.HostKey))
+      → ReceivesExchange m Client party old new before after message (reply_reply m d Client party old.known message signature)
   unfolding reply_reply exchange_with exchange_by
   reply_distrusts off gives =
-      hears_failure m Client party old new before after message fault.HostKey (reply_reply m d Client party old.known message signature) (rw (told, off) refl) gives
+      receives_failure m Client party old new before after message fault.HostKey (reply_reply m d Client party old.known message signature) (rw (told, off) refl) gives
 
   -- and where there is no shared number
   pub reply_fails : d.host_key old.known.algorithms.host_key host_key ≡ true → m.shared old.known.algorithms.kex party.random share ≡ None
-      → ((strict : Bool) (next : KeyData) → Gives m party.seed strict next old new before after (fails fault.Exchange))
-      → HearsExchange m Client party old new before after message (reply_reply m d Client party old.known message signature)
+      → ((strict : Bool) (next : KeysData) → Gives m party.seed strict next old new before after (fails fault.Exchange))
+      → ReceivesExchange m Client party old new before after message (reply_reply m d Client party old.known message signature)
   unfolding reply_reply exchange_with exchange_by
   reply_fails trusts none gives =
-      hears_failure m Client party old new before after message fault.Exchange (reply_reply m d Client party old.known message signature) (rw (told, trusts, read, none) refl) gives
+      receives_failure m Client party old new before after message fault.Exchange (reply_reply m d Client party old.known message signature) (rw (told, trusts, read, none) refl) gives
 
   -- else the signature decides
   judged_as_client : (shared : List ℕ) → d.host_key old.known.algorithms.host_key host_key ≡ true → m.shared old.known.algorithms.kex party.random share ≡ Some shared
       → old.end ≡ Open → old.phase ≡ phase.Exchange → HasForm m old
       → JudgesReply m Client party old new (client_shares m party old.known host_key share shared) signature before after
-      → HearsExchange m Client party old new before after message (reply_reply m d Client party old.known message signature)
+      → ReceivesExchange m Client party old new before after message (reply_reply m d Client party old.known message signature)
   judged_as_client shared trusts given ongoing at form (Refuses off gives) =
-      hears_failure m Client party old new before after message fault.Signature (reply_reply m d Client party old.known message signature)
+      receives_failure m Client party old new before after message fault.Signature (reply_reply m d Client party old.known message signature)
       (reply_is shared trusts given ∙ rw off refl) gives
-  judged_as_client shared trusts given ongoing at form (Accepts on said) =
-      let a : Algorithms = old.known.algorithms in
+  judged_as_client shared trusts given ongoing at form (Accepts on sent) =
+      let a : AlgorithmsData = old.known.algorithms in
       let x : ExchangeData = exchanged Client party old.known (client_shares m party old.known host_key share shared) in
       let hash : List ℕ = exchange_hash m a.kex x in
-      let next : KeyData = keys_by m a x Client in
+      let next : KeysData = keys_by m a x Client in
       let keys : kex_keys m a shared hash Client ≡ next = keys_of_exchange m a x Client in
       let request : List ℕ = written_message (ServiceRequest userauth) in
       let o : Sending = with_newkeys old.known.strict (kex_keys m a shared hash Client) old.sending in
       let is : reply_reply m d Client party old.known message signature ≡ goes (written_message NewKeys ∷ request ∷ []) = reply_is shared trusts given ∙ rw on refl in
-      let two = said_switch m party.seed old.known.strict next old.sending (written_message NewKeys) request newkeys_kind request_kind (form.clear (ap past_exchange at)) in
-      subst (λ (r : Reply). HearsExchange m Client party old new before after message r) (sym is)
-      (hears_on m Client party old new before after message x hash (with_packet o) (written_message NewKeys ∷ request ∷ []) (hashed_client shared given) refl ongoing said.stands
-      (said.says ∙ append_assoc before (spelled_by m old.sending.keys party.seed old.sending.number (written_message NewKeys)) (spelled_by m o.keys party.seed o.number request)
+      let two = sent_switch m party.seed old.known.strict next old.sending (written_message NewKeys) request newkeys_kind request_kind (form.clear (ap past_exchange at)) in
+      subst (λ (r : Reply). ReceivesExchange m Client party old new before after message r) (sym is)
+      (receives_on m Client party old new before after message x hash (with_packet o) (written_message NewKeys ∷ request ∷ []) (hashed_client shared given) refl ongoing sent.stands
+      (sent.output ∙ append_assoc before (spelled_by m old.sending.keys party.seed old.sending.number (written_message NewKeys)) (spelled_by m o.keys party.seed o.number request)
       ∙ ap (λ (l : List ℕ). before ++ l) (sym two.0))
-      (ap (λ (k : KeyData). with_packet (with_newkeys old.known.strict k old.sending)) keys ∙ sym two.1)
+      (ap (λ (k : KeysData). with_packet (with_newkeys old.known.strict k old.sending)) keys ∙ sym two.1)
       (newkeys_fits, (request_fits, tt)))
 
   pub reply_judged : (role : Role) (shared body : List ℕ) → role ≡ Client → shared ≡ body → d.host_key old.known.algorithms.host_key host_key ≡ true
       → m.shared old.known.algorithms.kex party.random share ≡ Some body → old.end ≡ Open → old.phase ≡ phase.Exchange → HasForm m old
       → JudgesReply m role party old new (client_shares m party old.known host_key share shared) signature before after
-      → HearsExchange m Client party old new before after message (reply_reply m d Client party old.known message signature)
+      → ReceivesExchange m Client party old new before after message (reply_reply m d Client party old.known message signature)
   reply_judged role shared body is same trusts given ongoing at form judged =
       judged_as_client body trusts given ongoing at form
       (subst (λ (l : List ℕ). JudgesReply m Client party old new (client_shares m party old.known host_key share l) signature before after) same

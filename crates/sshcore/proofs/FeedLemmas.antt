@@ -6,13 +6,13 @@ use Rattle.sshmsg.specs.Numbers.{kind}
 use Rattle.sshmsg.specs.Written.{written_message}
 use Rattle.sshneg.specs.declared.role.Role.{Role}
 use Rattle.sshneg.specs.Markers.{other}
-use Rattle.sshpacket.specs.KeyData.{KeyData}
+use Rattle.sshpacket.specs.KeysData.{KeysData}
 use Rattle.sshpacket.specs.declared.fault.PacketFault.{PacketFault}
 use Rattle.sshpacket.specs.declared.fault.PacketFault.TheVariants as packet
 use Rattle.sshpacket.specs.Parse.{OfPacket, Refusal, refused, unfinished, whole}
 use Rattle.sshpacket.specs.Places.{EachPlace, flat_places, stands}
-use Rattle.sshpacket.specs.Stream.{Said, Units}
-use Rattle.sshpacket.specs.Suite.{Meaning}
+use Rattle.sshpacket.specs.Stream.{Sent, Units}
+use Rattle.sshpacket.specs.Suite.{SuiteData}
 use Rattle.sshcore.specs.declared.end.Fault.{Fault}
 use Rattle.sshcore.specs.declared.end.Fault.TheVariants as fault
 use Rattle.sshcore.specs.declared.input.Input.{Input}
@@ -22,25 +22,25 @@ use Rattle.sshcore.specs.Before.{stood, strict_at}
 use Rattle.sshcore.specs.Brings.{Brings, Gives, IsOngoing}
 use Rattle.sshcore.specs.Counting.{is_newkeys, number_in, switched_out}
 use Rattle.sshcore.specs.Directions.{keys_in, parsers, payloads_in, spells, version_in}
-use Rattle.sshcore.specs.Ending.{Authenticated, Disconnected, Ending, Failed, Open, Reply, disconnect, fails, parting}
+use Rattle.sshcore.specs.EndData.{Authenticated, Disconnected, EndData, Failed, Open, Reply, disconnect, fails, parting}
 use Rattle.sshcore.specs.Exchange.{keys_at, keys_by}
 use Rattle.sshcore.specs.History.{AllFit, History, IsReady}
-use Rattle.sshcore.specs.Inputs.{AsHeard, CutOff, GoesOn, IsCarried, IsInput, IsInside, Left, Stands, StandsSo, pending_at}
-use Rattle.sshcore.specs.Kept.{Carried, Kept, keys_due, keys_left}
+use Rattle.sshcore.specs.Inputs.{AsReceived, CutOff, EndpointStands, GoesOn, IsCarried, IsInput, IsInside, Left, StandsSo, pending_at}
+use Rattle.sshcore.specs.StateData.{Carried, StateData, keys_due, keys_left}
 use Rattle.sshcore.specs.Known.{Known}
-use Rattle.sshcore.specs.Output.{Sending, Speaks, said_from, sending_from}
-use Rattle.sshcore.specs.Party.{Party, Policy}
+use Rattle.sshcore.specs.Output.{Sending, Speaks, sending_from, sent_from}
+use Rattle.sshcore.specs.EndpointParts.{ConfigData, DecisionsData}
 use Rattle.sshcore.specs.Plan.{is_waiting}
 use Rattle.sshcore.specs.Phases.{leaving, past_exchange, past_kexinit}
 use Rattle.sshcore.specs.Replies.{Ends, answers_at, end_at, ended, fault_of, goes_on, line_reply, reply_at}
-use Rattle.sshcore.specs.Standing.{Sits, exchange_heard}
+use Rattle.sshcore.specs.Standing.{Sits, exchange_received}
 use Rattle.sshcore.specs.Table.{line_by}
 use Rattle.sshcore.proofs.Below.{Below}
 use Rattle.sshcore.proofs.HistoryLemmas as history
 use Rattle.sshcore.proofs.HistoryLemmas.{Streams, no_refusal}
 use Rattle.sshcore.proofs.KeyedLemmas.{IsExchangePlace, still_fails, told_at}
-use Rattle.sshcore.proofs.MoveLemmas.{carries_on, form_behind, keys_with, number_with, sits_behind, turned}
-use Rattle.sshcore.proofs.OutputLemmas.{said_is, said_quiet, speaks_heard}
+use Rattle.sshcore.proofs.MoveLemmas.{carries_on, form_after, keys_with, number_with, sits_after, turned}
+use Rattle.sshcore.proofs.OutputLemmas.{sent_is, sent_quiet, speaks_received}
 use Rattle.sshcore.proofs.StandingLemmas as standing
 use Rattle.sshcore.proofs.UncutLemmas.{refusal_stays, unit_stays}
 
@@ -54,17 +54,17 @@ none_anywhere b c (u ∷ us) e = by (kind u == 21) refl (none_anywhere (b ++ u �
     by true f rest g = absurd (true≢false g)
     by false f rest g = (f, rest g)
 
-pub none_said : (us : Units) → switched_out us ≡ false → EachPlace (λ before a. (kind a == 21) ≡ false) [] us
+pub none_sent : (us : Units) → switched_out us ≡ false → EachPlace (λ before a. (kind a == 21) ≡ false) [] us
 unfolding switched_out
-none_said us e = none_anywhere [] [] us e
+none_sent us e = none_anywhere [] [] us e
 
 -- an endpoint that has failed isn't open, nor is its session ongoing
-pub failed_over : (f : Fault) (e : Ending) → e ≡ Failed f → IsOngoing e → ⊥
+pub failed_over : (f : Fault) (e : EndData) → e ≡ Failed f → IsOngoing e → ⊥
 failed_over f e is (inl o) = absurd cc
 failed_over f e is (inr a) = let same : e ≡ Authenticated a.0 = a.1 in absurd cc
 
 -- nor is one that its owner told to disconnect
-pub left_over : (reason : ℕ) (e : Ending) → e ≡ Disconnected reason → IsOngoing e → ⊥
+pub left_over : (reason : ℕ) (e : EndData) → e ≡ Disconnected reason → IsOngoing e → ⊥
 left_over reason e is (inl o) = absurd cc
 left_over reason e is (inr a) = let same : e ≡ Authenticated a.0 = a.1 in absurd cc
 
@@ -77,20 +77,20 @@ from_memory packet.Mac e = absurd cc
 from_memory packet.Memory e = refl
 
 -- an endpoint that is open has come to that by what it heard, and nothing of it was refused
-pub heard_open : (heard_end end : Ending) → StandsSo heard_end end → end ≡ Open → heard_end ≡ Open
-heard_open heard_end end (AsHeard e) o = sym e ∙ o
-heard_open heard_end end (CutOff h e) o = absurd cc
-heard_open heard_end end (Left reason h e) o = absurd cc
+pub received_open : (received_end end : EndData) → StandsSo received_end end → end ≡ Open → received_end ≡ Open
+received_open received_end end (AsReceived e) o = sym e ∙ o
+received_open received_end end (CutOff h e) o = absurd cc
+received_open received_end end (Left reason h e) o = absurd cc
 
-pub none_refused : (m : Meaning) (d : Policy) (role : Role) (party : Party) (units : Units) (r : Option Refusal) (end : Ending) → end ≡ Open → Ends m d role party units r end → r ≡ None
+pub none_refused : (m : SuiteData) (d : DecisionsData) (role : Role) (party : ConfigData) (units : Units) (r : Option Refusal) (end : EndData) → end ≡ Open → Ends m d role party units r end → r ≡ None
 none_refused m d role party units r end o (goes_on stays e) = no_refusal r (sym e ∙ o)
 none_refused m d role party units r end o (ended before last is stays e shut none) = none
 
 -- before the exchange was heard nothing is sealed
-clear_by : (b : Bool) (k : KeyData) → b ≡ false → cond b (Some k) None ≡ None
+clear_by : (b : Bool) (k : KeysData) → b ≡ false → cond b (Some k) None ≡ None
 clear_by b k e = rw e refl
 
-pub clear_before : (m : Meaning) (role : Role) (party : Party) (units answers : Units) (p : Phase) (o : Sending)
+pub clear_before : (m : SuiteData) (role : Role) (party : ConfigData) (units answers : Units) (p : Phase) (o : Sending)
     → stood role party.offer (leaving role phase.Exchange) (payloads_in units) ≡ past_exchange p → Speaks m role party units answers o
     → (switched_out answers ≡ true → IsReady role party (payloads_in units)) → past_exchange p ≡ false → o.keys ≡ None
 clear_before m role party units answers p o exchange speaks keyed not_past = elim (cases_Bool (switched_out answers)) [
@@ -98,12 +98,12 @@ clear_before m role party units answers p o exchange speaks keyed not_past = eli
   | inr off ↦ speaks.keys ∙ clear_by (switched_out answers) (keys_at m role party (version_in units) (payloads_in units) role) off
 ]
 
-clear_at : (m : Meaning) (d : Policy) (role : Role) (party : Party) (version : List ℕ) (before : Units) (payload : List ℕ) (last : Kept)
-    → Sits m d role party version (before ++ payload ∷ []) last.phase last.guess last.known → {behind : Units} → behind ≡ version ∷ (before ++ payload ∷ [])
-    → (answers : Units) → Speaks m role party behind answers last.sending → (switched_out answers ≡ true → IsReady role party (payloads_in behind))
+clear_at : (m : SuiteData) (d : DecisionsData) (role : Role) (party : ConfigData) (version : List ℕ) (before : Units) (payload : List ℕ) (last : StateData)
+    → Sits m d role party version (before ++ payload ∷ []) last.phase last.guess last.known → {units_after : Units} → units_after ≡ version ∷ (before ++ payload ∷ [])
+    → (answers : Units) → Speaks m role party units_after answers last.sending → (switched_out answers ≡ true → IsReady role party (payloads_in units_after))
     → past_exchange last.phase ≡ false → last.sending.keys ≡ None
-clear_at m d role party version before payload last s {behind} is answers speaks keyed not_past =
-    clear_before m role party behind answers last.phase last.sending
+clear_at m d role party version before payload last s {units_after} is answers speaks keyed not_past =
+    clear_before m role party units_after answers last.phase last.sending
     (ap (λ (us : Units). stood role party.offer (leaving role phase.Exchange) (payloads_in us)) is ∙ s.tied.exchange) speaks keyed not_past
 
 -- a DISCONNECT is no NEWKEYS
@@ -112,83 +112,83 @@ unfolding written_message
 quiet_parting reason description = refl
 
 -- the law of streams on what is said behind what was said
-abbrev pub SaidMore : Type 0
-SaidMore = (spelled : Units → List ℕ → List ℕ) (stream : List ℕ) (us more : Units) → Said spelled stream us → Said spelled (stream ++ flat_places spelled us more) (us ++ more)
+abbrev pub SentMore : Type 0
+SentMore = (spelled : Units → List ℕ → List ℕ) (stream : List ℕ) (us more : Units) → Sent spelled stream us → Sent spelled (stream ++ flat_places spelled us more) (us ++ more)
 
 -- Its owner tells an endpoint that stands open to disconnect.
-module _ (m : Meaning) (d : Policy) (role : Role) (party : Party) (kept : Kept) (i : Input) (h s : List ℕ) (is : kept.end ≡ Open) (a : Stands m d role party kept i h s) where
+module _ (m : SuiteData) (d : DecisionsData) (role : Role) (party : ConfigData) (kept : StateData) (i : Input) (h s : List ℕ) (is : kept.end ≡ Open) (a : EndpointStands m d role party kept i h s) where
   -- it has heard and said the same before that
-  pub stands_left : (new : Kept) (reason : ℕ) → new.end ≡ Disconnected reason → Stands m d role party new i h s
+  pub stands_left : (new : StateData) (reason : ℕ) → new.end ≡ Disconnected reason → EndpointStands m d role party new i h s
   stands_left new reason ends = record {
     units = a.units;
     rest = a.rest;
     refusal = a.refusal;
     answers = a.answers;
-    heard_end = a.heard_end;
+    received_end = a.received_end;
     history = a.history;
-    ends = Left reason (heard_open a.heard_end kept.end a.ends is) ends;
+    ends = Left reason (received_open a.received_end kept.end a.ends is) ends;
     inside = λ o. absurd (left_over reason new.end ends o);
   }
 
   -- and the DISCONNECT is spelled behind what it had said
-  pub said_last : SaidMore → (reason : ℕ) (description : List ℕ) (strict : Bool) (next : KeyData)
-      → Said (spells m role party a.units) (s ++ said_from m party.seed strict next kept.sending (parting reason description ∷ [])) (party.version ∷ (a.answers ++ parting reason description ∷ []))
-  said_last more reason description strict next =
-      let spoken = said_quiet m role party a.units strict next a.answers (parting reason description ∷ []) kept.sending (quiet_parting reason description, tt) (a.inside (inl is)).speaks in
-      subst (λ (l : List ℕ). Said (spells m role party a.units) (s ++ l) (party.version ∷ (a.answers ++ parting reason description ∷ []))) (sym spoken.0)
-      (more (spells m role party a.units) s (party.version ∷ a.answers) (parting reason description ∷ []) a.history.said)
+  pub sent_last : SentMore → (reason : ℕ) (description : List ℕ) (strict : Bool) (next : KeysData)
+      → Sent (spells m role party a.units) (s ++ sent_from m party.seed strict next kept.sending (parting reason description ∷ [])) (party.version ∷ (a.answers ++ parting reason description ∷ []))
+  sent_last more reason description strict next =
+      let spoken = sent_quiet m role party a.units strict next a.answers (parting reason description ∷ []) kept.sending (quiet_parting reason description, tt) (a.inside (inl is)).speaks in
+      subst (λ (l : List ℕ). Sent (spells m role party a.units) (s ++ l) (party.version ∷ (a.answers ++ parting reason description ∷ []))) (sym spoken.0)
+      (more (spells m role party a.units) s (party.version ∷ a.answers) (parting reason description ∷ []) a.history.sent)
 
-module _ (below : Below) (streams : Streams) (m : Meaning) (d : Policy) (role : Role) (party : Party) (kept : Kept) (i : Input) (h s : List ℕ) (is : kept.end ≡ Open) (a : Stands m d role party kept i h s) where
-  heard_is : a.heard_end ≡ Open
-  heard_is = heard_open a.heard_end kept.end a.ends is
+module _ (below : Below) (streams : Streams) (m : SuiteData) (d : DecisionsData) (role : Role) (party : ConfigData) (kept : StateData) (i : Input) (h s : List ℕ) (is : kept.end ≡ Open) (a : EndpointStands m d role party kept i h s) where
+  received_is : a.received_end ≡ Open
+  received_is = received_open a.received_end kept.end a.ends is
 
   none : a.refusal ≡ None
-  none = none_refused m d role party a.units a.refusal a.heard_end heard_is a.history.replies.ends
+  none = none_refused m d role party a.units a.refusal a.received_end received_is a.history.replies.ends
 
   pub open_history : History m d role party a.units a.rest None a.answers Open h s
   open_history = subst (λ (r : Option Refusal). History m d role party a.units a.rest r a.answers Open h s) none
-      (subst (λ (e : Ending). History m d role party a.units a.rest a.refusal a.answers e h s) heard_is a.history)
+      (subst (λ (e : EndData). History m d role party a.units a.rest a.refusal a.answers e h s) received_is a.history)
 
   pub within : IsInside m d role party a.units a.answers a.rest kept i
   within = a.inside (inl is)
 
   -- more bytes of an unfinished unit
   pub stands_part : (j : Input) (piece : List ℕ) → parsers m role party a.units (a.rest ++ piece) ≡ unfinished → IsInput m role party a.units (a.rest ++ piece) j
-      → Stands m d role party kept j (h ++ piece) s
+      → EndpointStands m d role party kept j (h ++ piece) s
   stands_part j piece e reads = record {
     units = a.units;
     rest = a.rest ++ piece;
     refusal = None;
     answers = a.answers;
-    heard_end = Open;
+    received_end = Open;
     history = history.part below streams m d role party a.units a.rest a.answers h s open_history piece e;
-    ends = AsHeard is;
+    ends = AsReceived is;
     inside = λ o. record { sits = within.sits; form = within.form; reads = reads; carries = within.carries; speaks = within.speaks };
   }
 
   -- the bytes are refused
-  pub stands_refused : (new : Kept) (j : Input) (piece : List ℕ) (used : ℕ) (r : Refusal) (before after : List ℕ) (strict : Bool) (next : KeyData) → used ≤ length piece
+  pub stands_refused : (new : StateData) (j : Input) (piece : List ℕ) (used : ℕ) (r : Refusal) (before after : List ℕ) (strict : Bool) (next : KeysData) → used ≤ length piece
       → parsers m role party a.units (a.rest ++ piece) ≡ refused r (length a.rest + used) → Gives m party.seed strict next kept new before after (fails (fault_of r))
       → GoesOn m d role party new j h s (take used piece) before after
   stands_refused new j piece used r before after strict next low e gives =
-      let said = said_quiet m role party a.units strict next a.answers (disconnect (fault_of r)) kept.sending (none_said (disconnect (fault_of r)) (still_fails (fault_of r))) within.speaks in record {
+      let sent = sent_quiet m role party a.units strict next a.answers (disconnect (fault_of r)) kept.sending (none_sent (disconnect (fault_of r)) (still_fails (fault_of r))) within.speaks in record {
         added = flat_places (spells m role party a.units) (party.version ∷ a.answers) (disconnect (fault_of r));
-        appended = gives.says ∙ ap (λ (l : List ℕ). before ++ l) said.0;
+        appended = gives.output ∙ ap (λ (l : List ℕ). before ++ l) sent.0;
         stands = record {
           units = a.units;
           rest = a.rest ++ take used piece;
           refusal = Some r;
           answers = a.answers ++ disconnect (fault_of r);
-          heard_end = Failed (fault_of r);
+          received_end = Failed (fault_of r);
           history = history.refusal below streams m d role party a.units a.rest a.answers h s open_history piece used r low e gives.fits;
-          ends = AsHeard gives.ends;
+          ends = AsReceived gives.ends;
           inside = λ o. absurd (failed_over (fault_of r) new.end gives.ends o);
         };
         uncut = refusal_stays r new.end gives.ends;
       }
 
   -- a packet, with its answers
-  module _ (version : List ℕ) (before_units : Units) (units_are : a.units ≡ version ∷ before_units) (new last : Kept) (j : Input) (piece payload : List ℕ) (used packet : ℕ) (before after : List ℕ)
+  module _ (version : List ℕ) (before_units : Units) (units_are : a.units ≡ version ∷ before_units) (new last : StateData) (j : Input) (piece payload : List ℕ) (used packet : ℕ) (before after : List ℕ)
       (low : used ≤ length piece) (read : parsers m role party a.units (a.rest ++ piece) ≡ whole payload (length a.rest + used))
       (number : packet ≡ number_in role party before_units)
       (brings : Brings m d role party kept new packet payload before after)
@@ -216,25 +216,25 @@ module _ (below : Below) (streams : Streams) (m : Meaning) (d : Policy) (role : 
     end_is : reply.end ≡ end_at m d role party a.units payload
     end_is = ap (λ (r : Reply). r.end) reply_is ∙ ap (λ (us : Units). end_at m d role party us payload) (sym units_are)
 
-    abbrev behind : Units
-    behind = a.units ++ payload ∷ []
+    abbrev units_after : Units
+    units_after = a.units ++ payload ∷ []
 
-    behind_is : behind ≡ version ∷ (before_units ++ payload ∷ [])
-    behind_is = ap (λ (us : Units). us ++ payload ∷ []) units_are
+    units_after_is : units_after ≡ version ∷ (before_units ++ payload ∷ [])
+    units_after_is = ap (λ (us : Units). us ++ payload ∷ []) units_are
 
-    done : History m d role party behind [] None (a.answers ++ more) (end_at m d role party a.units payload) (h ++ take used piece)
-        (s ++ flat_places (spells m role party behind) (party.version ∷ a.answers) more)
+    done : History m d role party units_after [] None (a.answers ++ more) (end_at m d role party a.units payload) (h ++ take used piece)
+        (s ++ flat_places (spells m role party units_after) (party.version ∷ a.answers) more)
     done = history.unit below streams m d role party a.units a.rest a.answers h s open_history piece payload used low read (subst (λ (us : Units). AllFit us) answers_are brings.gives.fits)
 
-    speaks_on : Speaks m role party behind a.answers kept.sending
-    speaks_on = speaks_heard m role party a.units (payload ∷ []) a.answers kept.sending a.history.keyed within.speaks
+    speaks_on : Speaks m role party units_after a.answers kept.sending
+    speaks_on = speaks_received m role party a.units (payload ∷ []) a.answers kept.sending a.history.keyed within.speaks
 
-    abbrev next : KeyData
-    next = keys_by m kept.known.algorithms (exchange_heard m role party kept.known payload) role
+    abbrev next : KeysData
+    next = keys_by m kept.known.algorithms (exchange_received m role party kept.known payload) role
 
     abbrev Spoken : Type 0
-    Spoken = (said_from m party.seed kept.known.strict next kept.sending more ≡ flat_places (spells m role party behind) (party.version ∷ a.answers) more)
-        × Speaks m role party behind (a.answers ++ more) (sending_from kept.known.strict next kept.sending more)
+    Spoken = (sent_from m party.seed kept.known.strict next kept.sending more ≡ flat_places (spells m role party units_after) (party.version ∷ a.answers) more)
+        × Speaks m role party units_after (a.answers ++ more) (sending_from kept.known.strict next kept.sending more)
 
     told : switched_out more ≡ true → IsExchangePlace role party before_units payload kept.phase
     told on = told_at below m d role party version before_units payload kept.phase sits.tied (ap switched_out (ap (λ (us : Units). answers_at m d role party us payload) (sym units_are)) ∙ on)
@@ -245,26 +245,26 @@ module _ (below : Below) (streams : Streams) (m : Meaning) (d : Policy) (role : 
         subst (λ (g : Bool). Sits m d role party version before_units phase.Exchange g kept.known) (sym sits.due ∙ e.none_due)
         (subst (λ (p : Phase). Sits m d role party version before_units p kept.guess kept.known) e.at sits) in
         let t0 = standing.exchanges m d role party version before_units payload kept.known s0 e.leaves in
-        let strict_is : kept.known.strict ≡ strict_at role party (payloads_in behind) =
-        sym (ap (λ (k : Known). k.strict) t0.knows) ∙ ap (λ (us : Units). strict_at role party (payloads_in us)) (sym behind_is) in
-        let keys_are : next ≡ keys_at m role party (version_in behind) (payloads_in behind) role =
+        let strict_is : kept.known.strict ≡ strict_at role party (payloads_in units_after) =
+        sym (ap (λ (k : Known). k.strict) t0.knows) ∙ ap (λ (us : Units). strict_at role party (payloads_in us)) (sym units_after_is) in
+        let keys_are : next ≡ keys_at m role party (version_in units_after) (payloads_in units_after) role =
         sym (standing.makes_keys m d role party version before_units payload kept.known s0 e.leaves role)
-        ∙ ap (λ (us : Units). keys_at m role party (version_in us) (payloads_in us) role) (sym behind_is) in
-        said_is m role party behind kept.known.strict next a.answers more kept.sending strict_is keys_are speaks_on
+        ∙ ap (λ (us : Units). keys_at m role party (version_in us) (payloads_in us) role) (sym units_after_is) in
+        sent_is m role party units_after kept.known.strict next a.answers more kept.sending strict_is keys_are speaks_on
 
     spoken : Spoken
     spoken = elim (cases_Bool (switched_out more)) [
       | inl on ↦ exchange_told (told on)
-      | inr off ↦ said_quiet m role party behind kept.known.strict next a.answers more kept.sending (none_said more off) speaks_on
+      | inr off ↦ sent_quiet m role party units_after kept.known.strict next a.answers more kept.sending (none_sent more off) speaks_on
     ]
 
     end_new : last.end ≡ end_at m d role party a.units payload
     end_new = same_end ∙ brings.gives.ends ∙ end_is
 
-    inside_new : IsOngoing last.end → IsInside m d role party behind (a.answers ++ more) [] last j
+    inside_new : IsOngoing last.end → IsInside m d role party units_after (a.answers ++ more) [] last j
     inside_new ongoing =
         let moves = brings.moves (subst IsOngoing same_end ongoing) in
-        let s1 : Sits m d role party version (before_units ++ payload ∷ []) new.phase new.guess new.known = sits_behind below m d role party version before_units payload kept new sits moves in
+        let s1 : Sits m d role party version (before_units ++ payload ∷ []) new.phase new.guess new.known = sits_after below m d role party version before_units payload kept new sits moves in
         let s2 : Sits m d role party version (before_units ++ payload ∷ []) last.phase last.guess last.known =
         subst (λ (k : Known). Sits m d role party version (before_units ++ payload ∷ []) last.phase last.guess k) (sym same_known)
         (subst (λ (g : Bool). Sits m d role party version (before_units ++ payload ∷ []) last.phase g new.known) (sym same_guess)
@@ -279,17 +279,17 @@ module _ (below : Below) (streams : Streams) (m : Meaning) (d : Policy) (role : 
           host_key = λ past. ap (λ (x : Carried). x.host_key) left ∙ on.host_key (ap past_exchange (sym same_phase) ∙ past);
           user_key = ap (λ (x : Carried). x.user_key) left ∙ on.user_key;
         } in
-        let speaks : Speaks m role party behind (a.answers ++ more) last.sending =
-        subst (λ (o : Sending). Speaks m role party behind (a.answers ++ more) o)
+        let speaks : Speaks m role party units_after (a.answers ++ more) last.sending =
+        subst (λ (o : Sending). Speaks m role party units_after (a.answers ++ more) o)
         (sym (same_sending ∙ brings.gives.sends ∙ ap (λ (us : Units). sending_from kept.known.strict next kept.sending us) answers_are)) spoken.1 in
         record {
-          sits = subst (λ (us : Units). Sits m d role party (version_in us) (payloads_in us) last.phase last.guess last.known) (sym behind_is) s2;
+          sits = subst (λ (us : Units). Sits m d role party (version_in us) (payloads_in us) last.phase last.guess last.known) (sym units_after_is) s2;
           form = record {
-            form = λ past. form_new (form_behind below m d role party version before_units payload kept new sits carried.pending within.form.form moves) past;
-            clear = λ not_past. clear_at m d role party version before_units payload last s2 behind_is (a.answers ++ more) speaks done.keyed not_past;
+            form = λ past. form_new (form_after below m d role party version before_units payload kept new sits carried.pending within.form.form moves) past;
+            clear = λ not_past. clear_at m d role party version before_units payload last s2 units_after_is (a.answers ++ more) speaks done.keyed not_past;
           };
           reads = reads t.keys t.number;
-          carries = subst (λ (us : Units). IsCarried m d role party (version_in us) (payloads_in us) last.phase last.carried) (sym behind_is) carries;
+          carries = subst (λ (us : Units). IsCarried m d role party (version_in us) (payloads_in us) last.phase last.carried) (sym units_after_is) carries;
           speaks = speaks;
         }
       where
@@ -299,16 +299,16 @@ module _ (below : Below) (streams : Streams) (m : Meaning) (d : Policy) (role : 
 
     pub stands_unit : GoesOn m d role party last j h s (take used piece) before after
     stands_unit = record {
-      added = flat_places (spells m role party behind) (party.version ∷ a.answers) more;
-      appended = brings.gives.says ∙ ap (λ (us : Units). before ++ said_from m party.seed kept.known.strict next kept.sending us) answers_are ∙ ap (λ (l : List ℕ). before ++ l) spoken.0;
+      added = flat_places (spells m role party units_after) (party.version ∷ a.answers) more;
+      appended = brings.gives.output ∙ ap (λ (us : Units). before ++ sent_from m party.seed kept.known.strict next kept.sending us) answers_are ∙ ap (λ (l : List ℕ). before ++ l) spoken.0;
       stands = record {
-        units = behind;
+        units = units_after;
         rest = [];
         refusal = None;
         answers = a.answers ++ more;
-        heard_end = end_at m d role party a.units payload;
+        received_end = end_at m d role party a.units payload;
         history = done;
-        ends = AsHeard end_new;
+        ends = AsReceived end_new;
         inside = inside_new;
       };
       uncut = unit_stays m d role party a.units payload last.end end_new;

@@ -3,16 +3,16 @@
 use Rattle.std.proofs.Common.{◌≡◌, ◌≢◌, ℕ, Bool, false, List, Result, Ok, Err, refl, ap, ◌∙◌, arith}
 use Rattle.sshwire.specs.declared.share_form.ShareForm.{ShareForm}
 use Rattle.sshmsg.specs.declared.fault.MsgFault.{MsgFault}
-use Rattle.sshmsg.specs.Content.{Content, KexEcdhInit, KexEcdhReply, KexInit, KexdhInit, KexdhReply}
+use Rattle.sshmsg.specs.MessageData.{KexEcdhInit, KexEcdhReply, KexInit, KexdhInit, KexdhReply, MessageData}
 use Rattle.sshmsg.specs.Messages.{message_in}
 use Rattle.sshmsg.specs.Numbers.{kind, number_of}
 use Rattle.sshneg.specs.declared.role.Role.{Role}
-use Rattle.sshpacket.specs.Suite.{Meaning}
+use Rattle.sshpacket.specs.Suite.{SuiteData}
 use Rattle.sshcore.specs.declared.table.Line.{Line}
 use Rattle.sshcore.specs.declared.table.Line.TheVariants as line
 use Rattle.sshcore.specs.declared.table.Phase.TheVariants as phase
 use Rattle.sshcore.specs.Known.{Known}
-use Rattle.sshcore.specs.Party.{Party, Policy}
+use Rattle.sshcore.specs.EndpointParts.{ConfigData, DecisionsData}
 use Rattle.sshcore.specs.Plan.{is_waiting}
 use Rattle.sshcore.specs.Replies.{line_reply, read_reply}
 use Rattle.sshcore.specs.Table.{line_by}
@@ -33,8 +33,8 @@ no_share role strict n (Leaving none here is) =
 no_share role strict n (Staying none off out calm e) = (calm.init, calm.reply)
 no_share role strict n (Useless none off out is) = absurd cc
 
-module _ (below : Below) (m : Meaning) (d : Policy) (role : Role) (party : Party) where
-  alike_work : (known : Known) (form : ShareForm) (c : Content) → number_of c ≢ 30 → number_of c ≢ 31 → work m d role party (record known { shares = form }) c ≡ work m d role party known c
+module _ (below : Below) (m : SuiteData) (d : DecisionsData) (role : Role) (party : ConfigData) where
+  alike_work : (known : Known) (form : ShareForm) (c : MessageData) → number_of c ≢ 30 → number_of c ≢ 31 → work m d role party (record known { shares = form }) c ≡ work m d role party known c
   unfolding work kexinit_reply request_reply
   alike_work known form (KexInit peer) a b = refl
   alike_work known form (KexdhInit e) a b = absurd (a refl)
@@ -48,7 +48,7 @@ module _ (below : Below) (m : Meaning) (d : Policy) (role : Role) (party : Party
   alike_read known form payload a b =
       ap (λ r. read_reply m d role party (record known { shares = form }) (kind payload) r) (below.alike form known.shares payload a b) ∙ by (message_in known.shares payload) refl
     where
-      by : (r : Result Content MsgFault) → message_in known.shares payload ≡ r → read_reply m d role party (record known { shares = form }) (kind payload) r ≡ read_reply m d role party known (kind payload) r
+      by : (r : Result MessageData MsgFault) → message_in known.shares payload ≡ r → read_reply m d role party (record known { shares = form }) (kind payload) r ≡ read_reply m d role party known (kind payload) r
       by (Ok c) e = let is = below.numbers known.shares payload c e in alike_work known form c (λ q. a (is ∙ q)) (λ q. b (is ∙ q))
       by (Err f) e = refl
 

@@ -4,44 +4,44 @@ use Rattle.std.proofs.Common.{◌≡◌, ◌≢◌, ◌⊎◌, inl, inr, ℕ, �
 use Rattle.std.proofs.lemmas.Bool.{true≢false}
 use Rattle.std.proofs.lemmas.List.{append-nil}
 use Rattle.sshneg.specs.declared.role.Role.{Role}
-use Rattle.sshpacket.specs.Parse.{Protection, Refusal, parse_packet, refused, unfinished, whole}
+use Rattle.sshpacket.specs.Parse.{ProtectionData, Refusal, parse_packet, refused, unfinished, whole}
 use Rattle.sshpacket.specs.Places.{EachPlace, IsPrefix, flat_places}
 use Rattle.sshpacket.specs.PreambleParser.{preamble_parser}
-use Rattle.sshpacket.specs.Stream.{Heard, IsIncremental, Parser, Read, Said, Same, Units}
-use Rattle.sshpacket.specs.Suite.{Meaning}
+use Rattle.sshpacket.specs.Stream.{IsIncremental, Parser, Read, Received, Same, Sent, Units}
+use Rattle.sshpacket.specs.Suite.{SuiteData}
 use Rattle.sshpacket.proofs.Places.{each-append, each-push, flat-push}
 use Rattle.sshcore.specs.declared.end.Fault.{Fault}
 use Rattle.sshcore.specs.declared.table.Phase.TheVariants as phase
 use Rattle.sshcore.specs.Counting.{switched_out}
 use Rattle.sshcore.specs.Directions.{others_of, parsers, payloads_in, protection_in, spells}
-use Rattle.sshcore.specs.Ending.{Authenticated, Closed, Disconnected, Ending, Failed, Open, disconnect}
+use Rattle.sshcore.specs.EndData.{Authenticated, Closed, Disconnected, EndData, Failed, Open, disconnect}
 use Rattle.sshcore.specs.History.{AllFit, BrokenOff, FitsPacket, History, IsReady}
-use Rattle.sshcore.specs.Party.{Party, Policy}
+use Rattle.sshcore.specs.EndpointParts.{ConfigData, DecisionsData}
 use Rattle.sshcore.specs.Replies.{Ends, Replies, StaysOpen, answers_at, end_at, ended, fault_of, goes_on, refusal_reply}
 use Rattle.sshcore.specs.Work.{making}
 use Rattle.sshcore.proofs.Below.{Below}
 use Rattle.sshcore.proofs.KeyedLemmas.{keyed, still_fails, still_making}
-use Rattle.sshcore.proofs.StreamLemmas.{ready_units, said_stays, switched_append}
+use Rattle.sshcore.proofs.StreamLemmas.{ready_units, sent_stays, switched_append}
 use Rattle.sshcore.proofs.StrictLaws.{begun_none, stands}
 
 -- the laws of streams that the lemmas here rest on
 pub record Streams : Type 0 where
-  pub packets : (w : Protection) → IsIncremental (parse_packet w)
+  pub packets : (w : ProtectionData) → IsIncremental (parse_packet w)
   pub lines : (k : ℕ) → IsIncremental (preamble_parser k)
-  pub nothing : (parsers : Units → Parser) → ((us : Units) → IsIncremental (parsers us)) → Heard parsers [] [] [] None
+  pub nothing : (parsers : Units → Parser) → ((us : Units) → IsIncremental (parsers us)) → Received parsers [] [] [] None
   pub unit : (parsers : Units → Parser) → ((us : Units) → IsIncremental (parsers us)) → (stream piece : List ℕ) (us : Units) (rest u : List ℕ) (used : ℕ)
-      → Heard parsers stream us rest None → used ≤ length piece → parsers us (rest ++ piece) ≡ whole u (length rest + used) → Heard parsers (stream ++ take used piece) (us ++ u ∷ []) [] None
+      → Received parsers stream us rest None → used ≤ length piece → parsers us (rest ++ piece) ≡ whole u (length rest + used) → Received parsers (stream ++ take used piece) (us ++ u ∷ []) [] None
   pub refusal : (parsers : Units → Parser) → ((us : Units) → IsIncremental (parsers us)) → (stream piece : List ℕ) (us : Units) (rest : List ℕ) (r : Refusal) (used : ℕ)
-      → Heard parsers stream us rest None → used ≤ length piece → parsers us (rest ++ piece) ≡ refused r (length rest + used) → Heard parsers (stream ++ take used piece) us (rest ++ take used piece) (Some r)
+      → Received parsers stream us rest None → used ≤ length piece → parsers us (rest ++ piece) ≡ refused r (length rest + used) → Received parsers (stream ++ take used piece) us (rest ++ take used piece) (Some r)
   pub part : (parsers : Units → Parser) → ((us : Units) → IsIncremental (parsers us)) → (stream piece : List ℕ) (us : Units) (rest : List ℕ)
-      → Heard parsers stream us rest None → parsers us (rest ++ piece) ≡ unfinished → Heard parsers (stream ++ piece) us (rest ++ piece) None
+      → Received parsers stream us rest None → parsers us (rest ++ piece) ≡ unfinished → Received parsers (stream ++ piece) us (rest ++ piece) None
   pub one : (parsers : Units → Parser) (stream : List ℕ) (us vs : Units) (x y : List ℕ) (r q : Option Refusal)
-      → Heard parsers stream us x r → Heard parsers stream vs y q → Same us vs x y r q
+      → Received parsers stream us x r → Received parsers stream vs y q → Same us vs x y r q
   pub front : (parsers : Units → Parser) → ((us : Units) → IsIncremental (parsers us)) → (stream more : List ℕ) (us vs : Units) (x y : List ℕ) (r q : Option Refusal)
-      → Heard parsers stream us x r → Heard parsers (stream ++ more) vs y q → IsPrefix us vs
+      → Received parsers stream us x r → Received parsers (stream ++ more) vs y q → IsPrefix us vs
   pub more : (parsers : Units → Parser) → ((us : Units) → IsIncremental (parsers us)) → (before : Units) (bytes more : List ℕ) (us : Units) (rest : List ℕ)
       → Read parsers before bytes us rest → Read parsers before (bytes ++ more) us (rest ++ more)
-  pub said : (spells : Units → List ℕ → List ℕ) (stream : List ℕ) (us more : Units) → Said spells stream us → Said spells (stream ++ flat_places spells us more) (us ++ more)
+  pub sent : (spells : Units → List ℕ → List ℕ) (stream : List ℕ) (us more : Units) → Sent spells stream us → Sent spells (stream ++ flat_places spells us more) (us ++ more)
 
 fit_anywhere : (b c us : Units) → EachPlace (λ before payload. FitsPacket payload) b us → EachPlace (λ before payload. FitsPacket payload) c us
 fit_anywhere b c [] fit = tt
@@ -57,20 +57,20 @@ pub no_refusal : (r : Option Refusal) → (refusal_reply r).end ≡ Open → r �
 no_refusal None e = refl
 no_refusal (Some r) e = absurd cc
 
-is_open : (e : Ending) → (e ≡ Open) ⊎ (e ≢ Open)
+is_open : (e : EndData) → (e ≡ Open) ⊎ (e ≢ Open)
 is_open Open = inl refl
 is_open (Authenticated a) = inr (λ e. absurd cc)
 is_open (Failed f) = inr (λ e. absurd cc)
 is_open (Closed reason) = inr (λ e. absurd cc)
 is_open (Disconnected reason) = inr (λ e. absurd cc)
 
-module _ (streams : Streams) (m : Meaning) (role : Role) (party : Party) where
+module _ (streams : Streams) (m : SuiteData) (role : Role) (party : ConfigData) where
   pub each : (us : Units) → IsIncremental (parsers m role party us)
   each [] = streams.lines (others_of role)
   each (version ∷ before) = streams.packets (protection_in m role party version before)
 
-module _ (below : Below) (streams : Streams) (m : Meaning) (d : Policy) (role : Role) (party : Party) where
-  open_stays : (units : Units) (r : Option Refusal) (end : Ending) → end ≡ Open → Ends m d role party units r end → StaysOpen m d role party units
+module _ (below : Below) (streams : Streams) (m : SuiteData) (d : DecisionsData) (role : Role) (party : ConfigData) where
+  open_stays : (units : Units) (r : Option Refusal) (end : EndData) → end ≡ Open → Ends m d role party units r end → StaysOpen m d role party units
   open_stays units r end is (goes_on stays e) = stays
   open_stays units r end is (ended before last units_are stays e shut none) = absurd (shut is)
 
@@ -78,8 +78,8 @@ module _ (below : Below) (streams : Streams) (m : Meaning) (d : Policy) (role : 
   pub begins : AllFit (making m role party)
       → History m d role party [] [] None (making m role party) Open [] (flat_places (spells m role party []) [] (party.version ∷ making m role party))
   begins fit = record {
-    heard = streams.nothing (parsers m role party) (each streams m role party);
-    said = record { spelled = refl };
+    received = streams.nothing (parsers m role party) (each streams m role party);
+    sent = record { spelled = refl };
     replies = record { in_order = sym (append-nil (making m role party)); ends = goes_on tt refl };
     fits = fit;
     keyed = λ on. absurd (true≢false (sym on ∙ still_making m role party));
@@ -104,8 +104,8 @@ module _ (below : Below) (streams : Streams) (m : Meaning) (d : Policy) (role : 
     -- more bytes of an unfinished unit
     pub part : (piece : List ℕ) → parsers m role party units (rest ++ piece) ≡ unfinished → History m d role party units (rest ++ piece) None answers Open (h ++ piece) s
     part piece e = record {
-      heard = streams.part (parsers m role party) (each streams m role party) h piece units rest a.heard e;
-      said = a.said;
+      received = streams.part (parsers m role party) (each streams m role party) h piece units rest a.received e;
+      sent = a.sent;
       replies = record { in_order = a.replies.in_order; ends = goes_on all_open refl };
       fits = a.fits;
       keyed = a.keyed;
@@ -117,8 +117,8 @@ module _ (below : Below) (streams : Streams) (m : Meaning) (d : Policy) (role : 
         → History m d role party units (rest ++ take used piece) (Some r) (answers ++ disconnect (fault_of r)) (Failed (fault_of r)) (h ++ take used piece)
         (s ++ flat_places (spells m role party units) (party.version ∷ answers) (disconnect (fault_of r)))
     refusal piece used r low e fit = record {
-      heard = streams.refusal (parsers m role party) (each streams m role party) h piece units rest r used a.heard low e;
-      said = streams.said (spells m role party units) s (party.version ∷ answers) (disconnect (fault_of r)) a.said;
+      received = streams.refusal (parsers m role party) (each streams m role party) h piece units rest r used a.received low e;
+      sent = streams.sent (spells m role party units) s (party.version ∷ answers) (disconnect (fault_of r)) a.sent;
       replies = record {
         in_order = ap (λ (l : Units). l ++ disconnect (fault_of r)) in_order ∙ append_assoc (making m role party) (flat_places (answers_at m d role party) [] units) (disconnect (fault_of r));
         ends = goes_on all_open refl;
@@ -132,8 +132,8 @@ module _ (below : Below) (streams : Streams) (m : Meaning) (d : Policy) (role : 
         told true e on = e
         told false e on = absurd (true≢false (sym on ∙ (switched_append answers (disconnect (fault_of r)) ∙ rw e (still_fails (fault_of r)))))
 
-    replies_behind : (u : List ℕ) → Replies m d role party (units ++ u ∷ []) None (answers ++ answers_at m d role party units u) (end_at m d role party units u)
-    replies_behind u =
+    replies_after : (u : List ℕ) → Replies m d role party (units ++ u ∷ []) None (answers ++ answers_at m d role party units u) (end_at m d role party units u)
+    replies_after u =
         let more = answers_at m d role party units u in
         record {
           in_order = ap (λ (l : Units). l ++ more) in_order
@@ -153,9 +153,9 @@ module _ (below : Below) (streams : Streams) (m : Meaning) (d : Policy) (role : 
     unit piece u used low e fit =
         let more = answers_at m d role party units u in
         record {
-          heard = streams.unit (parsers m role party) (each streams m role party) h piece units rest u used a.heard low e;
-          said = streams.said (spells m role party (units ++ u ∷ [])) s (party.version ∷ answers) more (said_stays m role party units (u ∷ []) answers s a.keyed a.said);
-          replies = replies_behind u;
+          received = streams.unit (parsers m role party) (each streams m role party) h piece units rest u used a.received low e;
+          sent = streams.sent (spells m role party (units ++ u ∷ [])) s (party.version ∷ answers) more (sent_stays m role party units (u ∷ []) answers s a.keyed a.sent);
+          replies = replies_after u;
           fits = fit_both answers more a.fits fit;
           keyed = λ on. keyed_by (switched_out answers) refl on;
           last = λ _ _. refl;
@@ -177,14 +177,14 @@ module _ (below : Below) (streams : Streams) (m : Meaning) (d : Policy) (role : 
           answers = answers ++ more;
           end = end_at m d role party units u;
           some_answers = answers ++ some;
-          heard = streams.unit (parsers m role party) (each streams m role party) h piece units rest u used a.heard low e;
-          replies = replies_behind u;
+          received = streams.unit (parsers m role party) (each streams m role party) h piece units rest u used a.received low e;
+          replies = replies_after u;
           prefix = record { rest = prefix.rest; whole_is = ap (λ (l : Units). answers ++ l) prefix.whole_is ∙ sym (append_assoc answers some prefix.rest) };
-          said = streams.said (spells m role party (units ++ u ∷ [])) s (party.version ∷ answers) some (said_stays m role party units (u ∷ []) answers s a.keyed a.said);
+          sent = streams.sent (spells m role party (units ++ u ∷ [])) s (party.version ∷ answers) some (sent_stays m role party units (u ∷ []) answers s a.keyed a.sent);
         }
 
 -- and before any of them
-pub broken : (m : Meaning) (d : Policy) (role : Role) (party : Party) (units : Units) (rest : List ℕ) (refusal : Option Refusal) (answers : Units) (end : Ending) (h s : List ℕ)
+pub broken : (m : SuiteData) (d : DecisionsData) (role : Role) (party : ConfigData) (units : Units) (rest : List ℕ) (refusal : Option Refusal) (answers : Units) (end : EndData) (h s : List ℕ)
     → History m d role party units rest refusal answers end h s → BrokenOff m d role party h s
 broken m d role party units rest refusal answers end h s a = record {
   units = units;
@@ -193,8 +193,8 @@ broken m d role party units rest refusal answers end h s a = record {
   answers = answers;
   end = end;
   some_answers = answers;
-  heard = a.heard;
+  received = a.received;
   replies = a.replies;
   prefix = record { rest = []; whole_is = sym (append-nil answers) };
-  said = a.said;
+  sent = a.sent;
 }

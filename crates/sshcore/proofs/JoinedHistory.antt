@@ -6,12 +6,12 @@ use Rattle.sshneg.specs.declared.role.Role.{Role}
 use Rattle.sshpacket.specs.Parse.{Refusal, refused, unfinished}
 use Rattle.sshpacket.specs.Places.{IsPrefix}
 use Rattle.sshpacket.specs.Stream.{IsIncremental, IsRest, Parser, Read, Units}
-use Rattle.sshpacket.specs.Suite.{Meaning}
-use Rattle.sshpacket.proofs.Places.{each-behind, each-prefix, prefix-cons}
+use Rattle.sshpacket.specs.Suite.{SuiteData}
+use Rattle.sshpacket.proofs.Places.{each-after, each-prefix, prefix-cons}
 use Rattle.sshcore.specs.Directions.{parsers}
-use Rattle.sshcore.specs.Ending.{Ending, Open}
+use Rattle.sshcore.specs.EndData.{EndData, Open}
 use Rattle.sshcore.specs.History.{History, IsOneHistory}
-use Rattle.sshcore.specs.Party.{Party, Policy}
+use Rattle.sshcore.specs.EndpointParts.{ConfigData, DecisionsData}
 use Rattle.sshcore.specs.Replies.{Ends, StaysOpen, end_at, ended, goes_on, refusal_reply}
 use Rattle.sshcore.proofs.HistoryLemmas.{Streams, each}
 use Rattle.sshcore.proofs.OneHistory.{last_open, one_by}
@@ -20,15 +20,15 @@ use Rattle.sshcore.proofs.OneHistory.{last_open, one_by}
 either_front : (h g x y : List ℕ) → h ++ x ≡ g ++ y → ((z : List ℕ) × (g ≡ h ++ z) × (x ≡ z ++ y)) ⊎ ((z : List ℕ) × (h ≡ g ++ z) × (y ≡ z ++ x))
 either_front [] g x y e = inl (g, refl, e)
 either_front (a ∷ h) [] x y e = inr (a ∷ h, refl, sym e)
-either_front (a ∷ h) (b ∷ g) x y e = behind (either_front h g x y cc)
+either_front (a ∷ h) (b ∷ g) x y e = after (either_front h g x y cc)
   where
     first : a ≡ b
     first = cc
 
-    behind : ((z : List ℕ) × (g ≡ h ++ z) × (x ≡ z ++ y)) ⊎ ((z : List ℕ) × (h ≡ g ++ z) × (y ≡ z ++ x))
+    after : ((z : List ℕ) × (g ≡ h ++ z) × (x ≡ z ++ y)) ⊎ ((z : List ℕ) × (h ≡ g ++ z) × (y ≡ z ++ x))
         → ((z : List ℕ) × (b ∷ g ≡ a ∷ h ++ z) × (x ≡ z ++ y)) ⊎ ((z : List ℕ) × (a ∷ h ≡ b ∷ g ++ z) × (y ≡ z ++ x))
-    behind (inl (z, f, k)) = inl (z, (let one = first in cc), k)
-    behind (inr (z, f, k)) = inr (z, (let one = first in cc), k)
+    after (inl (z, f, k)) = inl (z, (let one = first in cc), k)
+    after (inr (z, f, k)) = inr (z, (let one = first in cc), k)
 
 -- the front of nothing is nothing
 none_front : (x z y : List ℕ) → x ≡ z ++ y → x ≡ [] → z ≡ []
@@ -52,14 +52,14 @@ before_last (x ∷ b) (y ∷ c) l u w ws e =
 
 module _ (parsers : Units → Parser) where
   -- of what was read, the units behind the first ones
-  read_behind : (before : Units) (bytes : List ℕ) (us w : Units) (x y : List ℕ) → Read parsers before bytes us x → Read parsers before bytes (us ++ w) y → Read parsers (before ++ us) x w y
-  read_behind before bytes [] w x y a b =
+  read_after : (before : Units) (bytes : List ℕ) (us w : Units) (x y : List ℕ) → Read parsers before bytes us x → Read parsers before bytes (us ++ w) y → Read parsers (before ++ us) x w y
+  read_after before bytes [] w x y a b =
       subst (λ (c : Units). Read parsers c x w y) (sym (append-nil before)) (subst (λ (z : List ℕ). Read parsers before z w y) a b)
-  read_behind before bytes (u ∷ us) w x y (len, e, a) (n, f, b) =
+  read_after before bytes (u ∷ us) w x y (len, e, a) (n, f, b) =
       let size : n ≡ len = cc in
-      let behind : Read parsers ((before ++ u ∷ []) ++ us) x w y
-      = read_behind (before ++ u ∷ []) (drop len bytes) us w x y a (subst (λ (k : ℕ). Read parsers (before ++ u ∷ []) (drop k bytes) (us ++ w) y) size b) in
-      subst (λ (c : Units). Read parsers c x w y) (append_assoc before (u ∷ []) us) behind
+      let after : Read parsers ((before ++ u ∷ []) ++ us) x w y
+      = read_after (before ++ u ∷ []) (drop len bytes) us w x y a (subst (λ (k : ℕ). Read parsers (before ++ u ∷ []) (drop k bytes) (us ++ w) y) size b) in
+      subst (λ (c : Units). Read parsers c x w y) (append_assoc before (u ∷ []) us) after
 
   module _ (each : (us : Units) → IsIncremental (parsers us)) where
     -- nothing is heard behind a refusal
@@ -80,51 +80,51 @@ module _ (parsers : Units → Parser) where
         let again : parsers us (rest ++ z) ≡ refused f (length rest) = (each us).more rest z (λ none. cc) ∙ k in
         absurd cc
 
-module _ (m : Meaning) (d : Policy) (role : Role) (party : Party) where
+module _ (m : SuiteData) (d : DecisionsData) (role : Role) (party : ConfigData) where
   -- where more units were heard behind one, it left the endpoint open
-  open_within : (units before : Units) (u w : List ℕ) (ws : Units) (r : Option Refusal) (end : Ending)
+  open_within : (units before : Units) (u w : List ℕ) (ws : Units) (r : Option Refusal) (end : EndData)
       → Ends m d role party units r end → units ≡ before ++ u ∷ w ∷ ws → end_at m d role party before u ≡ Open
   open_within units before u w ws r end (goes_on stays e) are =
-      (each-behind (λ b v. end_at m d role party b v ≡ Open) [] before (u ∷ w ∷ ws) (subst (StaysOpen m d role party) are stays)).0
+      (each-after (λ b v. end_at m d role party b v ≡ Open) [] before (u ∷ w ∷ ws) (subst (StaysOpen m d role party) are stays)).0
   open_within units before u w ws r end (ended front last is stays e shut none) are =
       let p : IsPrefix (before ++ u ∷ []) front = before_last front before last u w ws (sym is ∙ are) in
       last_open m d role party (before ++ u ∷ []) before u refl
       (each-prefix (λ b v. end_at m d role party b v ≡ Open) [] (before ++ u ∷ []) p.rest (subst (StaysOpen m d role party) p.whole_is stays))
 
   -- where the last unit ended the endpoint, it has ended, and nothing was refused
-  shut_behind : (units before : Units) (u : List ℕ) (r : Option Refusal) (end : Ending)
+  shut_after : (units before : Units) (u : List ℕ) (r : Option Refusal) (end : EndData)
       → Ends m d role party units r end → units ≡ before ++ u ∷ [] → end_at m d role party before u ≢ Open → (end ≢ Open) × (r ≡ None)
-  shut_behind units before u r end (goes_on stays e) are shut = absurd (shut (last_open m d role party units before u are stays))
-  shut_behind units before u r end (ended front last is stays e closed none) are shut = (closed, none)
+  shut_after units before u r end (goes_on stays e) are shut = absurd (shut (last_open m d role party units before u are stays))
+  shut_after units before u r end (ended front last is stays e closed none) are shut = (closed, none)
 
-module _ (streams : Streams) (m : Meaning) (d : Policy) (role : Role) (party : Party) where
+module _ (streams : Streams) (m : SuiteData) (d : DecisionsData) (role : Role) (party : ConfigData) where
   -- an endpoint that isn't open uses no byte more
-  none_used : (units other_units : Units) (rest other_rest : List ℕ) (r other_r : Option Refusal) (answers other_answers : Units) (end other_end : Ending) (h z s t : List ℕ)
+  none_used : (units other_units : Units) (rest other_rest : List ℕ) (r other_r : Option Refusal) (answers other_answers : Units) (end other_end : EndData) (h z s t : List ℕ)
       → History m d role party units rest r answers end h s → History m d role party other_units other_rest other_r other_answers other_end (h ++ z) t
       → (end ≡ Open → z ≡ []) → z ≡ []
   none_used units other_units rest other_rest r other_r answers other_answers end other_end h z s t a b all = by_ends a.replies.ends
     where
       front : IsPrefix units other_units
-      front = streams.front (parsers m role party) (each streams m role party) h z units other_units rest other_rest r other_r a.heard b.heard
+      front = streams.front (parsers m role party) (each streams m role party) h z units other_units rest other_rest r other_r a.received b.received
 
-      behind : Read (parsers m role party) units (rest ++ z) front.rest other_rest
-      behind = read_behind (parsers m role party) [] (h ++ z) units front.rest (rest ++ z) other_rest
-          (streams.more (parsers m role party) (each streams m role party) [] h z units rest a.heard.read)
-          (subst (λ (us : Units). Read (parsers m role party) [] (h ++ z) us other_rest) front.whole_is b.heard.read)
+      after : Read (parsers m role party) units (rest ++ z) front.rest other_rest
+      after = read_after (parsers m role party) [] (h ++ z) units front.rest (rest ++ z) other_rest
+          (streams.more (parsers m role party) (each streams m role party) [] h z units rest a.received.read)
+          (subst (λ (us : Units). Read (parsers m role party) [] (h ++ z) us other_rest) front.whole_is b.received.read)
 
       by_refusal : (q : Option Refusal) → r ≡ q → end ≡ (refusal_reply q).end → z ≡ []
       by_refusal None is e = all e
       by_refusal (Some f) is e =
           none_refused (parsers m role party) (each streams m role party) units front.rest rest z other_rest f other_r
-          (subst (λ (q : Option Refusal). IsRest (parsers m role party units) rest q) is a.heard.then_rest)
-          behind
-          (subst (λ (us : Units). IsRest (parsers m role party us) other_rest other_r) front.whole_is b.heard.then_rest)
+          (subst (λ (q : Option Refusal). IsRest (parsers m role party units) rest q) is a.received.then_rest)
+          after
+          (subst (λ (us : Units). IsRest (parsers m role party us) other_rest other_r) front.whole_is b.received.then_rest)
 
       -- the unit that ended the endpoint is the last of both
       by_last : (before : Units) (u : List ℕ) (w : Units) → units ≡ before ++ u ∷ [] → other_units ≡ units ++ w → Read (parsers m role party) units (rest ++ z) w other_rest
           → end_at m d role party before u ≢ Open → rest ≡ [] → z ≡ []
       by_last before u [] is are read shut none =
-          let both = shut_behind m d role party other_units before u other_r other_end b.replies.ends (are ∙ append-nil units ∙ is) shut in
+          let both = shut_after m d role party other_units before u other_r other_end b.replies.ends (are ∙ append-nil units ∙ is) shut in
           let left : rest ++ z ≡ [] = read ∙ b.last both.0 both.1 in
           ap (λ (l : List ℕ). l ++ z) (sym none) ∙ left
       by_last before u (w ∷ ws) is are read shut none =
@@ -134,10 +134,10 @@ module _ (streams : Streams) (m : Meaning) (d : Policy) (role : Role) (party : P
       by_ends : Ends m d role party units r end → z ≡ []
       by_ends (goes_on stays e) = by_refusal r refl e
       by_ends (ended before last is stays e shut none) =
-          by_last before last front.rest is front.whole_is behind (λ o. shut (e ∙ o)) (a.last shut none)
+          by_last before last front.rest is front.whole_is after (λ o. shut (e ∙ o)) (a.last shut none)
 
   -- the histories of two endpoints that were given one input, of which each uses a prefix, and all of it while it stands open
-  pub joined : (units other_units : Units) (rest other_rest : List ℕ) (r other_r : Option Refusal) (answers other_answers : Units) (end other_end : Ending) (h g s t x y : List ℕ)
+  pub joined : (units other_units : Units) (rest other_rest : List ℕ) (r other_r : Option Refusal) (answers other_answers : Units) (end other_end : EndData) (h g s t x y : List ℕ)
       → History m d role party units rest r answers end h s → History m d role party other_units other_rest other_r other_answers other_end g t
       → h ++ x ≡ g ++ y → (end ≡ Open → x ≡ []) → (other_end ≡ Open → y ≡ [])
       → (h ≡ g) × IsOneHistory units other_units rest other_rest r other_r answers other_answers end other_end s t
@@ -163,4 +163,4 @@ module _ (streams : Streams) (m : Meaning) (d : Policy) (role : Role) (party : P
 
       one : IsOneHistory units other_units rest other_rest r other_r answers other_answers end other_end s t
       one = one_by m d role party units other_units r other_r rest other_rest answers other_answers end other_end h s t
-          (streams.one (parsers m role party) h units other_units rest other_rest r other_r a.heard at_same.heard) a at_same
+          (streams.one (parsers m role party) h units other_units rest other_rest r other_r a.received at_same.received) a at_same

@@ -2,24 +2,24 @@
 
 use Rattle.std.proofs.Common.{◌≡◌, ℕ, Bool, true, false, List, [], ◌∷◌, Result, Ok, Err, Some, refl, sym, ap, subst, ◌∙◌, cond}
 use Rattle.std.specs.Prelude.{◌&&◌, not}
-use Rattle.sshmsg.specs.Content.{Offer}
+use Rattle.sshmsg.specs.MessageData.{KexInitData}
 use Rattle.sshneg.specs.declared.choice.NoCommon.{NoCommon}
 use Rattle.sshneg.specs.declared.role.Role.{Role}
 use Rattle.sshneg.specs.declared.role.Role.TheVariants.{Client, Server}
 use Rattle.sshneg.specs.ExchangeEnd.{client_of, server_of}
 use Rattle.sshneg.specs.Strictness.{is_right_guess}
-use Rattle.sshpacket.specs.Suite.{Meaning}
+use Rattle.sshpacket.specs.Suite.{SuiteData}
 use Rattle.sshcore.specs.declared.end.Fault.TheVariants as fault
 use Rattle.sshcore.specs.declared.kexinit.Negotiated.{Negotiated}
 use Rattle.sshcore.specs.Before.{strict_towards}
-use Rattle.sshcore.specs.Ending.{fails, goes}
+use Rattle.sshcore.specs.EndData.{fails, goes}
 use Rattle.sshcore.specs.Exchange.{choice_with}
 use Rattle.sshcore.specs.Known.{Known}
-use Rattle.sshcore.specs.Negotiated.{IsNegotiated, says_init}
-use Rattle.sshcore.specs.Party.{Party}
+use Rattle.sshcore.specs.Negotiated.{IsNegotiated, sends_init}
+use Rattle.sshcore.specs.EndpointParts.{ConfigData}
 use Rattle.sshcore.specs.Work.{chosen_reply, init_for, kexinit_reply, opening}
 
-module _ (m : Meaning) (role : Role) (party : Party) (known : Known) (peer : Offer) where
+module _ (m : SuiteData) (role : Role) (party : ConfigData) (known : Known) (peer : KexInitData) where
   -- something stood before it, and the endpoint is strict
   pub strictly_refused : strict_towards role party.strict (Some peer) ≡ true → known.first ≡ false → fails (fault.Strict 20) ≡ kexinit_reply m role party known peer
   unfolding kexinit_reply
@@ -42,16 +42,16 @@ module _ (m : Meaning) (role : Role) (party : Party) (known : Known) (peer : Off
       ap (chosen_reply m role party peer) (sym none) ∙ by_choice off
 
 -- what is said by whether a guess is right
-opened : (m : Meaning) (role : Role) (party : Party) (peer : Offer) (right : Bool) (kex : List ℕ) → right ≡ is_right_guess (client_of role party.offer peer) (server_of role party.offer peer)
-    → says_init m role party right kex ≡ opening m role party peer kex
+opened : (m : SuiteData) (role : Role) (party : ConfigData) (peer : KexInitData) (right : Bool) (kex : List ℕ) → right ≡ is_right_guess (client_of role party.offer peer) (server_of role party.offer peer)
+    → sends_init m role party right kex ≡ opening m role party peer kex
 opened m Server party peer right kex e = refl
 opened m Client party peer right kex e = ap (λ (b : Bool). cond (party.offer.first_kex_packet_follows && b) [] (init_for m party kex ∷ [])) e
 
-module _ (m : Meaning) (role : Role) (party : Party) (known : Known) (peer : Offer) where
+module _ (m : SuiteData) (role : Role) (party : ConfigData) (known : Known) (peer : KexInitData) where
   -- there is one
   pub chosen : (strict_towards role party.strict (Some peer) && not known.first) ≡ false → (found : Result Negotiated NoCommon) (n : Negotiated)
       → IsNegotiated m (client_of role party.offer peer) (server_of role party.offer peer) found → found ≡ Ok n
-      → goes (says_init m role party n.right n.algorithms.kex) ≡ kexinit_reply m role party known peer
+      → goes (sends_init m role party n.right n.algorithms.kex) ≡ kexinit_reply m role party known peer
   chosen off found n is e =
       let one : IsNegotiated m (client_of role party.offer peer) (server_of role party.offer peer) (Ok n) =
       subst (λ (r : Result Negotiated NoCommon). IsNegotiated m (client_of role party.offer peer) (server_of role party.offer peer) r) e is in

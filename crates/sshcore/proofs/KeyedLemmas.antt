@@ -7,17 +7,17 @@ use Rattle.std.proofs.lemmas.Bool.{cases_Bool, eq-eqb, eqb-true, true≢false}
 use Rattle.sshwire.specs.declared.share_form.ShareForm.{ShareForm}
 use Rattle.sshwire.specs.declared.share_form.ShareForm.TheVariants.{Hybrid, Mpint, OctetString}
 use Rattle.sshmsg.specs.declared.fault.MsgFault.{MsgFault}
-use Rattle.sshmsg.specs.Content.{Content, KexEcdhInit, KexEcdhReply, KexInit, KexdhInit, KexdhReply, Method, Offer, ServiceAccept, ServiceRequest, UserauthFailure, UserauthPkOk, UserauthRequest, UserauthSuccess}
+use Rattle.sshmsg.specs.MessageData.{KexEcdhInit, KexEcdhReply, KexInit, KexInitData, KexdhInit, KexdhReply, MessageData, MethodData, ServiceAccept, ServiceRequest, UserauthFailure, UserauthPkOk, UserauthRequest, UserauthSuccess}
 use Rattle.sshmsg.specs.Messages.{message_in}
 use Rattle.sshmsg.specs.Numbers.{kind, number_of}
 use Rattle.sshmsg.specs.Written.{written_message}
 use Rattle.sshneg.specs.declared.choice.NoCommon.{NoCommon}
 use Rattle.sshneg.specs.declared.role.Role.{Role}
 use Rattle.sshneg.specs.declared.role.Role.TheVariants.{Client, Server}
-use Rattle.sshneg.specs.Fields.{Algorithms}
+use Rattle.sshneg.specs.Fields.{AlgorithmsData}
 use Rattle.sshneg.specs.Strictness.{is_right_guess}
 use Rattle.sshpacket.specs.Stream.{Units}
-use Rattle.sshpacket.specs.Suite.{Meaning}
+use Rattle.sshpacket.specs.Suite.{SuiteData}
 use Rattle.sshcore.specs.declared.end.Fault.{Fault}
 use Rattle.sshcore.specs.declared.end.Fault.TheVariants as fault
 use Rattle.sshcore.specs.declared.table.Line.{Line}
@@ -26,15 +26,15 @@ use Rattle.sshcore.specs.declared.table.Phase.{Phase}
 use Rattle.sshcore.specs.declared.table.Phase.TheVariants as phase
 use Rattle.sshcore.specs.Attempts.{attempt_reply, confirmed_by, is_asked, request_of, success_by}
 use Rattle.sshcore.specs.Before.{expects_guess, kept, offered, stood, strict_at, strict_towards}
-use Rattle.sshcore.specs.ConfigData.{Attempt}
+use Rattle.sshcore.specs.ConfigParts.{AttemptData}
 use Rattle.sshcore.specs.Counting.{number_in, switched_out}
-use Rattle.sshcore.specs.Ending.{Reply, disconnect_by, fails, goes, reason_of}
+use Rattle.sshcore.specs.EndData.{Reply, disconnect_by, fails, goes, reason_of}
 use Rattle.sshcore.specs.Exchange.{choice_with, own_kexinit}
 use Rattle.sshcore.specs.History.{IsReady}
 use Rattle.sshcore.specs.Known.{Known, known_at, waits_at}
-use Rattle.sshcore.specs.Party.{Party, Policy}
+use Rattle.sshcore.specs.EndpointParts.{ConfigData, DecisionsData}
 use Rattle.sshcore.specs.Phases.{leaving}
-use Rattle.sshcore.specs.Plan.{behind_query, next_behind}
+use Rattle.sshcore.specs.Plan.{after_query, next_after}
 use Rattle.sshcore.specs.Replies.{answers_at, line_reply, read_reply}
 use Rattle.sshcore.specs.Requests.{request_reply}
 use Rattle.sshcore.specs.Standing.{Tied}
@@ -81,20 +81,20 @@ still_units : (b : Bool) (x y : Units) → IsStill x → IsStill y → IsStill (
 still_units true x y p q = p
 still_units false x y p q = q
 
-module _ (m : Meaning) (party : Party) where
+module _ (m : SuiteData) (party : ConfigData) where
   still_init : (kex : List ℕ) → IsStill (init_for m party kex ∷ [])
   still_init kex = still_one (init_for m party kex) (init_kind (m.share_form kex) (m.share kex party.random))
 
-  still_opening : (role : Role) (peer : Offer) (kex : List ℕ) → IsStill (opening m role party peer kex)
+  still_opening : (role : Role) (peer : KexInitData) (kex : List ℕ) → IsStill (opening m role party peer kex)
   still_opening Server peer kex = still_none
   still_opening Client peer kex =
       still_units (party.offer.first_kex_packet_follows && is_right_guess party.offer peer) [] (init_for m party kex ∷ []) still_none (still_init kex)
 
-  still_chosen : (role : Role) (peer : Offer) (r : Result Algorithms NoCommon) → IsStill (chosen_reply m role party peer r).answers
+  still_chosen : (role : Role) (peer : KexInitData) (r : Result AlgorithmsData NoCommon) → IsStill (chosen_reply m role party peer r).answers
   still_chosen role peer (Ok a) = still_opening role peer a.kex
   still_chosen role peer (Err f) = still_fails (fault.NoCommon f)
 
-  still_kexinit : (role : Role) (known : Known) (peer : Offer) → IsStill (kexinit_reply m role party known peer).answers
+  still_kexinit : (role : Role) (known : Known) (peer : KexInitData) → IsStill (kexinit_reply m role party known peer).answers
   unfolding kexinit_reply
   still_kexinit role known peer =
       still_cond (strict_towards role party.strict (Some peer) && not known.first) (fails (fault.Strict 20)) (chosen_reply m role party peer (choice_with m role party.offer (Some peer)))
@@ -109,58 +109,58 @@ unfolding switched_out written_message
 still_banner None = refl
 still_banner (Some text) = refl
 
-still_service : (party : Party) (service : List ℕ) → IsStill (service_reply party service).answers
+still_service : (party : ConfigData) (service : List ℕ) → IsStill (service_reply party service).answers
 still_service party service =
     still_cond (bytes_eq service userauth) (goes (written_message (ServiceAccept userauth) ∷ banner_by party.banner)) (fails fault.Service) (still_banner party.banner) (still_fails fault.Service)
 
 -- requests and their answers
-still_attempt : (m : Meaning) (session : List ℕ) (left : List Attempt) → IsStill (attempt_reply m session left).answers
+still_attempt : (m : SuiteData) (session : List ℕ) (left : List AttemptData) → IsStill (attempt_reply m session left).answers
 unfolding switched_out written_message
 still_attempt m session [] = still_fails fault.NoMoreMethods
 still_attempt m session (a ∷ later) = refl
 
-still_accept : (m : Meaning) (known : Known) (service : List ℕ) → IsStill (accept_reply m known service).answers
+still_accept : (m : SuiteData) (known : Known) (service : List ℕ) → IsStill (accept_reply m known service).answers
 still_accept m known service =
     still_cond (bytes_eq service userauth) (attempt_reply m known.session known.left) (fails (fault.Unexpected 6)) (still_attempt m known.session known.left) (still_fails (fault.Unexpected 6))
 
-still_success : (known : Known) (left : List Attempt) → IsStill (success_by known left).answers
+still_success : (known : Known) (left : List AttemptData) → IsStill (success_by known left).answers
 still_success known [] = still_fails (fault.Unexpected 52)
 still_success known (a ∷ later) = still_none
 
 -- the answer to a request
-still_refusal : (m : Meaning) (d : Policy) (party : Party) (known : Known) (user service : List ℕ) (x : Content) → IsRefusal d party known user service x → IsStill (written_message x ∷ [])
+still_refusal : (m : SuiteData) (d : DecisionsData) (party : ConfigData) (known : Known) (user service : List ℕ) (x : MessageData) → IsRefusal d party known user service x → IsStill (written_message x ∷ [])
 unfolding switched_out written_message
 still_refusal m d party known user service x (Refused partial is) = rw is refl
 still_refusal m d party known user service x (Confirmed algorithm key would is) = rw is refl
 
-still_let_in : IsStill (written_message UserauthSuccess ∷ [])
+still_accepted : IsStill (written_message UserauthSuccess ∷ [])
 unfolding switched_out written_message
-still_let_in = refl
+still_accepted = refl
 
-still_request : (m : Meaning) (d : Policy) (party : Party) (known : Known) (user service : List ℕ) (method : Method) → IsStill (request_reply m d party known user service method).answers
+still_request : (m : SuiteData) (d : DecisionsData) (party : ConfigData) (known : Known) (user service : List ℕ) (method : MethodData) → IsStill (request_reply m d party known user service method).answers
 still_request m d party known user service method = by (answered m d party known user service method)
   where
     by : IsAnswered m d party known user service method (request_reply m d party known user service method) → IsStill (request_reply m d party known user service method).answers
     by (Elsewhere has is) = subst (λ (r : Reply). IsStill r.answers) (sym is) (still_fails fault.Service)
-    by (Succeeds has good done is) = subst (λ (r : Reply). IsStill r.answers) (sym is) still_let_in
+    by (Succeeds has successful done is) = subst (λ (r : Reply). IsStill r.answers) (sym is) still_accepted
     by (Last last is) = subst (λ (r : Reply). IsStill r.answers) (sym is) (still_fails fault.TooManyTries)
     by (More x refusal more is) = subst (λ (r : Reply). IsStill r.answers) (sym is) (still_refusal m d party known user service x refusal)
 
-still_confirmed : (m : Meaning) (known : Known) (algorithm key : List ℕ) (left : List Attempt) → IsStill (confirmed_by m known algorithm key left).answers
+still_confirmed : (m : SuiteData) (known : Known) (algorithm key : List ℕ) (left : List AttemptData) → IsStill (confirmed_by m known algorithm key left).answers
 still_confirmed m known algorithm key [] = still_fails (fault.Unexpected 60)
 still_confirmed m known algorithm key (a ∷ later) =
-    still_cond (is_asked m a.proving algorithm key) (goes (request_of m known.session (behind_query a) ∷ [])) (fails (fault.Unexpected 60))
-    (still_attempt m known.session (behind_query a ∷ [])) (still_fails (fault.Unexpected 60))
+    still_cond (is_asked m a.proving algorithm key) (goes (request_of m known.session (after_query a) ∷ [])) (fails (fault.Unexpected 60))
+    (still_attempt m known.session (after_query a ∷ [])) (still_fails (fault.Unexpected 60))
 
 -- at this place the exchange message comes
-pub record IsExchangePlace (role : Role) (party : Party) (before : Units) (payload : List ℕ) (p : Phase) : Type 0 where
+pub record IsExchangePlace (role : Role) (party : ConfigData) (before : Units) (payload : List ℕ) (p : Phase) : Type 0 where
   pub at : p ≡ phase.Exchange
   pub none_due : expects_guess role party.offer before ≡ false
   pub leaves : kind payload ≡ leaving role phase.Exchange
 
-module _ (below : Below) (m : Meaning) (d : Policy) (role : Role) (party : Party) where
+module _ (below : Below) (m : SuiteData) (d : DecisionsData) (role : Role) (party : ConfigData) where
   -- a message that isn't an exchange message is answered without one
-  still_work : (known : Known) (c : Content) → number_of c ≢ 30 → number_of c ≢ 31 → IsStill (work m d role party known c).answers
+  still_work : (known : Known) (c : MessageData) → number_of c ≢ 30 → number_of c ≢ 31 → IsStill (work m d role party known c).answers
   unfolding work
   still_work known (KexInit peer) a b = still_kexinit m party role known peer
   still_work known (KexdhInit e) a b = absurd (a refl)
@@ -170,7 +170,7 @@ module _ (below : Below) (m : Meaning) (d : Policy) (role : Role) (party : Party
   still_work known (ServiceRequest service) a b = still_service party service
   still_work known (ServiceAccept service) a b = still_accept m known service
   still_work known (UserauthRequest user service method) a b = still_request m d party known user service method
-  still_work known (UserauthFailure listed partial) a b = still_attempt m known.session (next_behind listed known.left)
+  still_work known (UserauthFailure listed partial) a b = still_attempt m known.session (next_after listed known.left)
   still_work known UserauthSuccess a b = still_success known known.left
   still_work known (UserauthPkOk algorithm key) a b = still_confirmed m known algorithm key known.left
   still_work known _ a b = still_none
@@ -179,7 +179,7 @@ module _ (below : Below) (m : Meaning) (d : Policy) (role : Role) (party : Party
   unfolding line_reply
   still_read known packet payload a b = by (message_in known.shares payload) refl
     where
-      by : (r : Result Content MsgFault) → message_in known.shares payload ≡ r → IsStill (read_reply m d role party known (kind payload) r).answers
+      by : (r : Result MessageData MsgFault) → message_in known.shares payload ≡ r → IsStill (read_reply m d role party known (kind payload) r).answers
       by (Ok c) e = let is = below.numbers known.shares payload c e in still_work known c (λ q. a (is ∙ q)) (λ q. b (is ∙ q))
       by (Err f) e = still_fails (fault.Malformed (kind payload))
 
@@ -220,9 +220,9 @@ module _ (below : Below) (m : Meaning) (d : Policy) (role : Role) (party : Party
       by Server h (inr e) = absurd (omega arith)
 
   module _ (version : List ℕ) (before : Units) (payload : List ℕ) where
-    ready_behind : (p : Phase) → Tied role party.offer before p → expects_guess role party.offer before ≡ false → p ≡ phase.Exchange → kind payload ≡ leaving role phase.Exchange
+    ready_after : (p : Phase) → Tied role party.offer before p → expects_guess role party.offer before ≡ false → p ≡ phase.Exchange → kind payload ≡ leaving role phase.Exchange
         → IsReady role party (before ++ payload ∷ [])
-    ready_behind phase.Exchange t none e is =
+    ready_after phase.Exchange t none e is =
         let begun : offered before ≡ true = t.offer in
         let off : stood role party.offer (leaving role phase.Exchange) before ≡ false = t.exchange in
         let here : kept role party.offer (leaving role phase.Exchange) before payload ≡ true =
@@ -231,10 +231,10 @@ module _ (below : Below) (m : Meaning) (d : Policy) (role : Role) (party : Party
           offer = offered_push before payload ∙ rw begun refl;
           exchange = stood_push role party.offer before payload (leaving role phase.Exchange) ∙ rw (off, here) refl;
         }
-    ready_behind phase.KexInit t none e is = absurd cc
-    ready_behind phase.NewKeys t none e is = absurd cc
-    ready_behind phase.Service t none e is = absurd cc
-    ready_behind phase.Auth t none e is = absurd cc
+    ready_after phase.KexInit t none e is = absurd cc
+    ready_after phase.NewKeys t none e is = absurd cc
+    ready_after phase.Service t none e is = absurd cc
+    ready_after phase.Auth t none e is = absurd cc
 
     by_line : (known : Known) (packet : ℕ) (p : Phase) → Tied role party.offer before p → (l : Line)
         → Sees role p (strict_at role party before) (expects_guess role party.offer before) (kind payload) l
@@ -275,8 +275,8 @@ module _ (below : Below) (m : Meaning) (d : Policy) (role : Role) (party : Party
     pub keyed : (p : Phase) → Tied role party.offer before p → switched_out (answers_at m d role party (version ∷ before) payload) ≡ true → IsReady role party (before ++ payload ∷ [])
     keyed p t on =
         let e = told_at p t on in
-        ready_behind p t e.none_due e.at e.leaves
+        ready_after p t e.none_due e.at e.leaves
 
-pub still_making : (m : Meaning) (role : Role) (party : Party) → IsStill (making m role party)
+pub still_making : (m : SuiteData) (role : Role) (party : ConfigData) → IsStill (making m role party)
 unfolding switched_out written_message
 still_making m role party = newkeys_anywhere (own_kexinit party ∷ []) [] (guess_of m role party) ∙ still_guess m party role

@@ -3,36 +3,36 @@
 use Rattle.std.proofs.Common.{◌≡◌, ◌≢◌, ◌⊎◌, inl, inr, ℕ, ◌+◌, ◌==◌, Bool, true, false, cond, List, [], ◌∷◌, ◌++◌, length, length-append, Some, refl, sym, ap, ◌∙◌, arith}
 use Rattle.std.proofs.lemmas.Bool.{ne_eqb, true≢false}
 use Rattle.sshwire.specs.declared.share_form.ShareForm.{ShareForm}
-use Rattle.sshmsg.specs.Content.{Offer}
+use Rattle.sshmsg.specs.MessageData.{KexInitData}
 use Rattle.sshmsg.specs.Messages.{message_in}
 use Rattle.sshmsg.specs.Numbers.{kind}
 use Rattle.sshneg.specs.declared.role.Role.{Role}
 use Rattle.sshneg.specs.Derivations.{ExchangeData}
 use Rattle.sshneg.specs.ExchangeEnd.{exchange_hash, offer_in}
-use Rattle.sshneg.specs.Fields.{Algorithms}
-use Rattle.sshpacket.specs.KeyData.{KeyData}
+use Rattle.sshneg.specs.Fields.{AlgorithmsData}
+use Rattle.sshpacket.specs.KeysData.{KeysData}
 use Rattle.sshpacket.specs.Stream.{Units}
-use Rattle.sshpacket.specs.Suite.{Meaning}
+use Rattle.sshpacket.specs.Suite.{SuiteData}
 use Rattle.sshpacket.proofs.Places.{first-push}
 use Rattle.sshcore.specs.declared.table.Phase.TheVariants as phase
 use Rattle.sshcore.specs.Before.{all_kept, count_kept, expects_guess, first_kept, kept, kexinit, offered, stood, strict_towards}
-use Rattle.sshcore.specs.ConfigData.{Attempt}
+use Rattle.sshcore.specs.ConfigParts.{AttemptData}
 use Rattle.sshcore.specs.Exchange.{algorithms_at, choice_with, chosen_or, exchange_at, exchange_message, exchange_with, keys_at, keys_by, session_at, shares_by}
 use Rattle.sshcore.specs.Known.{Known, known_at, left_at}
-use Rattle.sshcore.specs.Party.{Party, Policy}
+use Rattle.sshcore.specs.EndpointParts.{ConfigData, DecisionsData}
 use Rattle.sshcore.specs.Phases.{leaving}
 use Rattle.sshcore.specs.Plan.{left_after}
-use Rattle.sshcore.specs.Reached.{Reached, nothing_reached, reached_after}
+use Rattle.sshcore.specs.Reached.{ReachedData, nothing_reached, reached_after}
 use Rattle.sshcore.specs.Tries.{tried_at}
-use Rattle.sshcore.specs.Standing.{behind_exchange, behind_offer, behind_payload, exchange_heard, nothing_known}
+use Rattle.sshcore.specs.Standing.{after_exchange, after_offer, after_payload, exchange_received, nothing_known}
 use Rattle.sshcore.proofs.GuessLemmas.{first_kexinit, none_stood}
 use Rattle.sshcore.proofs.PhaseLemmas.{kexinit_push, stood_push}
 use Rattle.sshcore.proofs.PlanLemmas.{kept_exchange, kept_kind, left_more, left_stays, reached_more, reached_stays, requests_more, requests_stay, unanswered_exchange, unanswered_from}
 
-abbrev known_with : List ℕ → List ℕ → Algorithms → ShareForm → List ℕ → ℕ → List Attempt → Reached → Bool → Bool → Known
+abbrev known_with : List ℕ → List ℕ → AlgorithmsData → ShareForm → List ℕ → ℕ → List AttemptData → ReachedData → Bool → Bool → Known
 known_with v k a f s r l g t i = record { version = v; kexinit = k; algorithms = a; shares = f; session = s; request = r; left = l; reached = g; strict = t; first = i }
 
-known_same : (v k k' : List ℕ) (a a' : Algorithms) (f f' : ShareForm) (s s' : List ℕ) (r r' : ℕ) (l l' : List Attempt) (g g' : Reached) (t t' i i' : Bool)
+known_same : (v k k' : List ℕ) (a a' : AlgorithmsData) (f f' : ShareForm) (s s' : List ℕ) (r r' : ℕ) (l l' : List AttemptData) (g g' : ReachedData) (t t' i i' : Bool)
     → k ≡ k' → a ≡ a' → f ≡ f' → s ≡ s' → r ≡ r' → l ≡ l' → g ≡ g' → t ≡ t' → i ≡ i' → known_with v k a f s r l g t i ≡ known_with v k' a' f' s' r' l' g' t' i'
 known_same v k k' a a' f f' s s' r r' l l' g g' t t' i i' ek ea ef es er el eg et ei = cc
 
@@ -50,20 +50,20 @@ some_stood (u ∷ us) e = ne_eqb (length (u ∷ us)) 0 (λ q. omega (arith, q))
 one_more : (before : Units) (payload : List ℕ) → (length (before ++ payload ∷ []) == 0) ≡ false
 one_more before payload = ne_eqb (length (before ++ payload ∷ [])) 0 (λ e. let more : length (before ++ payload ∷ []) ≡ length before + 1 = length-append before (payload ∷ []) in omega arith)
 
-module _ (m : Meaning) (role : Role) (party : Party) (version : List ℕ) where
-  abbrev algorithms_of : List ℕ → Algorithms
+module _ (m : SuiteData) (role : Role) (party : ConfigData) (version : List ℕ) where
+  abbrev algorithms_of : List ℕ → AlgorithmsData
   algorithms_of k = chosen_or (choice_with m role party.offer (offer_in k))
 
-  abbrev shares_of : List ℕ → ShareForm
-  shares_of k = shares_by m (choice_with m role party.offer (offer_in k))
+  abbrev shares_data : List ℕ → ShareForm
+  shares_data k = shares_by m (choice_with m role party.offer (offer_in k))
 
   abbrev pub exchange_by_payloads : List ℕ → List ℕ → ExchangeData
-  exchange_by_payloads k message = exchange_with m role party (algorithms_of k) version k (message_in (shares_of k) message)
+  exchange_by_payloads k message = exchange_with m role party (algorithms_of k) version k (message_in (shares_data k) message)
 
   abbrev session_by_payloads : List ℕ → List ℕ → List ℕ
   session_by_payloads k message = exchange_hash m (algorithms_of k).kex (exchange_by_payloads k message)
 
-  abbrev pub keys_by_payloads : Role → List ℕ → List ℕ → KeyData
+  abbrev pub keys_by_payloads : Role → List ℕ → List ℕ → KeysData
   keys_by_payloads sender k message = keys_by m (algorithms_of k) (exchange_by_payloads k message) sender
 
   message_push : (before : Units) (payload : List ℕ) → exchange_message role party (before ++ payload ∷ [])
@@ -103,13 +103,13 @@ module _ (m : Meaning) (role : Role) (party : Party) (version : List ℕ) where
         ap (λ (k : List ℕ). session_by_payloads k (exchange_message role party (before ++ payload ∷ []))) (kexinit_stays before payload is)
         ∙ ap (λ (l : List ℕ). session_by_payloads (kexinit before) l) message_is
 
-    pub exchange_is : (d : Policy) → exchange_at m role party version (before ++ payload ∷ []) ≡ exchange_heard m role party (known_at m d role party version before) payload
+    pub exchange_is : (d : DecisionsData) → exchange_at m role party version (before ++ payload ∷ []) ≡ exchange_received m role party (known_at m d role party version before) payload
     exchange_is d =
         ap (λ (k : List ℕ). exchange_by_payloads k (exchange_message role party (before ++ payload ∷ []))) (kexinit_stays before payload is)
         ∙ ap (λ (l : List ℕ). exchange_by_payloads (kexinit before) l) message_is
 
-    pub keys_are : (d : Policy) (sender : Role) → keys_at m role party version (before ++ payload ∷ []) sender
-        ≡ keys_by m (algorithms_at m role party before) (exchange_heard m role party (known_at m d role party version before) payload) sender
+    pub keys_are : (d : DecisionsData) (sender : Role) → keys_at m role party version (before ++ payload ∷ []) sender
+        ≡ keys_by m (algorithms_at m role party before) (exchange_received m role party (known_at m d role party version before) payload) sender
     keys_are d sender =
         ap (λ (k : List ℕ). keys_by_payloads sender k (exchange_message role party (before ++ payload ∷ []))) (kexinit_stays before payload is)
         ∙ ap (λ (l : List ℕ). keys_by_payloads sender (kexinit before) l) message_is
@@ -141,13 +141,13 @@ module _ (m : Meaning) (role : Role) (party : Party) (version : List ℕ) where
             rw (off, now) refl
 
 -- what is known
-module _ (m : Meaning) (d : Policy) (role : Role) (party : Party) (version : List ℕ) where
+module _ (m : SuiteData) (d : DecisionsData) (role : Role) (party : ConfigData) (version : List ℕ) where
   module _ (before : Units) (payload : List ℕ) (is : offered before ≡ true) (none : stood role party.offer (leaving role phase.Exchange) before ≡ false)
       (here : kept role party.offer (leaving role phase.Exchange) before payload ≡ true) where
-    pub known_exchanged : known_at m d role party version (before ++ payload ∷ []) ≡ behind_exchange m role party (known_at m d role party version before) payload
+    pub known_exchanged : known_at m d role party version (before ++ payload ∷ []) ≡ after_exchange m role party (known_at m d role party version before) payload
     known_exchanged =
         let k : kexinit (before ++ payload ∷ []) ≡ kexinit before = kexinit_stays before payload is in
-        known_same version _ _ _ _ _ _ _ _ _ _ _ _ _ _ _ _ _ _ k (ap (algorithms_of m role party version) k) (ap (shares_of m role party version) k)
+        known_same version _ _ _ _ _ _ _ _ _ _ _ _ _ _ _ _ _ _ k (ap (algorithms_of m role party version) k) (ap (shares_data m role party version) k)
         (rw (stood_on m role party version before payload is none here) (session_is m role party version before payload is none here))
         (ap (λ (n : ℕ). n + 1) (requests_stay role party.offer before payload (kept_exchange role party.offer before payload 50 (λ q. omega arith) (λ q. omega arith) here)))
         (left_stays role party before payload (unanswered_exchange role party.offer before payload here))
@@ -158,12 +158,12 @@ module _ (m : Meaning) (d : Policy) (role : Role) (party : Party) (version : Lis
       (same : kexinit (before ++ payload ∷ []) ≡ kexinit before)
       (side : ((offered before ≡ true) × (stood role party.offer (leaving role phase.Exchange) before ≡ true))
       ⊎ ((stood role party.offer (leaving role phase.Exchange) before ≡ false) × (kept role party.offer (leaving role phase.Exchange) before payload ≡ false))) where
-    pub known_kept : (request : ℕ) (left : List Attempt) (reached : Reached) → count_kept role party.offer 50 (before ++ payload ∷ []) + 1 ≡ request
+    pub known_kept : (request : ℕ) (left : List AttemptData) (reached : ReachedData) → count_kept role party.offer 50 (before ++ payload ∷ []) + 1 ≡ request
         → left_at role party (before ++ payload ∷ []) ≡ left
         → reached_after nothing_reached (tried_at m d role party version (before ++ payload ∷ [])) ≡ reached
         → known_at m d role party version (before ++ payload ∷ []) ≡ record (known_at m d role party version before) { request = request; left = left; reached = reached; first = false }
     known_kept request left reached er el eg =
-        known_same version _ _ _ _ _ _ _ _ _ _ _ _ _ _ _ _ _ _ same (ap (algorithms_of m role party version) same) (ap (shares_of m role party version) same) (session_kept m role party version before payload same side) er el eg
+        known_same version _ _ _ _ _ _ _ _ _ _ _ _ _ _ _ _ _ _ same (ap (algorithms_of m role party version) same) (ap (shares_data m role party version) same) (session_kept m role party version before payload same side) er el eg
         (ap (λ (x : List ℕ). strict_towards role party.strict (offer_in x)) same) (one_more before payload)
 
     -- one that is dropped, and one that isn't
@@ -173,24 +173,24 @@ module _ (m : Meaning) (d : Policy) (role : Role) (party : Party) (version : Lis
         known_kept _ _ _ (ap (λ (n : ℕ). n + 1) (requests_stay role party.offer before payload (none 50))) (left_stays role party before payload (unanswered_from role party.offer before payload (none 51) (none 60)))
         (reached_stays m d role party version before payload (none 50))
 
-    pub known_behind : expects_guess role party.offer before ≡ false
-        → known_at m d role party version (before ++ payload ∷ []) ≡ behind_payload m d party (known_at m d role party version before) payload
-    known_behind none = known_kept _ _ _ (requests_more role party.offer before payload none) (left_more role party before payload none) (reached_more m d role party version before payload none)
+    pub known_after : expects_guess role party.offer before ≡ false
+        → known_at m d role party version (before ++ payload ∷ []) ≡ after_payload m d party (known_at m d role party version before) payload
+    known_after none = known_kept _ _ _ (requests_more role party.offer before payload none) (left_more role party before payload none) (reached_more m d role party version before payload none)
 
   pub known_none : known_at m d role party version [] ≡ nothing_known party version
   unfolding kexinit stood message_in all_kept count_kept left_after tried_at
   known_none = refl
 
   -- the first KEXINIT
-  pub known_offered : (before : Units) (payload : List ℕ) (peer : Offer) → offered before ≡ false → kind payload ≡ 20 → offer_in payload ≡ Some peer
+  pub known_offered : (before : Units) (payload : List ℕ) (peer : KexInitData) → offered before ≡ false → kind payload ≡ 20 → offer_in payload ≡ Some peer
       → stood role party.offer (leaving role phase.Exchange) before ≡ false → stood role party.offer (leaving role phase.Exchange) (before ++ payload ∷ []) ≡ false
-      → known_at m d role party version (before ++ payload ∷ []) ≡ behind_offer m role party (known_at m d role party version before) payload peer
+      → known_at m d role party version (before ++ payload ∷ []) ≡ after_offer m role party (known_at m d role party version before) payload peer
   known_offered before payload peer none is offers off now =
       let k : kexinit (before ++ payload ∷ []) ≡ payload = first_kexinit before payload none is in
       let not_kept : (n : ℕ) → 20 ≢ n → kept role party.offer n before payload ≡ false = λ n other. kept_kind role party.offer before payload 20 n other is in
       known_same version _ _ _ _ _ _ _ _ _ _ _ _ _ _ _ _ _ _ k
       (ap (algorithms_of m role party version) k ∙ ap (λ o. chosen_or (choice_with m role party.offer o)) offers)
-      (ap (shares_of m role party version) k ∙ ap (λ o. shares_by m (choice_with m role party.offer o)) offers) (rw (off, now) refl)
+      (ap (shares_data m role party version) k ∙ ap (λ o. shares_by m (choice_with m role party.offer o)) offers) (rw (off, now) refl)
       (ap (λ (n : ℕ). n + 1) (requests_stay role party.offer before payload (not_kept 50 (λ q. omega arith))))
       (left_stays role party before payload (unanswered_from role party.offer before payload (not_kept 51 (λ q. omega arith)) (not_kept 60 (λ q. omega arith))))
       (reached_stays m d role party version before payload (not_kept 50 (λ q. omega arith)))

@@ -1,5 +1,5 @@
 pub mod Below
-pub mod PartyLemmas
+pub mod EndpointPartsLemmas
 pub mod AlgorithmsLemmas
 pub mod PayloadLemmas
 pub mod AgreeLemmas
@@ -24,7 +24,7 @@ pub mod HistoryLemmas
 pub mod OneHistory
 pub mod JoinedHistory
 pub mod FormLemmas
-pub mod SayingLemmas
+pub mod SendingLemmas
 pub mod OutputLemmas
 pub mod PairLemmas
 pub mod GivesLemmas
@@ -41,7 +41,7 @@ pub mod FeedLemmas
 pub mod ReadLemmas
 pub mod ExchangeLemmas
 pub mod ReadsLemmas
-pub mod BehindLemmas
+pub mod AfterLemmas
 pub mod WorksLemmas
 pub mod BringsLemmas
 pub mod AttemptLemmas

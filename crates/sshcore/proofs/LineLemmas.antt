@@ -5,20 +5,20 @@ use Rattle.std.proofs.lemmas.Bool.{true≢false}
 use Rattle.std.proofs.lemmas.List.{append-nil, length-take-le, take-append-drop}
 use Rattle.std.proofs.Math.Seq.{take-length}
 use Rattle.sshwire.specs.Feeding.{StandsOpen}
-use Rattle.sshwire.specs.LineState.{Finished, LineState, Progress, Refused, Waits}
+use Rattle.sshwire.specs.LineReaderData.{Finished, LineReaderData, Progress, Refused, Waits}
 use Rattle.sshwire.specs.Lines.{LineRefused, Preamble}
 use Rattle.sshwire.specs.declared.fault.WireFault.{WireFault}
 use Rattle.sshneg.specs.declared.role.Role.{Role}
 use Rattle.sshneg.specs.Markers.{other}
 use Rattle.sshpacket.specs.declared.reader.PacketReader.{PacketReader}
-use Rattle.sshpacket.specs.KeyData.{KeyData}
+use Rattle.sshpacket.specs.KeysData.{KeysData}
 use Rattle.sshpacket.specs.Parse.{OfLine, Parse, refused, unfinished, whole}
 use Rattle.sshpacket.specs.PreambleParser.{PreambleMeans, preamble_parser}
-use Rattle.sshpacket.specs.ReaderState.{state}
+use Rattle.sshpacket.specs.PacketReaderData.{packet_reader_data}
 use Rattle.sshpacket.specs.Stream.{Units}
-use Rattle.sshpacket.specs.Suite.{Meaning}
+use Rattle.sshpacket.specs.Suite.{SuiteData}
 use Rattle.sshcore.specs.declared.end.Fault.TheVariants as fault
-use Rattle.sshcore.specs.declared.input.Heard.TheVariants as heard
+use Rattle.sshcore.specs.declared.input.Received.TheVariants as received
 use Rattle.sshcore.specs.declared.input.Input.{Input}
 use Rattle.sshcore.specs.declared.input.Input.TheVariants as input
 use Rattle.sshcore.specs.declared.table.Phase.{Phase}
@@ -26,23 +26,23 @@ use Rattle.sshcore.specs.declared.table.Phase.TheVariants as phase
 use Rattle.sshcore.specs.Brings.{Gives}
 use Rattle.sshcore.specs.Counting.{number_in, switched_out}
 use Rattle.sshcore.specs.Directions.{keys_in, others_of, parsers, payloads_in, version_in}
-use Rattle.sshcore.specs.Ending.{Failed, Open, fails}
+use Rattle.sshcore.specs.EndData.{Failed, Open, fails}
 use Rattle.sshcore.specs.Exchange.{keys_at}
-use Rattle.sshcore.specs.HearsLines.{HearsLines}
+use Rattle.sshcore.specs.ReceivesLines.{ReceivesLines}
 use Rattle.sshcore.specs.History.{History}
-use Rattle.sshcore.specs.Inputs.{AsHeard, GoesOn, Stands, Steps, pending_at}
-use Rattle.sshcore.specs.Kept.{Kept}
+use Rattle.sshcore.specs.Inputs.{AsReceived, EndpointStands, GoesOn, Steps, pending_at}
+use Rattle.sshcore.specs.StateData.{StateData}
 use Rattle.sshcore.specs.Known.{Known}
 use Rattle.sshcore.specs.Phases.{past_exchange}
-use Rattle.sshcore.specs.Output.{Speaks, said_from, sending_from}
-use Rattle.sshcore.specs.Party.{Party, Policy}
+use Rattle.sshcore.specs.Output.{Speaks, sending_from, sent_from}
+use Rattle.sshcore.specs.EndpointParts.{ConfigData, DecisionsData}
 use Rattle.sshcore.specs.Standing.{Sits, nothing_known}
 use Rattle.sshcore.proofs.Below.{Below}
 use Rattle.sshcore.proofs.FeedLemmas.{open_history, stands_part, stands_refused, within}
 use Rattle.sshcore.proofs.HistoryLemmas as history
 use Rattle.sshcore.proofs.HistoryLemmas.{Streams}
-use Rattle.sshcore.proofs.OutputLemmas.{speaks_heard}
-use Rattle.sshcore.proofs.PlanLemmas.{last_good_key, no_good_key}
+use Rattle.sshcore.proofs.OutputLemmas.{speaks_received}
+use Rattle.sshcore.proofs.PlanLemmas.{last_successful_key, no_successful_key}
 use Rattle.sshcore.proofs.PhaseLemmas.{tied_none, tied_phase}
 use Rattle.sshcore.proofs.StandingLemmas as standing
 use Rattle.sshcore.proofs.UncutLemmas.{open_stays}
@@ -59,29 +59,29 @@ open_unfinished laws k bytes Finished o = absurd o
 open_unfinished laws k bytes (Refused code) o = absurd o
 
 -- nothing said
-gives_nothing : (m : Meaning) (seed : List ℕ) (strict : Bool) (next : KeyData) (kept : Kept) (before : List ℕ)
+gives_nothing : (m : SuiteData) (seed : List ℕ) (strict : Bool) (next : KeysData) (kept : StateData) (before : List ℕ)
     → Gives m seed strict next kept (record kept { end = Failed fault.Version }) before before (fails fault.Version)
-unfolding said_from sending_from
-gives_nothing m seed strict next kept before = record { ends = refl; says = sym (append-nil before); sends = refl; fits = tt }
+unfolding sent_from sending_from
+gives_nothing m seed strict next kept before = record { ends = refl; output = sym (append-nil before); sends = refl; fits = tt }
 
-number_none : (role : Role) (party : Party) → number_in role party [] ≡ 0
+number_none : (role : Role) (party : ConfigData) → number_in role party [] ≡ 0
 number_none role party = rw ((tied_none role party.offer).newkeys) refl
 
-keys_none : (m : Meaning) (role : Role) (party : Party) (version : List ℕ) → keys_in m role party version [] ≡ None
+keys_none : (m : SuiteData) (role : Role) (party : ConfigData) (version : List ℕ) → keys_in m role party version [] ≡ None
 keys_none m role party version = rw ((tied_none role party.offer).newkeys) refl
 
 -- where an endpoint stands that has heard no line
-first_phase : (m : Meaning) (d : Policy) (role : Role) (party : Party) (p : Phase) (g : Bool) (k : Known) → Sits m d role party [] [] p g k → p ≡ phase.KexInit
+first_phase : (m : SuiteData) (d : DecisionsData) (role : Role) (party : ConfigData) (p : Phase) (g : Bool) (k : Known) → Sits m d role party [] [] p g k → p ≡ phase.KexInit
 first_phase m d role party p g k s = sym (tied_phase role party.offer [] p s.tied) ∙ tied_phase role party.offer [] phase.KexInit (tied_none role party.offer)
 
-first_guess : (m : Meaning) (d : Policy) (role : Role) (party : Party) (p : Phase) (g : Bool) (k : Known) → Sits m d role party [] [] p g k → g ≡ false
+first_guess : (m : SuiteData) (d : DecisionsData) (role : Role) (party : ConfigData) (p : Phase) (g : Bool) (k : Known) → Sits m d role party [] [] p g k → g ≡ false
 first_guess m d role party p g k s = sym s.due ∙ (standing.begins m d role party []).due
 
-first_known : (m : Meaning) (d : Policy) (role : Role) (party : Party) (p : Phase) (g : Bool) (k : Known) → Sits m d role party [] [] p g k → k ≡ nothing_known party []
+first_known : (m : SuiteData) (d : DecisionsData) (role : Role) (party : ConfigData) (p : Phase) (g : Bool) (k : Known) → Sits m d role party [] [] p g k → k ≡ nothing_known party []
 first_known m d role party p g k s = sym s.knows ∙ (standing.begins m d role party []).knows
 
 -- a version line is answered by nothing
-module _ (below : Below) (streams : Streams) (m : Meaning) (d : Policy) (role : Role) (party : Party) (h s : List ℕ) where
+module _ (below : Below) (streams : Streams) (m : SuiteData) (d : DecisionsData) (role : Role) (party : ConfigData) (h s : List ℕ) where
   at_first : (rest : List ℕ) (answers : Units) → History m d role party [] rest None answers Open h s → (piece version : List ℕ) (used : ℕ) → used ≤ length piece
       → parsers m role party [] (rest ++ piece) ≡ whole version (length rest + used)
       → History m d role party (version ∷ []) [] None (answers ++ []) Open (h ++ take used piece) (s ++ [])
@@ -93,23 +93,23 @@ module _ (below : Below) (streams : Streams) (m : Meaning) (d : Policy) (role : 
   version_history [] rest answers none a piece version used low seen = at_first rest answers a piece version used low seen
   version_history (u ∷ us) rest answers none a piece version used low seen = absurd cc
 
-module _ (laws : LineLaws) (below : Below) (streams : Streams) (m : Meaning) (d : Policy) (role : Role) (party : Party) (kept : Kept) (i : Input) (h s : List ℕ) (is : kept.end ≡ Open) (a : Stands m d role party kept i h s) (none : a.units ≡ []) where
+module _ (laws : LineLaws) (below : Below) (streams : Streams) (m : SuiteData) (d : DecisionsData) (role : Role) (party : ConfigData) (kept : StateData) (i : Input) (h s : List ℕ) (is : kept.end ≡ Open) (a : EndpointStands m d role party kept i h s) (none : a.units ≡ []) where
   lines_are : (bytes : List ℕ) → parsers m role party a.units bytes ≡ preamble_parser (others_of role) bytes
   lines_are bytes = ap (λ (us : Units). parsers m role party us bytes) none
 
-  pub part_goes : (old new : LineState) (piece before : List ℕ) → StandsOpen (others_of role) (a.rest ++ piece) new.progress
+  pub part_goes : (old new : LineReaderData) (piece before : List ℕ) → StandsOpen (others_of role) (a.rest ++ piece) new.progress
       → GoesOn m d role party kept (input.Lines new) h s (take (length piece) piece) before before
   part_goes old new piece before stands = record {
     added = [];
     appended = sym (append-nil before);
-    stands = subst (λ (t : List ℕ). Stands m d role party kept (input.Lines new) (h ++ t) (s ++ [])) (sym (take-length piece))
-        (subst (λ (t : List ℕ). Stands m d role party kept (input.Lines new) (h ++ piece) t) (sym (append-nil s))
+    stands = subst (λ (t : List ℕ). EndpointStands m d role party kept (input.Lines new) (h ++ t) (s ++ [])) (sym (take-length piece))
+        (subst (λ (t : List ℕ). EndpointStands m d role party kept (input.Lines new) (h ++ piece) t) (sym (append-nil s))
         (stands_part below streams m d role party kept i h s is a (input.Lines new) piece
         (lines_are (a.rest ++ piece) ∙ open_unfinished laws (others_of role) (a.rest ++ piece) new.progress stands) (none, stands)));
     uncut = open_stays kept.end is;
   }
 
-  pub refused_goes : (next : KeyData) (j : Input) (piece before : List ℕ) (used place : ℕ) (code : WireFault) → used ≤ length piece → place + 1 ≡ length a.rest + used
+  pub refused_goes : (next : KeysData) (j : Input) (piece before : List ℕ) (used place : ℕ) (code : WireFault) → used ≤ length piece → place + 1 ≡ length a.rest + used
       → LineRefused (others_of role) (a.rest ++ piece) place code
       → GoesOn m d role party (record kept { end = Failed fault.Version }) j h s (take used piece) before before
   refused_goes next j piece before used place code low at refusal =
@@ -119,7 +119,7 @@ module _ (laws : LineLaws) (below : Below) (streams : Streams) (m : Meaning) (d 
       (gives_nothing m party.seed false next kept before)
 
   pub version_goes : (q : PacketReader) (piece before version : List ℕ) (used : ℕ) → used ≤ length piece → Preamble (others_of role) version (a.rest ++ take used piece)
-      → state q ≡ record { keys = None; seq = 0; held = []; fault = None }
+      → packet_reader_data q ≡ record { keys = None; seq = 0; held = []; fault = None }
       → GoesOn m d role party (record kept { known = record kept.known { version = version } }) (input.Packets q) h s (take used piece) before before
   version_goes q piece before version used low preamble fresh =
       let bytes : List ℕ = a.rest ++ take used piece in
@@ -133,7 +133,7 @@ module _ (laws : LineLaws) (below : Below) (streams : Streams) (m : Meaning) (d 
       let p = first_phase m d role party kept.phase kept.guess kept.known sits in
       let g = first_guess m d role party kept.phase kept.guess kept.known sits in
       let k = first_known m d role party kept.phase kept.guess kept.known sits in
-      let behind : a.units ++ version ∷ [] ≡ version ∷ [] = ap (λ (us : Units). us ++ version ∷ []) none in
+      let after : a.units ++ version ∷ [] ≡ version ∷ [] = ap (λ (us : Units). us ++ version ∷ []) none in
       record {
         added = [];
         appended = sym (append-nil before);
@@ -142,11 +142,11 @@ module _ (laws : LineLaws) (below : Below) (streams : Streams) (m : Meaning) (d 
           rest = [];
           refusal = None;
           answers = a.answers ++ [];
-          heard_end = Open;
+          received_end = Open;
           history = version_history below streams m d role party h s a.units a.rest a.answers none (open_history below streams m d role party kept i h s is a) piece version used low seen;
-          ends = AsHeard is;
+          ends = AsReceived is;
           inside = λ o. record {
-            sits = subst (λ (us : Units). Sits m d role party (version_in us) (payloads_in us) kept.phase kept.guess (record kept.known { version = version })) (sym behind)
+            sits = subst (λ (us : Units). Sits m d role party (version_in us) (payloads_in us) kept.phase kept.guess (record kept.known { version = version })) (sym after)
                 (subst (λ (x : Phase). Sits m d role party version [] x kept.guess (record kept.known { version = version })) (sym p)
                 (subst (λ (x : Bool). Sits m d role party version [] phase.KexInit x (record kept.known { version = version })) (sym g)
                 (subst (λ (x : Known). Sits m d role party version [] phase.KexInit false (record x { version = version })) (sym k) (standing.begins m d role party version))));
@@ -154,8 +154,8 @@ module _ (laws : LineLaws) (below : Below) (streams : Streams) (m : Meaning) (d 
             reads = (
               version,
               [],
-              behind,
-              fresh ∙ ap (λ (x : Option KeyData). record { keys = x; seq = 0; held = []; fault = None }) (sym (keys_none m role party version))
+              after,
+              fresh ∙ ap (λ (x : Option KeysData). record { keys = x; seq = 0; held = []; fault = None }) (sym (keys_none m role party version))
                   ∙ ap (λ (n : ℕ). record { keys = keys_in m role party version []; seq = n; held = []; fault = None }) (sym (number_none role party)),
             );
             carries = record {
@@ -163,10 +163,10 @@ module _ (laws : LineLaws) (below : Below) (streams : Streams) (m : Meaning) (d 
                   ∙ ap (λ (x : Phase). pending_at x (keys_at m role party (version_in (a.units ++ version ∷ [])) (payloads_in (a.units ++ version ∷ [])) (other role))) (sym p);
               own_version = λ past. absurd (true≢false (sym past ∙ ap past_exchange p));
               host_key = λ past. absurd (true≢false (sym past ∙ ap past_exchange p));
-              user_key = w.carries.user_key ∙ ap (λ (us : Units). last_good_key m d role party (version_in us) (payloads_in us)) none ∙ no_good_key m d role party []
-                  ∙ sym (no_good_key m d role party version) ∙ sym (ap (λ (us : Units). last_good_key m d role party (version_in us) (payloads_in us)) behind);
+              user_key = w.carries.user_key ∙ ap (λ (us : Units). last_successful_key m d role party (version_in us) (payloads_in us)) none ∙ no_successful_key m d role party []
+                  ∙ sym (no_successful_key m d role party version) ∙ sym (ap (λ (us : Units). last_successful_key m d role party (version_in us) (payloads_in us)) after);
             };
-            speaks = speaks_heard m role party a.units (version ∷ []) (a.answers ++ []) kept.sending
+            speaks = speaks_received m role party a.units (version ∷ []) (a.answers ++ []) kept.sending
                 (λ on. a.history.keyed (sym (ap switched_out (append-nil a.answers)) ∙ on))
                 (subst (λ (us : Units). Speaks m role party a.units us kept.sending) (sym (append-nil a.answers)) w.speaks);
           };
@@ -174,35 +174,35 @@ module _ (laws : LineLaws) (below : Below) (streams : Streams) (m : Meaning) (d 
         uncut = open_stays kept.end is;
       }
 
-module _ (laws : LineLaws) (below : Below) (streams : Streams) (m : Meaning) (d : Policy) (role : Role) (party : Party) (next : KeyData) (old : LineState) (kept : Kept) (piece before : List ℕ) (is : kept.end ≡ Open) where
-  goes_as : (new last : Kept) (j : Input) (h s : List ℕ) (n k : ℕ) → last ≡ new → k ≡ n → GoesOn m d role party new j h s (take n piece) before before → GoesOn m d role party last j h s (take k piece) before before
+module _ (laws : LineLaws) (below : Below) (streams : Streams) (m : SuiteData) (d : DecisionsData) (role : Role) (party : ConfigData) (next : KeysData) (old : LineReaderData) (kept : StateData) (piece before : List ℕ) (is : kept.end ≡ Open) where
+  goes_as : (new last : StateData) (j : Input) (h s : List ℕ) (n k : ℕ) → last ≡ new → k ≡ n → GoesOn m d role party new j h s (take n piece) before before → GoesOn m d role party last j h s (take k piece) before before
   goes_as new last j h s n k e f g =
-      subst (λ (x : ℕ). GoesOn m d role party last j h s (take x piece) before before) (sym f) (subst (λ (x : Kept). GoesOn m d role party x j h s (take n piece) before before) (sym e) g)
+      subst (λ (x : ℕ). GoesOn m d role party last j h s (take x piece) before before) (sym f) (subst (λ (x : StateData). GoesOn m d role party x j h s (take n piece) before before) (sym e) g)
 
   -- the version line hasn't come
-  pub lines_part : (new : LineState) (last : Kept) (used : ℕ) → ((k : ℕ) (bytes : List ℕ) → StandsOpen k bytes old.progress → HearsLines k bytes new kept last piece (heard.Part used))
+  pub lines_part : (new : LineReaderData) (last : StateData) (used : ℕ) → ((k : ℕ) (bytes : List ℕ) → StandsOpen k bytes old.progress → ReceivesLines k bytes new kept last piece (received.Part used))
       → Steps m d role party (input.Lines old) kept (input.Lines new) last (take used piece) before before
-  lines_part new last used hears h s a =
+  lines_part new last used receives h s a =
       let w = within below streams m d role party kept (input.Lines old) h s is a in
-      let x = hears (others_of role) a.rest w.reads.1 in
+      let x = receives (others_of role) a.rest w.reads.1 in
       goes_as kept last (input.Lines new) h s (length piece) used x.2 x.1
       (part_goes laws below streams m d role party kept (input.Lines old) h s is a w.reads.0 old new piece before x.0)
 
   -- a line is refused
-  pub lines_refused : (new : LineState) (j : Input) (last : Kept) (used : ℕ) → ((k : ℕ) (bytes : List ℕ) → StandsOpen k bytes old.progress → HearsLines k bytes new kept last piece (heard.Refused used))
+  pub lines_refused : (new : LineReaderData) (j : Input) (last : StateData) (used : ℕ) → ((k : ℕ) (bytes : List ℕ) → StandsOpen k bytes old.progress → ReceivesLines k bytes new kept last piece (received.Refused used))
       → Steps m d role party (input.Lines old) kept j last (take used piece) before before
-  lines_refused new j last used hears h s a =
+  lines_refused new j last used receives h s a =
       let w = within below streams m d role party kept (input.Lines old) h s is a in
-      let x = hears (others_of role) a.rest w.reads.1 in
+      let x = receives (others_of role) a.rest w.reads.1 in
       goes_as (record kept { end = Failed fault.Version }) last j h s used used x.5 refl
       (refused_goes laws below streams m d role party kept (input.Lines old) h s is a w.reads.0 next j piece before used x.0 x.1 x.4 x.2 x.3)
 
   -- the version line has come
-  pub lines_whole : (new : LineState) (q : PacketReader) (last : Kept) (used : ℕ) → ((k : ℕ) (bytes : List ℕ) → StandsOpen k bytes old.progress → HearsLines k bytes new kept last piece (heard.Whole used))
-      → state q ≡ record { keys = None; seq = 0; held = []; fault = None }
+  pub lines_whole : (new : LineReaderData) (q : PacketReader) (last : StateData) (used : ℕ) → ((k : ℕ) (bytes : List ℕ) → StandsOpen k bytes old.progress → ReceivesLines k bytes new kept last piece (received.Whole used))
+      → packet_reader_data q ≡ record { keys = None; seq = 0; held = []; fault = None }
       → Steps m d role party (input.Lines old) kept (input.Packets q) last (take used piece) before before
-  lines_whole new q last used hears fresh h s a =
+  lines_whole new q last used receives fresh h s a =
       let w = within below streams m d role party kept (input.Lines old) h s is a in
-      let x = hears (others_of role) a.rest w.reads.1 in
+      let x = receives (others_of role) a.rest w.reads.1 in
       goes_as (record kept { known = record kept.known { version = x.0 } }) last (input.Packets q) h s used used x.3 refl
       (version_goes laws below streams m d role party kept (input.Lines old) h s is a w.reads.0 q piece before x.0 used x.2 x.1 fresh)

@@ -6,8 +6,8 @@ use Rattle.sshpacket.specs.declared.fault.PacketFault.TheVariants.{Empty, Length
 use Rattle.sshpacket.specs.declared.reader.PacketStep.{PacketStep}
 use Rattle.sshpacket.specs.declared.reader.PacketStep.TheVariants.{More, Payload}
 use Rattle.sshpacket.specs.ProtectedPacket.{Refuses}
-use Rattle.sshpacket.specs.ReaderState.{IsPayload, OnlyPacketAnswer, PacketAnswer, ReaderLeaves, ReaderState, Uses, last_used, protection_at, state}
-use Rattle.sshpacket.specs.Suite.{Meaning}
+use Rattle.sshpacket.specs.PacketReaderData.{IsPayload, OnlyPacketAnswer, PacketAnswer, PacketReaderData, ReaderLeaves, Uses, last_used, packet_reader_data, protection_at}
+use Rattle.sshpacket.specs.Suite.{SuiteData}
 use Rattle.sshcore.specs.declared.link_fault.LinkFault.TheVariants as fault
 use Rattle.sshcore.specs.Linked.{Incoming, LinkLeaves, OnlyOpenAnswer, OpenAnswer, Opens, fault_by, packet_ended, told_by}
 
@@ -23,8 +23,8 @@ one_ended [] zero e some = absurd (omega (arith, some))
 one_ended [] (suc n) e some = refl
 one_ended (b ∷ held) used e some = absurd cc
 
-module _ (m : Meaning) (i : Incoming) (piece : List ℕ) where
-  pub tells_of : (answer : Result PacketStep PacketFault) → PacketAnswer m (state i.reader) piece answer → OpenAnswer m i piece (told_by answer)
+module _ (m : SuiteData) (i : Incoming) (piece : List ℕ) where
+  pub tells_of : (answer : Result PacketStep PacketFault) → PacketAnswer m (packet_reader_data i.reader) piece answer → OpenAnswer m i piece (told_by answer)
   tells_of (Ok step) a = a
   tells_of (Err Length) a = (λ e. cc, a)
   tells_of (Err Padding) a = (λ e. cc, a)
@@ -53,40 +53,40 @@ module _ (m : Meaning) (i : Incoming) (piece : List ℕ) where
   told_refused Mac answer other or = elim or [ inl e ↦ inl (ap told_by e) | inr e ↦ inr (ap told_by e) ]
   told_refused Memory answer other or = absurd (other refl)
 
-  is_refusal : (f : PacketFault) (place : ℕ) → Refuses (protection_at m (state i.reader)) ((state i.reader).held ++ piece) f place → f ≢ Memory
+  is_refusal : (f : PacketFault) (place : ℕ) → Refuses (protection_at m (packet_reader_data i.reader)) ((packet_reader_data i.reader).held ++ piece) f place → f ≢ Memory
   is_refusal Length place r = λ e. cc
   is_refusal Padding place r = λ e. cc
   is_refusal Empty place r = λ e. cc
   is_refusal Mac place r = λ e. cc
   is_refusal Memory place r = absurd r
 
-  pub only_of : (answer : Result PacketStep PacketFault) → OnlyPacketAnswer m (state i.reader) piece answer → OnlyOpenAnswer m i piece (told_by answer)
+  pub only_of : (answer : Result PacketStep PacketFault) → OnlyPacketAnswer m (packet_reader_data i.reader) piece answer → OnlyOpenAnswer m i piece (told_by answer)
   only_of answer only = record {
     more = λ means. told_more answer (only.more means);
-    payload = λ payload used low unit. told_payload payload (state i.reader).seq used answer (only.payload payload used low unit);
+    payload = λ payload used low unit. told_payload payload (packet_reader_data i.reader).seq used answer (only.payload payload used low unit);
     refused = λ f place r. told_refused f answer (is_refusal f place r) (only.refused f place r);
   }
 
   -- how the count is left
-  counts_more : (new : Incoming) → (state new.reader).held ≡ (state i.reader).held ++ piece → last_used new.reader ≡ length piece
-      → new.opened ≡ i.opened + packet_ended (state new.reader).held (last_used new.reader) → new.opened ≡ i.opened
+  counts_more : (new : Incoming) → (packet_reader_data new.reader).held ≡ (packet_reader_data i.reader).held ++ piece → last_used new.reader ≡ length piece
+      → new.opened ≡ i.opened + packet_ended (packet_reader_data new.reader).held (last_used new.reader) → new.opened ≡ i.opened
   counts_more new held used count =
-      let none : packet_ended (state new.reader).held (last_used new.reader) ≡ 0
-      = ap (λ (xs : List ℕ). packet_ended xs (last_used new.reader)) held ∙ (ap (λ (n : ℕ). packet_ended ((state i.reader).held ++ piece) n) used ∙ none_ended (state i.reader).held piece) in
+      let none : packet_ended (packet_reader_data new.reader).held (last_used new.reader) ≡ 0
+      = ap (λ (xs : List ℕ). packet_ended xs (last_used new.reader)) held ∙ (ap (λ (n : ℕ). packet_ended ((packet_reader_data i.reader).held ++ piece) n) used ∙ none_ended (packet_reader_data i.reader).held piece) in
       omega (arith, count, none)
 
-  counts_one : (new : Incoming) → (state new.reader).held ≡ [] → 0 < last_used new.reader
-      → new.opened ≡ i.opened + packet_ended (state new.reader).held (last_used new.reader) → new.opened ≡ i.opened + 1
+  counts_one : (new : Incoming) → (packet_reader_data new.reader).held ≡ [] → 0 < last_used new.reader
+      → new.opened ≡ i.opened + packet_ended (packet_reader_data new.reader).held (last_used new.reader) → new.opened ≡ i.opened + 1
   counts_one new held some count =
-      let one : packet_ended (state new.reader).held (last_used new.reader) ≡ 1 = one_ended (state new.reader).held (last_used new.reader) held some in
+      let one : packet_ended (packet_reader_data new.reader).held (last_used new.reader) ≡ 1 = one_ended (packet_reader_data new.reader).held (last_used new.reader) held some in
       omega (arith, count, one)
 
-  pub leaves_of : (answer : Result PacketStep PacketFault) (new : Incoming) → ReaderLeaves m (state i.reader) piece answer new.reader
-      → IfOk answer (λ step. Uses (length piece) step) → new.opened ≡ i.opened + packet_ended (state new.reader).held (last_used new.reader)
+  pub leaves_of : (answer : Result PacketStep PacketFault) (new : Incoming) → ReaderLeaves m (packet_reader_data i.reader) piece answer new.reader
+      → IfOk answer (λ step. Uses (length piece) step) → new.opened ≡ i.opened + packet_ended (packet_reader_data new.reader).held (last_used new.reader)
       → LinkLeaves m i piece (told_by answer) new
-  leaves_of (Ok More) new l uses count = (l.0, counts_more new (ap (λ (s : ReaderState). s.held) l.0) l.1 count, l.2)
+  leaves_of (Ok More) new l uses count = (l.0, counts_more new (ap (λ (s : PacketReaderData). s.held) l.0) l.1 count, l.2)
   leaves_of (Ok (Payload payload seq used)) new l uses count =
-      (l.0, counts_one new (ap (λ (s : ReaderState). s.held) l.0) (omega (arith, l.1, uses.0)) count, l.2)
+      (l.0, counts_one new (ap (λ (s : PacketReaderData). s.held) l.0) (omega (arith, l.1, uses.0)) count, l.2)
   leaves_of (Err Length) new l uses count = l.0
   leaves_of (Err Padding) new l uses count = l.0
   leaves_of (Err Empty) new l uses count = l.0

@@ -3,44 +3,44 @@
 use Rattle.std.proofs.Common.{◌≡◌, inl, inr, ℕ, ◌+◌, ◌==◌, Bool, true, false, cond, List, [], ◌∷◌, ◌++◌, Option, None, Some, refl, sym, ap, ◌∙◌, subst}
 use Rattle.std.specs.Prelude.{◌%◌, ◌^◌}
 use Rattle.std.proofs.lemmas.Bool.{true≢false}
-use Rattle.sshmsg.specs.Content.{KexInit}
+use Rattle.sshmsg.specs.MessageData.{KexInit}
 use Rattle.sshmsg.specs.Numbers.{kind}
 use Rattle.sshwire.specs.declared.share_form.ShareForm.TheVariants.{Mpint}
 use Rattle.sshneg.specs.declared.role.Role.{Role}
 use Rattle.sshneg.specs.declared.role.Role.TheVariants.{Client, Server}
 use Rattle.sshneg.specs.Derivations.{ExchangeData}
-use Rattle.sshneg.specs.Fields.{Algorithms}
+use Rattle.sshneg.specs.Fields.{AlgorithmsData}
 use Rattle.sshneg.specs.Markers.{other}
-use Rattle.sshpacket.specs.KeyData.{KeyData}
+use Rattle.sshpacket.specs.KeysData.{KeysData}
 use Rattle.sshpacket.specs.Stream.{Units}
-use Rattle.sshpacket.specs.Suite.{Meaning}
+use Rattle.sshpacket.specs.Suite.{SuiteData}
 use Rattle.sshcore.specs.declared.table.Phase.{Phase}
 use Rattle.sshcore.specs.declared.table.Phase.TheVariants as phase
 use Rattle.sshcore.specs.Before.{kept, wrong_guess}
-use Rattle.sshcore.specs.Brings.{Drops, Exchanges, Leaves, Moves, Offers, StandsAt, Stays, heard_one}
+use Rattle.sshcore.specs.Brings.{Drops, Exchanges, Leaves, Moves, Offers, StandsAt, Stays, received_one}
 use Rattle.sshcore.specs.Counting.{number_in}
 use Rattle.sshcore.specs.Directions.{keys_in}
 use Rattle.sshcore.specs.Exchange.{exchange_at, keys_at}
 use Rattle.sshcore.specs.Inputs.{IsCarried, pending_at}
-use Rattle.sshcore.specs.Kept.{Carried, Kept, keys_due, keys_left}
+use Rattle.sshcore.specs.StateData.{Carried, StateData, keys_due, keys_left}
 use Rattle.sshcore.specs.Known.{Known}
-use Rattle.sshcore.specs.Party.{Party, Policy, UserKeyData}
-use Rattle.sshcore.specs.Phases.{behind, leaving, past_exchange, past_kexinit, past_newkeys}
-use Rattle.sshcore.specs.Standing.{Sits, behind_exchange, behind_offer, behind_payload}
+use Rattle.sshcore.specs.EndpointParts.{ConfigData, DecisionsData, UserKeyData}
+use Rattle.sshcore.specs.Phases.{leaving, next_phase, past_exchange, past_kexinit, past_newkeys}
+use Rattle.sshcore.specs.Standing.{Sits, after_exchange, after_offer, after_payload}
 use Rattle.sshcore.proofs.Below.{Below}
 use Rattle.sshcore.proofs.GuessLemmas.{read_offer}
-use Rattle.sshcore.specs.Tries.{good_key_in, last_key}
+use Rattle.sshcore.specs.Tries.{last_key, successful_key_in}
 use Rattle.sshcore.proofs.PhaseLemmas.{kept_dropped, kept_free}
-use Rattle.sshcore.proofs.PlanLemmas.{key_more, key_stays, last_good_key}
+use Rattle.sshcore.proofs.PlanLemmas.{key_more, key_stays, last_successful_key}
 use Rattle.sshcore.proofs.StandingLemmas as standing
 
 -- the number of the next packet that is heard, by the keys that are set and strictness
-abbrev pub number_with : Option KeyData → Bool → ℕ → ℕ
+abbrev pub number_with : Option KeysData → Bool → ℕ → ℕ
 number_with None strict n = (n + 1) % 2 ^ 32
 number_with (Some keys) strict n = cond strict 0 ((n + 1) % 2 ^ 32)
 
 -- and the keys
-abbrev pub keys_with : Option KeyData → Option KeyData → Option KeyData
+abbrev pub keys_with : Option KeysData → Option KeysData → Option KeysData
 keys_with None keys = keys
 keys_with (Some set) keys = Some set
 
@@ -52,19 +52,19 @@ exchange_request : (role : Role) (n : ℕ) → n ≡ leaving role phase.Exchange
 exchange_request Client n e = rw e refl
 exchange_request Server n e = rw e refl
 
-module _ (below : Below) (m : Meaning) (d : Policy) (role : Role) (party : Party) (version : List ℕ) (before : Units) (payload : List ℕ) where
+module _ (below : Below) (m : SuiteData) (d : DecisionsData) (role : Role) (party : ConfigData) (version : List ℕ) (before : Units) (payload : List ℕ) where
   -- the keys of what is heard from the peer: before, and behind the payload
-  abbrev pub keys_so_far : KeyData
+  abbrev pub keys_so_far : KeysData
   keys_so_far = keys_at m role party version before (other role)
 
-  abbrev pub keys_behind : KeyData
-  keys_behind = keys_at m role party version (before ++ payload ∷ []) (other role)
+  abbrev pub keys_after : KeysData
+  keys_after = keys_at m role party version (before ++ payload ∷ []) (other role)
 
   as_known : (us : Units) (p q : Phase) (b c : Bool) (k l : Known) → p ≡ q → b ≡ c → k ≡ l → Sits m d role party version us p b k → Sits m d role party version us q c l
   as_known us p q b c k l e f g s =
       subst (λ (x : Known). Sits m d role party version us q c x) g (subst (λ (x : Bool). Sits m d role party version us q x k) f (subst (λ (x : Phase). Sits m d role party version us x b k) e s))
 
-  stands_new : (new : Kept) (p : Phase) (b : Bool) (k : Known) → StandsAt new p b k → Sits m d role party version (before ++ payload ∷ []) p b k
+  stands_new : (new : StateData) (p : Phase) (b : Bool) (k : Known) → StandsAt new p b k → Sits m d role party version (before ++ payload ∷ []) p b k
       → Sits m d role party version (before ++ payload ∷ []) new.phase new.guess new.known
   stands_new new p b k st s = as_known (before ++ payload ∷ []) p new.phase b new.guess k new.known (sym st.phase_is) (sym st.guess_is) (sym st.known_is) s
 
@@ -72,33 +72,33 @@ module _ (below : Below) (m : Meaning) (d : Policy) (role : Role) (party : Party
       → keys_in m role party version us ≡ cond (past_newkeys p) (Some (keys_at m role party version us (other role))) None
   keys_in_at us p b k s = rw (s.tied.newkeys) refl
 
-  module _ (old new : Kept) (s : Sits m d role party version before old.phase old.guess old.known) where
-    pub sits_behind : Moves m d role party payload old new → Sits m d role party version (before ++ payload ∷ []) new.phase new.guess new.known
-    sits_behind (Offers peer at none is same form st) =
-        stands_new new phase.Exchange (wrong_guess role party.offer (Some peer)) (behind_offer m role party old.known payload peer) st
+  module _ (old new : StateData) (s : Sits m d role party version before old.phase old.guess old.known) where
+    pub sits_after : Moves m d role party payload old new → Sits m d role party version (before ++ payload ∷ []) new.phase new.guess new.known
+    sits_after (Offers peer at none is same form st) =
+        stands_new new phase.Exchange (wrong_guess role party.offer (Some peer)) (after_offer m role party old.known payload peer) st
         (standing.offers m d role party version before payload below peer old.known (as_known before old.phase phase.KexInit old.guess false old.known old.known at none refl s) is)
-    sits_behind (Drops due one same st) =
-        stands_new new old.phase false (heard_one old.known) st
+    sits_after (Drops due one same st) =
+        stands_new new old.phase false (received_one old.known) st
         (standing.drops m d role party version before payload old.phase old.known (as_known before old.phase old.phase old.guess true old.known old.known refl due refl s) one)
-    sits_behind (Exchanges at none is same st) =
-        stands_new new phase.NewKeys false (behind_exchange m role party old.known payload) st
+    sits_after (Exchanges at none is same st) =
+        stands_new new phase.NewKeys false (after_exchange m role party old.known payload) st
         (standing.exchanges m d role party version before payload old.known (as_known before old.phase phase.Exchange old.guess false old.known old.known at none refl s) is)
-    sits_behind (Leaves none past is same st) =
-        stands_new new (behind old.phase) false (behind_payload m d party old.known payload) st
+    sits_after (Leaves none past is same st) =
+        stands_new new (next_phase old.phase) false (after_payload m d party old.known payload) st
         (standing.leaves m d role party version before payload old.phase old.known (as_known before old.phase old.phase old.guess false old.known old.known refl none refl s) past is)
-    sits_behind (Stays none calm same st) =
-        stands_new new old.phase false (behind_payload m d party old.known payload) st
+    sits_after (Stays none calm same st) =
+        stands_new new old.phase false (after_payload m d party old.known payload) st
         (standing.stays m d role party version before payload old.phase old.known (as_known before old.phase old.phase old.guess false old.known old.known refl none refl s) calm)
 
   -- what is set behind a payload, and what is left
-  pub record Turned (q : Phase) (pending : Option KeyData) (strict : Bool) : Type 0 where
-    pub left : keys_left q pending ≡ pending_at q keys_behind
+  pub record Turned (q : Phase) (pending : Option KeysData) (strict : Bool) : Type 0 where
+    pub left : keys_left q pending ≡ pending_at q keys_after
     pub keys : keys_in m role party version (before ++ payload ∷ []) ≡ keys_with (keys_due q pending) (keys_in m role party version before)
     pub number : number_in role party (before ++ payload ∷ []) ≡ number_with (keys_due q pending) strict (number_in role party before)
 
-  turned_as : (q r : Phase) (x y : Option KeyData) (b c : Bool) → r ≡ q → y ≡ x → c ≡ b → Turned q x b → Turned r y c
+  turned_as : (q r : Phase) (x y : Option KeysData) (b c : Bool) → r ≡ q → y ≡ x → c ≡ b → Turned q x b → Turned r y c
   turned_as q r x y b c e f g t =
-      subst (λ (z : Bool). Turned r y z) (sym g) (subst (λ (z : Option KeyData). Turned r z b) (sym f) (subst (λ (z : Phase). Turned z x b) (sym e) t))
+      subst (λ (z : Bool). Turned r y z) (sym g) (subst (λ (z : Option KeysData). Turned r z b) (sym f) (subst (λ (z : Phase). Turned z x b) (sym e) t))
 
   -- a payload that is no NEWKEYS, and stays in the phase
   calm_turn : (p : Phase) (guess b : Bool) (known next : Known) (strict : Bool) → Sits m d role party version before p guess known → Sits m d role party version (before ++ payload ∷ []) p b next
@@ -132,8 +132,8 @@ module _ (below : Below) (m : Meaning) (d : Policy) (role : Role) (party : Party
   }
 
   -- a message that leaves a phase behind the exchange
-  leaving_turn : (p : Phase) (b : Bool) (known next : Known) → Sits m d role party version before p false known → Sits m d role party version (before ++ payload ∷ []) (behind p) b next
-      → past_exchange p ≡ true → kind payload ≡ leaving role p → Turned (behind p) (pending_at p keys_so_far) known.strict
+  leaving_turn : (p : Phase) (b : Bool) (known next : Known) → Sits m d role party version before p false known → Sits m d role party version (before ++ payload ∷ []) (next_phase p) b next
+      → past_exchange p ≡ true → kind payload ≡ leaving role p → Turned (next_phase p) (pending_at p keys_so_far) known.strict
   leaving_turn phase.KexInit b known next s t past is = absurd (true≢false (sym past))
   leaving_turn phase.Exchange b known next s t past is = absurd (true≢false (sym past))
   leaving_turn phase.NewKeys b known next s t past is = record {
@@ -158,78 +158,78 @@ module _ (below : Below) (m : Meaning) (d : Policy) (role : Role) (party : Party
     number = standing.counts_on m d role party version before payload phase.Auth false known s (inl refl);
   }
 
-  as_old : (old new : Kept) (k : Known) → (past_kexinit old.phase ≡ true → old.known.shares ≡ m.share_form old.known.algorithms.kex) → new.known ≡ k
+  as_old : (old new : StateData) (k : Known) → (past_kexinit old.phase ≡ true → old.known.shares ≡ m.share_form old.known.algorithms.kex) → new.known ≡ k
       → k.shares ≡ old.known.shares → k.algorithms ≡ old.known.algorithms → past_kexinit old.phase ≡ true → new.known.shares ≡ m.share_form new.known.algorithms.kex
   as_old old new k form e f g past =
-      ap (λ (x : Known). x.shares) e ∙ f ∙ form past ∙ ap (λ (a : Algorithms). m.share_form a.kex) (sym g) ∙ ap (λ (x : Known). m.share_form x.algorithms.kex) (sym e)
+      ap (λ (x : Known). x.shares) e ∙ f ∙ form past ∙ ap (λ (a : AlgorithmsData). m.share_form a.kex) (sym g) ∙ ap (λ (x : Known). m.share_form x.algorithms.kex) (sym e)
 
-  module _ (old new : Kept) (s : Sits m d role party version before old.phase old.guess old.known) (pending : old.carried.pending ≡ pending_at old.phase keys_so_far) where
+  module _ (old new : StateData) (s : Sits m d role party version before old.phase old.guess old.known) (pending : old.carried.pending ≡ pending_at old.phase keys_so_far) where
     pub turned : Moves m d role party payload old new → Turned new.phase new.carried.pending new.known.strict
     turned (Offers peer at none is same form st) =
         let s0 : Sits m d role party version before phase.KexInit false old.known = as_known before old.phase phase.KexInit old.guess false old.known old.known at none refl s in
-        let t0 : Sits m d role party version (before ++ payload ∷ []) phase.Exchange (wrong_guess role party.offer (Some peer)) (behind_offer m role party old.known payload peer) =
+        let t0 : Sits m d role party version (before ++ payload ∷ []) phase.Exchange (wrong_guess role party.offer (Some peer)) (after_offer m role party old.known payload peer) =
         standing.offers m d role party version before payload below peer old.known s0 is in
         let twenty : kind payload ≡ 20 = below.numbers Mpint payload (KexInit peer) (read_offer payload peer is) in
         let unkept : kept role party.offer 21 before payload ≡ false = kept_free role party.offer before payload 21 s0.due ∙ rw twenty refl in
         turned_as phase.Exchange new.phase None new.carried.pending new.known.strict new.known.strict st.phase_is (ap (λ (c : Carried). c.pending) same ∙ pending ∙ ap (λ (p : Phase). pending_at p keys_so_far) at) refl (record {
           left = refl;
-          keys = keys_in_at (before ++ payload ∷ []) phase.Exchange (wrong_guess role party.offer (Some peer)) (behind_offer m role party old.known payload peer) t0
+          keys = keys_in_at (before ++ payload ∷ []) phase.Exchange (wrong_guess role party.offer (Some peer)) (after_offer m role party old.known payload peer) t0
               ∙ sym (keys_in_at before phase.KexInit false old.known s0);
           number = standing.counts_on m d role party version before payload phase.KexInit false old.known s0 (inr unkept);
         })
     turned (Drops due one same st) =
         let s0 : Sits m d role party version before old.phase true old.known = as_known before old.phase old.phase old.guess true old.known old.known refl due refl s in
-        let t0 : Sits m d role party version (before ++ payload ∷ []) old.phase false (heard_one old.known) = standing.drops m d role party version before payload old.phase old.known s0 one in
+        let t0 : Sits m d role party version (before ++ payload ∷ []) old.phase false (received_one old.known) = standing.drops m d role party version before payload old.phase old.known s0 one in
         turned_as old.phase new.phase (pending_at old.phase keys_so_far) new.carried.pending new.known.strict new.known.strict st.phase_is (ap (λ (c : Carried). c.pending) same ∙ pending) refl
-        (calm_turn old.phase true false old.known (heard_one old.known) new.known.strict s0 t0 (kept_dropped role party.offer before payload 21 s0.due one))
+        (calm_turn old.phase true false old.known (received_one old.known) new.known.strict s0 t0 (kept_dropped role party.offer before payload 21 s0.due one))
     turned (Exchanges at none is same st) =
         let s0 : Sits m d role party version before phase.Exchange false old.known = as_known before old.phase phase.Exchange old.guess false old.known old.known at none refl s in
-        let t0 : Sits m d role party version (before ++ payload ∷ []) phase.NewKeys false (behind_exchange m role party old.known payload) =
+        let t0 : Sits m d role party version (before ++ payload ∷ []) phase.NewKeys false (after_exchange m role party old.known payload) =
         standing.exchanges m d role party version before payload old.known s0 is in
         let unkept : kept role party.offer 21 before payload ≡ false = kept_free role party.offer before payload 21 s0.due ∙ exchange_number role (kind payload) is in
-        turned_as phase.NewKeys new.phase (Some keys_behind) new.carried.pending new.known.strict new.known.strict st.phase_is
+        turned_as phase.NewKeys new.phase (Some keys_after) new.carried.pending new.known.strict new.known.strict st.phase_is
         (ap (λ (c : Carried). c.pending) same ∙ ap Some (sym (standing.makes_keys m d role party version before payload old.known s0 is (other role)))) refl (record {
           left = refl;
-          keys = keys_in_at (before ++ payload ∷ []) phase.NewKeys false (behind_exchange m role party old.known payload) t0 ∙ sym (keys_in_at before phase.Exchange false old.known s0);
+          keys = keys_in_at (before ++ payload ∷ []) phase.NewKeys false (after_exchange m role party old.known payload) t0 ∙ sym (keys_in_at before phase.Exchange false old.known s0);
           number = standing.counts_on m d role party version before payload phase.Exchange false old.known s0 (inr unkept);
         })
     turned (Leaves none past is same st) =
         let s0 : Sits m d role party version before old.phase false old.known = as_known before old.phase old.phase old.guess false old.known old.known refl none refl s in
-        let t0 : Sits m d role party version (before ++ payload ∷ []) (behind old.phase) false (behind_payload m d party old.known payload) = standing.leaves m d role party version before payload old.phase old.known s0 past is in
-        turned_as (behind old.phase) new.phase (pending_at old.phase keys_so_far) new.carried.pending old.known.strict new.known.strict st.phase_is (ap (λ (c : Carried). c.pending) same ∙ pending) (ap (λ (k : Known). k.strict) st.known_is)
-        (leaving_turn old.phase false old.known (behind_payload m d party old.known payload) s0 t0 past is)
+        let t0 : Sits m d role party version (before ++ payload ∷ []) (next_phase old.phase) false (after_payload m d party old.known payload) = standing.leaves m d role party version before payload old.phase old.known s0 past is in
+        turned_as (next_phase old.phase) new.phase (pending_at old.phase keys_so_far) new.carried.pending old.known.strict new.known.strict st.phase_is (ap (λ (c : Carried). c.pending) same ∙ pending) (ap (λ (k : Known). k.strict) st.known_is)
+        (leaving_turn old.phase false old.known (after_payload m d party old.known payload) s0 t0 past is)
     turned (Stays none calm same st) =
         let s0 : Sits m d role party version before old.phase false old.known = as_known before old.phase old.phase old.guess false old.known old.known refl none refl s in
-        let t0 : Sits m d role party version (before ++ payload ∷ []) old.phase false (behind_payload m d party old.known payload) = standing.stays m d role party version before payload old.phase old.known s0 calm in
+        let t0 : Sits m d role party version (before ++ payload ∷ []) old.phase false (after_payload m d party old.known payload) = standing.stays m d role party version before payload old.phase old.known s0 calm in
         turned_as old.phase new.phase (pending_at old.phase keys_so_far) new.carried.pending new.known.strict new.known.strict st.phase_is (ap (λ (c : Carried). c.pending) same ∙ pending) refl
-        (calm_turn old.phase false false old.known (behind_payload m d party old.known payload) new.known.strict s0 t0 (kept_free role party.offer before payload 21 s0.due ∙ calm.newkeys))
+        (calm_turn old.phase false false old.known (after_payload m d party old.known payload) new.known.strict s0 t0 (kept_free role party.offer before payload 21 s0.due ∙ calm.newkeys))
 
     -- the form of shares stays that of the method
-    pub form_behind : (past_kexinit old.phase ≡ true → old.known.shares ≡ m.share_form old.known.algorithms.kex) → Moves m d role party payload old new
+    pub form_after : (past_kexinit old.phase ≡ true → old.known.shares ≡ m.share_form old.known.algorithms.kex) → Moves m d role party payload old new
         → past_kexinit new.phase ≡ true → new.known.shares ≡ m.share_form new.known.algorithms.kex
-    form_behind form (Offers peer at none is same has st) past = has
-    form_behind form (Drops due one same st) past = as_old old new (heard_one old.known) form st.known_is refl refl (ap past_kexinit (sym st.phase_is) ∙ past)
-    form_behind form (Exchanges at none is same st) past = as_old old new (behind_exchange m role party old.known payload) form st.known_is refl refl (ap past_kexinit at)
-    form_behind form (Leaves none gone is same st) past = as_old old new (behind_payload m d party old.known payload) form st.known_is refl refl (standing.past_past old.phase gone)
-    form_behind form (Stays none calm same st) past = as_old old new (behind_payload m d party old.known payload) form st.known_is refl refl (ap past_kexinit (sym st.phase_is) ∙ past)
+    form_after form (Offers peer at none is same has st) past = has
+    form_after form (Drops due one same st) past = as_old old new (received_one old.known) form st.known_is refl refl (ap past_kexinit (sym st.phase_is) ∙ past)
+    form_after form (Exchanges at none is same st) past = as_old old new (after_exchange m role party old.known payload) form st.known_is refl refl (ap past_kexinit at)
+    form_after form (Leaves none gone is same st) past = as_old old new (after_payload m d party old.known payload) form st.known_is refl refl (standing.past_past old.phase gone)
+    form_after form (Stays none calm same st) past = as_old old new (after_payload m d party old.known payload) form st.known_is refl refl (ap past_kexinit (sym st.phase_is) ∙ past)
 
   -- what is carried along behind a payload, the keys of what is heard apart
   pub record CarriesOn (q : Phase) (carried : Carried) : Type 0 where
     pub own_version : past_exchange q ≡ true → carried.own_version ≡ party.version
     pub host_key : past_exchange q ≡ true → carried.host_key ≡ (exchange_at m role party version (before ++ payload ∷ [])).host_key
-    pub user_key : carried.user_key ≡ last_good_key m d role party version (before ++ payload ∷ [])
+    pub user_key : carried.user_key ≡ last_successful_key m d role party version (before ++ payload ∷ [])
 
-  module _ (old new : Kept) (s : Sits m d role party version before old.phase old.guess old.known) (c : IsCarried m d role party version before old.phase old.carried) where
+  module _ (old new : StateData) (s : Sits m d role party version before old.phase old.guess old.known) (c : IsCarried m d role party version before old.phase old.carried) where
     -- a payload that is no request
-    quiet_key : (key : Option UserKeyData) → key ≡ old.carried.user_key → kept role party.offer 50 before payload ≡ false → key ≡ last_good_key m d role party version (before ++ payload ∷ [])
+    quiet_key : (key : Option UserKeyData) → key ≡ old.carried.user_key → kept role party.offer 50 before payload ≡ false → key ≡ last_successful_key m d role party version (before ++ payload ∷ [])
     quiet_key key same none = same ∙ c.user_key ∙ sym (key_stays m d role party version before payload none)
 
     -- one that may be one
     tried_on : (known : Known) → Sits m d role party version before old.phase false known
-        → cond (kind payload == 50) (last_key old.carried.user_key (good_key_in m d party known.session known.request payload)) old.carried.user_key ≡ last_good_key m d role party version (before ++ payload ∷ [])
+        → cond (kind payload == 50) (last_key old.carried.user_key (successful_key_in m d party known.session known.request payload)) old.carried.user_key ≡ last_successful_key m d role party version (before ++ payload ∷ [])
     tried_on known t =
-        ap (λ (x : Option UserKeyData). cond (kind payload == 50) (last_key x (good_key_in m d party known.session known.request payload)) x) c.user_key
-        ∙ ap (λ (k : Known). cond (kind payload == 50) (last_key (last_good_key m d role party version before) (good_key_in m d party k.session k.request payload)) (last_good_key m d role party version before)) (sym t.knows)
+        ap (λ (x : Option UserKeyData). cond (kind payload == 50) (last_key x (successful_key_in m d party known.session known.request payload)) x) c.user_key
+        ∙ ap (λ (k : Known). cond (kind payload == 50) (last_key (last_successful_key m d role party version before) (successful_key_in m d party k.session k.request payload)) (last_successful_key m d role party version before)) (sym t.knows)
         ∙ sym (key_more m d role party version before payload t.due)
 
     -- past the exchange its host key stays

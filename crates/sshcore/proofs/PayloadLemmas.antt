@@ -9,15 +9,15 @@ use Rattle.sshwire.specs.declared.share_form.ShareForm.{ShareForm}
 use Rattle.sshwire.specs.declared.share_form.ShareForm.TheVariants.{Hybrid, Mpint, OctetString}
 use Rattle.sshwire.specs.Types.{IsBytes, IsShortestBody}
 use Rattle.sshwire.specs.TypeReadings.{is_canonical}
-use Rattle.sshmsg.specs.Content.{Content}
-use Rattle.sshmsg.specs.Content as content
+use Rattle.sshmsg.specs.MessageData.{MessageData}
+use Rattle.sshmsg.specs.MessageData as content
 use Rattle.sshmsg.specs.Written.{written_message}
 use Rattle.sshpacket.specs.Suite.{FitsShare, IsPositiveBody}
 use Rattle.sshcore.specs.Made.{IsMade}
 use Rattle.sshcore.proofs.ConfigOffers.{LengthLaw}
 
 -- a message's number stands first
-some_written : (m : Content) → 0 < length (written_message m)
+some_written : (m : MessageData) → 0 < length (written_message m)
 unfolding written_message
 some_written (content.Disconnect reason description language) = omega arith
 some_written (content.Ignore bytes) = omega arith
@@ -39,7 +39,7 @@ some_written (content.UserauthBanner text language) = omega arith
 some_written (content.UserauthPkOk algorithm key) = omega arith
 
 -- what was written for a message that fits is made
-pub made : (m : Content) (items : List ℕ) → items ≡ written_message m → length (written_message m) ≤ 32768 → IsBytes items → IsMade (written_message m) items
+pub made : (m : MessageData) (items : List ℕ) → items ≡ written_message m → length (written_message m) ≤ 32768 → IsBytes items → IsMade (written_message m) items
 made m items same short bytes = record {
   same = same;
   fits = record { some = rw same (some_written m); short = rw same short; bytes = bytes };

@@ -4,30 +4,30 @@ use Rattle.std.proofs.Common.{◌≡◌, ◌≢◌, ℕ, ◌+◌, ◌==◌, Bool
 use Rattle.std.specs.Prelude.{◌&&◌, ◌||◌, not}
 use Rattle.std.proofs.lemmas.Bool.{and_parts, eqb-true, ne_eqb}
 use Rattle.std.proofs.lemmas.List.{append-nil}
-use Rattle.sshmsg.specs.Content.{Offer}
+use Rattle.sshmsg.specs.MessageData.{KexInitData}
 use Rattle.sshmsg.specs.Numbers.{kind}
 use Rattle.sshneg.specs.declared.role.Role.{Role}
 use Rattle.sshneg.specs.declared.role.Role.TheVariants.{Client, Server}
 use Rattle.sshpacket.specs.Stream.{Units}
-use Rattle.sshpacket.specs.Suite.{Meaning}
+use Rattle.sshpacket.specs.Suite.{SuiteData}
 use Rattle.sshpacket.proofs.Places.{count-push, flat-push}
 use Rattle.sshcore.specs.declared.table.Phase.TheVariants as phase
 use Rattle.sshcore.specs.Before.{all_kept, count_kept, dropped, expects_guess, kept}
-use Rattle.sshcore.specs.ConfigData.{Attempt}
+use Rattle.sshcore.specs.ConfigParts.{AttemptData}
 use Rattle.sshcore.specs.Known.{left_at}
-use Rattle.sshcore.specs.Party.{Party, Policy, UserKeyData}
+use Rattle.sshcore.specs.EndpointParts.{ConfigData, DecisionsData, UserKeyData}
 use Rattle.sshcore.specs.Phases.{leaving}
-use Rattle.sshcore.specs.Plan.{is_answer, left_after, left_behind}
-use Rattle.sshcore.specs.Reached.{Reached, Tried, nothing_reached, reached_after, reached_behind}
-use Rattle.sshcore.specs.Tries.{good_key_in, good_key_place, good_keys_at, last_key, session_known, tried_at, tried_in, tried_place}
+use Rattle.sshcore.specs.Plan.{is_answer, left_after, left_after_one}
+use Rattle.sshcore.specs.Reached.{ReachedData, Tried, nothing_reached, reached_after, reached_after_one}
+use Rattle.sshcore.specs.Tries.{last_key, session_known, successful_key_in, successful_key_place, successful_keys_at, tried_at, tried_in, tried_place}
 use Rattle.sshcore.proofs.PhaseLemmas.{and_true, kept_free}
 
-left_push : (plan : List Attempt) (us : Units) (u : List ℕ) → left_after plan (us ++ u ∷ []) ≡ left_behind (left_after plan us) u
+left_push : (plan : List AttemptData) (us : Units) (u : List ℕ) → left_after plan (us ++ u ∷ []) ≡ left_after_one (left_after plan us) u
 unfolding left_after
 left_push plan [] u = refl
-left_push plan (v ∷ us) u = left_push (left_behind plan v) us u
+left_push plan (v ∷ us) u = left_push (left_after_one plan v) us u
 
-module _ (role : Role) (own : Offer) (before : Units) (payload : List ℕ) where
+module _ (role : Role) (own : KexInitData) (before : Units) (payload : List ℕ) where
   pub count_push : (k : ℕ) → count_kept role own k (before ++ payload ∷ []) ≡ cond (kept role own k before payload) (count_kept role own k before + 1) (count_kept role own k before)
   unfolding count_kept
   count_push k = count-push (kept role own k) [] before payload
@@ -77,12 +77,12 @@ module _ (role : Role) (own : Offer) (before : Units) (payload : List ℕ) where
       by false = refl
 
 -- what is left of the plan
-module _ (role : Role) (party : Party) (before : Units) (payload : List ℕ) where
+module _ (role : Role) (party : ConfigData) (before : Units) (payload : List ℕ) where
   pub left_stays : is_answered role party.offer before payload ≡ false → left_at role party (before ++ payload ∷ []) ≡ left_at role party before
   left_stays none = ap (left_after party.plan) (all_push role party.offer before payload is_answer ∙ rw none (append-nil (all_kept role party.offer is_answer before)))
 
   pub left_more : expects_guess role party.offer before ≡ false
-      → left_at role party (before ++ payload ∷ []) ≡ cond (is_answer (kind payload)) (left_behind (left_at role party before) payload) (left_at role party before)
+      → left_at role party (before ++ payload ∷ []) ≡ cond (is_answer (kind payload)) (left_after_one (left_at role party before) payload) (left_at role party before)
   left_more none =
       ap (left_after party.plan) (all_push role party.offer before payload is_answer ∙ ap (λ (b : Bool). all_kept role party.offer is_answer before ++ cond b (payload ∷ []) []) free)
       ∙ by (is_answer (kind payload))
@@ -91,16 +91,16 @@ module _ (role : Role) (party : Party) (before : Units) (payload : List ℕ) whe
       free = rw none (and_true (is_answer (kind payload)))
 
       by : (b : Bool) → left_after party.plan (all_kept role party.offer is_answer before ++ cond b (payload ∷ []) [])
-          ≡ cond b (left_behind (left_at role party before) payload) (left_at role party before)
+          ≡ cond b (left_after_one (left_at role party before) payload) (left_at role party before)
       by true = left_push party.plan (all_kept role party.offer is_answer before) payload
       by false = ap (left_after party.plan) (append-nil (all_kept role party.offer is_answer before))
 
 -- what is reached
-pub reached_push : (r : Reached) (xs ys : List Tried) → reached_after r (xs ++ ys) ≡ reached_after (reached_after r xs) ys
+pub reached_push : (r : ReachedData) (xs ys : List Tried) → reached_after r (xs ++ ys) ≡ reached_after (reached_after r xs) ys
 reached_push r [] ys = refl
-reached_push r (x ∷ xs) ys = reached_push (reached_behind r x) xs ys
+reached_push r (x ∷ xs) ys = reached_push (reached_after_one r x) xs ys
 
-module _ (m : Meaning) (d : Policy) (role : Role) (party : Party) (version : List ℕ) (before : Units) (payload : List ℕ) where
+module _ (m : SuiteData) (d : DecisionsData) (role : Role) (party : ConfigData) (version : List ℕ) (before : Units) (payload : List ℕ) where
   pub tried_push : tried_at m d role party version (before ++ payload ∷ []) ≡ tried_at m d role party version before ++ tried_place m d role party version before payload
   unfolding tried_at
   tried_push = flat-push (tried_place m d role party version) [] before payload
@@ -133,30 +133,30 @@ last_push : (key : Option UserKeyData) (xs ys : List UserKeyData) → last_key k
 last_push key [] ys = refl
 last_push key (x ∷ xs) ys = last_push (Some x) xs ys
 
-module _ (m : Meaning) (d : Policy) (role : Role) (party : Party) (version : List ℕ) where
-  abbrev pub last_good_key : Units → Option UserKeyData
-  last_good_key before = last_key None (good_keys_at m d role party version before)
+module _ (m : SuiteData) (d : DecisionsData) (role : Role) (party : ConfigData) (version : List ℕ) where
+  abbrev pub last_successful_key : Units → Option UserKeyData
+  last_successful_key before = last_key None (successful_keys_at m d role party version before)
 
-  pub no_good_key : last_good_key [] ≡ None
-  unfolding good_keys_at
-  no_good_key = refl
+  pub no_successful_key : last_successful_key [] ≡ None
+  unfolding successful_keys_at
+  no_successful_key = refl
 
   module _ (before : Units) (payload : List ℕ) where
-    keys_push : good_keys_at m d role party version (before ++ payload ∷ []) ≡ good_keys_at m d role party version before ++ good_key_place m d role party version before payload
-    unfolding good_keys_at
-    keys_push = flat-push (good_key_place m d role party version) [] before payload
+    keys_push : successful_keys_at m d role party version (before ++ payload ∷ []) ≡ successful_keys_at m d role party version before ++ successful_key_place m d role party version before payload
+    unfolding successful_keys_at
+    keys_push = flat-push (successful_key_place m d role party version) [] before payload
 
-    last_so : last_good_key (before ++ payload ∷ []) ≡ last_key (last_good_key before) (good_key_place m d role party version before payload)
-    last_so = ap (last_key None) keys_push ∙ last_push None (good_keys_at m d role party version before) (good_key_place m d role party version before payload)
+    last_so : last_successful_key (before ++ payload ∷ []) ≡ last_key (last_successful_key before) (successful_key_place m d role party version before payload)
+    last_so = ap (last_key None) keys_push ∙ last_push None (successful_keys_at m d role party version before) (successful_key_place m d role party version before payload)
 
-    pub key_stays : kept role party.offer 50 before payload ≡ false → last_good_key (before ++ payload ∷ []) ≡ last_good_key before
+    pub key_stays : kept role party.offer 50 before payload ≡ false → last_successful_key (before ++ payload ∷ []) ≡ last_successful_key before
     key_stays none = last_so ∙ rw none refl
 
-    pub key_more : expects_guess role party.offer before ≡ false → last_good_key (before ++ payload ∷ [])
-        ≡ cond (kind payload == 50) (last_key (last_good_key before) (good_key_in m d party (session_known m role party version before) (count_kept role party.offer 50 before + 1) payload)) (last_good_key before)
+    pub key_more : expects_guess role party.offer before ≡ false → last_successful_key (before ++ payload ∷ [])
+        ≡ cond (kind payload == 50) (last_key (last_successful_key before) (successful_key_in m d party (session_known m role party version before) (count_kept role party.offer 50 before + 1) payload)) (last_successful_key before)
     key_more none = last_so ∙ rw (kept_free role party.offer before payload 50 none) (by (kind payload == 50))
       where
-        by : (b : Bool) → last_key (last_good_key before) (cond b (good_key_in m d party (session_known m role party version before) (count_kept role party.offer 50 before + 1) payload) [])
-            ≡ cond b (last_key (last_good_key before) (good_key_in m d party (session_known m role party version before) (count_kept role party.offer 50 before + 1) payload)) (last_good_key before)
+        by : (b : Bool) → last_key (last_successful_key before) (cond b (successful_key_in m d party (session_known m role party version before) (count_kept role party.offer 50 before + 1) payload) [])
+            ≡ cond b (last_key (last_successful_key before) (successful_key_in m d party (session_known m role party version before) (count_kept role party.offer 50 before + 1) payload)) (last_successful_key before)
         by true = refl
         by false = refl

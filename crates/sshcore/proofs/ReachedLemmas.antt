@@ -8,7 +8,7 @@ use Rattle.std.proofs.lemmas.Bool.{and_from, and_parts, or_cases}
 use Rattle.std.proofs.lemmas.List.Folds.{list_all-append, list_any-append}
 use Rattle.std.proofs.lemmas.Slice.Eq.{bytes_eq-Decides}
 use Rattle.sshcore.specs.ConfigRules.{IsListed}
-use Rattle.sshcore.specs.Reached.{FromBreak, FromFront, IsRun, Reached, Tried, are_reached, good_reached, has_reached, is_complete, is_for, is_good_for, is_method, kept_reached, nothing_reached, reached_after, reached_behind, run_of}
+use Rattle.sshcore.specs.Reached.{FromBreak, FromFront, IsRun, ReachedData, Tried, are_reached, has_reached, is_complete, is_for, is_method, is_successful_for, kept_reached, nothing_reached, reached_after, reached_after_one, run_of, successful_reached}
 use Rattle.sshcore.proofs.PlanLemmas.{reached_push}
 
 pub same_bytes : (a b : List ℕ) → bytes_eq a b ≡ true → a ≡ b
@@ -60,20 +60,20 @@ module _ (user service : List ℕ) where
       by false e more = rw (e, more, and_false (list_all (is_for user service) xs), and_false (is_for user service x)) refl
 
   -- whether the flag of a method is set for this user and service
-  abbrev of_them : Reached → Bool → Bool
+  abbrev of_them : ReachedData → Bool → Bool
   of_them r flag = (bytes_eq user r.user && bytes_eq service r.service) && flag
 
   -- what is kept of one method, by its flag
-  module _ (method : List ℕ) (flag : Reached → Bool)
-      (none : flag nothing_reached ≡ false) (emptied : (r : Reached) → flag (record r { password = false; publickey = false }) ≡ false)
-      (adds : (r : Reached) (t : Tried) (good : List ℕ) → flag (good_reached r t (Some good)) ≡ (flag r || bytes_eq method good)) where
+  module _ (method : List ℕ) (flag : ReachedData → Bool)
+      (none : flag nothing_reached ≡ false) (emptied : (r : ReachedData) → flag (record r { password = false; publickey = false }) ≡ false)
+      (adds : (r : ReachedData) (t : Tried) (successful : List ℕ) → flag (successful_reached r t (Some successful)) ≡ (flag r || bytes_eq method successful)) where
     or_turned : (a b : Bool) → (a || b) ≡ (b || a)
     or_turned true true = refl
     or_turned true false = refl
     or_turned false true = refl
     or_turned false false = refl
 
-    flag_kept : (r : Reached) (t : Tried) → flag (kept_reached r t) ≡ (is_for r.user r.service t && flag r)
+    flag_kept : (r : ReachedData) (t : Tried) → flag (kept_reached r t) ≡ (is_for r.user r.service t && flag r)
     flag_kept r t = by (is_for r.user r.service t)
       where
         by : (b : Bool) → flag (cond b r (record r { password = false; publickey = false })) ≡ (b && flag r)
@@ -81,9 +81,9 @@ module _ (user service : List ℕ) where
         by false = emptied r
 
     -- a request for them
-    mine : (r : Reached) (t : Tried) (was : Bool) → is_for user service t ≡ true → of_them r (flag r) ≡ was
-        → of_them (reached_behind r t) (flag (reached_behind r t)) ≡ (was || is_good_for method t)
-    mine r t was e before = by t.good refl
+    mine : (r : ReachedData) (t : Tried) (was : Bool) → is_for user service t ≡ true → of_them r (flag r) ≡ was
+        → of_them (reached_after_one r t) (flag (reached_after_one r t)) ≡ (was || is_successful_for method t)
+    mine r t was e before = by t.successful refl
       where
         eu : user ≡ t.user
         eu = same_bytes user t.user (and_parts (bytes_eq user t.user) (bytes_eq service t.service) e).0
@@ -104,7 +104,7 @@ module _ (user service : List ℕ) where
             let whole : (is_for r.user r.service t && flag r) ≡ was = ap (λ (b : Bool). b && flag r) turn ∙ before in
             flag_kept r t ∙ whole
 
-        by : (o : Option (List ℕ)) → t.good ≡ o → of_them (good_reached (kept_reached r t) t o) (flag (good_reached (kept_reached r t) t o)) ≡ (was || is_method method o)
+        by : (o : Option (List ℕ)) → t.successful ≡ o → of_them (successful_reached (kept_reached r t) t o) (flag (successful_reached (kept_reached r t) t o)) ≡ (was || is_method method o)
         by None is = kept_so (is_for r.user r.service t) turn ∙ sym (or_false was)
           where
             kept_so : (b : Bool) → b ≡ (bytes_eq user r.user && bytes_eq service r.service)
@@ -114,16 +114,16 @@ module _ (user service : List ℕ) where
                 let none_here : (bytes_eq user r.user && bytes_eq service r.service) ≡ false = sym q in
                 let none_was : false ≡ was = rw none_here at before in
                 rw none_here none_was
-        by (Some good) is =
-            ap (λ (c : Bool). c && flag (good_reached (kept_reached r t) t (Some good))) e
-            ∙ (adds (kept_reached r t) t good ∙ ap (λ (c : Bool). c || bytes_eq method good) kept_is)
+        by (Some successful) is =
+            ap (λ (c : Bool). c && flag (successful_reached (kept_reached r t) t (Some successful))) e
+            ∙ (adds (kept_reached r t) t successful ∙ ap (λ (c : Bool). c || bytes_eq method successful) kept_is)
 
     -- a request for others
-    foreign : (r : Reached) (t : Tried) → is_for user service t ≡ false → of_them (reached_behind r t) (flag (reached_behind r t)) ≡ false
-    foreign r t e = by t.good
+    foreign : (r : ReachedData) (t : Tried) → is_for user service t ≡ false → of_them (reached_after_one r t) (flag (reached_after_one r t)) ≡ false
+    foreign r t e = by t.successful
       where
-        by : (o : Option (List ℕ)) → of_them (good_reached (kept_reached r t) t o) (flag (good_reached (kept_reached r t) t o)) ≡ false
-        by (Some good) = ap (λ (c : Bool). c && flag (good_reached (kept_reached r t) t (Some good))) e
+        by : (o : Option (List ℕ)) → of_them (successful_reached (kept_reached r t) t o) (flag (successful_reached (kept_reached r t) t o)) ≡ false
+        by (Some successful) = ap (λ (c : Bool). c && flag (successful_reached (kept_reached r t) t (Some successful))) e
         by None = kept_so (is_for r.user r.service t) refl
           where
             kept_so : (b : Bool) → is_for r.user r.service t ≡ b
@@ -135,37 +135,37 @@ module _ (user service : List ℕ) where
                 rw none_here refl
             kept_so false q = ap (λ (c : Bool). (bytes_eq user r.user && bytes_eq service r.service) && c) (emptied r) ∙ and_false (bytes_eq user r.user && bytes_eq service r.service)
 
-    run_from : (r : Reached) (before later : List Tried) → of_them r (flag r) ≡ list_any (is_good_for method) (run_of user service before)
-        → of_them (reached_after r later) (flag (reached_after r later)) ≡ list_any (is_good_for method) (run_of user service (before ++ later))
-    run_from r before [] h = h ∙ ap (λ (l : List Tried). list_any (is_good_for method) (run_of user service l)) (sym (append-nil before))
+    run_from : (r : ReachedData) (before later : List Tried) → of_them r (flag r) ≡ list_any (is_successful_for method) (run_of user service before)
+        → of_them (reached_after r later) (flag (reached_after r later)) ≡ list_any (is_successful_for method) (run_of user service (before ++ later))
+    run_from r before [] h = h ∙ ap (λ (l : List Tried). list_any (is_successful_for method) (run_of user service l)) (sym (append-nil before))
     run_from r before (t ∷ later) h =
-        run_from (reached_behind r t) (before ++ t ∷ []) later (one (is_for user service t) refl)
-        ∙ ap (λ (l : List Tried). list_any (is_good_for method) (run_of user service l)) (append_assoc before (t ∷ []) later)
+        run_from (reached_after_one r t) (before ++ t ∷ []) later (one (is_for user service t) refl)
+        ∙ ap (λ (l : List Tried). list_any (is_successful_for method) (run_of user service l)) (append_assoc before (t ∷ []) later)
       where
-        one : (b : Bool) → is_for user service t ≡ b → of_them (reached_behind r t) (flag (reached_behind r t)) ≡ list_any (is_good_for method) (run_of user service (before ++ t ∷ []))
+        one : (b : Bool) → is_for user service t ≡ b → of_them (reached_after_one r t) (flag (reached_after_one r t)) ≡ list_any (is_successful_for method) (run_of user service (before ++ t ∷ []))
         one true e =
-            mine r t (list_any (is_good_for method) (run_of user service before)) e h
-            ∙ (sym (list_any-append (is_good_for method) (run_of user service before) (t ∷ []) ∙ ap (λ (c : Bool). list_any (is_good_for method) (run_of user service before) || c) (or_false (is_good_for method t)))
-            ∙ ap (list_any (is_good_for method)) (sym (run_push before t ∙ ap (λ (c : Bool). cond c (run_of user service before ++ t ∷ []) []) e)))
+            mine r t (list_any (is_successful_for method) (run_of user service before)) e h
+            ∙ (sym (list_any-append (is_successful_for method) (run_of user service before) (t ∷ []) ∙ ap (λ (c : Bool). list_any (is_successful_for method) (run_of user service before) || c) (or_false (is_successful_for method t)))
+            ∙ ap (list_any (is_successful_for method)) (sym (run_push before t ∙ ap (λ (c : Bool). cond c (run_of user service before ++ t ∷ []) []) e)))
         one false e =
-            foreign r t e ∙ ap (list_any (is_good_for method)) (sym (run_push before t ∙ ap (λ (c : Bool). cond c (run_of user service before ++ t ∷ []) []) e))
+            foreign r t e ∙ ap (list_any (is_successful_for method)) (sym (run_push before t ∙ ap (λ (c : Bool). cond c (run_of user service before ++ t ∷ []) []) e))
 
-    pub flag_is : (tried : List Tried) → of_them (reached_after nothing_reached tried) (flag (reached_after nothing_reached tried)) ≡ list_any (is_good_for method) (run_of user service tried)
+    pub flag_is : (tried : List Tried) → of_them (reached_after nothing_reached tried) (flag (reached_after nothing_reached tried)) ≡ list_any (is_successful_for method) (run_of user service tried)
     flag_is tried = run_from nothing_reached [] tried (ap (λ (b : Bool). (bytes_eq user [] && bytes_eq service []) && b) none ∙ and_false (bytes_eq user [] && bytes_eq service []))
 
   pub password_is : (tried : List Tried) → of_them (reached_after nothing_reached tried) (reached_after nothing_reached tried).password
-      ≡ list_any (is_good_for (codes "password")) (run_of user service tried)
-  password_is = flag_is (codes "password") (λ r. r.password) refl (λ r. refl) (λ r t good. adds r.password good)
+      ≡ list_any (is_successful_for (codes "password")) (run_of user service tried)
+  password_is = flag_is (codes "password") (λ r. r.password) refl (λ r. refl) (λ r t successful. adds r.password successful)
     where
-      adds : (a : Bool) (good : List ℕ) → (a || bytes_eq good (codes "password")) ≡ (a || bytes_eq (codes "password") good)
-      adds a good = ap (λ (b : Bool). a || b) (bytes_turned good (codes "password"))
+      adds : (a : Bool) (successful : List ℕ) → (a || bytes_eq successful (codes "password")) ≡ (a || bytes_eq (codes "password") successful)
+      adds a successful = ap (λ (b : Bool). a || b) (bytes_turned successful (codes "password"))
 
   pub publickey_is : (tried : List Tried) → of_them (reached_after nothing_reached tried) (reached_after nothing_reached tried).publickey
-      ≡ list_any (is_good_for (codes "publickey")) (run_of user service tried)
-  publickey_is = flag_is (codes "publickey") (λ r. r.publickey) refl (λ r. refl) (λ r t good. adds r.publickey good)
+      ≡ list_any (is_successful_for (codes "publickey")) (run_of user service tried)
+  publickey_is = flag_is (codes "publickey") (λ r. r.publickey) refl (λ r. refl) (λ r t successful. adds r.publickey successful)
     where
-      adds : (a : Bool) (good : List ℕ) → (a || bytes_eq good (codes "publickey")) ≡ (a || bytes_eq (codes "publickey") good)
-      adds a good = ap (λ (b : Bool). a || b) (bytes_turned good (codes "publickey"))
+      adds : (a : Bool) (successful : List ℕ) → (a || bytes_eq successful (codes "publickey")) ≡ (a || bytes_eq (codes "publickey") successful)
+      adds a successful = ap (λ (b : Bool). a || b) (bytes_turned successful (codes "publickey"))
 
   -- the run as a claim
   run_all : (ys : List Tried) → list_all (is_for user service) ys ≡ true → run_of user service ys ≡ ys
@@ -207,35 +207,35 @@ module _ (user service : List ℕ) where
           (from (xs ++ t ∷ []) later (subst (IsRun user service (xs ++ t ∷ [])) (sym (run_push xs t)) (one xs (run_of user service xs) t r (is_for user service t) refl)))
 
 -- Behind a good request all required methods are reached exactly if those of its run reach them.
-good_user : (r : Reached) (t : Tried) (good : List ℕ) → t.good ≡ Some good → ((reached_behind r t).user ≡ t.user) × ((reached_behind r t).service ≡ t.service)
-good_user r t good e = by t.good e
+successful_user : (r : ReachedData) (t : Tried) (successful : List ℕ) → t.successful ≡ Some successful → ((reached_after_one r t).user ≡ t.user) × ((reached_after_one r t).service ≡ t.service)
+successful_user r t successful e = by t.successful e
   where
-    by : (o : Option (List ℕ)) → o ≡ Some good → ((good_reached (kept_reached r t) t o).user ≡ t.user) × ((good_reached (kept_reached r t) t o).service ≡ t.service)
+    by : (o : Option (List ℕ)) → o ≡ Some successful → ((successful_reached (kept_reached r t) t o).user ≡ t.user) × ((successful_reached (kept_reached r t) t o).service ≡ t.service)
     by None e = absurd (cc (e))
     by (Some x) e = (refl, refl)
 
-module _ (tried : List Tried) (t : Tried) (good : List ℕ) (is : t.good ≡ Some good) where
-  abbrev now : Reached
+module _ (tried : List Tried) (t : Tried) (successful : List ℕ) (is : t.successful ≡ Some successful) where
+  abbrev now : ReachedData
   now = reached_after nothing_reached (tried ++ t ∷ [])
 
-  now_is : now ≡ reached_behind (reached_after nothing_reached tried) t
+  now_is : now ≡ reached_after_one (reached_after nothing_reached tried) t
   now_is = reached_push nothing_reached tried (t ∷ [])
 
   them : (bytes_eq t.user now.user && bytes_eq t.service now.service) ≡ true
   them =
-      let g = good_user (reached_after nothing_reached tried) t good is in
-      let u : now.user ≡ t.user = ap (λ (r : Reached). r.user) now_is ∙ g.0 in
-      let s : now.service ≡ t.service = ap (λ (r : Reached). r.service) now_is ∙ g.1 in
+      let g = successful_user (reached_after nothing_reached tried) t successful is in
+      let u : now.user ≡ t.user = ap (λ (r : ReachedData). r.user) now_is ∙ g.0 in
+      let s : now.service ≡ t.service = ap (λ (r : ReachedData). r.service) now_is ∙ g.1 in
       rw (u, s) (and_from _ _ (bytes_self t.user) (bytes_self t.service))
 
-  pub password_now : (reached_after nothing_reached (tried ++ t ∷ [])).password ≡ list_any (is_good_for (codes "password")) (run_of t.user t.service (tried ++ t ∷ []))
+  pub password_now : (reached_after nothing_reached (tried ++ t ∷ [])).password ≡ list_any (is_successful_for (codes "password")) (run_of t.user t.service (tried ++ t ∷ []))
   password_now = sym (ap (λ (b : Bool). b && now.password) them) ∙ password_is t.user t.service (tried ++ t ∷ [])
 
-  pub publickey_now : (reached_after nothing_reached (tried ++ t ∷ [])).publickey ≡ list_any (is_good_for (codes "publickey")) (run_of t.user t.service (tried ++ t ∷ []))
+  pub publickey_now : (reached_after nothing_reached (tried ++ t ∷ [])).publickey ≡ list_any (is_successful_for (codes "publickey")) (run_of t.user t.service (tried ++ t ∷ []))
   publickey_now = sym (ap (λ (b : Bool). b && now.publickey) them) ∙ publickey_is t.user t.service (tried ++ t ∷ [])
 
   abbrev reaches : List ℕ → Bool
-  reaches method = list_any (is_good_for method) (run_of t.user t.service (tried ++ t ∷ []))
+  reaches method = list_any (is_successful_for method) (run_of t.user t.service (tried ++ t ∷ []))
 
   one_reached : (method : List ℕ) → IsListed method → has_reached now method ≡ reaches method
   one_reached method (inl e) = rw e (or_false now.password ∙ password_now)
@@ -252,13 +252,13 @@ module _ (tried : List Tried) (t : Tried) (good : List ℕ) (is : t.good ≡ Som
   all_reached (method ∷ required) (first, all) = rw (one_reached method first, all_reached required all) refl
 
   pub complete_is : (required : List (List ℕ)) → AllByRecursion IsListed required
-      → is_complete required (reached_behind (reached_after nothing_reached tried) t) ≡ are_reached required t.user t.service (tried ++ t ∷ [])
+      → is_complete required (reached_after_one (reached_after nothing_reached tried) t) ≡ are_reached required t.user t.service (tried ++ t ∷ [])
   complete_is required all = ap (is_complete required) (sym now_is) ∙ all_reached required all
 
   all_sound : (required : List (List ℕ)) → is_complete required now ≡ true → are_reached required t.user t.service (tried ++ t ∷ []) ≡ true
   all_sound [] h = refl
   all_sound (method ∷ required) h = let p = and_parts _ _ h in and_from _ _ (one_sound method p.0) (all_sound required p.1)
 
-  pub complete_sound : (required : List (List ℕ)) → is_complete required (reached_behind (reached_after nothing_reached tried) t) ≡ true
+  pub complete_sound : (required : List (List ℕ)) → is_complete required (reached_after_one (reached_after nothing_reached tried) t) ≡ true
       → are_reached required t.user t.service (tried ++ t ∷ []) ≡ true
   complete_sound required h = all_sound required (ap (is_complete required) now_is ∙ h)

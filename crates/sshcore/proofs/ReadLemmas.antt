@@ -7,20 +7,20 @@ use Rattle.std.proofs.Math.Seq.{take-append-add, take-length}
 use Rattle.sshneg.specs.declared.role.Role.{Role}
 use Rattle.sshpacket.specs.declared.fault.PacketFault.{PacketFault}
 use Rattle.sshpacket.specs.declared.reader.PacketReader.{PacketReader}
-use Rattle.sshpacket.specs.KeyData.{KeyData}
+use Rattle.sshpacket.specs.KeysData.{KeysData}
 use Rattle.sshpacket.specs.Parse.{OfPacket, Refusal, refused, unfinished, whole}
-use Rattle.sshpacket.specs.ReaderState.{ReaderState, ahead, state}
+use Rattle.sshpacket.specs.PacketReaderData.{PacketReaderData, ahead, packet_reader_data}
 use Rattle.sshpacket.specs.Stream.{IsIncremental, Parser, Units}
-use Rattle.sshpacket.specs.Suite.{Meaning}
+use Rattle.sshpacket.specs.Suite.{SuiteData}
 use Rattle.sshcore.specs.declared.input.Input.TheVariants as input
 use Rattle.sshcore.specs.Brings.{Brings, Gives}
 use Rattle.sshcore.specs.Counting.{number_in}
 use Rattle.sshcore.specs.Directions.{keys_in, parsers}
-use Rattle.sshcore.specs.Ending.{Open, fails}
+use Rattle.sshcore.specs.EndData.{Open, fails}
 use Rattle.sshcore.specs.Exchanged.{HasForm}
-use Rattle.sshcore.specs.Inputs.{Stands, Steps}
-use Rattle.sshcore.specs.Kept.{Kept, keys_due, keys_left}
-use Rattle.sshcore.specs.Party.{Party, Policy}
+use Rattle.sshcore.specs.Inputs.{EndpointStands, Steps}
+use Rattle.sshcore.specs.StateData.{StateData, keys_due, keys_left}
+use Rattle.sshcore.specs.EndpointParts.{ConfigData, DecisionsData}
 use Rattle.sshcore.specs.Replies.{fault_of}
 use Rattle.sshcore.proofs.Below.{Below}
 use Rattle.sshcore.proofs.FeedLemmas.{stands_part, stands_refused, stands_unit, within}
@@ -29,16 +29,16 @@ use Rattle.sshcore.proofs.MoveLemmas.{keys_with, number_with}
 use Rattle.sshcore.proofs.UncutLemmas.{open_stays}
 
 -- the reader behind a packet, once the keys that are due are set
-abbrev pub reader_with : Option KeyData → Bool → ReaderState → ReaderState
+abbrev pub reader_with : Option KeysData → Bool → PacketReaderData → PacketReaderData
 reader_with None strict r = r
 reader_with (Some keys) strict r = record r { keys = Some keys; seq = if strict then 0 else r.seq }
 
 -- what is read behind these units is read as the reader reads
-read_as : (m : Meaning) (role : Role) (party : Party) (units : Units) (version : List ℕ) (before : Units) (rest piece : List ℕ) (r : ReaderState) → units ≡ version ∷ before
+read_as : (m : SuiteData) (role : Role) (party : ConfigData) (units : Units) (version : List ℕ) (before : Units) (rest piece : List ℕ) (r : PacketReaderData) → units ≡ version ∷ before
     → r ≡ record { keys = keys_in m role party version before; seq = number_in role party before; held = rest; fault = None }
     → parsers m role party units (rest ++ piece) ≡ ahead m r piece
 read_as m role party units version before rest piece r e f =
-    ap (λ (us : Units). parsers m role party us (rest ++ piece)) e ∙ sym (ap (λ (t : ReaderState). ahead m t piece) f)
+    ap (λ (us : Units). parsers m role party us (rest ++ piece)) e ∙ sym (ap (λ (t : PacketReaderData). ahead m t piece) f)
 
 -- what is refused behind unfinished bytes, is refused for some bytes of the piece
 pub refused_some : (parser : Parser) → IsIncremental parser → (rest piece : List ℕ) (used : ℕ) (r : Refusal) → parser rest ≡ unfinished → parser (rest ++ piece) ≡ refused r (length rest + used) → 0 < used
@@ -51,66 +51,66 @@ refused_some parser inc rest piece zero r e f =
     apart r n e = absurd cc
 refused_some parser inc rest piece (suc used) r e f = omega arith
 
-module _ (below : Below) (streams : Streams) (m : Meaning) (d : Policy) (role : Role) (party : Party) (r q : PacketReader) (kept : Kept) (piece before after : List ℕ) (is : kept.end ≡ Open) where
+module _ (below : Below) (streams : Streams) (m : SuiteData) (d : DecisionsData) (role : Role) (party : ConfigData) (r q : PacketReader) (kept : StateData) (piece before after : List ℕ) (is : kept.end ≡ Open) where
   -- more bytes are wanted
-  pub packets_part : ahead m (state r) piece ≡ unfinished → state q ≡ record (state r) { held = (state r).held ++ piece }
+  pub packets_part : ahead m (packet_reader_data r) piece ≡ unfinished → packet_reader_data q ≡ record (packet_reader_data r) { held = (packet_reader_data r).held ++ piece }
       → Steps m d role party (input.Packets r) kept (input.Packets q) kept (take (length piece) piece) before before
   packets_part e left h s a =
       let i = within below streams m d role party kept (input.Packets r) h s is a in
       let x = i.reads in
-      let seen : parsers m role party a.units (a.rest ++ piece) ≡ unfinished = read_as m role party a.units x.0 x.1 a.rest piece (state r) x.2 x.3 ∙ e in
-      let held : state q ≡ record { keys = keys_in m role party x.0 x.1; seq = number_in role party x.1; held = a.rest ++ piece; fault = None } =
-      left ∙ ap (λ (t : ReaderState). record t { held = t.held ++ piece }) x.3 in
+      let seen : parsers m role party a.units (a.rest ++ piece) ≡ unfinished = read_as m role party a.units x.0 x.1 a.rest piece (packet_reader_data r) x.2 x.3 ∙ e in
+      let held : packet_reader_data q ≡ record { keys = keys_in m role party x.0 x.1; seq = number_in role party x.1; held = a.rest ++ piece; fault = None } =
+      left ∙ ap (λ (t : PacketReaderData). record t { held = t.held ++ piece }) x.3 in
       record {
         added = [];
         appended = sym (append-nil before);
-        stands = subst (λ (t : List ℕ). Stands m d role party kept (input.Packets q) (h ++ t) (s ++ [])) (sym (take-length piece))
-            (subst (λ (t : List ℕ). Stands m d role party kept (input.Packets q) (h ++ piece) t) (sym (append-nil s))
+        stands = subst (λ (t : List ℕ). EndpointStands m d role party kept (input.Packets q) (h ++ t) (s ++ [])) (sym (take-length piece))
+            (subst (λ (t : List ℕ). EndpointStands m d role party kept (input.Packets q) (h ++ piece) t) (sym (append-nil s))
             (stands_part below streams m d role party kept (input.Packets r) h s is a (input.Packets q) piece seen (x.0, x.1, x.2, held)));
         uncut = open_stays kept.end is;
       }
 
   -- the packet is refused
-  pub packets_refused : (new : Kept) (used : ℕ) (f : PacketFault) (strict : Bool) (next : KeyData) → used ≤ length piece
-      → ahead m (state r) piece ≡ refused (OfPacket f) (length (state r).held + used) → Gives m party.seed strict next kept new before after (fails (fault_of (OfPacket f)))
+  pub packets_refused : (new : StateData) (used : ℕ) (f : PacketFault) (strict : Bool) (next : KeysData) → used ≤ length piece
+      → ahead m (packet_reader_data r) piece ≡ refused (OfPacket f) (length (packet_reader_data r).held + used) → Gives m party.seed strict next kept new before after (fails (fault_of (OfPacket f)))
       → Steps m d role party (input.Packets r) kept (input.Packets q) new (take used piece) before after
   packets_refused new used f strict next low e gives h s a =
       let i = within below streams m d role party kept (input.Packets r) h s is a in
       let x = i.reads in
       let seen : parsers m role party a.units (a.rest ++ piece) ≡ refused (OfPacket f) (length a.rest + used) =
-      read_as m role party a.units x.0 x.1 a.rest piece (state r) x.2 x.3 ∙ e ∙ ap (λ (t : ReaderState). refused (OfPacket f) (length t.held + used)) x.3 in
+      read_as m role party a.units x.0 x.1 a.rest piece (packet_reader_data r) x.2 x.3 ∙ e ∙ ap (λ (t : PacketReaderData). refused (OfPacket f) (length t.held + used)) x.3 in
       stands_refused below streams m d role party kept (input.Packets r) h s is a new (input.Packets q) piece used (OfPacket f) before after strict next low seen gives
 
   -- a packet was read, and answered
-  pub packets_unit : (p : PacketReader) (new last : Kept) (used packet : ℕ) (payload : List ℕ) → used ≤ length piece
-      → ahead m (state r) piece ≡ whole payload (length (state r).held + used) → packet ≡ (state r).seq
-      → state p ≡ record (state r) { held = []; seq = ((state r).seq + 1) % 2 ^ 32 }
+  pub packets_unit : (p : PacketReader) (new last : StateData) (used packet : ℕ) (payload : List ℕ) → used ≤ length piece
+      → ahead m (packet_reader_data r) piece ≡ whole payload (length (packet_reader_data r).held + used) → packet ≡ (packet_reader_data r).seq
+      → packet_reader_data p ≡ record (packet_reader_data r) { held = []; seq = ((packet_reader_data r).seq + 1) % 2 ^ 32 }
       → (HasForm m kept → Brings m d role party kept new packet payload before after)
       → last.end ≡ new.end → last.phase ≡ new.phase → last.guess ≡ new.guess → last.known ≡ new.known → last.sending ≡ new.sending
       → last.carried ≡ record new.carried { pending = keys_left new.phase new.carried.pending }
-      → state q ≡ reader_with (keys_due new.phase new.carried.pending) new.known.strict (state p)
+      → packet_reader_data q ≡ reader_with (keys_due new.phase new.carried.pending) new.known.strict (packet_reader_data p)
       → Steps m d role party (input.Packets r) kept (input.Packets q) last (take used piece) before after
   packets_unit p new last used packet payload low e number left brings same_end same_phase same_guess same_known same_sending carried set h s a =
       let i = within below streams m d role party kept (input.Packets r) h s is a in
       let x = i.reads in
       let seen : parsers m role party a.units (a.rest ++ piece) ≡ whole payload (length a.rest + used) =
-      read_as m role party a.units x.0 x.1 a.rest piece (state r) x.2 x.3 ∙ e ∙ ap (λ (t : ReaderState). whole payload (length t.held + used)) x.3 in
-      let number_is : packet ≡ number_in role party x.1 = number ∙ ap (λ (t : ReaderState). t.seq) x.3 in
-      let held : state p ≡ record { keys = keys_in m role party x.0 x.1; seq = (number_in role party x.1 + 1) % 2 ^ 32; held = []; fault = None } =
-      left ∙ ap (λ (t : ReaderState). record t { held = []; seq = (t.seq + 1) % 2 ^ 32 }) x.3 in
+      read_as m role party a.units x.0 x.1 a.rest piece (packet_reader_data r) x.2 x.3 ∙ e ∙ ap (λ (t : PacketReaderData). whole payload (length t.held + used)) x.3 in
+      let number_is : packet ≡ number_in role party x.1 = number ∙ ap (λ (t : PacketReaderData). t.seq) x.3 in
+      let held : packet_reader_data p ≡ record { keys = keys_in m role party x.0 x.1; seq = (number_in role party x.1 + 1) % 2 ^ 32; held = []; fault = None } =
+      left ∙ ap (λ (t : PacketReaderData). record t { held = []; seq = (t.seq + 1) % 2 ^ 32 }) x.3 in
       stands_unit below streams m d role party kept (input.Packets r) h s is a x.0 x.1 x.2 new last (input.Packets q) piece payload used packet before after low seen number_is
       (brings i.form) same_end same_phase same_guess same_known same_sending carried
       (λ keys_are seq_is. (
         x.0,
         x.1 ++ payload ∷ [],
         ap (λ (us : Units). us ++ payload ∷ []) x.2,
-        set ∙ ap (λ (t : ReaderState). reader_with (keys_due new.phase new.carried.pending) new.known.strict t) held
+        set ∙ ap (λ (t : PacketReaderData). reader_with (keys_due new.phase new.carried.pending) new.known.strict t) held
             ∙ with_keys (keys_due new.phase new.carried.pending) new.known.strict (keys_in m role party x.0 x.1) (number_in role party x.1)
-            ∙ ap (λ (k : Option KeyData). record { keys = k; seq = number_with (keys_due new.phase new.carried.pending) new.known.strict (number_in role party x.1); held = []; fault = None }) (sym keys_are)
+            ∙ ap (λ (k : Option KeysData). record { keys = k; seq = number_with (keys_due new.phase new.carried.pending) new.known.strict (number_in role party x.1); held = []; fault = None }) (sym keys_are)
             ∙ ap (λ (n : ℕ). record { keys = keys_in m role party x.0 (x.1 ++ payload ∷ []); seq = n; held = []; fault = None }) (sym seq_is),
       ))
     where
-      with_keys : (k : Option KeyData) (strict : Bool) (keys : Option KeyData) (n : ℕ)
+      with_keys : (k : Option KeysData) (strict : Bool) (keys : Option KeysData) (n : ℕ)
           → reader_with k strict (record { keys = keys; seq = (n + 1) % 2 ^ 32; held = []; fault = None }) ≡ record { keys = keys_with k keys; seq = number_with k strict n; held = []; fault = None }
       with_keys None strict keys n = refl
       with_keys (Some k) strict keys n = refl

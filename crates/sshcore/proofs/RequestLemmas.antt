@@ -7,26 +7,26 @@ use Rattle.std.proofs.lemmas.List.{length-map}
 use Rattle.sshwire.specs.TypeReadings.{is_name}
 use Rattle.sshwire.specs.Types.{IsName, names_body}
 use Rattle.sshmsg.specs.declared.message.Method as message_method
-use Rattle.sshmsg.specs.Content.{Content, Method, NoMethod, OtherMethod, Password, PasswordChange, PublicKey, PublicKeyQuery, UserauthFailure, UserauthPkOk, UserauthSuccess}
-use Rattle.sshmsg.specs.View.{method_of}
+use Rattle.sshmsg.specs.MessageData.{MessageData, MethodData, NoMethod, OtherMethod, Password, PasswordChange, PublicKey, PublicKeyQuery, UserauthFailure, UserauthPkOk, UserauthSuccess}
+use Rattle.sshmsg.specs.View.{method_data}
 use Rattle.sshmsg.specs.Written.{method_name, written_message}
 use Rattle.sshneg.specs.ChoiceReadings.{is_in}
 use Rattle.sshneg.specs.Derivations.{signed_text}
-use Rattle.sshpacket.specs.Suite.{Meaning}
+use Rattle.sshpacket.specs.Suite.{SuiteData}
 use Rattle.sshcore.specs.declared.end.Fault.TheVariants as fault
 use Rattle.sshcore.specs.Attempts.{agreed_by}
-use Rattle.sshcore.specs.Ending.{Authenticated, Ending, Reply, fails, goes}
+use Rattle.sshcore.specs.EndData.{Authenticated, EndData, Reply, fails, goes}
 use Rattle.sshcore.specs.Authenticating.{tried_key}
-use Rattle.sshcore.specs.Kept.{Carried, Kept}
+use Rattle.sshcore.specs.StateData.{Carried, StateData}
 use Rattle.sshcore.specs.Known.{Known}
-use Rattle.sshcore.specs.Party.{KeyProof, Party, Policy, ProofData}
-use Rattle.sshcore.specs.Requests.{completes, is_good, method_reply, more_reply, query_answer, request_reply, tried_reply, would_do}
-use Rattle.sshcore.specs.Reached.{Reached, good_reached, is_complete, kept_reached, reached_behind}
+use Rattle.sshcore.specs.EndpointParts.{ConfigData, DecisionsData, KeyProof, ProofData}
+use Rattle.sshcore.specs.Requests.{completes, is_successful, method_reply, more_reply, query_answer, request_reply, tried_reply, would_do}
+use Rattle.sshcore.specs.Reached.{ReachedData, is_complete, kept_reached, reached_after_one, successful_reached}
 use Rattle.sshcore.specs.Tries.{key_of, proof_in, signed_proof, tried_with}
 use Rattle.sshcore.proofs.ConfigLemmas.{BodyLaw}
 use Rattle.sshcore.proofs.ConfigOffers.{few_names}
 
-module _ (m : Meaning) (session user service algorithm key signature : List ℕ) where
+module _ (m : SuiteData) (session user service algorithm key signature : List ℕ) where
   -- an algorithm that is no name proves nothing
   pub unnamed_proof : (IsName algorithm → ⊥) → (is_name algorithm ≡ true) ↔ IsName algorithm
       → ◌≡◌ {A = Option ProofData} None (signed_proof m session user service algorithm key signature)
@@ -39,9 +39,9 @@ module _ (m : Meaning) (session user service algorithm key signature : List ℕ)
   pub verified_proof : (name input : List ℕ) → name ≡ algorithm → IsName algorithm → (is_name algorithm ≡ true) ↔ IsName algorithm
       → input ≡ signed_text session user service name key → m.verify name key input signature ≡ true
       → ◌≡◌ {A = Option ProofData} (Some (KeyProof name key)) (signed_proof m session user service algorithm key signature)
-  verified_proof name input e is same made good =
+  verified_proof name input e is same made successful =
       let named : is_name algorithm ≡ true = same.1 is in
-      let verified : m.verify algorithm key (signed_text session user service algorithm key) signature ≡ true = rw (made, e) at good in
+      let verified : m.verify algorithm key (signed_text session user service algorithm key) signature ≡ true = rw (made, e) at successful in
       rw (named, verified, e) refl
 
 -- the names of a short text are few
@@ -54,7 +54,7 @@ few_texts body view texts names same short =
     omega arith
 
 -- what a server finds by this name among its services
-abbrev pub FindsService : Party → List ℕ → Option (Bor (List ℕ)) → Type 0
+abbrev pub FindsService : ConfigData → List ℕ → Option (Bor (List ℕ)) → Type 0
 FindsService party name found = option_map (λ (own : Bor (List ℕ)). own.now) found ≡ (if is_in party.services name then Some name else None)
 
 -- it has none of them, or this one
@@ -68,7 +68,7 @@ pub had : (has : Bool) (name : List ℕ) (found : Option (Bor (List ℕ))) (own 
 had true name found own e is = (refl, cc)
 had false name found own e is = absurd cc
 
-module _ (m : Meaning) (d : Policy) (party : Party) (known : Known) (user service : List ℕ) (method : Method) (found : Option (Bor (List ℕ))) (e : FindsService party service found) where
+module _ (m : SuiteData) (d : DecisionsData) (party : ConfigData) (known : Known) (user service : List ℕ) (method : MethodData) (found : Option (Bor (List ℕ))) (e : FindsService party service found) where
   -- the answer to a request of a service that the server doesn't have
   pub reply_elsewhere : found ≡ None → fails fault.Service ≡ request_reply m d party known user service method
   unfolding request_reply
@@ -87,25 +87,25 @@ module _ (m : Meaning) (d : Policy) (party : Party) (known : Known) (user servic
     reply_query algorithm key query = rw (query, both.0, both.1) refl
 
     -- to another request
-    pub reply_other : (good : Bool) → (method_reply m d party known user service method ≡ tried_reply party known user service method (is_good m d party known user service method))
-        → is_good m d party known user own.now method ≡ good
-        → tried_reply party known user own.now method good ≡ request_reply m d party known user service method
+    pub reply_other : (successful : Bool) → (method_reply m d party known user service method ≡ tried_reply party known user service method (is_successful m d party known user service method))
+        → is_successful m d party known user own.now method ≡ successful
+        → tried_reply party known user own.now method successful ≡ request_reply m d party known user service method
     unfolding request_reply
-    reply_other good other is_so =
-        let here : is_good m d party known user service method ≡ good = rw both.1 at is_so in
+    reply_other successful other is_so =
+        let here : is_successful m d party known user service method ≡ successful = rw both.1 at is_so in
         rw (both.0, other, here, both.1) refl
 
 -- the answer to a request that ends nothing, as the last that is granted and before it
-pub more_last : (party : Party) (known : Known) (x : Content) → nat_le party.tries known.request ≡ true → fails fault.TooManyTries ≡ more_reply party known x
+pub more_last : (party : ConfigData) (known : Known) (x : MessageData) → nat_le party.tries known.request ≡ true → fails fault.TooManyTries ≡ more_reply party known x
 more_last party known x last = rw last refl
 
-pub more_goes : (party : Party) (known : Known) (x : Content) → nat_le party.tries known.request ≡ false → goes (written_message x ∷ []) ≡ more_reply party known x
+pub more_goes : (party : ConfigData) (known : Known) (x : MessageData) → nat_le party.tries known.request ≡ false → goes (written_message x ∷ []) ≡ more_reply party known x
 more_goes party known x more = rw more refl
 
 -- a request that isn't a query is tried
-pub tried_method : (m : Meaning) (d : Policy) (party : Party) (known : Known) (user service : List ℕ) (method : Method)
+pub tried_method : (m : SuiteData) (d : DecisionsData) (party : ConfigData) (known : Known) (user service : List ℕ) (method : MethodData)
     → ((algorithm key : List ℕ) → method ≡ PublicKeyQuery algorithm key → ⊥)
-    → method_reply m d party known user service method ≡ tried_reply party known user service method (is_good m d party known user service method)
+    → method_reply m d party known user service method ≡ tried_reply party known user service method (is_successful m d party known user service method)
 tried_method m d party known user service NoMethod none = refl
 tried_method m d party known user service (Password password) none = refl
 tried_method m d party known user service (PasswordChange old new) none = refl
@@ -114,7 +114,7 @@ tried_method m d party known user service (PublicKeyQuery algorithm key) none = 
 tried_method m d party known user service (OtherMethod name fields) none = refl
 
 -- what is kept besides changes no answer to a query
-module _ (d : Policy) (party : Party) (k other : Known) (reached : Reached) (same : other ≡ record k { reached = reached }) (user service algorithm key : List ℕ) where
+module _ (d : DecisionsData) (party : ConfigData) (k other : Known) (reached : ReachedData) (same : other ≡ record k { reached = reached }) (user service algorithm key : List ℕ) where
   pub query_refused : would_do d party other user service algorithm key ≡ false
       → more_reply party other (UserauthFailure party.methods false) ≡ more_reply party k (query_answer d party k user service algorithm key)
   query_refused off =
@@ -128,28 +128,28 @@ module _ (d : Policy) (party : Party) (k other : Known) (reached : Reached) (sam
       ap (λ (x : Known). more_reply party x (UserauthPkOk name key)) same ∙ rw (would, e) refl
 
 -- what is kept behind a good request
-module _ (party : Party) (k mid other : Known) (user service : List ℕ) (method : Method)
-    (forgot : mid ≡ record k { reached = kept_reached k.reached (record { user = user; service = service; good = None }) })
-    (reached : other ≡ record mid { reached = good_reached mid.reached (tried_with user service method true) (Some (method_name method)) }) where
-  good_known : other ≡ record k { reached = reached_behind k.reached (tried_with user service method true) }
-  good_known = reached ∙ ap (λ (x : Known). record x { reached = good_reached x.reached (tried_with user service method true) (Some (method_name method)) }) forgot
+module _ (party : ConfigData) (k mid other : Known) (user service : List ℕ) (method : MethodData)
+    (forgot : mid ≡ record k { reached = kept_reached k.reached (record { user = user; service = service; successful = None }) })
+    (reached : other ≡ record mid { reached = successful_reached mid.reached (tried_with user service method true) (Some (method_name method)) }) where
+  successful_known : other ≡ record k { reached = reached_after_one k.reached (tried_with user service method true) }
+  successful_known = reached ∙ ap (λ (x : Known). record x { reached = successful_reached x.reached (tried_with user service method true) (Some (method_name method)) }) forgot
 
-  good_complete : (b : Bool) → is_complete party.required other.reached ≡ b → completes party k user service method true ≡ b
-  good_complete b e = ap (λ (x : Known). is_complete party.required x.reached) (sym good_known) ∙ e
+  successful_complete : (b : Bool) → is_complete party.required other.reached ≡ b → completes party k user service method true ≡ b
+  successful_complete b e = ap (λ (x : Known). is_complete party.required x.reached) (sym successful_known) ∙ e
 
-  pub good_done : is_complete party.required other.reached ≡ true
+  pub successful_done : is_complete party.required other.reached ≡ true
       → ◌≡◌ {A = Reply} (record { answers = written_message UserauthSuccess ∷ []; end = Authenticated (agreed_by other user service) }) (tried_reply party k user service method true)
-  good_done done =
-      ap (λ (x : Known). record { answers = written_message UserauthSuccess ∷ []; end = Authenticated (agreed_by x user service) }) good_known
-      ∙ sym (rw (good_complete true done) refl)
+  successful_done done =
+      ap (λ (x : Known). record { answers = written_message UserauthSuccess ∷ []; end = Authenticated (agreed_by x user service) }) successful_known
+      ∙ sym (rw (successful_complete true done) refl)
 
-  pub good_more : is_complete party.required other.reached ≡ false → more_reply party other (UserauthFailure party.methods true) ≡ tried_reply party k user service method true
-  good_more none =
-      ap (λ (x : Known). more_reply party x (UserauthFailure party.methods true)) good_known ∙ sym (rw (good_complete false none) refl)
+  pub successful_more : is_complete party.required other.reached ≡ false → more_reply party other (UserauthFailure party.methods true) ≡ tried_reply party k user service method true
+  successful_more none =
+      ap (λ (x : Known). more_reply party x (UserauthFailure party.methods true)) successful_known ∙ sym (rw (successful_complete false none) refl)
 
 -- a method of the code that is no query
 pub no_query : (x : message_method.Method) → ((algorithm key : Bor (List ℕ)) → x ≡ message_method.TheVariants.PublicKeyQuery algorithm key → ⊥)
-    → (algorithm key : List ℕ) → method_of x ≡ PublicKeyQuery algorithm key → ⊥
+    → (algorithm key : List ℕ) → method_data x ≡ PublicKeyQuery algorithm key → ⊥
 no_query message_method.TheVariants.None other algorithm key e = absurd cc
 no_query (message_method.TheVariants.Password password) other algorithm key e = absurd cc
 no_query (message_method.TheVariants.PasswordChange old new) other algorithm key e = absurd cc
@@ -158,7 +158,7 @@ no_query (message_method.TheVariants.PublicKeyQuery name blob) other algorithm k
 no_query (message_method.TheVariants.Other x) other algorithm key e = absurd cc
 
 -- a method of the code that has no signed key
-pub no_key : (x : message_method.Method) → ((algorithm key signature : Bor (List ℕ)) → x ≡ message_method.TheVariants.PublicKey algorithm key signature → ⊥) → key_of (method_of x) ≡ []
+pub no_key : (x : message_method.Method) → ((algorithm key signature : Bor (List ℕ)) → x ≡ message_method.TheVariants.PublicKey algorithm key signature → ⊥) → key_of (method_data x) ≡ []
 no_key message_method.TheVariants.None other = refl
 no_key (message_method.TheVariants.Password password) other = refl
 no_key (message_method.TheVariants.PasswordChange old new) other = refl
@@ -167,30 +167,30 @@ no_key (message_method.TheVariants.PublicKeyQuery name blob) other = refl
 no_key (message_method.TheVariants.Other x) other = refl
 
 -- no request by another method carries a key along, and none that wasn't good
-pub unkeyed : (c : Carried) (method : Method) → key_of method ≡ [] → (good : Bool) → tried_key c method good ≡ c
+pub unkeyed : (c : Carried) (method : MethodData) → key_of method ≡ [] → (successful : Bool) → tried_key c method successful ≡ c
 unkeyed c method none true = rw none refl
 unkeyed c method none false = refl
 
-pub untried : (c : Carried) (method : Method) → tried_key c method false ≡ c
+pub untried : (c : Carried) (method : MethodData) → tried_key c method false ≡ c
 untried c method = refl
 
 -- what is kept behind a request, as the endpoint goes on
-module _ (old new : Kept) where
+module _ (old new : StateData) where
   pub with_end : (known : Known) → new ≡ record old { known = known; sending = new.sending } → new ≡ record old { end = new.end; known = known; sending = new.sending }
-  with_end known e = e ∙ ap (λ (x : Ending). record old { end = x; known = known; sending = new.sending }) (sym (ap (λ (k : Kept). k.end) e))
+  with_end known e = e ∙ ap (λ (x : EndData). record old { end = x; known = known; sending = new.sending }) (sym (ap (λ (k : StateData). k.end) e))
 
   -- and with what is carried along
   pub with_key : (known : Known) (carried : Carried) → old.carried ≡ carried → new ≡ record old { known = known; sending = new.sending }
       → new ≡ record old { end = new.end; known = known; carried = carried; sending = new.sending }
   with_key known carried same e = with_end known e ∙ ap (λ (x : Carried). record old { end = new.end; known = known; carried = x; sending = new.sending }) same
 
-module _ (m : Meaning) (d : Policy) (party : Party) (known : Known) (user service own : List ℕ) (method : Method) (same : own ≡ service) where
+module _ (m : SuiteData) (d : DecisionsData) (party : ConfigData) (known : Known) (user service own : List ℕ) (method : MethodData) (same : own ≡ service) where
   -- a query, which is never good
   pub query_tried : (algorithm key : List ℕ) → method ≡ PublicKeyQuery algorithm key
-      → tried_with user own (PublicKeyQuery algorithm key) false ≡ tried_with user service method (is_good m d party known user service method)
+      → tried_with user own (PublicKeyQuery algorithm key) false ≡ tried_with user service method (is_successful m d party known user service method)
   unfolding proof_in
   query_tried algorithm key query = rw (same, query) refl
 
   -- and any other
-  pub other_tried : (good : Bool) → is_good m d party known user own method ≡ good → tried_with user own method good ≡ tried_with user service method (is_good m d party known user service method)
-  other_tried good is_so = let here : is_good m d party known user service method ≡ good = rw same at is_so in rw (same, here) refl
+  pub other_tried : (successful : Bool) → is_successful m d party known user own method ≡ successful → tried_with user own method successful ≡ tried_with user service method (is_successful m d party known user service method)
+  other_tried successful is_so = let here : is_successful m d party known user service method ≡ successful = rw same at is_so in rw (same, here) refl

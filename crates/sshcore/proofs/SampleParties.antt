@@ -4,19 +4,19 @@ use Rattle.std.proofs.Common.{ℕ, Bool, true, false, List, [], ◌∷◌, codes
 use Rattle.std.specs.Prelude.{◌-◌, if◌then◌else◌, length, slice_index}
 use Rattle.std.specs.Str.{bytes_eq}
 use Rattle.sshwire.specs.declared.share_form.ShareForm.TheVariants.{Mpint, OctetString}
-use Rattle.sshmsg.specs.Content.{KexInit, Offer}
+use Rattle.sshmsg.specs.MessageData.{KexInit, KexInitData}
 use Rattle.sshmsg.specs.Written.{written_message}
 use Rattle.sshneg.specs.declared.role.Role.{Role}
 use Rattle.sshneg.specs.Strictness.{marked_list}
 use Rattle.sshpacket.specs.declared.suite.Need.TheVariants.{Signature}
 use Rattle.sshpacket.specs.Packet.{number}
-use Rattle.sshpacket.specs.Suite.{Meaning}
-use Rattle.sshcore.specs.Party.{Party, Policy}
+use Rattle.sshpacket.specs.Suite.{SuiteData}
+use Rattle.sshcore.specs.EndpointParts.{ConfigData, DecisionsData}
 
 -- A suite that can be seen through: a digest is the last byte but one of its input, so that a key is its letter; a public key
 -- and a signature are plain bytes. The shares of `o` are
 -- octet strings, those of every other method numbers.
-unfoldable pub toy : Meaning
+unfoldable pub toy : SuiteData
 toy = record {
   need = λ kex. Signature;
   can = λ alg. record { signature = true; encryption = false };
@@ -38,8 +38,8 @@ toy = record {
   verify = λ alg blob input signature. bytes_eq signature (83 ∷ 0 ∷ []);
 }
 
-unfoldable pub offer_of : List (List ℕ) → Bool → Offer
-offer_of kex follows = record {
+unfoldable pub kexinit_data : List (List ℕ) → Bool → KexInitData
+kexinit_data kex follows = record {
   cookie = 0 ∷ 0 ∷ 0 ∷ 0 ∷ 0 ∷ 0 ∷ 0 ∷ 0 ∷ 0 ∷ 0 ∷ 0 ∷ 0 ∷ 0 ∷ 0 ∷ 0 ∷ 0 ∷ [];
   kex_algorithms = kex;
   server_host_key_algorithms = codes "h" ∷ [];
@@ -54,11 +54,11 @@ offer_of kex follows = record {
   first_kex_packet_follows = follows;
 }
 
-unfoldable pub party_of : Role → Bool → List (List ℕ) → Bool → Party
-party_of role strict kex follows = record {
+unfoldable pub config_data : Role → Bool → List (List ℕ) → Bool → ConfigData
+config_data role strict kex follows = record {
   version = codes "SSH-2.0-lab_1";
   notices = [];
-  offer = offer_of (marked_list role strict kex) follows;
+  offer = kexinit_data (marked_list role strict kex) follows;
   strict = strict;
   random = 9 ∷ [];
   seed = [];
@@ -73,7 +73,7 @@ party_of role strict kex follows = record {
 
 -- the KEXINIT that such a party sends
 unfoldable pub kexinit_of : Role → Bool → List (List ℕ) → Bool → List ℕ
-kexinit_of role strict kex follows = written_message (KexInit (offer_of (marked_list role strict kex) follows))
+kexinit_of role strict kex follows = written_message (KexInit (kexinit_data (marked_list role strict kex) follows))
 
 unfoldable pub a : List (List ℕ)
 a = codes "a" ∷ []
@@ -88,8 +88,8 @@ unfoldable pub o : List (List ℕ)
 o = codes "o" ∷ []
 
 -- whoever trusts every host key, and whoever trusts none
-unfoldable pub trusting : Policy
+unfoldable pub trusting : DecisionsData
 trusting = record { host_key = λ alg blob. true; user = λ number user service proof. true }
 
-unfoldable pub wary : Policy
+unfoldable pub wary : DecisionsData
 wary = record { host_key = λ alg blob. false; user = λ number user service proof. true }

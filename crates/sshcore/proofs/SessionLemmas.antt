@@ -6,9 +6,9 @@ use Rattle.std.proofs.lemmas.Bool.{and_parts, cases_Bool, eq-eqb, eqb-true, true
 use Rattle.std.proofs.lemmas.List.{append-nil}
 use Rattle.sshwire.specs.declared.share_form.ShareForm.{ShareForm}
 use Rattle.sshwire.specs.declared.share_form.ShareForm.TheVariants.{Hybrid, Mpint, OctetString}
-use Rattle.sshwire.specs.LineState.{LineState}
+use Rattle.sshwire.specs.LineReaderData.{LineReaderData}
 use Rattle.sshmsg.specs.declared.fault.MsgFault.{MsgFault}
-use Rattle.sshmsg.specs.Content.{Content, KexEcdhInit, KexEcdhReply, KexdhInit, KexdhReply, NewKeys, ServiceRequest}
+use Rattle.sshmsg.specs.MessageData.{KexEcdhInit, KexEcdhReply, KexdhInit, KexdhReply, MessageData, NewKeys, ServiceRequest}
 use Rattle.sshmsg.specs.Messages.{message_in}
 use Rattle.sshmsg.specs.Numbers.{kind, number_of}
 use Rattle.sshmsg.specs.Written.{method_name, written_message}
@@ -17,13 +17,13 @@ use Rattle.sshneg.specs.declared.role.Role.TheVariants.{Client, Server}
 use Rattle.sshneg.specs.Derivations.{ExchangeData}
 use Rattle.sshneg.specs.ExchangeEnd.{exchange_hash}
 use Rattle.sshneg.specs.Markers.{other}
-use Rattle.sshpacket.specs.KeyData.{KeyData}
+use Rattle.sshpacket.specs.KeysData.{KeysData}
 use Rattle.sshpacket.specs.declared.reader.PacketReader.{PacketReader}
 use Rattle.sshpacket.specs.Parse.{Refusal}
 use Rattle.sshpacket.specs.Places.{EachPlace, flat_places}
-use Rattle.sshpacket.specs.ReaderState.{ReaderState, state}
+use Rattle.sshpacket.specs.PacketReaderData.{PacketReaderData, packet_reader_data}
 use Rattle.sshpacket.specs.Stream.{Units}
-use Rattle.sshpacket.specs.Suite.{Meaning, ResponseData}
+use Rattle.sshpacket.specs.Suite.{ResponseData, SuiteData}
 use Rattle.sshpacket.proofs.Places.{flat-push}
 use Rattle.sshcore.specs.declared.end.Agreed.{Agreed}
 use Rattle.sshcore.specs.declared.end.End.{End}
@@ -42,20 +42,20 @@ use Rattle.sshcore.specs.Authenticated.{IsAuthenticated}
 use Rattle.sshcore.specs.Before.{expects_guess, kept, stood, strict_at}
 use Rattle.sshcore.specs.Counting.{number_in, number_out, switched_out}
 use Rattle.sshcore.specs.Directions.{keys_in, keys_out, payloads_in, version_in}
-use Rattle.sshcore.specs.Ending.{AgreedData, Authenticated, Ending, Failed, Open, agreed_of, ending, fails, goes}
+use Rattle.sshcore.specs.EndData.{AgreedData, Authenticated, EndData, Failed, Open, agreed_data, end_data, fails, goes}
 use Rattle.sshcore.specs.Exchange.{answer_with, exchange_at, exchange_with, keys_at, secret_of}
-use Rattle.sshcore.specs.Inputs.{AsHeard, CutOff, IsInside, Left, Stands, StandsSo}
-use Rattle.sshcore.specs.Kept.{Kept, user_key_of}
+use Rattle.sshcore.specs.Inputs.{AsReceived, CutOff, EndpointStands, IsInside, Left, StandsSo}
+use Rattle.sshcore.specs.StateData.{StateData, user_key_data}
 use Rattle.sshcore.specs.Known.{Known, known_at, waits_at}
 use Rattle.sshcore.specs.Output.{Sending}
-use Rattle.sshcore.specs.Party.{Party, Policy, UserKeyData}
+use Rattle.sshcore.specs.EndpointParts.{ConfigData, DecisionsData, UserKeyData}
 use Rattle.sshcore.specs.Phases.{leaving, past_exchange}
-use Rattle.sshcore.specs.Reached.{Reached, Tried, is_good_for, nothing_reached, reached_after, run_of}
+use Rattle.sshcore.specs.Reached.{ReachedData, Tried, is_successful_for, nothing_reached, reached_after, run_of}
 use Rattle.sshcore.specs.Replies.{Ends, Replies, answers_at, end_at, ended, goes_on, line_reply, read_reply, refusal_reply}
-use Rattle.sshcore.specs.Sessions.{CameIn, HasAccepted, IsSession}
+use Rattle.sshcore.specs.Sessions.{AcceptedBy, HasAccepted, IsSession}
 use Rattle.sshcore.specs.Standing.{Tied}
 use Rattle.sshcore.specs.Table.{line_by}
-use Rattle.sshcore.specs.Tries.{good_keys_at, last_key, tried_at, tried_with}
+use Rattle.sshcore.specs.Tries.{last_key, successful_keys_at, tried_at, tried_with}
 use Rattle.sshcore.specs.Work.{answered_by, init_reply, making, reply_in, reply_reply, signed_by, trusted_by, userauth, work}
 use Rattle.sshcore.proofs.AuthenticatedLemmas.{auth_switched, authenticated, ends_tried, last_tied, none_refused}
 use Rattle.sshcore.proofs.Below.{Below}
@@ -81,7 +81,7 @@ switches_last answers more on = switched_append answers more ∙ rw on (by (swit
     by true = refl
     by false = refl
 
-module _ (m : Meaning) (d : Policy) (party : Party) (known : Known) (x : ExchangeData) where
+module _ (m : SuiteData) (d : DecisionsData) (party : ConfigData) (known : Known) (x : ExchangeData) where
   -- an exchange message that leaves the endpoint open is answered by NEWKEYS
   answered_switches : (r : Option ResponseData) → (answered_by m party known x r).end ≡ Open → Switches (answered_by m party known x r).answers
   unfolding switched_out written_message
@@ -113,8 +113,8 @@ module _ (m : Meaning) (d : Policy) (party : Party) (known : Known) (x : Exchang
 failed_open : (f : Fault) → Failed f ≡ Open → ⊥
 failed_open f e = cc
 
-module _ (below : Below) (m : Meaning) (d : Policy) (role : Role) (party : Party) where
-  exchange_switches : (known : Known) (c : Content) → (number_of c ≡ 30) ⊎ (number_of c ≡ 31) → (work m d role party known c).end ≡ Open → Switches (work m d role party known c).answers
+module _ (below : Below) (m : SuiteData) (d : DecisionsData) (role : Role) (party : ConfigData) where
+  exchange_switches : (known : Known) (c : MessageData) → (number_of c ≡ 30) ⊎ (number_of c ≡ 31) → (work m d role party known c).end ≡ Open → Switches (work m d role party known c).answers
   unfolding work init_reply reply_reply
   exchange_switches known (KexdhInit e) two is_open = answered_switches m d party known (exchange_with m role party known.algorithms known.version known.kexinit (Ok (KexdhInit e)))
       (answer_with m role party known.algorithms (Ok (KexdhInit e))) is_open
@@ -127,7 +127,7 @@ module _ (below : Below) (m : Meaning) (d : Policy) (role : Role) (party : Party
   exchange_switches known _ (inl e) is_open = absurd (omega (arith, e))
   exchange_switches known _ (inr e) is_open = absurd (omega (arith, e))
 
-  read_switches : (known : Known) (payload : List ℕ) (r : Result Content MsgFault) → message_in known.shares payload ≡ r → (kind payload ≡ 30) ⊎ (kind payload ≡ 31)
+  read_switches : (known : Known) (payload : List ℕ) (r : Result MessageData MsgFault) → message_in known.shares payload ≡ r → (kind payload ≡ 30) ⊎ (kind payload ≡ 31)
       → (read_reply m d role party known (kind payload) r).end ≡ Open → Switches (read_reply m d role party known (kind payload) r).answers
   read_switches known payload (Ok c) e two is_open = exchange_switches known c (numbered two) is_open
     where
@@ -160,10 +160,10 @@ module _ (below : Below) (m : Meaning) (d : Policy) (role : Role) (party : Party
         rw is (read_switches known payload (message_in known.shares payload) refl (exchange_number role (kind payload) number) (rw is at is_open))
 
     -- where the exchange message is heard, and the endpoint stays open, NEWKEYS is said
-    heard_switches : (p : Phase) → Tied role party.offer before p → end_at m d role party (version ∷ before) payload ≡ Open
+    received_switches : (p : Phase) → Tied role party.offer before p → end_at m d role party (version ∷ before) payload ≡ Open
         → stood role party.offer (leaving role phase.Exchange) before ≡ false → stood role party.offer (leaving role phase.Exchange) (before ++ payload ∷ []) ≡ true
         → Switches (answers_at m d role party (version ∷ before) payload)
-    heard_switches p t is_open off on =
+    received_switches p t is_open off on =
         let k = leaving role phase.Exchange in
         let here : kept role party.offer k before payload ≡ true = sym (stood_push role party.offer before payload k ∙ rw off refl) ∙ on in
         let l = line_by role p (strict_at role party before) (expects_guess role party.offer before) (waits_at role party before) (kind payload) in
@@ -181,7 +181,7 @@ module _ (below : Below) (m : Meaning) (d : Policy) (role : Role) (party : Party
   open_switches version before [] p f each off on = absurd (true≢false (sym (ap (stood role party.offer (leaving role phase.Exchange)) (sym (append-nil before)) ∙ on) ∙ off))
   open_switches version before (u ∷ us) p f each off on = elim (cases_Bool (stood role party.offer (leaving role phase.Exchange) (before ++ u ∷ []))) [
     | inl now ↦ switches_first (answers_at m d role party (version ∷ before) u) (flat_places (answers_at m d role party) (version ∷ (before ++ u ∷ [])) us)
-        (heard_switches version before u p f.tied each.0 off now)
+        (received_switches version before u p f.tied each.0 off now)
     | inr still ↦ switches_last (answers_at m d role party (version ∷ before) u) (flat_places (answers_at m d role party) (version ∷ (before ++ u ∷ [])) us)
         (later (step below m d role party version before u p f) (λ q g. open_switches version (before ++ u ∷ []) us q g each.1 still
         (ap (stood role party.offer (leaving role phase.Exchange)) (append_assoc before (u ∷ []) us) ∙ on)))
@@ -217,33 +217,33 @@ module _ (below : Below) (m : Meaning) (d : Policy) (role : Role) (party : Party
           (open_switches version [] before phase.KexInit (begun_none below m d role party) stays.1 none_stood tied.exchange))
 
 -- What an endpoint keeps that ended authenticated: the keys of both directions, and the numbers of the next packets.
-pub record HandsOver (m : Meaning) (role : Role) (party : Party) (units answers : Units) (reading : ReaderState) (sending : Sending) : Type 0 where
-  pub incoming : KeyData
-  pub outgoing : KeyData
+pub record HandsOver (m : SuiteData) (role : Role) (party : ConfigData) (units answers : Units) (reading : PacketReaderData) (sending : Sending) : Type 0 where
+  pub incoming : KeysData
+  pub outgoing : KeysData
   pub reads_with : reading.keys ≡ Some incoming
-  pub says_with : sending.keys ≡ Some outgoing
+  pub sends_with : sending.keys ≡ Some outgoing
   pub incoming_keys : keys_in m role party (version_in units) (payloads_in units) ≡ Some incoming
   pub incoming_number : reading.seq ≡ number_in role party (payloads_in units)
   pub outgoing_keys : keys_out m role party units answers ≡ Some outgoing
   pub outgoing_number : sending.number ≡ number_out (strict_at role party (payloads_in units)) answers
 
 -- an endpoint that ended authenticated was refused nothing, and isn't open
-none_refused_at : (m : Meaning) (d : Policy) (role : Role) (party : Party) (units : Units) (refusal : Option Refusal) (a : AgreedData) → Ends m d role party units refusal (Authenticated a) → refusal ≡ None
+none_refused_at : (m : SuiteData) (d : DecisionsData) (role : Role) (party : ConfigData) (units : Units) (refusal : Option Refusal) (a : AgreedData) → Ends m d role party units refusal (Authenticated a) → refusal ≡ None
 none_refused_at m d role party units refusal a (goes_on stays is) = absurd (none_refused refusal a is)
 none_refused_at m d role party units refusal a (ended before last units_are stays is shut none) = none
 
-authenticated_shut : (end : Ending) (a : AgreedData) → end ≡ Authenticated a → end ≢ Open
+authenticated_shut : (end : EndData) (a : AgreedData) → end ≡ Authenticated a → end ≢ Open
 authenticated_shut end a is is_open = cc
 
-pub uncut_end : (heard_end end : Ending) (a : AgreedData) → StandsSo heard_end end → end ≡ Authenticated a → heard_end ≡ Authenticated a
-uncut_end heard_end end a (AsHeard same) is = sym same ∙ is
-uncut_end heard_end end a (CutOff was_open cut) is = absurd cc
-uncut_end heard_end end a (Left reason was_open left) is = absurd cc
+pub uncut_end : (received_end end : EndData) (a : AgreedData) → StandsSo received_end end → end ≡ Authenticated a → received_end ≡ Authenticated a
+uncut_end received_end end a (AsReceived same) is = sym same ∙ is
+uncut_end received_end end a (CutOff was_open cut) is = absurd cc
+uncut_end received_end end a (Left reason was_open left) is = absurd cc
 
-module _ (below : Below) (m : Meaning) (d : Policy) (role : Role) (party : Party) where
-  module _ (kept : Kept) (i : Input) (h s : List ℕ) (p : Stands m d role party kept i h s) (a : AgreedData) (is : kept.end ≡ Authenticated a) where
+module _ (below : Below) (m : SuiteData) (d : DecisionsData) (role : Role) (party : ConfigData) where
+  module _ (kept : StateData) (i : Input) (h s : List ℕ) (p : EndpointStands m d role party kept i h s) (a : AgreedData) (is : kept.end ≡ Authenticated a) where
     replies : Replies m d role party p.units p.refusal p.answers (Authenticated a)
-    replies = subst (Replies m d role party p.units p.refusal p.answers) (uncut_end p.heard_end kept.end a p.ends is) p.history.replies
+    replies = subst (Replies m d role party p.units p.refusal p.answers) (uncut_end p.received_end kept.end a p.ends is) p.history.replies
 
     ended_so : IsAuthenticated m d role party p.units a
     ended_so = authenticated below m d role party p.units p.refusal a replies.ends
@@ -253,10 +253,10 @@ module _ (below : Below) (m : Meaning) (d : Policy) (role : Role) (party : Party
 
     -- nothing stands behind the bytes that it used
     pub none_left : p.rest ≡ []
-    none_left = p.history.last (authenticated_shut p.heard_end a (uncut_end p.heard_end kept.end a p.ends is)) (none_refused_at m d role party p.units p.refusal a replies.ends)
+    none_left = p.history.last (authenticated_shut p.received_end a (uncut_end p.received_end kept.end a p.ends is)) (none_refused_at m d role party p.units p.refusal a replies.ends)
 
-  by_packets : (kept : Kept) (reader : PacketReader) (h s : List ℕ) (p : Stands m d role party kept (input.Packets reader) h s) (a : AgreedData) → kept.end ≡ Authenticated a
-      → HandsOver m role party p.units p.answers (state reader) kept.sending
+  by_packets : (kept : StateData) (reader : PacketReader) (h s : List ℕ) (p : EndpointStands m d role party kept (input.Packets reader) h s) (a : AgreedData) → kept.end ≡ Authenticated a
+      → HandsOver m role party p.units p.answers (packet_reader_data reader) kept.sending
   by_packets kept reader h s p a is =
       let e = ended_so kept (input.Packets reader) h s p a is in
       let inner = inside kept (input.Packets reader) h s p a is in
@@ -264,23 +264,23 @@ module _ (below : Below) (m : Meaning) (d : Policy) (role : Role) (party : Party
       let version = inner.reads.0 in
       let before = inner.reads.1 in
       let units_are : p.units ≡ version ∷ before = inner.reads.2 in
-      let reading : state reader ≡ record { keys = keys_in m role party version before; seq = number_in role party before; held = p.rest; fault = None } = inner.reads.3 in
+      let reading : packet_reader_data reader ≡ record { keys = keys_in m role party version before; seq = number_in role party before; held = p.rest; fault = None } = inner.reads.3 in
       let in_keys : keys_in m role party (version_in p.units) (payloads_in p.units) ≡ Some (keys_at m role party (version_in p.units) (payloads_in p.units) (other role)) =
       rw (auth_switched role party.offer (payloads_in p.units) e.stays_in_auth) refl in
       let out_keys : keys_out m role party p.units p.answers ≡ Some (keys_at m role party (version_in p.units) (payloads_in p.units) role) = rw on refl in
       record {
         incoming = keys_at m role party (version_in p.units) (payloads_in p.units) (other role);
         outgoing = keys_at m role party (version_in p.units) (payloads_in p.units) role;
-        reads_with = ap (λ (r : ReaderState). r.keys) reading ∙ ap (λ (l : Units). keys_in m role party (version_in l) (payloads_in l)) (sym units_are) ∙ in_keys;
-        says_with = inner.speaks.keys ∙ out_keys;
+        reads_with = ap (λ (r : PacketReaderData). r.keys) reading ∙ ap (λ (l : Units). keys_in m role party (version_in l) (payloads_in l)) (sym units_are) ∙ in_keys;
+        sends_with = inner.speaks.keys ∙ out_keys;
         incoming_keys = in_keys;
-        incoming_number = ap (λ (r : ReaderState). r.seq) reading ∙ ap (λ (l : Units). number_in role party (payloads_in l)) (sym units_are);
+        incoming_number = ap (λ (r : PacketReaderData). r.seq) reading ∙ ap (λ (l : Units). number_in role party (payloads_in l)) (sym units_are);
         outgoing_keys = out_keys;
         outgoing_number = inner.speaks.number;
       }
 
   -- an endpoint that ended authenticated reads packets
-  none_by_lines : (kept : Kept) (i : Input) (reader : LineState) → i ≡ input.Lines reader → (h s : List ℕ) (p : Stands m d role party kept i h s) (a : AgreedData) → kept.end ≡ Authenticated a → ⊥
+  none_by_lines : (kept : StateData) (i : Input) (reader : LineReaderData) → i ≡ input.Lines reader → (h s : List ℕ) (p : EndpointStands m d role party kept i h s) (a : AgreedData) → kept.end ≡ Authenticated a → ⊥
   none_by_lines kept (input.Lines r) reader same h s p a is =
       let e = ended_so kept (input.Lines r) h s p a is in
       let none : p.units ≡ [] = (inside kept (input.Lines r) h s p a is).reads.0 in
@@ -288,19 +288,19 @@ module _ (below : Below) (m : Meaning) (d : Policy) (role : Role) (party : Party
       cc
   none_by_lines kept (input.Packets r) reader same h s p a is = cc
 
-  pub packets_at : (kept : Kept) (i : Input) (h s : List ℕ) (p : Stands m d role party kept i h s) (a : AgreedData) → kept.end ≡ Authenticated a → (reader : PacketReader) × (i ≡ input.Packets reader)
+  pub packets_at : (kept : StateData) (i : Input) (h s : List ℕ) (p : EndpointStands m d role party kept i h s) (a : AgreedData) → kept.end ≡ Authenticated a → (reader : PacketReader) × (i ≡ input.Packets reader)
   packets_at kept (input.Lines r) h s p a is = absurd (none_by_lines kept (input.Lines r) r refl h s p a is)
   packets_at kept (input.Packets r) h s p a is = (r, refl)
 
-  pub hands_over : (kept : Kept) (i : Input) (reader : PacketReader) → i ≡ input.Packets reader → (h s : List ℕ) (p : Stands m d role party kept i h s) (a : AgreedData) → kept.end ≡ Authenticated a
-      → HandsOver m role party p.units p.answers (state reader) kept.sending
+  pub hands_over : (kept : StateData) (i : Input) (reader : PacketReader) → i ≡ input.Packets reader → (h s : List ℕ) (p : EndpointStands m d role party kept i h s) (a : AgreedData) → kept.end ≡ Authenticated a
+      → HandsOver m role party p.units p.answers (packet_reader_data reader) kept.sending
   hands_over kept (input.Lines r) reader same h s p a is = absurd cc
   hands_over kept (input.Packets r) reader same h s p a is =
       let e : r ≡ reader = cc in
-      subst (λ (x : PacketReader). HandsOver m role party p.units p.answers (state x) kept.sending) e (by_packets kept r h s p a is)
+      subst (λ (x : PacketReader). HandsOver m role party p.units p.answers (packet_reader_data x) kept.sending) e (by_packets kept r h s p a is)
 
 -- an end that is authenticated
-pub authenticated_at : (e : End) (a : AgreedData) → ending e ≡ Authenticated a → (agreed : Agreed) × (e ≡ end.Authenticated agreed)
+pub authenticated_at : (e : End) (a : AgreedData) → end_data e ≡ Authenticated a → (agreed : Agreed) × (e ≡ end.Authenticated agreed)
 authenticated_at end.Open a is = absurd cc
 authenticated_at (end.Authenticated x) a is = (x, refl)
 authenticated_at (end.Failed f) a is = absurd cc
@@ -308,23 +308,23 @@ authenticated_at (end.Closed reason) a is = absurd cc
 authenticated_at (end.Disconnected reason) a is = absurd cc
 
 -- what is handed over besides: both version lines, the host key, and how the user came in
-pub record HandsOn (m : Meaning) (d : Policy) (role : Role) (party : Party) (units : Units) (a : AgreedData) (own_version peer_version host_key : List ℕ) (accepted : Option Accepted) : Type 0 where
+pub record HandsOn (m : SuiteData) (d : DecisionsData) (role : Role) (party : ConfigData) (units : Units) (a : AgreedData) (own_version peer_version host_key : List ℕ) (accepted : Option Accepted) : Type 0 where
   pub own_version_is : own_version ≡ party.version
   pub peer_version_is : peer_version ≡ version_in units
   pub host_key_is : host_key ≡ (exchange_at m role party (version_in units) (payloads_in units)).host_key
   pub accepted_is : HasAccepted m d role party (version_in units) (payloads_in units) a accepted
 
 -- a key that is there or not
-key_there : (b : Bool) (key : Option UserKey) → user_key_of (cond b key None) ≡ cond b (user_key_of key) None
+key_there : (b : Bool) (key : Option UserKey) → user_key_data (cond b key None) ≡ cond b (user_key_data key) None
 key_there true key = refl
 key_there false key = refl
 
-module _ (below : Below) (m : Meaning) (d : Policy) (role : Role) (party : Party) (kept : Kept) (i : Input) (h s : List ℕ) (p : Stands m d role party kept i h s) (a : AgreedData) (is : kept.end ≡ Authenticated a) where
+module _ (below : Below) (m : SuiteData) (d : DecisionsData) (role : Role) (party : ConfigData) (kept : StateData) (i : Input) (h s : List ℕ) (p : EndpointStands m d role party kept i h s) (a : AgreedData) (is : kept.end ≡ Authenticated a) where
   abbrev tried : List Tried
   tried = tried_at m d role party (version_in p.units) (payloads_in p.units)
 
   abbrev keys : List UserKeyData
-  keys = good_keys_at m d role party (version_in p.units) (payloads_in p.units)
+  keys = successful_keys_at m d role party (version_in p.units) (payloads_in p.units)
 
   inner : IsInside m d role party p.units p.answers p.rest kept i
   inner = inside below m d role party kept i h s p a is
@@ -338,28 +338,28 @@ module _ (below : Below) (m : Meaning) (d : Policy) (role : Role) (party : Party
   reached_is = ap (λ (k : Known). k.reached) inner.sits.knows
 
   -- at a server
-  came_in : role ≡ Server → (key : Option UserKey) → user_key_of key ≡ kept.carried.user_key
-      → CameIn tried keys a.user a.service (record { password = kept.known.reached.password; key = cond kept.known.reached.publickey key None })
+  came_in : role ≡ Server → (key : Option UserKey) → user_key_data key ≡ kept.carried.user_key
+      → AcceptedBy tried keys a.user a.service (record { password = kept.known.reached.password; key = cond kept.known.reached.publickey key None })
   came_in server key same =
       let t = ends_tried below m d role party p.units p.refusal a (replies below m d role party kept i h s p a is).ends server in
       let by : Tried = tried_with a.user a.service t.1 true in
       record {
-        password = sym (ap (λ (r : Reached). r.password) reached_is) ∙ ap (λ (l : List Tried). (reached_after nothing_reached l).password) t.2
-            ∙ password_now t.0 by (method_name t.1) refl ∙ ap (λ (l : List Tried). list_any (is_good_for (codes "password")) (run_of a.user a.service l)) (sym t.2);
+        password = sym (ap (λ (r : ReachedData). r.password) reached_is) ∙ ap (λ (l : List Tried). (reached_after nothing_reached l).password) t.2
+            ∙ password_now t.0 by (method_name t.1) refl ∙ ap (λ (l : List Tried). list_any (is_successful_for (codes "password")) (run_of a.user a.service l)) (sym t.2);
         key = key_there kept.known.reached.publickey key
             ∙ ap (λ (k : Option UserKeyData). cond kept.known.reached.publickey k None) (same ∙ inner.carries.user_key)
-            ∙ ap (λ (b : Bool). cond b (last_key None keys) None) (sym (ap (λ (r : Reached). r.publickey) reached_is) ∙ ap (λ (l : List Tried). (reached_after nothing_reached l).publickey) t.2
-            ∙ publickey_now t.0 by (method_name t.1) refl ∙ ap (λ (l : List Tried). list_any (is_good_for (codes "publickey")) (run_of a.user a.service l)) (sym t.2));
+            ∙ ap (λ (b : Bool). cond b (last_key None keys) None) (sym (ap (λ (r : ReachedData). r.publickey) reached_is) ∙ ap (λ (l : List Tried). (reached_after nothing_reached l).publickey) t.2
+            ∙ publickey_now t.0 by (method_name t.1) refl ∙ ap (λ (l : List Tried). list_any (is_successful_for (codes "publickey")) (run_of a.user a.service l)) (sym t.2));
       }
 
-  module _ (accepted : Option Accepted) (key : Option UserKey) (same : user_key_of key ≡ kept.carried.user_key) (at_client : role ≡ Client → accepted ≡ None)
+  module _ (accepted : Option Accepted) (key : Option UserKey) (same : user_key_data key ≡ kept.carried.user_key) (at_client : role ≡ Client → accepted ≡ None)
       (at_server : role ≡ Server → accepted ≡ Some (record { password = kept.known.reached.password; key = cond kept.known.reached.publickey key None })) where
     accepted_as : (side : Role) → role ≡ side → HasAccepted m d side party (version_in p.units) (payloads_in p.units) a accepted
     accepted_as Client e = at_client e
     accepted_as Server e =
         let here : Accepted = record { password = kept.known.reached.password; key = cond kept.known.reached.publickey key None } in
         subst (λ (o : Option Accepted). HasAccepted m d Server party (version_in p.units) (payloads_in p.units) a o) (sym (at_server e))
-        (subst (λ (r : Role). CameIn (tried_at m d r party (version_in p.units) (payloads_in p.units)) (good_keys_at m d r party (version_in p.units) (payloads_in p.units)) a.user a.service here) e (came_in e key same))
+        (subst (λ (r : Role). AcceptedBy (tried_at m d r party (version_in p.units) (payloads_in p.units)) (successful_keys_at m d r party (version_in p.units) (payloads_in p.units)) a.user a.service here) e (came_in e key same))
 
     pub hands_on : HandsOn m d role party p.units a kept.carried.own_version kept.known.version kept.carried.host_key accepted
     hands_on = record {
@@ -370,10 +370,10 @@ module _ (below : Below) (m : Meaning) (d : Policy) (role : Role) (party : Party
     }
 
 -- what is made of what is handed over is the session
-pub session_is : (m : Meaning) (d : Policy) (role : Role) (party : Party) (units answers : Units) (rest : List ℕ) (reading : ReaderState) (sending : Sending) → HandsOver m role party units answers reading sending → rest ≡ []
-    → (agreed : Agreed) (a : AgreedData) → Authenticated (agreed_of agreed) ≡ Authenticated a → (own peer host_key : Vec ℕ Global) (accepted : Option Accepted) → HandsOn m d role party units a own.items peer.items host_key.items accepted
-    → (keys : Option KeyData) (number : ℕ) → keys ≡ reading.keys → number ≡ reading.seq → (result : Option Session)
-    → ((x y : KeyData) → keys ≡ Some x → sending.keys ≡ Some y → result ≡ Some (record {
+pub session_is : (m : SuiteData) (d : DecisionsData) (role : Role) (party : ConfigData) (units answers : Units) (rest : List ℕ) (reading : PacketReaderData) (sending : Sending) → HandsOver m role party units answers reading sending → rest ≡ []
+    → (agreed : Agreed) (a : AgreedData) → Authenticated (agreed_data agreed) ≡ Authenticated a → (own peer host_key : Vec ℕ Global) (accepted : Option Accepted) → HandsOn m d role party units a own.items peer.items host_key.items accepted
+    → (keys : Option KeysData) (number : ℕ) → keys ≡ reading.keys → number ≡ reading.seq → (result : Option Session)
+    → ((x y : KeysData) → keys ≡ Some x → sending.keys ≡ Some y → result ≡ Some (record {
       agreed = agreed;
       own_version = own;
       peer_version = peer;
@@ -393,7 +393,7 @@ session_is m d role party units answers rest reading sending over none agreed a 
     incoming = record { keys = over.incoming; sequence_number = number };
     outgoing = record { keys = over.outgoing; sequence_number = sending.number };
   },
-  whole over.incoming over.outgoing (keys_are ∙ over.reads_with) over.says_with,
+  whole over.incoming over.outgoing (keys_are ∙ over.reads_with) over.sends_with,
   record {
     agreed_is = cc;
     own_version = on.own_version_is;

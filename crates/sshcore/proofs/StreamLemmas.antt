@@ -4,10 +4,10 @@ use Rattle.std.proofs.Common.{◌≡◌, inl, inr, ℕ, Bool, true, false, cond,
 use Rattle.std.proofs.lemmas.Bool.{cases_Bool, true≢false}
 use Rattle.sshneg.specs.declared.role.Role.{Role}
 use Rattle.sshneg.specs.ExchangeEnd.{offer_in}
-use Rattle.sshpacket.specs.KeyData.{KeyData}
+use Rattle.sshpacket.specs.KeysData.{KeysData}
 use Rattle.sshpacket.specs.Places.{EachPlace, stands}
-use Rattle.sshpacket.specs.Stream.{Said, Units}
-use Rattle.sshpacket.specs.Suite.{Meaning}
+use Rattle.sshpacket.specs.Stream.{Sent, Units}
+use Rattle.sshpacket.specs.Suite.{SuiteData}
 use Rattle.sshpacket.proofs.Places.{first-append, flat-same, stands-append, stands-prefix}
 use Rattle.sshcore.specs.declared.table.Phase.TheVariants as phase
 use Rattle.sshcore.specs.Before.{first_kept, is_kexinit, kept, kexinit, offered, stood, strict_at, strict_towards}
@@ -15,7 +15,7 @@ use Rattle.sshcore.specs.Counting.{is_newkeys, number_out, switched_out}
 use Rattle.sshcore.specs.Directions.{payloads_in, spelled_by, spells}
 use Rattle.sshcore.specs.Exchange.{exchange_at, exchange_message, keys_at}
 use Rattle.sshcore.specs.History.{IsReady}
-use Rattle.sshcore.specs.Party.{Party}
+use Rattle.sshcore.specs.EndpointParts.{ConfigData}
 use Rattle.sshcore.specs.Phases.{leaving}
 use Rattle.sshcore.proofs.KnownLemmas.{exchange_by_payloads, keys_by_payloads}
 
@@ -24,7 +24,7 @@ kexinit_stays : (before more : Units) → offered before ≡ true → kexinit (b
 unfolding offered kexinit
 kexinit_stays before more is = first-append [] is_kexinit [] before more ∙ rw is refl
 
-message_stays : (role : Role) (party : Party) (before more : Units) → stood role party.offer (leaving role phase.Exchange) before ≡ true
+message_stays : (role : Role) (party : ConfigData) (before more : Units) → stood role party.offer (leaving role phase.Exchange) before ≡ true
     → exchange_message role party (before ++ more) ≡ exchange_message role party before
 unfolding stood first_kept
 message_stays role party before more is = first-append [] (kept role party.offer (leaving role phase.Exchange)) [] before more ∙ rw is refl
@@ -33,11 +33,11 @@ offered_more : (before more : Units) → offered before ≡ true → offered (be
 unfolding offered
 offered_more before more is = stands-append is_kexinit [] before more ∙ rw is refl
 
-stood_more : (role : Role) (party : Party) (k : ℕ) (before more : Units) → stood role party.offer k before ≡ true → stood role party.offer k (before ++ more) ≡ true
+stood_more : (role : Role) (party : ConfigData) (k : ℕ) (before more : Units) → stood role party.offer k before ≡ true → stood role party.offer k (before ++ more) ≡ true
 unfolding stood
 stood_more role party k before more is = stands-append (kept role party.offer k) [] before more ∙ rw is refl
 
-module _ (role : Role) (party : Party) where
+module _ (role : Role) (party : ConfigData) where
   pub ready_more : (before more : Units) → IsReady role party before → IsReady role party (before ++ more)
   ready_more before more r = record {
     offer = offered_more before more r.offer;
@@ -51,11 +51,11 @@ module _ (role : Role) (party : Party) where
   ready_units (v ∷ us) more r = ready_more us more r
 
 -- before the key switch strictness doesn't matter
-pub unready : (strict other_strict : Bool) (said : Units) → switched_out said ≡ false → number_out strict said ≡ number_out other_strict said
+pub unready : (strict other_strict : Bool) (sent : Units) → switched_out sent ≡ false → number_out strict sent ≡ number_out other_strict sent
 unfolding number_out
-unready strict other_strict said none = rw none refl
+unready strict other_strict sent none = rw none refl
 
-module _ (m : Meaning) (role : Role) (party : Party) where
+module _ (m : SuiteData) (role : Role) (party : ConfigData) where
   -- the keys and the strictness of an endpoint that is ready stay, whatever is heard behind
   pub keys_stay : (version : List ℕ) (before more : Units) (sender : Role) → IsReady role party before → keys_at m role party version (before ++ more) sender ≡ keys_at m role party version before sender
   keys_stay version before more sender r =
@@ -76,19 +76,19 @@ module _ (m : Meaning) (role : Role) (party : Party) where
   ready_some (v ∷ us) r = (v, us, refl)
 
   -- what was said is spelled as before, whatever is heard behind
-  spelled_stays : (units more said : Units) (payload : List ℕ) → (switched_out said ≡ true → IsReady role party (payloads_in units))
-      → spells m role party units (party.version ∷ said) payload ≡ spells m role party (units ++ more) (party.version ∷ said) payload
-  spelled_stays units more said payload keyed = elim (cases_Bool (switched_out said)) [
+  spelled_stays : (units more sent : Units) (payload : List ℕ) → (switched_out sent ≡ true → IsReady role party (payloads_in units))
+      → spells m role party units (party.version ∷ sent) payload ≡ spells m role party (units ++ more) (party.version ∷ sent) payload
+  spelled_stays units more sent payload keyed = elim (cases_Bool (switched_out sent)) [
     | inl on ↦ at units (ready_some units (keyed on)) (keyed on) on
-    | inr off ↦ rw off (ap (λ n. spelled_by m None party.seed n payload) (unready (strict_at role party (payloads_in units)) (strict_at role party (payloads_in (units ++ more))) said off))
+    | inr off ↦ rw off (ap (λ n. spelled_by m None party.seed n payload) (unready (strict_at role party (payloads_in units)) (strict_at role party (payloads_in (units ++ more))) sent off))
   ]
     where
-      at : (us : Units) → (v : List ℕ) × (vs : Units) × (us ≡ v ∷ vs) → IsReady role party (payloads_in us) → switched_out said ≡ true
-          → spells m role party us (party.version ∷ said) payload ≡ spells m role party (us ++ more) (party.version ∷ said) payload
+      at : (us : Units) → (v : List ℕ) × (vs : Units) × (us ≡ v ∷ vs) → IsReady role party (payloads_in us) → switched_out sent ≡ true
+          → spells m role party us (party.version ∷ sent) payload ≡ spells m role party (us ++ more) (party.version ∷ sent) payload
       at [] (v, vs, e) r on = absurd cc
       at (v ∷ vs) w r on = rw on (
-          ap (λ (k : KeyData). spelled_by m (Some k) party.seed (number_out (strict_at role party vs) said) payload) (sym (keys_stay v vs more role r))
-          ∙ ap (λ (b : Bool). spelled_by m (Some (keys_at m role party v (vs ++ more) role)) party.seed (number_out b said) payload) (sym (strict_stays vs more r.offer)))
+          ap (λ (k : KeysData). spelled_by m (Some k) party.seed (number_out (strict_at role party vs) sent) payload) (sym (keys_stay v vs more role r))
+          ∙ ap (λ (b : Bool). spelled_by m (Some (keys_at m role party v (vs ++ more) role)) party.seed (number_out b sent) payload) (sym (strict_stays vs more r.offer)))
 
   each_stays : (units more before us : Units) → (switched_out (before ++ us) ≡ true → IsReady role party (payloads_in units))
       → EachPlace (λ b u. spells m role party units b u ≡ spells m role party (units ++ more) b u) (party.version ∷ before) us
@@ -99,10 +99,10 @@ module _ (m : Meaning) (role : Role) (party : Party) where
     each_stays units more (before ++ u ∷ []) us (λ on. keyed (ap switched_out (sym (append_assoc before (u ∷ []) us)) ∙ on)),
   )
 
-  pub said_stays : (units more answers : Units) (s : List ℕ) → (switched_out answers ≡ true → IsReady role party (payloads_in units))
-      → Said (spells m role party units) s (party.version ∷ answers) → Said (spells m role party (units ++ more)) s (party.version ∷ answers)
-  said_stays units more answers s keyed said = record {
-    spelled = said.spelled ∙ flat-same (spells m role party units) (spells m role party (units ++ more)) [] (party.version ∷ answers) (refl, each_stays units more [] answers keyed);
+  pub sent_stays : (units more answers : Units) (s : List ℕ) → (switched_out answers ≡ true → IsReady role party (payloads_in units))
+      → Sent (spells m role party units) s (party.version ∷ answers) → Sent (spells m role party (units ++ more)) s (party.version ∷ answers)
+  sent_stays units more answers s keyed sent = record {
+    spelled = sent.spelled ∙ flat-same (spells m role party units) (spells m role party (units ++ more)) [] (party.version ∷ answers) (refl, each_stays units more [] answers keyed);
   }
 
 -- whether NEWKEYS was said, of a list in two parts
@@ -110,6 +110,6 @@ pub newkeys_anywhere : (b c us : Units) → stands is_newkeys b us ≡ stands is
 newkeys_anywhere b c [] = refl
 newkeys_anywhere b c (u ∷ us) = ap (λ (x : Bool). cond (is_newkeys [] u) true x) (newkeys_anywhere (b ++ u ∷ []) (c ++ u ∷ []) us)
 
-pub switched_append : (said more : Units) → switched_out (said ++ more) ≡ cond (switched_out said) true (switched_out more)
+pub switched_append : (sent more : Units) → switched_out (sent ++ more) ≡ cond (switched_out sent) true (switched_out more)
 unfolding switched_out
-switched_append said more = stands-append is_newkeys [] said more ∙ ap (λ (x : Bool). cond (stands is_newkeys [] said) true x) (newkeys_anywhere said [] more)
+switched_append sent more = stands-append is_newkeys [] sent more ∙ ap (λ (x : Bool). cond (stands is_newkeys [] sent) true x) (newkeys_anywhere sent [] more)

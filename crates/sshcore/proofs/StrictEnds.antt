@@ -5,13 +5,13 @@ use Rattle.sshmsg.specs.Numbers.{kind}
 use Rattle.sshneg.specs.declared.role.Role.{Role}
 use Rattle.sshpacket.specs.Parse.{Refusal}
 use Rattle.sshpacket.specs.Stream.{Units}
-use Rattle.sshpacket.specs.Suite.{Meaning}
-use Rattle.sshpacket.proofs.Places.{each-behind, each-prefix}
+use Rattle.sshpacket.specs.Suite.{SuiteData}
+use Rattle.sshpacket.proofs.Places.{each-after, each-prefix}
 use Rattle.sshcore.specs.declared.table.Phase.TheVariants as phase
 use Rattle.sshcore.specs.Before.{strict_at}
 use Rattle.sshcore.specs.Directions.{payloads_in}
-use Rattle.sshcore.specs.Ending.{Ending, Open}
-use Rattle.sshcore.specs.Party.{Party, Policy}
+use Rattle.sshcore.specs.EndData.{EndData, Open}
+use Rattle.sshcore.specs.EndpointParts.{ConfigData, DecisionsData}
 use Rattle.sshcore.specs.Phases.{past_newkeys, phase_at}
 use Rattle.sshcore.specs.Replies.{Ends, StaysOpen, end_at, ended, goes_on}
 use Rattle.sshcore.specs.StrictClause.{KeepsStrict}
@@ -19,7 +19,7 @@ use Rattle.sshcore.specs.StrictSequence.{BeginsStrictly, Conforms, EndsStrictly}
 use Rattle.sshcore.proofs.Below.{Below}
 use Rattle.sshcore.proofs.StrictLaws.{begun_none, cut, deviates, not_open, past, past_open, stands}
 
-module _ (below : Below) (m : Meaning) (d : Policy) (role : Role) (party : Party) where
+module _ (below : Below) (m : SuiteData) (d : DecisionsData) (role : Role) (party : ConfigData) where
   abbrev IsPast : Units → Type 0
   IsPast payloads = past_newkeys (phase_at role party.offer payloads) ≡ true
 
@@ -51,10 +51,10 @@ module _ (below : Below) (m : Meaning) (d : Policy) (role : Role) (party : Party
   none_open version before payload more stays s not =
       let Q = λ (b : Units) (u : List ℕ). end_at m d role party b u ≡ Open in
       let front : StaysOpen m d role party (version ∷ before) = each-prefix Q [] (version ∷ before) (payload ∷ more) stays in
-      let here : end_at m d role party (version ∷ before) payload ≡ Open = (each-behind Q [] (version ∷ before) (payload ∷ more) stays).0 in
+      let here : end_at m d role party (version ∷ before) payload ≡ Open = (each-after Q [] (version ∷ before) (payload ∷ more) stays).0 in
       not_open (kind payload) _ (deviating version before payload front s not) here
 
-  pub keeps_strict : (units : Units) (refusal : Option Refusal) (end : Ending) → Ends m d role party units refusal end → KeepsStrict role party units end
+  pub keeps_strict : (units : Units) (refusal : Option Refusal) (end : EndData) → Ends m d role party units refusal end → KeepsStrict role party units end
   keeps_strict units refusal end (goes_on stays is) = record {
     sequence = open_past units stays;
     deviation = λ version before payload more units_are s not.

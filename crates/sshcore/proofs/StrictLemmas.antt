@@ -3,7 +3,7 @@
 use Rattle.std.proofs.Common.{◌≡◌, ℕ, ◌<◌, ◌≤◌, true, false, List, [], ◌∷◌, ◌++◌, Some, refl, sym, ap, ◌∙◌, arith, append_assoc}
 use Rattle.std.proofs.lemmas.Bool.{true≢false}
 use Rattle.std.proofs.lemmas.List.{append-nil}
-use Rattle.sshmsg.specs.Content.{Offer}
+use Rattle.sshmsg.specs.MessageData.{KexInitData}
 use Rattle.sshmsg.specs.Numbers.{kind}
 use Rattle.sshneg.specs.declared.role.Role.{Role}
 use Rattle.sshneg.specs.declared.role.Role.TheVariants.{Client, Server}
@@ -12,7 +12,7 @@ use Rattle.sshpacket.specs.Stream.{Units}
 use Rattle.sshcore.specs.declared.table.Phase.{Phase}
 use Rattle.sshcore.specs.declared.table.Phase.TheVariants as phase
 use Rattle.sshcore.specs.Before.{expects_guess, offered, strict_at, wrong_guess}
-use Rattle.sshcore.specs.Party.{Party}
+use Rattle.sshcore.specs.EndpointParts.{ConfigData}
 use Rattle.sshcore.specs.Phases.{leaving, past_exchange, past_kexinit}
 use Rattle.sshcore.specs.Standing.{Tied}
 use Rattle.sshcore.specs.StrictSequence.{BeginsStrictly, Guessed, NotGuessed, share_number}
@@ -39,7 +39,7 @@ pub share_some : (role : Role) → 0 < share_number role
 share_some Client = omega arith
 share_some Server = omega arith
 
-pub begins_more : (role : Role) (own : Offer) (before : Units) (payload : List ℕ) → BeginsStrictly role own before → BeginsStrictly role own (before ++ payload ∷ [])
+pub begins_more : (role : Role) (own : KexInitData) (before : Units) (payload : List ℕ) → BeginsStrictly role own before → BeginsStrictly role own (before ++ payload ∷ [])
 begins_more role own before payload b = record {
   sequence = b.sequence;
   rest = b.rest ++ payload ∷ [];
@@ -47,7 +47,7 @@ begins_more role own before payload b = record {
   payloads_are = ap (λ (l : Units). l ++ payload ∷ []) b.payloads_are ∙ append_assoc b.sequence b.rest (payload ∷ []);
 }
 
-module _ (role : Role) (party : Party) (before : Units) (payload : List ℕ) where
+module _ (role : Role) (party : ConfigData) (before : Units) (payload : List ℕ) where
   abbrev pub more : Units
   more = before ++ payload ∷ []
 
@@ -131,7 +131,7 @@ module _ (role : Role) (party : Party) (before : Units) (payload : List ℕ) whe
       }
 
   -- a KEXINIT in the first place
-  pub opens : Below → (peer : Offer) → before ≡ [] → offered before ≡ false → kind payload ≡ 20 → offer_in payload ≡ Some peer → StoodKexinit role party.offer more []
+  pub opens : Below → (peer : KexInitData) → before ≡ [] → offered before ≡ false → kind payload ≡ 20 → offer_in payload ≡ Some peer → StoodKexinit role party.offer more []
   opens below peer none not_offered is offers =
       let alone : before ++ payload ∷ [] ≡ payload ∷ [] = ap (λ (l : Units). l ++ payload ∷ []) none in
       let due : expects_guess role party.offer (before ++ payload ∷ []) ≡ wrong_guess role party.offer (Some peer)

@@ -5,13 +5,13 @@ use Rattle.std.proofs.lemmas.Bool.{cases_Bool, eqb-true, true≢false}
 use Rattle.std.proofs.lemmas.List.{nil_from_length}
 use Rattle.sshwire.specs.declared.share_form.ShareForm.TheVariants.{Mpint}
 use Rattle.sshmsg.specs.declared.fault.MsgFault.{MsgFault}
-use Rattle.sshmsg.specs.Content.{Content, Disconnect, KexInit}
+use Rattle.sshmsg.specs.MessageData.{Disconnect, KexInit, MessageData}
 use Rattle.sshmsg.specs.Messages.{message_in}
 use Rattle.sshmsg.specs.Numbers.{kind, number_of}
 use Rattle.sshneg.specs.declared.role.Role.{Role}
 use Rattle.sshneg.specs.ExchangeEnd.{offer_in}
 use Rattle.sshpacket.specs.Stream.{Units}
-use Rattle.sshpacket.specs.Suite.{Meaning}
+use Rattle.sshpacket.specs.Suite.{SuiteData}
 use Rattle.sshcore.specs.declared.end.Fault.TheVariants as fault
 use Rattle.sshcore.specs.declared.table.Line.{Line}
 use Rattle.sshcore.specs.declared.table.Line.TheVariants as line
@@ -19,9 +19,9 @@ use Rattle.sshcore.specs.declared.table.Phase.{Phase}
 use Rattle.sshcore.specs.declared.table.Phase.TheVariants as phase
 use Rattle.sshcore.specs.Before.{expects_guess, offered, strict_at, strict_towards}
 use Rattle.sshcore.specs.Counting.{number_in}
-use Rattle.sshcore.specs.Ending.{Ending, Failed, Open}
+use Rattle.sshcore.specs.EndData.{EndData, Failed, Open}
 use Rattle.sshcore.specs.Known.{Known, known_at, waits_at}
-use Rattle.sshcore.specs.Party.{Party, Policy}
+use Rattle.sshcore.specs.EndpointParts.{ConfigData, DecisionsData}
 use Rattle.sshcore.specs.Phases.{leaving, past_exchange}
 use Rattle.sshcore.specs.Replies.{end_at, line_at, line_reply, read_reply}
 use Rattle.sshcore.specs.Standing.{LeavesNone, Tied}
@@ -36,13 +36,13 @@ use Rattle.sshcore.proofs.StrictStages.{Follows, SoFar}
 use Rattle.sshcore.proofs.TableLemmas.{Closing, Dropped, Leaving, OffGuess, OffPhase, Sees, Staying, Useless, sees}
 
 -- what a payload does: the endpoint stands where the next phase wants; it deviates; or it fails without deviating
-pub data Step (role : Role) (party : Party) (before : Units) (payload : List ℕ) (end : Ending) : Type 0 where
+pub data Step (role : Role) (party : ConfigData) (before : Units) (payload : List ℕ) (end : EndData) : Type 0 where
   Goes : (q : Phase) → Follows role party (before ++ payload ∷ []) q → Step role party before payload end
   Off : EndsStrictly (kind payload) end → Step role party before payload end
   Fails : end ≢ Open → (strict_at role party (before ++ payload ∷ []) ≡ true → Conforms role party.offer (before ++ payload ∷ [])) → Step role party before payload end
 
-module _ (below : Below) (m : Meaning) (d : Policy) (role : Role) (party : Party) where
-  closes : (known : Known) (payload : List ℕ) (c : Content) → kind payload ≡ 1 → number_of c ≡ 1 → EndsStrictly (kind payload) (work m d role party known c).end
+module _ (below : Below) (m : SuiteData) (d : DecisionsData) (role : Role) (party : ConfigData) where
+  closes : (known : Known) (payload : List ℕ) (c : MessageData) → kind payload ≡ 1 → number_of c ≡ 1 → EndsStrictly (kind payload) (work m d role party known c).end
   unfolding work
   closes known payload (Disconnect reason description language) is e = AsClosed is reason refl
   closes known payload _ is e = absurd (omega (arith, e))
@@ -51,7 +51,7 @@ module _ (below : Below) (m : Meaning) (d : Policy) (role : Role) (party : Party
   unfolding line_reply
   closing known packet payload is = by (message_in known.shares payload) refl
     where
-      by : (r : Result Content MsgFault) → message_in known.shares payload ≡ r → EndsStrictly (kind payload) (read_reply m d role party known (kind payload) r).end
+      by : (r : Result MessageData MsgFault) → message_in known.shares payload ≡ r → EndsStrictly (kind payload) (read_reply m d role party known (kind payload) r).end
       by (Ok c) e = closes known payload c is (sym (below.numbers known.shares payload c e) ∙ is)
       by (Err f) e = AsMalformed is (ap (λ n. Failed (fault.Malformed n)) is)
 

@@ -11,8 +11,8 @@ use Rattle.sshcore.specs.Table.{line_by}
 
 -- so many times the same line, and then these
 repeated : ℕ → Line → List Line → List Line
-repeated zero l behind = behind
-repeated (suc n) l behind = l ∷ repeated n l behind
+repeated zero l after = after
+repeated (suc n) l after = l ∷ repeated n l after
 
 runs : List (ℕ × Line) → List Line
 runs [] = []

@@ -4,13 +4,13 @@ use Rattle.std.proofs.Common.{◌≡◌, ◌⊎◌, inl, inr, ℕ, ◌+◌, ◌<
 use Rattle.std.proofs.lemmas.Bool.{and_parts, cases_Bool, eqb-true, leb-false, ne_eqb, true≢false}
 use Rattle.std.proofs.lemmas.List.{append-nil}
 use Rattle.sshmsg.specs.declared.fault.MsgFault.{MsgFault}
-use Rattle.sshmsg.specs.Content.{Content, Method, UserauthRequest}
+use Rattle.sshmsg.specs.MessageData.{MessageData, MethodData, UserauthRequest}
 use Rattle.sshmsg.specs.Messages.{message_in}
 use Rattle.sshmsg.specs.Numbers.{kind, number_of}
 use Rattle.sshneg.specs.declared.role.Role.TheVariants.{Server}
 use Rattle.sshpacket.specs.Places.{EachPlace}
 use Rattle.sshpacket.specs.Stream.{Units}
-use Rattle.sshpacket.specs.Suite.{Meaning}
+use Rattle.sshpacket.specs.Suite.{SuiteData}
 use Rattle.sshcore.specs.declared.end.Fault.TheVariants as fault
 use Rattle.sshcore.specs.declared.table.Line.{Line}
 use Rattle.sshcore.specs.declared.table.Line.TheVariants as line
@@ -19,9 +19,9 @@ use Rattle.sshcore.specs.declared.table.Phase.TheVariants as phase
 use Rattle.sshcore.specs.Attempts.{agreed_by}
 use Rattle.sshcore.specs.Before.{count_kept, expects_guess, kept, strict_at}
 use Rattle.sshcore.specs.Counting.{number_in}
-use Rattle.sshcore.specs.Ending.{Authenticated, Failed, Open, Reply}
+use Rattle.sshcore.specs.EndData.{Authenticated, Failed, Open, Reply}
 use Rattle.sshcore.specs.Known.{Known, known_at, waits_at}
-use Rattle.sshcore.specs.Party.{Party, Policy}
+use Rattle.sshcore.specs.EndpointParts.{ConfigData, DecisionsData}
 use Rattle.sshcore.specs.Phases.{phase_at}
 use Rattle.sshcore.specs.Replies.{StaysOpen, end_at, line_at, line_reply, read_reply}
 use Rattle.sshcore.specs.Requests.{is_last_try, request_reply}
@@ -47,23 +47,23 @@ request_line phase.NewKeys false waits = inr (inr refl)
 request_line phase.Service strict waits = inr (inr refl)
 request_line phase.Auth strict waits = inl refl
 
-module _ (below : Below) (m : Meaning) (d : Policy) (party : Party) where
+module _ (below : Below) (m : SuiteData) (d : DecisionsData) (party : ConfigData) where
   -- a request that leaves the endpoint open isn't the last that is granted
-  request_tries : (known : Known) (user service : List ℕ) (method : Method) → (request_reply m d party known user service method).end ≡ Open → is_last_try party known ≡ false
+  request_tries : (known : Known) (user service : List ℕ) (method : MethodData) → (request_reply m d party known user service method).end ≡ Open → is_last_try party known ≡ false
   request_tries known user service method is_open = by (answered m d party known user service method)
     where
       by : IsAnswered m d party known user service method (request_reply m d party known user service method) → is_last_try party known ≡ false
       by (Elsewhere has is) = absurd (let shut : Failed fault.Service ≡ Open = ap (λ (r : Reply). r.end) (sym is) ∙ is_open in cc (shut))
-      by (Succeeds has good done is) = absurd (let shut : Authenticated (agreed_by known user service) ≡ Open = ap (λ (r : Reply). r.end) (sym is) ∙ is_open in cc (shut))
+      by (Succeeds has successful done is) = absurd (let shut : Authenticated (agreed_by known user service) ≡ Open = ap (λ (r : Reply). r.end) (sym is) ∙ is_open in cc (shut))
       by (Last last is) = absurd (let shut : Failed fault.TooManyTries ≡ Open = ap (λ (r : Reply). r.end) (sym is) ∙ is_open in cc (shut))
       by (More x refusal more is) = more
 
-  work_tries : (known : Known) (c : Content) → number_of c ≡ 50 → (work m d Server party known c).end ≡ Open → is_last_try party known ≡ false
+  work_tries : (known : Known) (c : MessageData) → number_of c ≡ 50 → (work m d Server party known c).end ≡ Open → is_last_try party known ≡ false
   unfolding work
   work_tries known (UserauthRequest user service method) n is_open = request_tries known user service method is_open
   work_tries known _ n is_open = absurd (omega (arith, n))
 
-  read_tries : (known : Known) (payload : List ℕ) (r : Result Content MsgFault) → message_in known.shares payload ≡ r → kind payload ≡ 50
+  read_tries : (known : Known) (payload : List ℕ) (r : Result MessageData MsgFault) → message_in known.shares payload ≡ r → kind payload ≡ 50
       → (read_reply m d Server party known (kind payload) r).end ≡ Open → is_last_try party known ≡ false
   read_tries known payload (Ok c) e is is_open = work_tries known c (sym (below.numbers known.shares payload c e) ∙ is) is_open
   read_tries known payload (Err f) e is is_open = absurd cc

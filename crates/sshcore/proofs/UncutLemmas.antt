@@ -2,26 +2,26 @@
 
 use Rattle.std.proofs.Common.{◌≡◌, ℕ, false, List, [], ◌∷◌, Option, None, Some, Result, Ok, Err, refl, ap, ◌∙◌}
 use Rattle.sshmsg.specs.declared.fault.MsgFault.{MsgFault}
-use Rattle.sshmsg.specs.Content.{Content}
+use Rattle.sshmsg.specs.MessageData.{MessageData}
 use Rattle.sshmsg.specs.Messages.{message_in}
 use Rattle.sshmsg.specs.Numbers.{kind}
 use Rattle.sshneg.specs.declared.role.Role.{Role}
 use Rattle.sshpacket.specs.declared.fault.PacketFault.TheVariants as packet
 use Rattle.sshpacket.specs.Parse.{OfLine, OfPacket, Refusal}
 use Rattle.sshpacket.specs.Stream.{Units}
-use Rattle.sshpacket.specs.Suite.{Meaning}
+use Rattle.sshpacket.specs.Suite.{SuiteData}
 use Rattle.sshcore.specs.declared.table.Line.{Line}
 use Rattle.sshcore.specs.declared.table.Line.TheVariants as line
 use Rattle.sshcore.specs.Counting.{number_in}
-use Rattle.sshcore.specs.Ending.{Ending, Failed, Open, by_owner}
+use Rattle.sshcore.specs.EndData.{EndData, Failed, Open, by_owner}
 use Rattle.sshcore.specs.Known.{Known, known_at}
-use Rattle.sshcore.specs.Party.{Party, Policy}
+use Rattle.sshcore.specs.EndpointParts.{ConfigData, DecisionsData}
 use Rattle.sshcore.specs.Replies.{Ends, end_at, ended, fault_of, goes_on, line_at, line_reply, read_reply, refusal_reply}
 use Rattle.sshcore.specs.Work.{work}
 use Rattle.sshcore.proofs.AuthenticatedLemmas.{Early, Requested, Succeeded, WorkEnds, early_uncut, work_ends}
 
 -- what is heard never ends as an owner does
-abbrev pub IsUncut : Ending → Type 0
+abbrev pub IsUncut : EndData → Type 0
 IsUncut end = by_owner end ≡ false
 
 uncut_refusal : (r : Option Refusal) → IsUncut (refusal_reply r).end
@@ -33,16 +33,16 @@ uncut_refusal (Some (OfPacket packet.Empty)) = refl
 uncut_refusal (Some (OfPacket packet.Mac)) = refl
 uncut_refusal (Some (OfPacket packet.Memory)) = refl
 
-module _ (m : Meaning) (d : Policy) (role : Role) (party : Party) where
-  uncut_work : (known : Known) (c : Content) → IsUncut (work m d role party known c).end
+module _ (m : SuiteData) (d : DecisionsData) (role : Role) (party : ConfigData) where
+  uncut_work : (known : Known) (c : MessageData) → IsUncut (work m d role party known c).end
   uncut_work known c = by (work_ends m d role party known c)
     where
       by : WorkEnds m d party known c (work m d role party known c).end → IsUncut (work m d role party known c).end
       by (Early h) = early_uncut (work m d role party known c).end h
-      by (Requested _ _ _ same has good done is) = ap by_owner is
+      by (Requested _ _ _ same has successful done is) = ap by_owner is
       by (Succeeded _ _ same left is) = ap by_owner is
 
-  uncut_read : (known : Known) (n : ℕ) (r : Result Content MsgFault) → IsUncut (read_reply m d role party known n r).end
+  uncut_read : (known : Known) (n : ℕ) (r : Result MessageData MsgFault) → IsUncut (read_reply m d role party known n r).end
   uncut_read known n (Ok c) = uncut_work known c
   uncut_read known n (Err f) = refl
 
@@ -58,20 +58,20 @@ module _ (m : Meaning) (d : Policy) (role : Role) (party : Party) where
   uncut_unit [] unit = refl
   uncut_unit (version ∷ before) unit = uncut_line (known_at m d role party version before) (number_in role party before) (line_at role party before unit) unit
 
-  pub uncut_heard : (units : Units) (r : Option Refusal) (end : Ending) → Ends m d role party units r end → IsUncut end
-  uncut_heard units r end (goes_on stays e) = ap by_owner e ∙ uncut_refusal r
-  uncut_heard units r end (ended before last is stays e shut none) = ap by_owner e ∙ uncut_unit before last
+  pub uncut_received : (units : Units) (r : Option Refusal) (end : EndData) → Ends m d role party units r end → IsUncut end
+  uncut_received units r end (goes_on stays e) = ap by_owner e ∙ uncut_refusal r
+  uncut_received units r end (ended before last is stays e shut none) = ap by_owner e ∙ uncut_unit before last
 
 -- so an endpoint that stands open, that was refused something, or that replied to a unit wasn't ended by its owner
-still_uncut : (end wanted : Ending) → end ≡ wanted → IsUncut wanted → IsUncut end
+still_uncut : (end wanted : EndData) → end ≡ wanted → IsUncut wanted → IsUncut end
 still_uncut end wanted is uncut = ap by_owner is ∙ uncut
 
-pub open_stays : (end : Ending) → end ≡ Open → IsUncut end
+pub open_stays : (end : EndData) → end ≡ Open → IsUncut end
 open_stays end is = still_uncut end Open is refl
 
-pub refusal_stays : (r : Refusal) (end : Ending) → end ≡ Failed (fault_of r) → IsUncut end
+pub refusal_stays : (r : Refusal) (end : EndData) → end ≡ Failed (fault_of r) → IsUncut end
 refusal_stays r end is = still_uncut end (Failed (fault_of r)) is (uncut_refusal (Some r))
 
-pub unit_stays : (m : Meaning) (d : Policy) (role : Role) (party : Party) (before : Units) (unit : List ℕ) (end : Ending)
+pub unit_stays : (m : SuiteData) (d : DecisionsData) (role : Role) (party : ConfigData) (before : Units) (unit : List ℕ) (end : EndData)
     → end ≡ end_at m d role party before unit → IsUncut end
 unit_stays m d role party before unit end is = still_uncut end (end_at m d role party before unit) is (uncut_unit m d role party before unit)

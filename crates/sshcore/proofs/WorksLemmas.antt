@@ -5,7 +5,7 @@ use Rattle.std.proofs.lemmas.List.{append-nil}
 use Rattle.sshwire.specs.declared.mpint.Mpint as mpint
 use Rattle.sshwire.specs.declared.share_form.ShareForm.{ShareForm}
 use Rattle.sshwire.specs.declared.share_form.ShareForm.TheVariants.{Mpint}
-use Rattle.sshmsg.specs.Content.{Content, Disconnect, KexEcdhInit, KexEcdhReply, KexInit, KexdhInit, KexdhReply, Method, NewKeys, NoMethod, Offer, OtherMethod, Password, PasswordChange, PublicKey, PublicKeyQuery, ServiceAccept, ServiceRequest, UserauthFailure, UserauthPkOk, UserauthRequest, UserauthSuccess}
+use Rattle.sshmsg.specs.MessageData.{Disconnect, KexEcdhInit, KexEcdhReply, KexInit, KexInitData, KexdhInit, KexdhReply, MessageData, MethodData, NewKeys, NoMethod, OtherMethod, Password, PasswordChange, PublicKey, PublicKeyQuery, ServiceAccept, ServiceRequest, UserauthFailure, UserauthPkOk, UserauthRequest, UserauthSuccess}
 use Rattle.sshmsg.specs.Lengths.{method_length}
 use Rattle.sshmsg.specs.Messages.{Spells, message_in}
 use Rattle.sshmsg.specs.Numbers.{kind, number_of}
@@ -13,12 +13,12 @@ use Rattle.sshmsg.specs.declared.message.KexInit as kexinit
 use Rattle.sshmsg.specs.declared.message.Message.{Message}
 use Rattle.sshmsg.specs.declared.message.Method as method
 use Rattle.sshmsg.specs.declared.message.Message.TheVariants as message
-use Rattle.sshmsg.specs.View.{content_of}
+use Rattle.sshmsg.specs.View.{message_data}
 use Rattle.sshneg.specs.declared.role.Role.{Role}
 use Rattle.sshneg.specs.declared.role.Role.TheVariants.{Client, Server}
 use Rattle.sshneg.specs.ExchangeEnd.{offer_by, offer_in}
-use Rattle.sshpacket.specs.KeyData.{KeyData}
-use Rattle.sshpacket.specs.Suite.{Meaning}
+use Rattle.sshpacket.specs.KeysData.{KeysData}
+use Rattle.sshpacket.specs.Suite.{SuiteData}
 use Rattle.sshpacket.specs.declared.limits.TheConstants.{PACKET_LIMIT}
 use Rattle.sshcore.specs.declared.end.Fault.{Fault}
 use Rattle.sshcore.specs.declared.table.Line.TheVariants as line
@@ -27,21 +27,21 @@ use Rattle.sshcore.specs.declared.table.Phase.TheVariants as phase
 use Rattle.sshcore.specs.Attempts.{failure_reply, pk_ok_reply, success_reply}
 use Rattle.sshcore.specs.Authenticating.{FitsMethod, confirmed_attempt, counted_request, failed_attempt, tried_key}
 use Rattle.sshcore.specs.Before.{wrong_guess}
-use Rattle.sshcore.specs.Brings.{Exchanges, Gives, IsOngoing, Leaves, Offers, StandsAt, Stays, Works, carried_behind, heard_one}
-use Rattle.sshcore.specs.Ending.{Authenticated, Closed, Ending, Failed, Open, Reply, goes}
-use Rattle.sshcore.specs.Exchanged.{HearsExchange}
-use Rattle.sshcore.specs.Kept.{Kept}
+use Rattle.sshcore.specs.Brings.{Exchanges, Gives, IsOngoing, Leaves, Offers, StandsAt, Stays, Works, carried_after, received_one}
+use Rattle.sshcore.specs.EndData.{Authenticated, Closed, EndData, Failed, Open, Reply, goes}
+use Rattle.sshcore.specs.Exchanged.{ReceivesExchange}
+use Rattle.sshcore.specs.StateData.{StateData}
 use Rattle.sshcore.specs.Known.{Known}
-use Rattle.sshcore.specs.Output.{said_from, sending_from}
-use Rattle.sshcore.specs.Party.{Party, Policy}
-use Rattle.sshcore.specs.Phases.{behind, leaving, past_exchange}
+use Rattle.sshcore.specs.Output.{sending_from, sent_from}
+use Rattle.sshcore.specs.EndpointParts.{ConfigData, DecisionsData}
+use Rattle.sshcore.specs.Phases.{leaving, next_phase, past_exchange}
 use Rattle.sshcore.specs.Plan.{is_waiting, listed_by, listed_in}
-use Rattle.sshcore.specs.Requests.{is_good, request_reply}
+use Rattle.sshcore.specs.Requests.{is_successful, request_reply}
 use Rattle.sshcore.specs.Tries.{tried_with}
-use Rattle.sshcore.specs.Standing.{LeavesNone, behind_offer, behind_payload}
+use Rattle.sshcore.specs.Standing.{LeavesNone, after_offer, after_payload}
 use Rattle.sshcore.specs.Table.{line_by}
 use Rattle.sshcore.specs.Work.{accept_reply, init_reply, kexinit_reply, reply_reply, service_reply, work}
-use Rattle.sshcore.proofs.BehindLemmas.{carried_number, carried_request, failure_behind, heard_number, pk_ok_behind, request_behind}
+use Rattle.sshcore.proofs.AfterLemmas.{carried_number, carried_request, failure_after, pk_ok_after, received_number, request_after}
 use Rattle.sshcore.proofs.ReadsLemmas as table
 use Rattle.sshcore.proofs.ReadsLemmas.{IsAt, IsPlain, Reads, plain_calm, plain_other, reads}
 
@@ -59,18 +59,18 @@ on_four (Ok x) a b c d f = f a b c d
 on_four (Err e) a b c d f = tt
 
 -- a payload of this message is read
-pub record HasPlace (role : Role) (old : Kept) (payload : List ℕ) (c : Content) : Type 0 where
+pub record HasPlace (role : Role) (old : StateData) (payload : List ℕ) (c : MessageData) : Type 0 where
   pub reads_it : Reads role old.phase old.guess (number_of c)
   pub read_is : message_in old.known.shares payload ≡ Ok c
   pub kind_is : kind payload ≡ number_of c
-  pub offers : (peer : Offer) → c ≡ KexInit peer → offer_in payload ≡ Some peer
+  pub offers : (peer : KexInitData) → c ≡ KexInit peer → offer_in payload ≡ Some peer
   pub lists : (listed : List (List ℕ)) (partial : Bool) → c ≡ UserauthFailure listed partial → listed_in payload ≡ listed
-  pub requests : (user service : List ℕ) (method : Method) → c ≡ UserauthRequest user service method → message_in Mpint payload ≡ Ok (UserauthRequest user service method)
+  pub requests : (user service : List ℕ) (method : MethodData) → c ≡ UserauthRequest user service method → message_in Mpint payload ≡ Ok (UserauthRequest user service method)
 
-pub has_place : ((form : ShareForm) (payload : List ℕ) (c : Content) → Spells form c payload → message_in form payload ≡ Ok c)
-    → ((form : ShareForm) (payload : List ℕ) (c : Content) → message_in form payload ≡ Ok c → kind payload ≡ number_of c)
+pub has_place : ((form : ShareForm) (payload : List ℕ) (c : MessageData) → Spells form c payload → message_in form payload ≡ Ok c)
+    → ((form : ShareForm) (payload : List ℕ) (c : MessageData) → message_in form payload ≡ Ok c → kind payload ≡ number_of c)
     → ((form other : ShareForm) (payload : List ℕ) → kind payload ≢ 30 → kind payload ≢ 31 → message_in form payload ≡ message_in other payload)
-    → (role : Role) (old : Kept) (payload : List ℕ) (c : Content) → line_by role old.phase old.known.strict old.guess (is_waiting old.known.left) (kind payload) ≡ line.Reads → Spells old.known.shares c payload
+    → (role : Role) (old : StateData) (payload : List ℕ) (c : MessageData) → line_by role old.phase old.known.strict old.guess (is_waiting old.known.left) (kind payload) ≡ line.Reads → Spells old.known.shares c payload
     → HasPlace role old payload c
 unfolding listed_in
 has_place complete number alike role old payload c line_is spelled =
@@ -82,31 +82,31 @@ has_place complete number alike role old payload c line_is spelled =
       kind_is = same;
       offers = λ peer is.
           let twenty : kind payload ≡ 20 = same ∙ ap number_of is in
-          ap offer_by (alike Mpint old.known.shares payload (λ q. omega arith) (λ q. omega arith) ∙ (read ∙ ap (λ (x : Content). Ok x) is));
+          ap offer_by (alike Mpint old.known.shares payload (λ q. omega arith) (λ q. omega arith) ∙ (read ∙ ap (λ (x : MessageData). Ok x) is));
       lists = λ listed partial is.
           let failure : kind payload ≡ 51 = same ∙ ap number_of is in
-          ap listed_by (alike Mpint old.known.shares payload (λ q. omega arith) (λ q. omega arith) ∙ (read ∙ ap (λ (x : Content). Ok x) is));
+          ap listed_by (alike Mpint old.known.shares payload (λ q. omega arith) (λ q. omega arith) ∙ (read ∙ ap (λ (x : MessageData). Ok x) is));
       requests = λ user service method is.
           let request : kind payload ≡ 50 = same ∙ ap number_of is in
-          alike Mpint old.known.shares payload (λ q. omega arith) (λ q. omega arith) ∙ (read ∙ ap (λ (x : Content). Ok x) is);
+          alike Mpint old.known.shares payload (λ q. omega arith) (λ q. omega arith) ∙ (read ∙ ap (λ (x : MessageData). Ok x) is);
     }
 
 -- a session that is closed or has failed doesn't go on
-closed_ends : (end : Ending) (reason : ℕ) → end ≡ Closed reason → IsOngoing end → ⊥
+closed_ends : (end : EndData) (reason : ℕ) → end ≡ Closed reason → IsOngoing end → ⊥
 closed_ends end reason e (inl stays) = absurd cc
 closed_ends end reason e (inr done) = let is : end ≡ Authenticated done.0 = done.1 in absurd cc
 
-pub failed_ends : (end : Ending) (f : Fault) → end ≡ Failed f → IsOngoing end → ⊥
+pub failed_ends : (end : EndData) (f : Fault) → end ≡ Failed f → IsOngoing end → ⊥
 failed_ends end f e (inl stays) = absurd cc
 failed_ends end f e (inr done) = let is : end ≡ Authenticated done.0 = done.1 in absurd cc
 
 -- nothing is said
-pub silent : (m : Meaning) (seed : List ℕ) (strict : Bool) (next : KeyData) (old new : Kept) (before : List ℕ) (end : Ending) → new.end ≡ end → new.sending ≡ old.sending
+pub silent : (m : SuiteData) (seed : List ℕ) (strict : Bool) (next : KeysData) (old new : StateData) (before : List ℕ) (end : EndData) → new.end ≡ end → new.sending ≡ old.sending
     → Gives m seed strict next old new before before (record { answers = []; end = end })
-unfolding said_from sending_from
-silent m seed strict next old new before end e s = record { ends = e; says = sym (append-nil before); sends = s; fits = tt }
+unfolding sent_from sending_from
+silent m seed strict next old new before end e s = record { ends = e; output = sym (append-nil before); sends = s; fits = tt }
 
-module _ (role : Role) (old : Kept) (payload : List ℕ) (c : Content) (has : HasPlace role old payload c) where
+module _ (role : Role) (old : StateData) (payload : List ℕ) (c : MessageData) (has : HasPlace role old payload c) where
   -- where it is read
   at_number : (n : ℕ) → number_of c ≡ n → Reads role old.phase old.guess n
   at_number n is = subst (λ (k : ℕ). Reads role old.phase old.guess k) is has.reads_it
@@ -141,16 +141,16 @@ module _ (role : Role) (old : Kept) (payload : List ℕ) (c : Content) (has : Ha
   pub at_success : number_of c ≡ 52 → IsAt role Client old.phase phase.Auth old.guess
   at_success is = table.success_read role old.phase old.guess (at_number 52 is)
 
-module _ (m : Meaning) (d : Policy) (role : Role) (party : Party) (old new : Kept) (payload before after : List ℕ) (c : Content) (has : HasPlace role old payload c) where
+module _ (m : SuiteData) (d : DecisionsData) (role : Role) (party : ConfigData) (old new : StateData) (payload before after : List ℕ) (c : MessageData) (has : HasPlace role old payload c) where
   -- a message that is worked on so
   by_reply : (r : Reply) → work m d role party old.known c ≡ r → Works m d role party old new payload before after r → Works m d role party old new payload before after (work m d role party old.known c)
   by_reply r is w = subst (λ (x : Reply). Works m d role party old new payload before after x) (sym is) w
 
-  pub kexinit_works : (peer : Offer) → c ≡ KexInit peer
-      → ((strict : Bool) (next : KeyData) → Gives m party.seed strict next old new before after (kexinit_reply m role party old.known peer))
+  pub kexinit_works : (peer : KexInitData) → c ≡ KexInit peer
+      → ((strict : Bool) (next : KeysData) → Gives m party.seed strict next old new before after (kexinit_reply m role party old.known peer))
       → (IsOngoing new.end → new.known.shares ≡ m.share_form new.known.algorithms.kex)
       → new.carried ≡ old.carried
-      → (IsOngoing new.end → StandsAt new phase.Exchange (wrong_guess role party.offer (Some peer)) (behind_offer m role party old.known payload peer))
+      → (IsOngoing new.end → StandsAt new phase.Exchange (wrong_guess role party.offer (Some peer)) (after_offer m role party old.known payload peer))
       → Works m d role party old new payload before after (work m d role party old.known c)
   unfolding work
   kexinit_works peer is gives form keys moves =
@@ -162,7 +162,7 @@ module _ (m : Meaning) (d : Policy) (role : Role) (party : Party) (old new : Kep
 
   -- the exchange message, at the side that hears it
   exchange_works : (side : Role) (n : ℕ) (r : Reply) → number_of c ≡ n → leaving side phase.Exchange ≡ n → IsAt role side old.phase phase.Exchange old.guess
-      → HearsExchange m side party old new before after c r → Works m d role party old new payload before after r
+      → ReceivesExchange m side party old new before after c r → Works m d role party old new payload before after r
   exchange_works side n r number leaves at h =
       let same : role ≡ side = at.side_is in
       let read = has.read_is in
@@ -176,7 +176,7 @@ module _ (m : Meaning) (d : Policy) (role : Role) (party : Party) (old new : Kep
       }
 
   pub init_works : number_of c ≡ 30 → work m d role party old.known c ≡ init_reply m role party old.known c
-      → HearsExchange m Server party old new before after c (init_reply m Server party old.known c)
+      → ReceivesExchange m Server party old new before after c (init_reply m Server party old.known c)
       → Works m d role party old new payload before after (work m d role party old.known c)
   init_works number is h =
       let at = at_init role old payload c has number in
@@ -184,7 +184,7 @@ module _ (m : Meaning) (d : Policy) (role : Role) (party : Party) (old new : Kep
       (exchange_works Server 30 (init_reply m Server party old.known c) number refl at h)
 
   pub reply_works : (signature : List ℕ) → number_of c ≡ 31 → work m d role party old.known c ≡ reply_reply m d role party old.known c signature
-      → HearsExchange m Client party old new before after c (reply_reply m d Client party old.known c signature)
+      → ReceivesExchange m Client party old new before after c (reply_reply m d Client party old.known c signature)
       → Works m d role party old new payload before after (work m d role party old.known c)
   reply_works signature number is h =
       let at = at_reply role old payload c has number in
@@ -192,10 +192,10 @@ module _ (m : Meaning) (d : Policy) (role : Role) (party : Party) (old new : Kep
       (exchange_works Client 31 (reply_reply m d Client party old.known c signature) number refl at h)
 
   -- a message that leaves a phase behind the exchange
-  leaves_works : (side : Role) (p q : Phase) (n : ℕ) (k : Known) (r : Reply) → number_of c ≡ n → leaving side p ≡ n → past_exchange p ≡ true → behind p ≡ q
-      → IsAt role side old.phase p old.guess → behind_payload m d party old.known payload ≡ k
-      → ((strict : Bool) (next : KeyData) → Gives m party.seed strict next old new before after r)
-      → (IsOngoing new.end → new.carried ≡ carried_behind m d party old.known old.carried payload)
+  leaves_works : (side : Role) (p q : Phase) (n : ℕ) (k : Known) (r : Reply) → number_of c ≡ n → leaving side p ≡ n → past_exchange p ≡ true → next_phase p ≡ q
+      → IsAt role side old.phase p old.guess → after_payload m d party old.known payload ≡ k
+      → ((strict : Bool) (next : KeysData) → Gives m party.seed strict next old new before after r)
+      → (IsOngoing new.end → new.carried ≡ carried_after m d party old.known old.carried payload)
       → (IsOngoing new.end → StandsAt new q old.guess k)
       → Works m d role party old new payload before after r
   leaves_works side p q n k r number leaves past next at known gives keys stands =
@@ -204,48 +204,48 @@ module _ (m : Meaning) (d : Policy) (role : Role) (party : Party) (old new : Kep
       record {
         gives = gives _ _;
         moves = λ goes_on. Leaves none (ap past_exchange at.phase_is ∙ past) here (keys goes_on) (record {
-          phase_is = (stands goes_on).phase_is ∙ sym (ap behind at.phase_is ∙ next);
+          phase_is = (stands goes_on).phase_is ∙ sym (ap next_phase at.phase_is ∙ next);
           guess_is = (stands goes_on).guess_is ∙ none;
           known_is = (stands goes_on).known_is ∙ sym known;
         });
       }
 
   -- what is known behind a message with another number than those of requests and FAILURE
-  heard_as : (n : ℕ) → number_of c ≡ n → n ≢ 50 → n ≢ 51 → n ≢ 60 → behind_payload m d party old.known payload ≡ heard_one old.known
-  heard_as n number request failure confirmation = heard_number m d party old.known payload n (has.kind_is ∙ number) request failure confirmation
+  received_as : (n : ℕ) → number_of c ≡ n → n ≢ 50 → n ≢ 51 → n ≢ 60 → after_payload m d party old.known payload ≡ received_one old.known
+  received_as n number request failure confirmation = received_number m d party old.known payload n (has.kind_is ∙ number) request failure confirmation
 
   -- and what is carried along
-  carried_as : (n : ℕ) → number_of c ≡ n → n ≢ 50 → old.carried ≡ carried_behind m d party old.known old.carried payload
+  carried_as : (n : ℕ) → number_of c ≡ n → n ≢ 50 → old.carried ≡ carried_after m d party old.known old.carried payload
   carried_as n number request = sym (carried_number m d party old.known payload old.carried n (has.kind_is ∙ number) request)
 
   pub request_works : (service : List ℕ) → c ≡ ServiceRequest service
-      → ((strict : Bool) (next : KeyData) → Gives m party.seed strict next old new before after (service_reply party service))
+      → ((strict : Bool) (next : KeysData) → Gives m party.seed strict next old new before after (service_reply party service))
       → new.carried ≡ old.carried
-      → (IsOngoing new.end → StandsAt new phase.Auth old.guess (heard_one old.known))
+      → (IsOngoing new.end → StandsAt new phase.Auth old.guess (received_one old.known))
       → Works m d role party old new payload before after (work m d role party old.known c)
   unfolding work
   request_works service is gives keys stands =
       by_reply (service_reply party service) (ap (work m d role party old.known) is)
-      (leaves_works Server phase.Service phase.Auth 5 (heard_one old.known) (service_reply party service) (ap number_of is) refl refl refl
-      (at_request role old payload c has (ap number_of is)) (heard_as 5 (ap number_of is) (λ q. omega arith) (λ q. omega arith) (λ q. omega arith)) gives (λ _. keys ∙ carried_as 5 (ap number_of is) (λ q. omega arith)) stands)
+      (leaves_works Server phase.Service phase.Auth 5 (received_one old.known) (service_reply party service) (ap number_of is) refl refl refl
+      (at_request role old payload c has (ap number_of is)) (received_as 5 (ap number_of is) (λ q. omega arith) (λ q. omega arith) (λ q. omega arith)) gives (λ _. keys ∙ carried_as 5 (ap number_of is) (λ q. omega arith)) stands)
 
   pub accept_works : (service : List ℕ) → c ≡ ServiceAccept service
-      → ((strict : Bool) (next : KeyData) → Gives m party.seed strict next old new before after (accept_reply m old.known service))
+      → ((strict : Bool) (next : KeysData) → Gives m party.seed strict next old new before after (accept_reply m old.known service))
       → new.carried ≡ old.carried
-      → (IsOngoing new.end → StandsAt new phase.Auth old.guess (heard_one old.known))
+      → (IsOngoing new.end → StandsAt new phase.Auth old.guess (received_one old.known))
       → Works m d role party old new payload before after (work m d role party old.known c)
   unfolding work
   accept_works service is gives keys stands =
       by_reply (accept_reply m old.known service) (ap (work m d role party old.known) is)
-      (leaves_works Client phase.Service phase.Auth 6 (heard_one old.known) (accept_reply m old.known service) (ap number_of is) refl refl refl
-      (at_accept role old payload c has (ap number_of is)) (heard_as 6 (ap number_of is) (λ q. omega arith) (λ q. omega arith) (λ q. omega arith)) gives (λ _. keys ∙ carried_as 6 (ap number_of is) (λ q. omega arith)) stands)
+      (leaves_works Client phase.Service phase.Auth 6 (received_one old.known) (accept_reply m old.known service) (ap number_of is) refl refl refl
+      (at_accept role old payload c has (ap number_of is)) (received_as 6 (ap number_of is) (λ q. omega arith) (λ q. omega arith) (λ q. omega arith)) gives (λ _. keys ∙ carried_as 6 (ap number_of is) (λ q. omega arith)) stands)
 
-  pub user_request_works : (user service : List ℕ) (method : Method) → c ≡ UserauthRequest user service method
-      → ((strict : Bool) (next : KeyData) → Gives m party.seed strict next old new before after (request_reply m d party old.known user service method))
+  pub user_request_works : (user service : List ℕ) (method : MethodData) → c ≡ UserauthRequest user service method
+      → ((strict : Bool) (next : KeysData) → Gives m party.seed strict next old new before after (request_reply m d party old.known user service method))
       → (IsOngoing new.end → new ≡ record old {
         end = new.end;
-        known = counted_request old.known (tried_with user service method (is_good m d party old.known user service method));
-        carried = tried_key old.carried method (is_good m d party old.known user service method);
+        known = counted_request old.known (tried_with user service method (is_successful m d party old.known user service method));
+        carried = tried_key old.carried method (is_successful m d party old.known user service method);
         sending = new.sending;
       })
       → Works m d role party old new payload before after (work m d role party old.known c)
@@ -253,33 +253,33 @@ module _ (m : Meaning) (d : Policy) (role : Role) (party : Party) (old new : Kep
   user_request_works user service method is gives stays =
       let at = at_user_request role old payload c has (ap number_of is) in
       by_reply (request_reply m d party old.known user service method) (ap (work m d role party old.known) is)
-      (leaves_works Server phase.Auth phase.Auth 50 (counted_request old.known (tried_with user service method (is_good m d party old.known user service method))) (request_reply m d party old.known user service method) (ap number_of is) refl refl refl
-      at (request_behind m d party old.known payload user service method (has.kind_is ∙ ap number_of is) (has.requests user service method is)) gives (λ goes_on. ap (λ (k : Kept). k.carried) (stays goes_on)
+      (leaves_works Server phase.Auth phase.Auth 50 (counted_request old.known (tried_with user service method (is_successful m d party old.known user service method))) (request_reply m d party old.known user service method) (ap number_of is) refl refl refl
+      at (request_after m d party old.known payload user service method (has.kind_is ∙ ap number_of is) (has.requests user service method is)) gives (λ goes_on. ap (λ (k : StateData). k.carried) (stays goes_on)
       ∙ sym (carried_request m d party old.known payload old.carried user service method (has.kind_is ∙ ap number_of is) (has.requests user service method is)))
       (λ goes_on. record {
-        phase_is = ap (λ (k : Kept). k.phase) (stays goes_on) ∙ at.phase_is;
-        guess_is = ap (λ (k : Kept). k.guess) (stays goes_on);
-        known_is = ap (λ (k : Kept). k.known) (stays goes_on);
+        phase_is = ap (λ (k : StateData). k.phase) (stays goes_on) ∙ at.phase_is;
+        guess_is = ap (λ (k : StateData). k.guess) (stays goes_on);
+        known_is = ap (λ (k : StateData). k.known) (stays goes_on);
       }))
 
   pub success_works : c ≡ UserauthSuccess
-      → ((strict : Bool) (next : KeyData) → Gives m party.seed strict next old new before after (success_reply old.known))
-      → (IsOngoing new.end → new ≡ record old { end = new.end; known = heard_one old.known })
+      → ((strict : Bool) (next : KeysData) → Gives m party.seed strict next old new before after (success_reply old.known))
+      → (IsOngoing new.end → new ≡ record old { end = new.end; known = received_one old.known })
       → Works m d role party old new payload before after (work m d role party old.known c)
   unfolding work
   success_works is gives stays =
       let at = at_success role old payload c has (ap number_of is) in
       by_reply (success_reply old.known) (ap (work m d role party old.known) is)
-      (leaves_works Client phase.Auth phase.Auth 52 (heard_one old.known) (success_reply old.known) (ap number_of is) refl refl refl
-      at (heard_as 52 (ap number_of is) (λ q. omega arith) (λ q. omega arith) (λ q. omega arith)) gives (λ goes_on. ap (λ (k : Kept). k.carried) (stays goes_on) ∙ carried_as 52 (ap number_of is) (λ q. omega arith))
+      (leaves_works Client phase.Auth phase.Auth 52 (received_one old.known) (success_reply old.known) (ap number_of is) refl refl refl
+      at (received_as 52 (ap number_of is) (λ q. omega arith) (λ q. omega arith) (λ q. omega arith)) gives (λ goes_on. ap (λ (k : StateData). k.carried) (stays goes_on) ∙ carried_as 52 (ap number_of is) (λ q. omega arith))
       (λ goes_on. record {
-        phase_is = ap (λ (k : Kept). k.phase) (stays goes_on) ∙ at.phase_is;
-        guess_is = ap (λ (k : Kept). k.guess) (stays goes_on);
-        known_is = ap (λ (k : Kept). k.known) (stays goes_on);
+        phase_is = ap (λ (k : StateData). k.phase) (stays goes_on) ∙ at.phase_is;
+        guess_is = ap (λ (k : StateData). k.guess) (stays goes_on);
+        known_is = ap (λ (k : StateData). k.known) (stays goes_on);
       }))
 
   pub failure_works : (listed : List (List ℕ)) (partial : Bool) → c ≡ UserauthFailure listed partial
-      → ((strict : Bool) (next : KeyData) → Gives m party.seed strict next old new before after (failure_reply m old.known listed))
+      → ((strict : Bool) (next : KeysData) → Gives m party.seed strict next old new before after (failure_reply m old.known listed))
       → new ≡ record old { end = new.end; known = failed_attempt old.known listed; sending = new.sending }
       → Works m d role party old new payload before after (work m d role party old.known c)
   unfolding work
@@ -290,16 +290,16 @@ module _ (m : Meaning) (d : Policy) (role : Role) (party : Party) (old new : Kep
       by_reply (failure_reply m old.known listed) (ap (work m d role party old.known) is) (record {
         gives = gives _ _;
         moves = λ goes_on. Stays none (subst (λ (n : ℕ). LeavesNone role n) (sym number) (table.late_leaves role 51 (omega arith)))
-            (ap (λ (k : Kept). k.carried) stays ∙ carried_as 51 (ap number_of is) (λ q. omega arith))
+            (ap (λ (k : StateData). k.carried) stays ∙ carried_as 51 (ap number_of is) (λ q. omega arith))
             (record {
-              phase_is = ap (λ (k : Kept). k.phase) stays;
-              guess_is = ap (λ (k : Kept). k.guess) stays ∙ none;
-              known_is = ap (λ (k : Kept). k.known) stays ∙ sym (failure_behind m d party old.known payload listed number (has.lists listed partial is));
+              phase_is = ap (λ (k : StateData). k.phase) stays;
+              guess_is = ap (λ (k : StateData). k.guess) stays ∙ none;
+              known_is = ap (λ (k : StateData). k.known) stays ∙ sym (failure_after m d party old.known payload listed number (has.lists listed partial is));
             });
       })
 
   pub pk_ok_works : (algorithm key : List ℕ) → c ≡ UserauthPkOk algorithm key
-      → ((strict : Bool) (next : KeyData) → Gives m party.seed strict next old new before after (pk_ok_reply m old.known algorithm key))
+      → ((strict : Bool) (next : KeysData) → Gives m party.seed strict next old new before after (pk_ok_reply m old.known algorithm key))
       → (IsOngoing new.end → new ≡ record old { end = new.end; known = confirmed_attempt old.known; sending = new.sending })
       → Works m d role party old new payload before after (work m d role party old.known c)
   unfolding work
@@ -310,16 +310,16 @@ module _ (m : Meaning) (d : Policy) (role : Role) (party : Party) (old new : Kep
       by_reply (pk_ok_reply m old.known algorithm key) (ap (work m d role party old.known) is) (record {
         gives = gives _ _;
         moves = λ goes_on. Stays none (subst (λ (n : ℕ). LeavesNone role n) (sym number) (table.late_leaves role 60 (omega arith)))
-            (ap (λ (k : Kept). k.carried) (stays goes_on) ∙ carried_as 60 (ap number_of is) (λ q. omega arith))
+            (ap (λ (k : StateData). k.carried) (stays goes_on) ∙ carried_as 60 (ap number_of is) (λ q. omega arith))
             (record {
-              phase_is = ap (λ (k : Kept). k.phase) (stays goes_on);
-              guess_is = ap (λ (k : Kept). k.guess) (stays goes_on) ∙ none;
-              known_is = ap (λ (k : Kept). k.known) (stays goes_on) ∙ sym (pk_ok_behind m d party old.known payload number);
+              phase_is = ap (λ (k : StateData). k.phase) (stays goes_on);
+              guess_is = ap (λ (k : StateData). k.guess) (stays goes_on) ∙ none;
+              known_is = ap (λ (k : StateData). k.known) (stays goes_on) ∙ sym (pk_ok_after m d party old.known payload number);
             });
       })
 
 -- the fields of a method that is no longer than a packet are no longer
-pub fits_method : (x : Method) → method_length x ≤ PACKET_LIMIT → FitsMethod x
+pub fits_method : (x : MethodData) → method_length x ≤ PACKET_LIMIT → FitsMethod x
 fits_method NoMethod short = tt
 fits_method (Password password) short = tt
 fits_method (PasswordChange password next) short = tt
@@ -330,7 +330,7 @@ fits_method (PublicKeyQuery algorithm key) short = tt
 fits_method (OtherMethod name fields) short = tt
 
 -- messages to which nothing is said
-module _ (m : Meaning) (d : Policy) (role : Role) (party : Party) (old new : Kept) (payload before : List ℕ) (c : Content) (has : HasPlace role old payload c) where
+module _ (m : SuiteData) (d : DecisionsData) (role : Role) (party : ConfigData) (old new : StateData) (payload before : List ℕ) (c : MessageData) (has : HasPlace role old payload c) where
   pub disconnect_works : (reason : ℕ) (description language : List ℕ) → c ≡ Disconnect reason description language → new.end ≡ Closed reason → new.sending ≡ old.sending
       → Works m d role party old new payload before before (work m d role party old.known c)
   unfolding work
@@ -340,42 +340,42 @@ module _ (m : Meaning) (d : Policy) (role : Role) (party : Party) (old new : Kep
         moves = λ goes_on. absurd (closed_ends new.end reason ends goes_on);
       })
 
-  pub newkeys_works : c ≡ NewKeys → old.end ≡ Open → new ≡ record old { phase = phase.Service; known = heard_one old.known }
+  pub newkeys_works : c ≡ NewKeys → old.end ≡ Open → new ≡ record old { phase = phase.Service; known = received_one old.known }
       → Works m d role party old new payload before before (work m d role party old.known c)
   unfolding work
   newkeys_works is stays next =
       let at = at_newkeys role old payload c has (ap number_of is) in
       let none : old.guess ≡ false = at.none_due in
       by_reply m d role party old new payload before before c has (goes []) (ap (work m d role party old.known) is) (record {
-        gives = silent m party.seed old.known.strict _ old new before Open (ap (λ (k : Kept). k.end) next ∙ stays) (ap (λ (k : Kept). k.sending) next);
+        gives = silent m party.seed old.known.strict _ old new before Open (ap (λ (k : StateData). k.end) next ∙ stays) (ap (λ (k : StateData). k.sending) next);
         moves = λ goes_on. Leaves none (ap past_exchange at.phase_is)
             (has.kind_is ∙ ap number_of is ∙ sym (ap (leaving role) at.phase_is))
-            (ap (λ (k : Kept). k.carried) next ∙ sym (carried_number m d party old.known payload old.carried 21 (has.kind_is ∙ ap number_of is) (λ q. omega arith)))
+            (ap (λ (k : StateData). k.carried) next ∙ sym (carried_number m d party old.known payload old.carried 21 (has.kind_is ∙ ap number_of is) (λ q. omega arith)))
             (record {
-              phase_is = ap (λ (k : Kept). k.phase) next ∙ sym (ap behind at.phase_is);
-              guess_is = ap (λ (k : Kept). k.guess) next ∙ none;
-              known_is = ap (λ (k : Kept). k.known) next ∙ sym (heard_number m d party old.known payload 21 (has.kind_is ∙ ap number_of is) (λ q. omega arith) (λ q. omega arith) (λ q. omega arith));
+              phase_is = ap (λ (k : StateData). k.phase) next ∙ sym (ap next_phase at.phase_is);
+              guess_is = ap (λ (k : StateData). k.guess) next ∙ none;
+              known_is = ap (λ (k : StateData). k.known) next ∙ sym (received_number m d party old.known payload 21 (has.kind_is ∙ ap number_of is) (λ q. omega arith) (λ q. omega arith) (λ q. omega arith));
             });
       })
 
-  pub plain_works : IsPlain (number_of c) → work m d role party old.known c ≡ goes [] → old.end ≡ Open → new ≡ record old { known = heard_one old.known }
+  pub plain_works : IsPlain (number_of c) → work m d role party old.known c ≡ goes [] → old.end ≡ Open → new ≡ record old { known = received_one old.known }
       → Works m d role party old new payload before before (work m d role party old.known c)
   plain_works plain is stays next =
       let calm = table.plain_read role old.phase old.guess (number_of c) plain has.reads_it in
       let none : old.guess ≡ false = calm.0 in
       by_reply m d role party old new payload before before c has (goes []) is (record {
-        gives = silent m party.seed old.known.strict _ old new before Open (ap (λ (k : Kept). k.end) next ∙ stays) (ap (λ (k : Kept). k.sending) next);
+        gives = silent m party.seed old.known.strict _ old new before Open (ap (λ (k : StateData). k.end) next ∙ stays) (ap (λ (k : StateData). k.sending) next);
         moves = λ goes_on. Stays none (subst (λ (n : ℕ). LeavesNone role n) (sym has.kind_is) calm.1)
-            (ap (λ (k : Kept). k.carried) next ∙ sym (carried_number m d party old.known payload old.carried (number_of c) has.kind_is plain.user_request))
+            (ap (λ (k : StateData). k.carried) next ∙ sym (carried_number m d party old.known payload old.carried (number_of c) has.kind_is plain.user_request))
             (record {
-              phase_is = ap (λ (k : Kept). k.phase) next;
-              guess_is = ap (λ (k : Kept). k.guess) next ∙ none;
-              known_is = ap (λ (k : Kept). k.known) next ∙ sym (heard_number m d party old.known payload (number_of c) has.kind_is plain.user_request plain.failure plain.confirmation);
+              phase_is = ap (λ (k : StateData). k.phase) next;
+              guess_is = ap (λ (k : StateData). k.guess) next ∙ none;
+              known_is = ap (λ (k : StateData). k.known) next ∙ sym (received_number m d party old.known payload (number_of c) has.kind_is plain.user_request plain.failure plain.confirmation);
             });
       })
 
 -- what the messages of the exchange are answered
-module _ (m : Meaning) (d : Policy) (role : Role) (party : Party) (known : Known) (c : Content) where
+module _ (m : SuiteData) (d : DecisionsData) (role : Role) (party : ConfigData) (known : Known) (c : MessageData) where
   pub kexdh_init : (e : List ℕ) → c ≡ KexdhInit e → work m d role party known c ≡ init_reply m role party known c
   unfolding work
   kexdh_init e is = rw is refl
@@ -393,7 +393,7 @@ module _ (m : Meaning) (d : Policy) (role : Role) (party : Party) (known : Known
   kex_ecdh_reply host_key share signature is = rw is refl
 
 -- every other message is read and ignored
-pub record IsIgnored (m : Meaning) (d : Policy) (role : Role) (party : Party) (known : Known) (c : Content) : Type 0 where
+pub record IsIgnored (m : SuiteData) (d : DecisionsData) (role : Role) (party : ConfigData) (known : Known) (c : MessageData) : Type 0 where
   pub plain : IsPlain (number_of c)
   pub work_is : work m d role party known c ≡ goes []
 
@@ -413,8 +413,8 @@ pub record IsNone (x : Message) : Type 0 where
   pub success : x ≡ message.UserauthSuccess → ⊥
   pub confirmation : (algorithm key : Bor (List ℕ)) → x ≡ message.UserauthPkOk algorithm key → ⊥
 
-module _ (m : Meaning) (d : Policy) (role : Role) (party : Party) (known : Known) where
-  pub ignores : (x : Message) → IsNone x → IsIgnored m d role party known (content_of x)
+module _ (m : SuiteData) (d : DecisionsData) (role : Role) (party : ConfigData) (known : Known) where
+  pub ignores : (x : Message) → IsNone x → IsIgnored m d role party known (message_data x)
   unfolding work
   ignores (message.Disconnect reason description language) h = absurd (h.disconnect reason description language refl)
   ignores (message.Ignore bytes) h = record { plain = plain_calm 2 (omega arith) (omega arith); work_is = refl }

@@ -3,15 +3,15 @@
 use Rattle.std.specs.Prelude.{◌≡◌, ◌==◌, ◌||◌, ℕ, ◌+◌, ◌≤◌, Bool, true, false, if◌then◌else◌, List, [], length}
 use Rattle.sshwire.specs.declared.limits.TheConstants.{NAME_LIMIT, PAYLOAD_LIMIT}
 use Rattle.sshmsg.specs.declared.numbers.TheConstants.{SSH_MSG_USERAUTH_PK_OK, SSH_MSG_USERAUTH_REQUEST, SSH_MSG_USERAUTH_SUCCESS}
-use Rattle.sshmsg.specs.Content.{Method, PublicKey}
+use Rattle.sshmsg.specs.MessageData.{MethodData, PublicKey}
 use Rattle.sshmsg.specs.Lengths.{method_length}
 use Rattle.sshmsg.specs.Written.{method_name}
 use Rattle.sshpacket.specs.declared.limits.TheConstants.{PACKET_LIMIT}
 use Rattle.sshcore.specs.declared.config_parts.TheConstants.{USER_LIMIT}
-use Rattle.sshcore.specs.Kept.{Carried}
+use Rattle.sshcore.specs.StateData.{Carried}
 use Rattle.sshcore.specs.Known.{Known}
-use Rattle.sshcore.specs.Plan.{confirmed, next_behind}
-use Rattle.sshcore.specs.Reached.{Tried, reached_behind}
+use Rattle.sshcore.specs.Plan.{confirmed, next_after}
+use Rattle.sshcore.specs.Reached.{Tried, reached_after_one}
 use Rattle.sshcore.specs.Table.{within}
 use Rattle.sshcore.specs.Tries.{key_of, last_key}
 
@@ -21,11 +21,11 @@ one_request known = record known { request = known.request + 1; first = false }
 
 -- what is known behind a request, which is counted, and may reach a method
 abbrev pub counted_request : Known → Tried → Known
-counted_request known t = record known { request = known.request + 1; reached = reached_behind known.reached t; first = false }
+counted_request known t = record known { request = known.request + 1; reached = reached_after_one known.reached t; first = false }
 
 -- what is carried along behind a request by this method, which was good or not: its key, if it has one
-abbrev pub tried_key : Carried → Method → Bool → Carried
-tried_key c method good = record c { user_key = last_key c.user_key (if good then key_of method else []) }
+abbrev pub tried_key : Carried → MethodData → Bool → Carried
+tried_key c method successful = record c { user_key = last_key c.user_key (if successful then key_of method else []) }
 
 -- behind a PK_OK
 abbrev pub confirmed_attempt : Known → Known
@@ -33,15 +33,15 @@ confirmed_attempt known = record known { left = confirmed known.left; first = fa
 
 -- and behind a FAILURE that lists these methods
 abbrev pub failed_attempt : Known → List (List ℕ) → Known
-failed_attempt known listed = record known { left = next_behind listed known.left; first = false }
+failed_attempt known listed = record known { left = next_after listed known.left; first = false }
 
 -- key and signature of a signed request that was read are no longer than a packet
-abbrev pub FitsMethod : Method → Type 0
+abbrev pub FitsMethod : MethodData → Type 0
 FitsMethod (PublicKey algorithm key signature) = (length key ≤ PACKET_LIMIT) × (length signature ≤ PACKET_LIMIT)
 FitsMethod _ = Unit {0}
 
 -- a request by this method fits a payload, whoever the user is and whatever the service
-abbrev pub FitsRequest : Method → Type 0
+abbrev pub FitsRequest : MethodData → Type 0
 FitsRequest method = USER_LIMIT + NAME_LIMIT + length (method_name method) + method_length method + 13 ≤ PAYLOAD_LIMIT
 
 -- the number of a message of authentication that is answered

@@ -3,14 +3,14 @@
 
 use Rattle.std.specs.Prelude.{ℕ, ◌==◌, ◌&&◌, Bool, false, not, if◌then◌else◌, List, [], ◌∷◌, length, Option, None, Some}
 use Rattle.sshmsg.specs.declared.numbers.TheConstants.{SSH_MSG_DISCONNECT, SSH_MSG_KEXINIT}
-use Rattle.sshmsg.specs.Content.{Offer}
+use Rattle.sshmsg.specs.MessageData.{KexInitData}
 use Rattle.sshmsg.specs.Numbers.{kind}
 use Rattle.sshneg.specs.declared.role.Role.{Role}
 use Rattle.sshneg.specs.ExchangeEnd.{client_of, offer_in, server_of}
 use Rattle.sshneg.specs.Strictness.{is_right_guess, is_strict}
 use Rattle.sshpacket.specs.Places.{after_first, count_places, first_where, flat_places, stands}
 use Rattle.sshpacket.specs.Stream.{Units}
-use Rattle.sshcore.specs.Party.{Party}
+use Rattle.sshcore.specs.EndpointParts.{ConfigData}
 
 -- the payload is a KEXINIT, by its number (RFC 4253 section 7.1)
 abbrev pub is_kexinit : Units → List ℕ → Bool
@@ -25,7 +25,7 @@ unfoldable pub kexinit : Units → List ℕ
 kexinit before = first_where [] is_kexinit [] before
 
 -- what it offers, if it can be read
-abbrev pub peer_offer : Units → Option Offer
+abbrev pub peer_offer : Units → Option KexInitData
 peer_offer before = offer_in (kexinit before)
 
 -- how many payloads stood behind it
@@ -33,48 +33,48 @@ unfoldable pub since_offer : Units → ℕ
 since_offer before = length (after_first is_kexinit [] before)
 
 -- a peer that offers this announced a guess, and it is wrong (RFC 4253 section 7)
-abbrev pub wrong_guess : Role → Offer → Option Offer → Bool
+abbrev pub wrong_guess : Role → KexInitData → Option KexInitData → Bool
 wrong_guess role own None = false
 wrong_guess role own (Some peer) = peer.first_kex_packet_follows && not (is_right_guess (client_of role own peer) (server_of role own peer))
 
 -- the place right behind the first KEXINIT, where that announced a wrong guess
-unfoldable pub expects_guess : Role → Offer → Units → Bool
+unfoldable pub expects_guess : Role → KexInitData → Units → Bool
 expects_guess role own before = offered before && (since_offer before == 0 && wrong_guess role own (peer_offer before))
 
 -- The packet at that place is dropped unread (RFC 4253 section 7: the next packet is ignored), a DISCONNECT excepted (profile).
-abbrev pub dropped : Role → Offer → Units → List ℕ → Bool
+abbrev pub dropped : Role → KexInitData → Units → List ℕ → Bool
 dropped role own before payload = expects_guess role own before && not (kind payload == SSH_MSG_DISCONNECT)
 
 -- a payload of this number that isn't dropped
-abbrev pub kept : Role → Offer → ℕ → Units → List ℕ → Bool
+abbrev pub kept : Role → KexInitData → ℕ → Units → List ℕ → Bool
 kept role own n before payload = kind payload == n && not (dropped role own before payload)
 
 -- one stood
-unfoldable pub stood : Role → Offer → ℕ → Units → Bool
+unfoldable pub stood : Role → KexInitData → ℕ → Units → Bool
 stood role own n before = stands (kept role own n) [] before
 
 -- the first that stood, or nothing
-unfoldable pub first_kept : Role → Offer → ℕ → Units → List ℕ
+unfoldable pub first_kept : Role → KexInitData → ℕ → Units → List ℕ
 first_kept role own n before = first_where [] (kept role own n) [] before
 
 -- all that stood whose number passes the test, in order
-unfoldable pub all_kept : Role → Offer → (ℕ → Bool) → Units → Units
+unfoldable pub all_kept : Role → KexInitData → (ℕ → Bool) → Units → Units
 all_kept role own test before =
     flat_places (λ b payload. if test (kind payload) && not (dropped role own b payload) then payload ∷ [] else []) [] before
 
 -- how many of this number stood
-unfoldable pub count_kept : Role → Offer → ℕ → Units → ℕ
+unfoldable pub count_kept : Role → KexInitData → ℕ → Units → ℕ
 count_kept role own n before = count_places (kept role own n) [] before
 
 -- how many payloads stood behind the first
-unfoldable pub since : Role → Offer → ℕ → Units → ℕ
+unfoldable pub since : Role → KexInitData → ℕ → Units → ℕ
 since role own n before = length (after_first (kept role own n) [] before)
 
 -- an endpoint with this flag is strict towards a peer that offers this (OpenSSH PROTOCOL section 1.10)
-abbrev pub strict_towards : Role → Bool → Option Offer → Bool
+abbrev pub strict_towards : Role → Bool → Option KexInitData → Bool
 strict_towards role flag None = false
 strict_towards role flag (Some peer) = is_strict flag role peer
 
 -- an endpoint is strict from the peer's KEXINIT on, if it shows the peer's marker
-abbrev pub strict_at : Role → Party → Units → Bool
+abbrev pub strict_at : Role → ConfigData → Units → Bool
 strict_at role party before = strict_towards role party.strict (peer_offer before)

@@ -2,54 +2,54 @@
 
 use Rattle.std.specs.Prelude.{◌≡◌, ◌⊎◌, ℕ, ◌==◌, Bool, true, false, if◌then◌else◌, List, ◌++◌, Some}
 use Rattle.sshmsg.specs.declared.numbers.TheConstants.{SSH_MSG_DISCONNECT, SSH_MSG_USERAUTH_REQUEST}
-use Rattle.sshmsg.specs.Content.{Offer}
+use Rattle.sshmsg.specs.MessageData.{KexInitData}
 use Rattle.sshmsg.specs.Numbers.{kind}
 use Rattle.sshneg.specs.declared.role.Role.{Role}
 use Rattle.sshneg.specs.ExchangeEnd.{offer_in}
 use Rattle.sshneg.specs.Markers.{other}
-use Rattle.sshpacket.specs.KeyData.{KeyData}
-use Rattle.sshpacket.specs.Suite.{Meaning}
+use Rattle.sshpacket.specs.KeysData.{KeysData}
+use Rattle.sshpacket.specs.Suite.{SuiteData}
 use Rattle.sshcore.specs.declared.table.Phase.{Phase}
 use Rattle.sshcore.specs.declared.table.Phase.TheVariants as phase
 use Rattle.sshcore.specs.Before.{wrong_guess}
-use Rattle.sshcore.specs.Ending.{AgreedData, Authenticated, Ending, Open, Reply}
+use Rattle.sshcore.specs.EndData.{AgreedData, Authenticated, EndData, Open, Reply}
 use Rattle.sshcore.specs.Exchange.{keys_by}
 use Rattle.sshcore.specs.History.{AllFit}
-use Rattle.sshcore.specs.Kept.{Carried, Kept, with_exchange}
+use Rattle.sshcore.specs.StateData.{Carried, StateData, with_exchange}
 use Rattle.sshcore.specs.Known.{Known}
-use Rattle.sshcore.specs.Output.{said_from, sending_from}
-use Rattle.sshcore.specs.Party.{Party, Policy}
-use Rattle.sshcore.specs.Phases.{behind, leaving, past_exchange}
+use Rattle.sshcore.specs.Output.{sending_from, sent_from}
+use Rattle.sshcore.specs.EndpointParts.{ConfigData, DecisionsData}
+use Rattle.sshcore.specs.Phases.{leaving, next_phase, past_exchange}
 use Rattle.sshcore.specs.Plan.{is_waiting}
 use Rattle.sshcore.specs.Replies.{line_reply}
-use Rattle.sshcore.specs.Standing.{LeavesNone, behind_exchange, behind_offer, behind_payload, exchange_heard}
+use Rattle.sshcore.specs.Standing.{LeavesNone, after_exchange, after_offer, after_payload, exchange_received}
 use Rattle.sshcore.specs.Table.{line_by}
-use Rattle.sshcore.specs.Tries.{good_key_in, last_key}
+use Rattle.sshcore.specs.Tries.{last_key, successful_key_in}
 
 -- the session goes on: the endpoint is open, or the user is authenticated
-abbrev pub IsOngoing : Ending → Type 0
+abbrev pub IsOngoing : EndData → Type 0
 IsOngoing end = (end ≡ Open) ⊎ ((a : AgreedData) × (end ≡ Authenticated a))
 
 -- the same with one payload more, which changes nothing else
-abbrev pub heard_one : Known → Known
-heard_one known = record known { first = false }
+abbrev pub received_one : Known → Known
+received_one known = record known { first = false }
 
 -- what is carried along behind a payload that is neither dropped nor the first KEXINIT nor the exchange message: the key of a
 -- request that was good
-abbrev pub carried_behind : Meaning → Policy → Party → Known → Carried → List ℕ → Carried
-carried_behind m d party known c payload = record c {
-  user_key = if kind payload == SSH_MSG_USERAUTH_REQUEST then last_key c.user_key (good_key_in m d party known.session known.request payload) else c.user_key;
+abbrev pub carried_after : SuiteData → DecisionsData → ConfigData → Known → Carried → List ℕ → Carried
+carried_after m d party known c payload = record c {
+  user_key = if kind payload == SSH_MSG_USERAUTH_REQUEST then last_key c.user_key (successful_key_in m d party known.session known.request payload) else c.user_key;
 }
 
 -- It gives this reply: it ends so, and says these answers, padded from this seed, with these keys behind a NEWKEYS.
-pub record Gives (m : Meaning) (seed : List ℕ) (strict : Bool) (next : KeyData) (old new : Kept) (before after : List ℕ) (r : Reply) : Type 0 where
+pub record Gives (m : SuiteData) (seed : List ℕ) (strict : Bool) (next : KeysData) (old new : StateData) (before after : List ℕ) (r : Reply) : Type 0 where
   pub ends : new.end ≡ r.end
-  pub says : after ≡ before ++ said_from m seed strict next old.sending r.answers
+  pub output : after ≡ before ++ sent_from m seed strict next old.sending r.answers
   pub sends : new.sending ≡ sending_from strict next old.sending r.answers
   pub fits : AllFit r.answers
 
 -- what it stands at behind a payload
-pub record StandsAt (new : Kept) (p : Phase) (guess : Bool) (known : Known) : Type 0 where
+pub record StandsAt (new : StateData) (p : Phase) (guess : Bool) (known : Known) : Type 0 where
   pub phase_is : new.phase ≡ p
   pub guess_is : new.guess ≡ guess
   pub known_is : new.known ≡ known
@@ -57,28 +57,28 @@ pub record StandsAt (new : Kept) (p : Phase) (guess : Bool) (known : Known) : Ty
 -- How a payload moves what is kept: behind the peer's KEXINIT; behind the packet of a wrong guess; behind the exchange
 -- message, which brings the keys of what is heard; behind every other message that leaves a phase; and behind one that
 -- leaves none.
-pub data Moves (m : Meaning) (d : Policy) (role : Role) (party : Party) (payload : List ℕ) (old new : Kept) : Type 0 where
-  Offers : (peer : Offer) → old.phase ≡ phase.KexInit → old.guess ≡ false → offer_in payload ≡ Some peer → new.carried ≡ old.carried
+pub data Moves (m : SuiteData) (d : DecisionsData) (role : Role) (party : ConfigData) (payload : List ℕ) (old new : StateData) : Type 0 where
+  Offers : (peer : KexInitData) → old.phase ≡ phase.KexInit → old.guess ≡ false → offer_in payload ≡ Some peer → new.carried ≡ old.carried
       → new.known.shares ≡ m.share_form new.known.algorithms.kex
-      → StandsAt new phase.Exchange (wrong_guess role party.offer (Some peer)) (behind_offer m role party old.known payload peer) → Moves m d role party payload old new
+      → StandsAt new phase.Exchange (wrong_guess role party.offer (Some peer)) (after_offer m role party old.known payload peer) → Moves m d role party payload old new
   Drops : old.guess ≡ true → (kind payload == SSH_MSG_DISCONNECT) ≡ false → new.carried ≡ old.carried
-      → StandsAt new old.phase false (heard_one old.known) → Moves m d role party payload old new
+      → StandsAt new old.phase false (received_one old.known) → Moves m d role party payload old new
   Exchanges : old.phase ≡ phase.Exchange → old.guess ≡ false → kind payload ≡ leaving role phase.Exchange
-      → new.carried ≡ with_exchange party (keys_by m old.known.algorithms (exchange_heard m role party old.known payload) (other role))
-      (exchange_heard m role party old.known payload).host_key old.carried
-      → StandsAt new phase.NewKeys false (behind_exchange m role party old.known payload) → Moves m d role party payload old new
-  Leaves : old.guess ≡ false → past_exchange old.phase ≡ true → kind payload ≡ leaving role old.phase → new.carried ≡ carried_behind m d party old.known old.carried payload
-      → StandsAt new (behind old.phase) false (behind_payload m d party old.known payload) → Moves m d role party payload old new
-  Stays : old.guess ≡ false → LeavesNone role (kind payload) → new.carried ≡ carried_behind m d party old.known old.carried payload
-      → StandsAt new old.phase false (behind_payload m d party old.known payload) → Moves m d role party payload old new
+      → new.carried ≡ with_exchange party (keys_by m old.known.algorithms (exchange_received m role party old.known payload) (other role))
+      (exchange_received m role party old.known payload).host_key old.carried
+      → StandsAt new phase.NewKeys false (after_exchange m role party old.known payload) → Moves m d role party payload old new
+  Leaves : old.guess ≡ false → past_exchange old.phase ≡ true → kind payload ≡ leaving role old.phase → new.carried ≡ carried_after m d party old.known old.carried payload
+      → StandsAt new (next_phase old.phase) false (after_payload m d party old.known payload) → Moves m d role party payload old new
+  Stays : old.guess ≡ false → LeavesNone role (kind payload) → new.carried ≡ carried_after m d party old.known old.carried payload
+      → StandsAt new old.phase false (after_payload m d party old.known payload) → Moves m d role party payload old new
 
 -- What a packet brings: this reply, and where the session goes on the endpoint stands behind the packet.
-pub record Works (m : Meaning) (d : Policy) (role : Role) (party : Party) (old new : Kept) (payload before after : List ℕ) (r : Reply) : Type 0 where
-  pub gives : Gives m party.seed old.known.strict (keys_by m old.known.algorithms (exchange_heard m role party old.known payload) role) old new before after r
+pub record Works (m : SuiteData) (d : DecisionsData) (role : Role) (party : ConfigData) (old new : StateData) (payload before after : List ℕ) (r : Reply) : Type 0 where
+  pub gives : Gives m party.seed old.known.strict (keys_by m old.known.algorithms (exchange_received m role party old.known payload) role) old new before after r
   pub moves : IsOngoing new.end → Moves m d role party payload old new
 
 -- What a packet with this sequence number brings: the reply of its line of the phase table.
-abbrev pub Brings : Meaning → Policy → Role → Party → Kept → Kept → ℕ → List ℕ → List ℕ → List ℕ → Type 0
+abbrev pub Brings : SuiteData → DecisionsData → Role → ConfigData → StateData → StateData → ℕ → List ℕ → List ℕ → List ℕ → Type 0
 Brings m d role party old new packet payload before after =
     Works m d role party old new payload before after
     (line_reply m d role party old.known packet (line_by role old.phase old.known.strict old.guess (is_waiting old.known.left) (kind payload)) payload)

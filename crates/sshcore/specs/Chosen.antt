@@ -3,30 +3,30 @@
 use Rattle.std.specs.Prelude.{◌≡◌, ℕ, ◌<◌, List, Some, length}
 use Rattle.std.specs.List.{slice_get}
 use Rattle.sshwire.specs.Types.{IsName}
-use Rattle.sshmsg.specs.Content.{Offer}
+use Rattle.sshmsg.specs.MessageData.{KexInitData}
 use Rattle.sshneg.specs.declared.choice.Chosen.{Chosen}
 use Rattle.sshneg.specs.declared.choice.NoCommon.{NoCommon}
 use Rattle.sshneg.specs.declared.role.Role.{Role}
 use Rattle.sshneg.specs.declared.role.Role.TheVariants.{Client, Server}
-use Rattle.sshneg.specs.Fields.{Algorithms, list_of, name_of, position_of}
+use Rattle.sshneg.specs.Fields.{AlgorithmsData, list_of, name_of, position_of}
 
 -- each of them is a name
-abbrev pub AreNamed : Algorithms → Type 0
+abbrev pub AreNamed : AlgorithmsData → Type 0
 AreNamed a = (f : NoCommon) → IsName (name_of f a)
 
 -- each position lies in its list
-abbrev pub ArePlaced : Offer → Chosen → Type 0
+abbrev pub ArePlaced : KexInitData → Chosen → Type 0
 ArePlaced client chosen = (f : NoCommon) → position_of f chosen < length (list_of f client)
 
 -- each name stands at its position
-abbrev pub AreAt : Offer → Chosen → Algorithms → Type 0
+abbrev pub AreAt : KexInitData → Chosen → AlgorithmsData → Type 0
 AreAt client chosen a = (f : NoCommon) → slice_get (list_of f client) (position_of f chosen) ≡ Some (name_of f a)
 
 -- the cipher and the MAC of what this role sends
-abbrev pub cipher_of : Algorithms → Role → List ℕ
+abbrev pub cipher_of : AlgorithmsData → Role → List ℕ
 cipher_of a Client = a.encryption_client_to_server
 cipher_of a Server = a.encryption_server_to_client
 
-abbrev pub mac_of : Algorithms → Role → List ℕ
+abbrev pub mac_of : AlgorithmsData → Role → List ℕ
 mac_of a Client = a.mac_client_to_server
 mac_of a Server = a.mac_server_to_client

@@ -1,10 +1,10 @@
 -- The algorithms of a choice, without where their names lie in memory.
 
 use Rattle.std.specs.Prelude.{string_bytes}
-use Rattle.sshneg.specs.Fields.{Algorithms}
+use Rattle.sshneg.specs.Fields.{AlgorithmsData}
 use Rattle.sshcore.specs.declared.algorithms.Algorithms.TheInside.{Inside}
 
-abbrev pub algorithms_of : Inside → Algorithms
+abbrev pub algorithms_of : Inside → AlgorithmsData
 algorithms_of a = record {
   kex = string_bytes a.kex;
   host_key = string_bytes a.host_key;

@@ -9,7 +9,7 @@ use Rattle.sshneg.specs.Markers.{is_marker}
 use Rattle.sshcore.specs.declared.config_fault.ConfigFault.{ConfigFault}
 use Rattle.sshcore.specs.declared.config_fault.ConfigFault.TheVariants as fault
 use Rattle.sshcore.specs.declared.config_parts.TheConstants.{BANNER_LIMIT, PRIVATE_KEY_LIMIT, LIST_LIMIT, NOTICE_LIMIT, NOTICE_LINE_LIMIT, PASSWORD_LIMIT, PLAN_LIMIT, TRIES_LIMIT, USER_LIMIT}
-use Rattle.sshcore.specs.ConfigData.{Attempt, ByKey, ByNothing, ByPassword, ClientData, HostKey, Proving, ServerData, SideData, key_algorithms, version_of}
+use Rattle.sshcore.specs.ConfigParts.{AttemptData, ByKey, ByNothing, ByPassword, ClientData, CredentialData, HostKeyData, ServerData, SideData, key_algorithms, version_of}
 
 -- the number of a refusal
 abbrev pub rule_number : ConfigFault → ℕ
@@ -59,25 +59,25 @@ abbrev pub IsListed : List ℕ → Type 0
 IsListed name = (name ≡ codes "password") ⊎ (name ≡ codes "publickey")
 
 -- the algorithm of an attempt, if it has one, is a name
-abbrev pub IsNamed : Proving → Type 0
+abbrev pub IsNamed : CredentialData → Type 0
 IsNamed ByNothing = Unit {0}
 IsNamed (ByPassword password) = Unit {0}
 IsNamed (ByKey algorithm secret ask) = IsName algorithm
 
 -- an attempt's password, if it has one, is short enough
-abbrev pub HasShortPassword : Proving → Type 0
+abbrev pub HasShortPassword : CredentialData → Type 0
 HasShortPassword ByNothing = Unit {0}
 HasShortPassword (ByPassword password) = length password ≤ PASSWORD_LIMIT
 HasShortPassword (ByKey algorithm secret ask) = Unit {0}
 
 -- an attempt's private key, if it has one, is short enough
-abbrev pub HasShortKey : Proving → Type 0
+abbrev pub HasShortKey : CredentialData → Type 0
 HasShortKey ByNothing = Unit {0}
 HasShortKey (ByPassword password) = Unit {0}
 HasShortKey (ByKey algorithm secret ask) = length secret ≤ PRIVATE_KEY_LIMIT
 
 -- what is true of each attempt of an accepted plan
-pub record IsAttempt (a : Attempt) : Type 0 where
+pub record IsAttempt (a : AttemptData) : Type 0 where
   pub user : length a.user ≤ USER_LIMIT
   pub service : IsName a.service
   pub named : IsNamed a.proving
@@ -110,12 +110,12 @@ abbrev pub ClientRule : ConfigFault → ClientData → Type 0
 ClientRule fault.EmptyList client = AllByRecursion IsSome (client_lists client)
 ClientRule fault.Name client =
     AllByRecursion AreNames (client_lists client) × AllByRecursion IsUnmarked client.side.kex_algorithms
-    × AllByRecursion (λ (a : Attempt). IsName a.service × IsNamed a.proving) client.plan
+    × AllByRecursion (λ (a : AttemptData). IsName a.service × IsNamed a.proving) client.plan
 ClientRule fault.ListTooLong client = AllByRecursion IsShortList (client_lists client)
 ClientRule fault.Line client = IsVersionText (version_of client.side)
-ClientRule fault.User client = AllByRecursion (λ (a : Attempt). length a.user ≤ USER_LIMIT) client.plan
-ClientRule fault.Secret client = AllByRecursion (λ (a : Attempt). HasShortPassword a.proving) client.plan
-ClientRule fault.Blob client = AllByRecursion (λ (a : Attempt). HasShortKey a.proving) client.plan
+ClientRule fault.User client = AllByRecursion (λ (a : AttemptData). length a.user ≤ USER_LIMIT) client.plan
+ClientRule fault.Secret client = AllByRecursion (λ (a : AttemptData). HasShortPassword a.proving) client.plan
+ClientRule fault.Blob client = AllByRecursion (λ (a : AttemptData). HasShortKey a.proving) client.plan
 ClientRule fault.Plan client = length client.plan ≤ PLAN_LIMIT
 ClientRule fault.Tries client = Unit {0}
 ClientRule fault.Random client = HasLengths client.side
@@ -133,7 +133,7 @@ ServerRule fault.Line server =
 ServerRule fault.User server = Unit {0}
 ServerRule fault.Secret server = Unit {0}
 ServerRule fault.Blob server =
-    AllByRecursion (λ (key : HostKey). length key.secret ≤ PRIVATE_KEY_LIMIT) server.host_keys × IfSome server.banner (λ text. length text ≤ BANNER_LIMIT)
+    AllByRecursion (λ (key : HostKeyData). length key.secret ≤ PRIVATE_KEY_LIMIT) server.host_keys × IfSome server.banner (λ text. length text ≤ BANNER_LIMIT)
 ServerRule fault.Plan server = Unit {0}
 ServerRule fault.Tries server = (1 ≤ server.tries) × (server.tries ≤ TRIES_LIMIT)
 ServerRule fault.Random server = HasLengths server.side
@@ -154,7 +154,7 @@ pub record HasBytes (side : SideData) : Type 0 where
 -- what is true of every client's config: every rule is kept, users are UTF-8, cookie, random and seed are bytes
 pub record IsClient (client : ClientData) : Type 0 where
   pub keeps : (code : ConfigFault) → ClientRule code client
-  pub users : AllByRecursion (λ (a : Attempt). IsUtf8 a.user) client.plan
+  pub users : AllByRecursion (λ (a : AttemptData). IsUtf8 a.user) client.plan
   pub bytes : HasBytes client.side
 
 -- what is true of every server's config

@@ -20,7 +20,7 @@ use Rattle.sshcore.specs.declared.config_parts.HostKey.{HostKey}
 use Rattle.sshcore.specs.declared.config_parts.ServerParts.{ServerParts}
 use Rattle.sshcore.specs.declared.config_parts.SideParts.{SideParts}
 use Rattle.sshcore.specs.declared.config_parts.TheConstants.{BANNER_LIMIT, PRIVATE_KEY_LIMIT, LIST_LIMIT, NOTICE_LIMIT, NOTICE_LINE_LIMIT, PASSWORD_LIMIT, PLAN_LIMIT, TRIES_LIMIT, USER_LIMIT}
-use Rattle.sshcore.specs.ConfigData.{version_of}
+use Rattle.sshcore.specs.ConfigParts.{version_of}
 use Rattle.sshcore.specs.ConfigView.{side_data}
 
 abbrev pub is_some : {X : Type 0} → List X → Bool

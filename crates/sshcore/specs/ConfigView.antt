@@ -8,18 +8,18 @@ use Rattle.sshcore.specs.declared.config_parts.Credential.TheVariants as credent
 use Rattle.sshcore.specs.declared.config_parts.HostKey as host_key_parts
 use Rattle.sshcore.specs.declared.config_parts.ServerParts.{ServerParts}
 use Rattle.sshcore.specs.declared.config_parts.SideParts.{SideParts}
-use Rattle.sshcore.specs.ConfigData.{Attempt, ByKey, ByNothing, ByPassword, ClientData, HostKey, Proving, ServerData, SideData}
+use Rattle.sshcore.specs.ConfigParts.{AttemptData, ByKey, ByNothing, ByPassword, ClientData, CredentialData, HostKeyData, ServerData, SideData}
 
-abbrev pub proving_of : Credential → Proving
-proving_of credential.None = ByNothing
-proving_of (credential.Password password) = ByPassword password.items
-proving_of (credential.PublicKey algorithm private_key ask) = ByKey (string_bytes algorithm) private_key.items ask
+abbrev pub credential_data : Credential → CredentialData
+credential_data credential.None = ByNothing
+credential_data (credential.Password password) = ByPassword password.items
+credential_data (credential.PublicKey algorithm private_key ask) = ByKey (string_bytes algorithm) private_key.items ask
 
-abbrev pub attempt_of : attempt_parts.Attempt → Attempt
-attempt_of a = record { user = string_bytes a.user; service = string_bytes a.service; proving = proving_of a.credential }
+abbrev pub attempt_data : attempt_parts.Attempt → AttemptData
+attempt_data a = record { user = string_bytes a.user; service = string_bytes a.service; proving = credential_data a.credential }
 
-abbrev pub host_key_of : host_key_parts.HostKey → HostKey
-host_key_of key = record { algorithm = string_bytes key.algorithm; secret = key.private_key.items }
+abbrev pub host_key_data : host_key_parts.HostKey → HostKeyData
+host_key_data key = record { algorithm = string_bytes key.algorithm; secret = key.private_key.items }
 
 abbrev pub side_data : SideParts → SideData
 side_data parts = record {
@@ -41,13 +41,13 @@ client_data parts = record {
   side = side_data parts.side;
   host_key_algorithms = map string_bytes parts.server_host_key_algorithms.items;
   guess = parts.guess;
-  plan = map attempt_of parts.plan.items;
+  plan = map attempt_data parts.plan.items;
 }
 
 abbrev pub server_data : ServerParts → ServerData
 server_data parts = record {
   side = side_data parts.side;
-  host_keys = map host_key_of parts.host_keys.items;
+  host_keys = map host_key_data parts.host_keys.items;
   services = map string_bytes parts.services.items;
   methods = map string_bytes parts.methods.items;
   required = map string_bytes parts.required.items;

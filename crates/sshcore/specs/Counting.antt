@@ -8,14 +8,14 @@ use Rattle.sshneg.specs.declared.role.Role.{Role}
 use Rattle.sshpacket.specs.Places.{after_first, stands}
 use Rattle.sshpacket.specs.Stream.{Units}
 use Rattle.sshcore.specs.Before.{since, stood, strict_at}
-use Rattle.sshcore.specs.Party.{Party}
+use Rattle.sshcore.specs.EndpointParts.{ConfigData}
 
 -- by whether the keys were switched, strictness, the packets since the switch, and all packets
 abbrev pub number_by : Bool → Bool → ℕ → ℕ → ℕ
 number_by switched strict since all = (if switched && strict then since else all) % 2 ^ 32
 
 -- of what is heard: the switch is the first NEWKEYS that isn't dropped
-abbrev pub number_in : Role → Party → Units → ℕ
+abbrev pub number_in : Role → ConfigData → Units → ℕ
 number_in role party before =
     number_by (stood role party.offer SSH_MSG_NEWKEYS before) (strict_at role party before)
     (since role party.offer SSH_MSG_NEWKEYS before) (length before)
@@ -25,7 +25,7 @@ abbrev pub is_newkeys : Units → List ℕ → Bool
 is_newkeys before payload = kind payload == SSH_MSG_NEWKEYS
 
 unfoldable pub switched_out : Units → Bool
-switched_out said = stands is_newkeys [] said
+switched_out sent = stands is_newkeys [] sent
 
 unfoldable pub number_out : Bool → Units → ℕ
-number_out strict said = number_by (switched_out said) strict (length (after_first is_newkeys [] said)) (length said)
+number_out strict sent = number_by (switched_out sent) strict (length (after_first is_newkeys [] sent)) (length sent)

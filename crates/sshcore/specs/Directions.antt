@@ -8,16 +8,16 @@ use Rattle.sshmsg.specs.declared.numbers.TheConstants.{SSH_MSG_NEWKEYS}
 use Rattle.sshneg.specs.declared.role.Role.{Role}
 use Rattle.sshneg.specs.declared.role.Role.TheVariants.{Client, Server}
 use Rattle.sshneg.specs.Markers.{other}
-use Rattle.sshpacket.specs.KeyData.{KeyData}
-use Rattle.sshpacket.specs.Parse.{Protection, parse_packet, protection}
+use Rattle.sshpacket.specs.KeysData.{KeysData}
+use Rattle.sshpacket.specs.Parse.{ProtectionData, parse_packet, protection}
 use Rattle.sshpacket.specs.PreambleParser.{preamble_parser}
 use Rattle.sshpacket.specs.Stream.{Parser, Units}
-use Rattle.sshpacket.specs.Suite.{Meaning}
+use Rattle.sshpacket.specs.Suite.{SuiteData}
 use Rattle.sshpacket.specs.Written.{written_clear, written_sealed}
 use Rattle.sshcore.specs.Before.{stood, strict_at}
 use Rattle.sshcore.specs.Counting.{number_in, number_out, switched_out}
 use Rattle.sshcore.specs.Exchange.{keys_at}
-use Rattle.sshcore.specs.Party.{Party}
+use Rattle.sshcore.specs.EndpointParts.{ConfigData}
 
 -- what of the units heard is the version, and what are payloads
 abbrev pub version_in : Units → List ℕ
@@ -33,35 +33,35 @@ others_of Client = OTHER_LINE_LIMIT
 others_of Server = 0
 
 -- the keys of what is heard: none up to the key switch, which is the first NEWKEYS that isn't dropped (RFC 4253 section 7.3)
-abbrev pub keys_in : Meaning → Role → Party → List ℕ → Units → Option KeyData
+abbrev pub keys_in : SuiteData → Role → ConfigData → List ℕ → Units → Option KeysData
 keys_in m role party version before =
     if stood role party.offer SSH_MSG_NEWKEYS before then Some (keys_at m role party version before (other role)) else None
 
 -- how the next packet is protected
-abbrev pub protection_in : Meaning → Role → Party → List ℕ → Units → Protection
+abbrev pub protection_in : SuiteData → Role → ConfigData → List ℕ → Units → ProtectionData
 protection_in m role party version before = protection m (keys_in m role party version before) (number_in role party before)
 
 -- how the next unit is read behind these: lines first, then packets
-abbrev pub parsers : Meaning → Role → Party → Units → Parser
+abbrev pub parsers : SuiteData → Role → ConfigData → Units → Parser
 parsers m role party [] = preamble_parser (others_of role)
 parsers m role party (version ∷ before) = parse_packet (protection_in m role party version before)
 
 -- the lines that are said first: notices and the version line
-abbrev pub preamble_of : Party → List ℕ
+abbrev pub preamble_of : ConfigData → List ℕ
 preamble_of party = flat_map version_line party.notices ++ version_line party.version
 
 -- the keys of what is said: none up to the NEWKEYS that was said, the exchange's behind it
-abbrev pub keys_out : Meaning → Role → Party → Units → Units → Option KeyData
-keys_out m role party heard said =
-    if switched_out said then Some (keys_at m role party (version_in heard) (payloads_in heard) role) else None
+abbrev pub keys_out : SuiteData → Role → ConfigData → Units → Units → Option KeysData
+keys_out m role party received sent =
+    if switched_out sent then Some (keys_at m role party (version_in received) (payloads_in received) role) else None
 
 -- a payload as a packet, in clear or sealed (RFC 4253 section 6)
-abbrev pub spelled_by : Meaning → Option KeyData → List ℕ → ℕ → List ℕ → List ℕ
+abbrev pub spelled_by : SuiteData → Option KeysData → List ℕ → ℕ → List ℕ → List ℕ
 spelled_by m None seed seq payload = written_clear m seed seq payload
 spelled_by m (Some keys) seed seq payload = written_sealed m keys seed seq payload
 
 -- how a unit is spelled behind those said before, by an endpoint that has heard these units
-abbrev pub spells : Meaning → Role → Party → Units → Units → List ℕ → List ℕ
-spells m role party heard [] version = preamble_of party
-spells m role party heard (version ∷ said) payload =
-    spelled_by m (keys_out m role party heard said) party.seed (number_out (strict_at role party (payloads_in heard)) said) payload
+abbrev pub spells : SuiteData → Role → ConfigData → Units → Units → List ℕ → List ℕ
+spells m role party received [] version = preamble_of party
+spells m role party received (version ∷ sent) payload =
+    spelled_by m (keys_out m role party received sent) party.seed (number_out (strict_at role party (payloads_in received)) sent) payload

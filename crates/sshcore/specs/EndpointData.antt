@@ -3,12 +3,12 @@
 use Rattle.sshneg.specs.declared.role.Role.{Role}
 use Rattle.sshcore.specs.declared.input.Input.{Input}
 use Rattle.sshcore.specs.declared.state.State.{State}
-use Rattle.sshcore.specs.Party.{Party}
+use Rattle.sshcore.specs.EndpointParts.{ConfigData}
 
 -- its role and its config, whom it asks, and what it keeps, which no layer above opens
 pub record EndpointData (S D : Type 0) : Type 0 where
   pub role : Role
-  pub party : Party
+  pub party : ConfigData
   pub suite : S
   pub decisions : D
   pub input : Input

@@ -3,82 +3,82 @@
 use Rattle.std.specs.Prelude.{◌≡◌, ℕ, ◌≤◌, true, List, [], ◌∷◌, ◌++◌, length, take}
 use Rattle.sshwire.specs.Lines.{LineOpen}
 use Rattle.sshneg.specs.declared.role.Role.{Role}
-use Rattle.sshpacket.specs.Stream.{Said, Units}
-use Rattle.sshpacket.specs.Suite.{Meaning}
+use Rattle.sshpacket.specs.Stream.{Sent, Units}
+use Rattle.sshpacket.specs.Suite.{SuiteData}
 use Rattle.sshcore.specs.declared.end.Fault.TheVariants as fault
 use Rattle.sshcore.specs.Directions.{others_of, spells}
-use Rattle.sshcore.specs.Ending.{Authenticated, Closed, Disconnected, Ending, Failed, Open, by_owner, ending, parting}
+use Rattle.sshcore.specs.EndData.{Authenticated, Closed, Disconnected, EndData, Failed, Open, by_owner, end_data, parting}
 use Rattle.sshcore.specs.EndpointData.{EndpointData}
 use Rattle.sshcore.specs.History.{BrokenOff}
-use Rattle.sshcore.specs.Inputs.{Stands, held_by, turns_left}
-use Rattle.sshcore.specs.Kept.{kept_of}
-use Rattle.sshcore.specs.Party.{Party, Policy}
+use Rattle.sshcore.specs.Inputs.{EndpointStands, held_by, turns_left}
+use Rattle.sshcore.specs.StateData.{state_data}
+use Rattle.sshcore.specs.EndpointParts.{ConfigData, DecisionsData}
 
-abbrev pub ending_of : {S D : Type 0} → EndpointData S D → Ending
-ending_of e = ending e.state.end
+abbrev pub endpoint_end : {S D : Type 0} → EndpointData S D → EndData
+endpoint_end e = end_data e.state.end
 
 -- An endpoint has heard and said these bytes. Of one that failed for want of memory BrokenOff tells what it has said; of one that
 -- its owner told to disconnect these are the bytes before that, and Leaves tells what it said last.
-abbrev pub After : {S D : Type 0} → (S → Meaning) → (D → Policy) → EndpointData S D → List ℕ → List ℕ → Type 0
-After meaning policy e h s = Stands (meaning e.suite) (policy e.decisions) e.role e.party (kept_of e.state) e.input h s
+abbrev pub EndpointAfter : {S D : Type 0} → (S → SuiteData) → (D → DecisionsData) → EndpointData S D → List ℕ → List ℕ → Type 0
+EndpointAfter meaning policy e h s = EndpointStands (meaning e.suite) (policy e.decisions) e.role e.party (state_data e.state) e.input h s
 
 -- what never changes
 pub record IsSameEndpoint {S D : Type 0} (old new : EndpointData S D) : Type 0 where
   pub same_role : new.role ≡ old.role
-  pub same_party : new.party ≡ old.party
+  pub same_config : new.party ≡ old.party
   pub same_suite : new.suite ≡ old.suite
   pub same_decisions : new.decisions ≡ old.decisions
 
 -- What a call did that used these bytes. No such call ends an endpoint as its owner does.
-pub record Fed {S D : Type 0} (meaning : S → Meaning) (policy : D → Policy) (old new : EndpointData S D) (taken before after : List ℕ) : Type 0 where
+pub record Fed {S D : Type 0} (meaning : S → SuiteData) (policy : D → DecisionsData) (old new : EndpointData S D) (taken before after : List ℕ) : Type 0 where
   pub added : List ℕ
   pub appended : after ≡ before ++ added
-  pub follows : (h s : List ℕ) → After meaning policy old h s → After meaning policy new (h ++ taken) (s ++ added)
-  pub uncut : (h s : List ℕ) → After meaning policy old h s → by_owner (ending_of new) ≡ true → ending_of old ≡ ending_of new
+  pub follows : (h s : List ℕ) → EndpointAfter meaning policy old h s → EndpointAfter meaning policy new (h ++ taken) (s ++ added)
+  pub uncut : (h s : List ℕ) → EndpointAfter meaning policy old h s → by_owner (endpoint_end new) ≡ true → endpoint_end old ≡ endpoint_end new
   pub same : IsSameEndpoint old new
 
 -- What a call did that wanted memory: it used some of the piece, and said whole packets, a prefix of those that it would have
 -- said.
-pub record Breaks {S D : Type 0} (meaning : S → Meaning) (policy : D → Policy) (old new : EndpointData S D) (piece before after : List ℕ) : Type 0 where
+pub record Breaks {S D : Type 0} (meaning : S → SuiteData) (policy : D → DecisionsData) (old new : EndpointData S D) (piece before after : List ℕ) : Type 0 where
   pub used : ℕ
   pub within : used ≤ length piece
   pub added : List ℕ
   pub appended : after ≡ before ++ added
-  pub follows : (h s : List ℕ) → After meaning policy old h s
+  pub follows : (h s : List ℕ) → EndpointAfter meaning policy old h s
       → BrokenOff (meaning old.suite) (policy old.decisions) old.role old.party (h ++ take used piece) (s ++ added)
   pub same : IsSameEndpoint old new
 
 -- an endpoint before any byte is heard
-pub record Made {S D : Type 0} (meaning : S → Meaning) (policy : D → Policy) (role : Role) (party : Party) (suite : S) (decisions : D) (new : EndpointData S D) (before after : List ℕ) : Type 0 where
+pub record EndpointMade {S D : Type 0} (meaning : S → SuiteData) (policy : D → DecisionsData) (role : Role) (party : ConfigData) (suite : S) (decisions : D) (new : EndpointData S D) (before after : List ℕ) : Type 0 where
   pub added : List ℕ
   pub appended : after ≡ before ++ added
-  pub begins : After meaning policy new [] added
-  pub is_open : ending_of new ≡ Open
+  pub begins : EndpointAfter meaning policy new [] added
+  pub is_open : endpoint_end new ≡ Open
   pub is_role : new.role ≡ role
-  pub is_party : new.party ≡ party
+  pub is_config : new.party ≡ party
   pub is_suite : new.suite ≡ suite
   pub is_decisions : new.decisions ≡ decisions
 
 -- what the end of input does to an open endpoint: it has failed, and has heard and said the same bytes
-pub record Cuts {S D : Type 0} (meaning : S → Meaning) (policy : D → Policy) (old new : EndpointData S D) : Type 0 where
-  pub cut : ending_of new ≡ Failed fault.Cut
-  pub follows : (h s : List ℕ) → After meaning policy old h s → After meaning policy new h s
+pub record Cuts {S D : Type 0} (meaning : S → SuiteData) (policy : D → DecisionsData) (old new : EndpointData S D) : Type 0 where
+  pub cut : endpoint_end new ≡ Failed fault.Cut
+  pub follows : (h s : List ℕ) → EndpointAfter meaning policy old h s → EndpointAfter meaning policy new h s
   pub same : IsSameEndpoint old new
 
 -- What the call did by which its owner told an open endpoint to disconnect: the endpoint has ended, and has heard the same; and it
 -- has said a DISCONNECT with this reason behind what it had said. After has no such answer, for it tells of what was heard: so what
--- was said last stands in `said`, as a unit behind the answers.
-pub record Leaves {S D : Type 0} (meaning : S → Meaning) (policy : D → Policy) (old new : EndpointData S D) (reason : ℕ) (description before after : List ℕ) : Type 0 where
-  pub left : ending_of new ≡ Disconnected reason
+-- was said last stands in `sent`, as a unit behind the answers.
+pub record Leaves {S D : Type 0} (meaning : S → SuiteData) (policy : D → DecisionsData) (old new : EndpointData S D) (reason : ℕ) (description before after : List ℕ) : Type 0 where
+  pub left : endpoint_end new ≡ Disconnected reason
   pub added : List ℕ
   pub appended : after ≡ before ++ added
-  pub follows : (h s : List ℕ) → After meaning policy old h s → After meaning policy new h s
-  pub said : (h s : List ℕ) (a : After meaning policy old h s)
-      → Said (spells (meaning old.suite) old.role old.party a.units) (s ++ added) (old.party.version ∷ (a.answers ++ parting reason description ∷ []))
+  pub follows : (h s : List ℕ) → EndpointAfter meaning policy old h s → EndpointAfter meaning policy new h s
+  pub sent : (h s : List ℕ) (a : EndpointAfter meaning policy old h s)
+      → Sent (spells (meaning old.suite) old.role old.party a.units) (s ++ added) (old.party.version ∷ (a.answers ++ parting reason description ∷ []))
   pub same : IsSameEndpoint old new
 
 -- how many bytes are held: none once the endpoint has ended
-abbrev pub held_at : Ending → ℕ → ℕ
+abbrev pub held_at : EndData → ℕ → ℕ
 held_at Open n = n
 held_at (Authenticated a) n = 0
 held_at (Failed f) n = 0
@@ -86,10 +86,10 @@ held_at (Closed reason) n = 0
 held_at (Disconnected reason) n = 0
 
 abbrev pub buffered_of : {S D : Type 0} → EndpointData S D → ℕ
-buffered_of e = held_at (ending_of e) (held_by e.input)
+buffered_of e = held_at (endpoint_end e) (held_by e.input)
 
 -- how many bytes that is, of what was heard: of the unfinished line before the version line, of the unfinished packet behind it
-abbrev pub HasUnfinished : Role → Units → List ℕ → Ending → ℕ → Type 0
+abbrev pub HasUnfinished : Role → Units → List ℕ → EndData → ℕ → Type 0
 HasUnfinished role [] rest Open n = (left : ℕ) × (line : List ℕ) × LineOpen (others_of role) rest left line × (n ≡ length line)
 HasUnfinished role (version ∷ before) rest Open n = n ≡ length rest
 HasUnfinished role units rest (Authenticated a) n = n ≡ 0
@@ -99,4 +99,4 @@ HasUnfinished role units rest (Disconnected reason) n = n ≡ 0
 
 -- the bound of turns of an endpoint
 abbrev pub turns_of : {S D : Type 0} → EndpointData S D → ℕ
-turns_of e = turns_left (ending_of e) e.input
+turns_of e = turns_left (endpoint_end e) e.input

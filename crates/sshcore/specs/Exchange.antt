@@ -5,7 +5,7 @@ use Rattle.std.specs.Str.{bytes_eq}
 use Rattle.sshwire.specs.declared.share_form.ShareForm.{ShareForm}
 use Rattle.sshwire.specs.declared.share_form.ShareForm.TheVariants.{Mpint}
 use Rattle.sshmsg.specs.declared.fault.MsgFault.{MsgFault}
-use Rattle.sshmsg.specs.Content.{Content, KexEcdhInit, KexEcdhReply, KexInit, KexdhInit, KexdhReply, Offer}
+use Rattle.sshmsg.specs.MessageData.{KexEcdhInit, KexEcdhReply, KexInit, KexInitData, KexdhInit, KexdhReply, MessageData}
 use Rattle.sshmsg.specs.Messages.{message_in}
 use Rattle.sshmsg.specs.Written.{written_message}
 use Rattle.sshneg.specs.declared.choice.NoCommon.{NoCommon}
@@ -15,27 +15,27 @@ use Rattle.sshneg.specs.declared.role.Role.TheVariants.{Client, Server}
 use Rattle.sshneg.specs.ChoiceReadings.{choice}
 use Rattle.sshneg.specs.Derivations.{ExchangeData, derived}
 use Rattle.sshneg.specs.ExchangeEnd.{KexEnd, answer_by, client_of, exchange_by, exchange_hash, server_of, source_by}
-use Rattle.sshneg.specs.Fields.{Algorithms}
-use Rattle.sshpacket.specs.KeyData.{KeyData}
+use Rattle.sshneg.specs.Fields.{AlgorithmsData}
+use Rattle.sshpacket.specs.KeysData.{KeysData}
 use Rattle.sshpacket.specs.Stream.{Units}
-use Rattle.sshpacket.specs.Suite.{Meaning, ResponseData}
+use Rattle.sshpacket.specs.Suite.{ResponseData, SuiteData}
 use Rattle.sshcore.specs.declared.table.Phase.TheVariants as phase
 use Rattle.sshcore.specs.Before.{first_kept, kexinit, peer_offer}
-use Rattle.sshcore.specs.ConfigData.{HostKey}
-use Rattle.sshcore.specs.Party.{Party}
+use Rattle.sshcore.specs.ConfigParts.{HostKeyData}
+use Rattle.sshcore.specs.EndpointParts.{ConfigData}
 use Rattle.sshcore.specs.Phases.{leaving}
 
 -- the payload of the own KEXINIT
-abbrev pub own_kexinit : Party → List ℕ
+abbrev pub own_kexinit : ConfigData → List ℕ
 own_kexinit party = written_message (KexInit party.offer)
 
 -- the choice of what this role and its peer offer; a peer that offers nothing leaves no method (RFC 4253 section 7.1)
-abbrev pub choice_with : Meaning → Role → Offer → Option Offer → Result Algorithms NoCommon
+abbrev pub choice_with : SuiteData → Role → KexInitData → Option KexInitData → Result AlgorithmsData NoCommon
 choice_with m role own None = Err Kex
 choice_with m role own (Some peer) = choice m (client_of role own peer) (server_of role own peer)
 
 -- the algorithms of a choice; where there is none the endpoint has failed, and no name stands here
-abbrev pub no_algorithms : Algorithms
+abbrev pub no_algorithms : AlgorithmsData
 no_algorithms = record {
   kex = [];
   host_key = [];
@@ -47,44 +47,44 @@ no_algorithms = record {
   compression_server_to_client = [];
 }
 
-abbrev pub chosen_or : Result Algorithms NoCommon → Algorithms
+abbrev pub chosen_or : Result AlgorithmsData NoCommon → AlgorithmsData
 chosen_or (Ok a) = a
 chosen_or (Err f) = no_algorithms
 
 -- The form of shares in 30 and 31, which is the chosen method's (RFC 4253 section 8, RFC 5656 section 4). Where there is no
 -- choice nothing depends on it.
-abbrev pub shares_by : Meaning → Result Algorithms NoCommon → ShareForm
+abbrev pub shares_by : SuiteData → Result AlgorithmsData NoCommon → ShareForm
 shares_by m (Ok a) = m.share_form a.kex
 shares_by m (Err f) = Mpint
 
 -- the first host key of this algorithm
-abbrev pub secret_or : Option HostKey → List ℕ
+abbrev pub secret_or : Option HostKeyData → List ℕ
 secret_or (Some key) = key.secret
 secret_or None = []
 
-unfoldable pub secret_of : List HostKey → List ℕ → List ℕ
+unfoldable pub secret_of : List HostKeyData → List ℕ → List ℕ
 secret_of keys algorithm = secret_or (find (λ key. bytes_eq algorithm key.algorithm) keys)
 
 -- what the peer's exchange message says: its share, and from a server its host key
-abbrev pub share_read : Result Content MsgFault → List ℕ
+abbrev pub share_read : Result MessageData MsgFault → List ℕ
 share_read (Ok (KexdhInit e)) = e
 share_read (Ok (KexdhReply host_key f signature)) = f
 share_read (Ok (KexEcdhInit client_share)) = client_share
 share_read (Ok (KexEcdhReply host_key server_share signature)) = server_share
 share_read _ = []
 
-abbrev pub host_key_read : Result Content MsgFault → List ℕ
+abbrev pub host_key_read : Result MessageData MsgFault → List ℕ
 host_key_read (Ok (KexdhReply host_key f signature)) = host_key
 host_key_read (Ok (KexEcdhReply host_key server_share signature)) = host_key
 host_key_read _ = []
 
 -- the server's public host key: a server's own, or the one that a client has received
-abbrev pub host_key_by : Meaning → Role → Party → List ℕ → Result Content MsgFault → List ℕ
+abbrev pub host_key_by : SuiteData → Role → ConfigData → List ℕ → Result MessageData MsgFault → List ℕ
 host_key_by m Client party algorithm message = host_key_read message
 host_key_by m Server party algorithm message = m.blob algorithm (secret_of party.host_keys algorithm)
 
 -- what this end has of the exchange, by the algorithms and the peer's version line, KEXINIT payload and exchange message
-abbrev pub kex_end : Meaning → Role → Party → Algorithms → List ℕ → List ℕ → Result Content MsgFault → KexEnd
+abbrev pub kex_end : SuiteData → Role → ConfigData → AlgorithmsData → List ℕ → List ℕ → Result MessageData MsgFault → KexEnd
 kex_end m role party a version kexinit message = record {
   version = party.version;
   kexinit = own_kexinit party;
@@ -96,7 +96,7 @@ kex_end m role party a version kexinit message = record {
 }
 
 -- the server's share and the shared number, if there is one
-abbrev pub answer_with : Meaning → Role → Party → Algorithms → Result Content MsgFault → Option ResponseData
+abbrev pub answer_with : SuiteData → Role → ConfigData → AlgorithmsData → Result MessageData MsgFault → Option ResponseData
 answer_with m role party a message = answer_by role m a.kex party.random (share_read message)
 
 -- where there is none the endpoint fails, and neither stands here
@@ -105,37 +105,37 @@ answer_or (Some answer) = answer
 answer_or None = record { share = []; shared = [] }
 
 -- what is hashed (RFC 4253 section 8)
-unfoldable pub exchange_with : Meaning → Role → Party → Algorithms → List ℕ → List ℕ → Result Content MsgFault → ExchangeData
+unfoldable pub exchange_with : SuiteData → Role → ConfigData → AlgorithmsData → List ℕ → List ℕ → Result MessageData MsgFault → ExchangeData
 exchange_with m role party a version kexinit message =
     exchange_by m role a.kex (kex_end m role party a version kexinit message) (answer_or (answer_with m role party a message))
 
 -- the keys with which this role sends, by the algorithms of its direction (RFC 4253 section 7.2)
-abbrev pub keys_by : Meaning → Algorithms → ExchangeData → Role → KeyData
+abbrev pub keys_by : SuiteData → AlgorithmsData → ExchangeData → Role → KeysData
 keys_by m a x Client = derived m (source_by m a.kex x) Client a.encryption_client_to_server a.mac_client_to_server
 keys_by m a x Server = derived m (source_by m a.kex x) Server a.encryption_server_to_client a.mac_server_to_client
 
 -- The same of what stood before a place: of the first KEXINIT, and of the first exchange message that wasn't dropped, read in
 -- the form of the chosen method.
-abbrev pub choice_before : Meaning → Role → Party → Units → Result Algorithms NoCommon
+abbrev pub choice_before : SuiteData → Role → ConfigData → Units → Result AlgorithmsData NoCommon
 choice_before m role party before = choice_with m role party.offer (peer_offer before)
 
-abbrev pub algorithms_at : Meaning → Role → Party → Units → Algorithms
+abbrev pub algorithms_at : SuiteData → Role → ConfigData → Units → AlgorithmsData
 algorithms_at m role party before = chosen_or (choice_before m role party before)
 
-abbrev pub shares_at : Meaning → Role → Party → Units → ShareForm
+abbrev pub shares_at : SuiteData → Role → ConfigData → Units → ShareForm
 shares_at m role party before = shares_by m (choice_before m role party before)
 
-abbrev pub exchange_message : Role → Party → Units → List ℕ
+abbrev pub exchange_message : Role → ConfigData → Units → List ℕ
 exchange_message role party before = first_kept role party.offer (leaving role phase.Exchange) before
 
-abbrev pub exchange_at : Meaning → Role → Party → List ℕ → Units → ExchangeData
+abbrev pub exchange_at : SuiteData → Role → ConfigData → List ℕ → Units → ExchangeData
 exchange_at m role party version before =
     exchange_with m role party (algorithms_at m role party before) version (kexinit before)
     (message_in (shares_at m role party before) (exchange_message role party before))
 
 -- the exchange hash, which is the session identifier (RFC 4253 section 7.2)
-abbrev pub session_at : Meaning → Role → Party → List ℕ → Units → List ℕ
+abbrev pub session_at : SuiteData → Role → ConfigData → List ℕ → Units → List ℕ
 session_at m role party version before = exchange_hash m (algorithms_at m role party before).kex (exchange_at m role party version before)
 
-abbrev pub keys_at : Meaning → Role → Party → List ℕ → Units → Role → KeyData
+abbrev pub keys_at : SuiteData → Role → ConfigData → List ℕ → Units → Role → KeysData
 keys_at m role party version before sender = keys_by m (algorithms_at m role party before) (exchange_at m role party version before) sender

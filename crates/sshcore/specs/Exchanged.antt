@@ -1,45 +1,45 @@
 -- What an endpoint does at the peer's exchange message (RFC 4253 section 8).
 
 use Rattle.std.specs.Prelude.{◌≡◌, ℕ, ◌≤◌, Bool, true, false, List, ◌++◌, length, None, Ok}
-use Rattle.sshmsg.specs.Content.{Content, NewKeys, ServiceRequest}
+use Rattle.sshmsg.specs.MessageData.{MessageData, NewKeys, ServiceRequest}
 use Rattle.sshmsg.specs.Written.{written_message}
 use Rattle.sshneg.specs.declared.role.Role.{Role}
 use Rattle.sshneg.specs.Derivations.{ExchangeData, derived}
 use Rattle.sshneg.specs.ExchangeEnd.{client_of, exchange_hash, server_of}
-use Rattle.sshneg.specs.Fields.{Algorithms}
+use Rattle.sshneg.specs.Fields.{AlgorithmsData}
 use Rattle.sshneg.specs.Markers.{other}
-use Rattle.sshpacket.specs.KeyData.{KeyData}
+use Rattle.sshpacket.specs.KeysData.{KeysData}
 use Rattle.sshpacket.specs.declared.limits.TheConstants.{DIGEST_LIMIT}
-use Rattle.sshpacket.specs.Suite.{Meaning, ResponseData}
+use Rattle.sshpacket.specs.Suite.{ResponseData, SuiteData}
 use Rattle.sshcore.specs.declared.end.Fault.TheVariants as fault
 use Rattle.sshcore.specs.declared.table.Phase.TheVariants as phase
 use Rattle.sshcore.specs.Brings.{Gives, IsOngoing, StandsAt}
 use Rattle.sshcore.specs.Chosen.{cipher_of, mac_of}
-use Rattle.sshcore.specs.Ending.{Reply, fails}
+use Rattle.sshcore.specs.EndData.{Reply, fails}
 use Rattle.sshcore.specs.Exchange.{exchange_with, keys_by, own_kexinit, secret_of}
 use Rattle.sshcore.specs.Directions.{spelled_by}
 use Rattle.sshcore.specs.History.{FitsPacket}
-use Rattle.sshcore.specs.Kept.{Kept, with_exchange}
+use Rattle.sshcore.specs.StateData.{StateData, with_exchange}
 use Rattle.sshcore.specs.Output.{Sending, with_packet, with_newkeys}
 use Rattle.sshcore.specs.Work.{reply_in, userauth}
 use Rattle.sshcore.specs.Known.{Known}
-use Rattle.sshcore.specs.Party.{Party}
+use Rattle.sshcore.specs.EndpointParts.{ConfigData}
 use Rattle.sshcore.specs.Phases.{past_exchange, past_kexinit}
 
 -- the form of shares is that of the method, once there is one; and before the exchange nothing is sealed
-pub record HasForm (m : Meaning) (kept : Kept) : Type 0 where
+pub record HasForm (m : SuiteData) (kept : StateData) : Type 0 where
   pub form : past_kexinit kept.phase ≡ true → kept.known.shares ≡ m.share_form kept.known.algorithms.kex
   pub clear : past_exchange kept.phase ≡ false → kept.sending.keys ≡ None
 
 -- what both sides have given and come to, besides version lines and KEXINITs
-pub record ShareData : Type 0 where
+pub record SharesData : Type 0 where
   pub host_key : List ℕ
   pub client_share : List ℕ
   pub server_share : List ℕ
   pub shared : List ℕ
 
 -- what is hashed of that at an endpoint of this role
-abbrev pub exchanged : Role → Party → Known → ShareData → ExchangeData
+abbrev pub exchanged : Role → ConfigData → Known → SharesData → ExchangeData
 exchanged role party known shares = record {
   client_version = client_of role party.version known.version;
   server_version = server_of role party.version known.version;
@@ -53,17 +53,17 @@ exchanged role party known shares = record {
 
 -- the keys with which this role sends, by the shared number and the exchange hash, which in a first exchange is the session
 -- identifier (RFC 4253 section 7.2)
-abbrev pub kex_keys : Meaning → Algorithms → List ℕ → List ℕ → Role → KeyData
+abbrev pub kex_keys : SuiteData → AlgorithmsData → List ℕ → List ℕ → Role → KeysData
 kex_keys m a shared hash sender =
     derived m (record { kex = a.kex; shared = shared; hash = hash; session = hash }) sender (cipher_of a sender) (mac_of a sender)
 
 -- what is hashed, once this message has come
-abbrev pub exchange_of_message : Meaning → Role → Party → Known → Content → ExchangeData
+abbrev pub exchange_of_message : SuiteData → Role → ConfigData → Known → MessageData → ExchangeData
 exchange_of_message m role party known message = exchange_with m role party known.algorithms known.version known.kexinit (Ok message)
 
 -- It hears the exchange message: it gives this reply; and where it goes on it stands behind the exchange, with the keys of what
 -- is heard and the host key.
-pub record HearsExchange (m : Meaning) (role : Role) (party : Party) (old new : Kept) (before after : List ℕ) (message : Content) (r : Reply) : Type 0 where
+pub record ReceivesExchange (m : SuiteData) (role : Role) (party : ConfigData) (old new : StateData) (before after : List ℕ) (message : MessageData) (r : Reply) : Type 0 where
   pub gives : Gives m party.seed old.known.strict (keys_by m old.known.algorithms (exchange_of_message m role party old.known message) role) old new before after r
   pub carries : IsOngoing new.end → new.carried ≡ with_exchange party (keys_by m old.known.algorithms (exchange_of_message m role party old.known message) (other role))
       (exchange_of_message m role party old.known message).host_key old.carried
@@ -72,7 +72,7 @@ pub record HearsExchange (m : Meaning) (role : Role) (party : Party) (old new : 
 
 -- what a client and its server have given, once the client has received the server's host key and share and made this shared
 -- number
-abbrev pub client_shares : Meaning → Party → Known → List ℕ → List ℕ → List ℕ → ShareData
+abbrev pub client_shares : SuiteData → ConfigData → Known → List ℕ → List ℕ → List ℕ → SharesData
 client_shares m party known host_key share shared = record {
   host_key = host_key;
   client_share = m.share known.algorithms.kex party.random;
@@ -81,7 +81,7 @@ client_shares m party known host_key share shared = record {
 }
 
 -- what a server and its client have given, once the server has answered the client's share
-abbrev pub server_shares : Meaning → Party → Known → List ℕ → ResponseData → ShareData
+abbrev pub server_shares : SuiteData → ConfigData → Known → List ℕ → ResponseData → SharesData
 server_shares m party known share answer = record {
   host_key = m.blob known.algorithms.host_key (secret_of party.host_keys known.algorithms.host_key);
   client_share = share;
@@ -90,7 +90,7 @@ server_shares m party known share answer = record {
 }
 
 -- The exchange hash of a server that has answered so, its host key, and the message with its signature.
-pub record IsSigned (m : Meaning) (role : Role) (party : Party) (known : Known) (share : List ℕ) (answer : ResponseData) (hash host_key reply : List ℕ) : Type 0 where
+pub record IsSigned (m : SuiteData) (role : Role) (party : ConfigData) (known : Known) (share : List ℕ) (answer : ResponseData) (hash host_key reply : List ℕ) : Type 0 where
   pub hash_is : hash ≡ exchange_hash m known.algorithms.kex (exchanged role party known (server_shares m party known share answer))
   pub short : length hash ≤ DIGEST_LIMIT
   pub host_key_is : host_key ≡ (server_shares m party known share answer).host_key
@@ -99,7 +99,7 @@ pub record IsSigned (m : Meaning) (role : Role) (party : Party) (known : Known) 
   pub fits : FitsPacket reply
 
 -- what is kept behind an exchange of this host key, shared number and hash, with these packets said
-pub record StandsBehind (m : Meaning) (role : Role) (party : Party) (old new : Kept) (host_key shared hash : List ℕ) (o : Sending) : Type 0 where
+pub record StandsAfter (m : SuiteData) (role : Role) (party : ConfigData) (old new : StateData) (host_key shared hash : List ℕ) (o : Sending) : Type 0 where
   pub kept : new ≡ record old {
     phase = phase.NewKeys;
     known = record old.known { session = hash };
@@ -108,23 +108,23 @@ pub record StandsBehind (m : Meaning) (role : Role) (party : Party) (old new : K
   }
 
 -- A server says its answer and NEWKEYS, and stands behind the exchange.
-pub record AnswersInit (m : Meaning) (role : Role) (party : Party) (old new : Kept) (host_key shared hash reply before after : List ℕ) : Type 0 where
-  pub says : after ≡ (before ++ spelled_by m old.sending.keys party.seed old.sending.number reply)
+pub record AnswersInit (m : SuiteData) (role : Role) (party : ConfigData) (old new : StateData) (host_key shared hash reply before after : List ℕ) : Type 0 where
+  pub output : after ≡ (before ++ spelled_by m old.sending.keys party.seed old.sending.number reply)
       ++ spelled_by m old.sending.keys party.seed (with_packet old.sending).number (written_message NewKeys)
-  pub stands : StandsBehind m role party old new host_key shared hash (with_newkeys old.known.strict (kex_keys m old.known.algorithms shared hash role) (with_packet old.sending))
+  pub stands : StandsAfter m role party old new host_key shared hash (with_newkeys old.known.strict (kex_keys m old.known.algorithms shared hash role) (with_packet old.sending))
 
 -- the same of a client, which says NEWKEYS and requests the service
-pub record AcceptsReply (m : Meaning) (role : Role) (party : Party) (old new : Kept) (host_key shared hash before after : List ℕ) : Type 0 where
-  pub says : let o = with_newkeys old.known.strict (kex_keys m old.known.algorithms shared hash role) old.sending in
+pub record AcceptsReply (m : SuiteData) (role : Role) (party : ConfigData) (old new : StateData) (host_key shared hash before after : List ℕ) : Type 0 where
+  pub output : let o = with_newkeys old.known.strict (kex_keys m old.known.algorithms shared hash role) old.sending in
       after ≡ (before ++ spelled_by m old.sending.keys party.seed old.sending.number (written_message NewKeys))
       ++ spelled_by m o.keys party.seed o.number (written_message (ServiceRequest userauth))
-  pub stands : StandsBehind m role party old new host_key shared hash (with_packet (with_newkeys old.known.strict (kex_keys m old.known.algorithms shared hash role) old.sending))
+  pub stands : StandsAfter m role party old new host_key shared hash (with_packet (with_newkeys old.known.strict (kex_keys m old.known.algorithms shared hash role) old.sending))
 
 -- A client judges the signature over what both have given: it accepts, or fails.
-pub data JudgesReply (m : Meaning) (role : Role) (party : Party) (old new : Kept) (shares : ShareData) (signature before after : List ℕ) : Type 0 where
+pub data JudgesReply (m : SuiteData) (role : Role) (party : ConfigData) (old new : StateData) (shares : SharesData) (signature before after : List ℕ) : Type 0 where
   Accepts : m.verify old.known.algorithms.host_key shares.host_key (exchange_hash m old.known.algorithms.kex (exchanged role party old.known shares)) signature ≡ true
       → AcceptsReply m role party old new shares.host_key shares.shared (exchange_hash m old.known.algorithms.kex (exchanged role party old.known shares)) before after
       → JudgesReply m role party old new shares signature before after
   Refuses : m.verify old.known.algorithms.host_key shares.host_key (exchange_hash m old.known.algorithms.kex (exchanged role party old.known shares)) signature ≡ false
-      → ((strict : Bool) (next : KeyData) → Gives m party.seed strict next old new before after (fails fault.Signature))
+      → ((strict : Bool) (next : KeysData) → Gives m party.seed strict next old new before after (fails fault.Signature))
       → JudgesReply m role party old new shares signature before after

@@ -6,14 +6,14 @@ use Rattle.sshwire.specs.Types.{IsBytes}
 use Rattle.sshneg.specs.declared.role.Role.{Role}
 use Rattle.sshpacket.specs.Parse.{Refusal}
 use Rattle.sshpacket.specs.Places.{EachPlace, IsPrefix}
-use Rattle.sshpacket.specs.Stream.{Heard, Said, Units}
-use Rattle.sshpacket.specs.Suite.{Meaning}
+use Rattle.sshpacket.specs.Stream.{Received, Sent, Units}
+use Rattle.sshpacket.specs.Suite.{SuiteData}
 use Rattle.sshcore.specs.declared.table.Phase.TheVariants as phase
 use Rattle.sshcore.specs.Before.{offered, stood}
 use Rattle.sshcore.specs.Counting.{switched_out}
 use Rattle.sshcore.specs.Directions.{parsers, payloads_in, spells}
-use Rattle.sshcore.specs.Ending.{Ending, Open}
-use Rattle.sshcore.specs.Party.{Party, Policy}
+use Rattle.sshcore.specs.EndData.{EndData, Open}
+use Rattle.sshcore.specs.EndpointParts.{ConfigData, DecisionsData}
 use Rattle.sshcore.specs.Phases.{leaving}
 use Rattle.sshcore.specs.Replies.{Replies}
 
@@ -27,39 +27,39 @@ abbrev pub AllFit : Units → Type 0
 AllFit answers = EachPlace (λ before payload. FitsPacket payload) [] answers
 
 -- the exchange was heard, so both directions have their keys
-pub record IsReady (role : Role) (party : Party) (payloads : Units) : Type 0 where
+pub record IsReady (role : Role) (party : ConfigData) (payloads : Units) : Type 0 where
   pub offer : offered payloads ≡ true
   pub exchange : stood role party.offer (leaving role phase.Exchange) payloads ≡ true
 
 -- An endpoint that stands or ends so has heard bytes that read as these units with a rest, which may be refused, and has said
 -- bytes that spell its version line and these answers. What was said fits packets; it is sealed only where the exchange was
 -- heard; and nothing was taken behind the unit that ended the endpoint.
-pub record History (m : Meaning) (d : Policy) (role : Role) (party : Party) (units : Units) (rest : List ℕ) (refusal : Option Refusal) (answers : Units) (end : Ending) (heard_bytes said_bytes : List ℕ) : Type 0 where
-  pub heard : Heard (parsers m role party) heard_bytes units rest refusal
-  pub said : Said (spells m role party units) said_bytes (party.version ∷ answers)
+pub record History (m : SuiteData) (d : DecisionsData) (role : Role) (party : ConfigData) (units : Units) (rest : List ℕ) (refusal : Option Refusal) (answers : Units) (end : EndData) (received_bytes sent_bytes : List ℕ) : Type 0 where
+  pub received : Received (parsers m role party) received_bytes units rest refusal
+  pub sent : Sent (spells m role party units) sent_bytes (party.version ∷ answers)
   pub replies : Replies m d role party units refusal answers end
   pub fits : AllFit answers
   pub keyed : switched_out answers ≡ true → IsReady role party (payloads_in units)
   pub last : end ≢ Open → refusal ≡ None → rest ≡ []
 
 -- What was said where memory was wanted: whole packets, a prefix of the answers that would have been given.
-pub record BrokenOff (m : Meaning) (d : Policy) (role : Role) (party : Party) (heard_bytes said_bytes : List ℕ) : Type 0 where
+pub record BrokenOff (m : SuiteData) (d : DecisionsData) (role : Role) (party : ConfigData) (received_bytes sent_bytes : List ℕ) : Type 0 where
   pub units : Units
   pub rest : List ℕ
   pub refusal : Option Refusal
   pub answers : Units
-  pub end : Ending
+  pub end : EndData
   pub some_answers : Units
-  pub heard : Heard (parsers m role party) heard_bytes units rest refusal
+  pub received : Received (parsers m role party) received_bytes units rest refusal
   pub replies : Replies m d role party units refusal answers end
   pub prefix : IsPrefix some_answers answers
-  pub said : Said (spells m role party units) said_bytes (party.version ∷ some_answers)
+  pub sent : Sent (spells m role party units) sent_bytes (party.version ∷ some_answers)
 
 -- Two histories are one: the same units were heard, with the same rest and refusal, and the same was answered, said and come to.
-pub record IsOneHistory (units other_units : Units) (rest other_rest : List ℕ) (refusal other_refusal : Option Refusal) (answers other_answers : Units) (end other_end : Ending) (said_bytes other_bytes : List ℕ) : Type 0 where
+pub record IsOneHistory (units other_units : Units) (rest other_rest : List ℕ) (refusal other_refusal : Option Refusal) (answers other_answers : Units) (end other_end : EndData) (sent_bytes other_bytes : List ℕ) : Type 0 where
   pub same_units : units ≡ other_units
   pub same_rest : rest ≡ other_rest
   pub same_refusal : refusal ≡ other_refusal
   pub same_answers : answers ≡ other_answers
   pub same_end : end ≡ other_end
-  pub same_said : said_bytes ≡ other_bytes
+  pub same_sent : sent_bytes ≡ other_bytes

@@ -2,14 +2,14 @@
 
 use Rattle.std.specs.Prelude.{◌≡◌, ◌≢◌, ◌&&◌, ℕ, true, false, not, if◌then◌else◌, List, [], ◌∷◌, ◌++◌, length, Option, None, Some}
 use Rattle.sshwire.specs.Feeding.{StandsOpen}
-use Rattle.sshwire.specs.LineState.{Finished, held}
+use Rattle.sshwire.specs.LineReaderData.{Finished, held}
 use Rattle.sshneg.specs.declared.role.Role.{Role}
 use Rattle.sshneg.specs.Markers.{other}
-use Rattle.sshpacket.specs.KeyData.{KeyData}
+use Rattle.sshpacket.specs.KeysData.{KeysData}
 use Rattle.sshpacket.specs.Parse.{Refusal}
-use Rattle.sshpacket.specs.ReaderState.{ReaderWaits, state}
+use Rattle.sshpacket.specs.PacketReaderData.{ReaderWaits, packet_reader_data}
 use Rattle.sshpacket.specs.Stream.{Units}
-use Rattle.sshpacket.specs.Suite.{Meaning}
+use Rattle.sshpacket.specs.Suite.{SuiteData}
 use Rattle.sshcore.specs.declared.end.Fault.TheVariants as fault
 use Rattle.sshcore.specs.declared.input.Input.{Input}
 use Rattle.sshcore.specs.declared.input.Input.TheVariants as input
@@ -17,30 +17,30 @@ use Rattle.sshcore.specs.declared.table.Phase.{Phase}
 use Rattle.sshcore.specs.Brings.{IsOngoing}
 use Rattle.sshcore.specs.Counting.{number_in}
 use Rattle.sshcore.specs.Directions.{keys_in, others_of, payloads_in, version_in}
-use Rattle.sshcore.specs.Ending.{Authenticated, Closed, Disconnected, Ending, Failed, Open, by_owner}
+use Rattle.sshcore.specs.EndData.{Authenticated, Closed, Disconnected, EndData, Failed, Open, by_owner}
 use Rattle.sshcore.specs.Exchange.{exchange_at, keys_at}
 use Rattle.sshcore.specs.Exchanged.{HasForm}
 use Rattle.sshcore.specs.History.{History}
-use Rattle.sshcore.specs.Kept.{Carried, Kept}
+use Rattle.sshcore.specs.StateData.{Carried, StateData}
 use Rattle.sshcore.specs.Output.{Speaks}
-use Rattle.sshcore.specs.Party.{Party, Policy}
+use Rattle.sshcore.specs.EndpointParts.{ConfigData, DecisionsData}
 use Rattle.sshcore.specs.Phases.{past_exchange, past_newkeys}
 use Rattle.sshcore.specs.Standing.{Sits}
-use Rattle.sshcore.specs.Tries.{good_keys_at, last_key}
+use Rattle.sshcore.specs.Tries.{last_key, successful_keys_at}
 
 -- its reader may be given bytes
-abbrev pub CanRead : Meaning → Input → Type 0
+abbrev pub CanRead : SuiteData → Input → Type 0
 CanRead m (input.Lines reader) = reader.progress ≢ Finished
 CanRead m (input.Packets reader) = ReaderWaits m reader
 
 -- how many bytes of the unfinished line or packet it holds
 abbrev pub held_by : Input → ℕ
 held_by (input.Lines reader) = held reader.progress
-held_by (input.Packets reader) = length (state reader).held
+held_by (input.Packets reader) = length (packet_reader_data reader).held
 
 -- A bound for the loop over the units of a piece: a turn that uses no byte of it lowers this, for it goes on from lines to
 -- packets, or ends.
-abbrev pub turns_left : Ending → Input → ℕ
+abbrev pub turns_left : EndData → Input → ℕ
 turns_left Open (input.Lines reader) = 2
 turns_left Open (input.Packets reader) = 1
 turns_left (Authenticated a) i = 0
@@ -50,26 +50,26 @@ turns_left (Disconnected reason) i = 0
 
 -- The reader of what is heard: of lines, up to the version line; then of packets, with the keys and the number of the next one,
 -- and with the bytes of the unfinished one.
-abbrev pub IsInput : Meaning → Role → Party → Units → List ℕ → Input → Type 0
+abbrev pub IsInput : SuiteData → Role → ConfigData → Units → List ℕ → Input → Type 0
 IsInput m role party units rest (input.Lines reader) = (units ≡ []) × StandsOpen (others_of role) rest reader.progress
 IsInput m role party units rest (input.Packets reader) =
     (version : List ℕ) × (before : Units) × (units ≡ version ∷ before)
-    × (state reader ≡ record { keys = keys_in m role party version before; seq = number_in role party before; held = rest; fault = None })
+    × (packet_reader_data reader ≡ record { keys = keys_in m role party version before; seq = number_in role party before; held = rest; fault = None })
 
 -- the keys of what is heard are kept from the exchange up to NEWKEYS
-abbrev pub pending_at : Phase → KeyData → Option KeyData
+abbrev pub pending_at : Phase → KeysData → Option KeysData
 pending_at p keys = if past_exchange p && not (past_newkeys p) then Some keys else None
 
 -- what is carried along agrees with what was heard: the keys of what is heard; from the exchange on the own version line and the
 -- exchange's host key; and the key of the last request that was good by one
-pub record IsCarried (m : Meaning) (d : Policy) (role : Role) (party : Party) (version : List ℕ) (before : Units) (p : Phase) (carried : Carried) : Type 0 where
+pub record IsCarried (m : SuiteData) (d : DecisionsData) (role : Role) (party : ConfigData) (version : List ℕ) (before : Units) (p : Phase) (carried : Carried) : Type 0 where
   pub pending : carried.pending ≡ pending_at p (keys_at m role party version before (other role))
   pub own_version : past_exchange p ≡ true → carried.own_version ≡ party.version
   pub host_key : past_exchange p ≡ true → carried.host_key ≡ (exchange_at m role party version before).host_key
-  pub user_key : carried.user_key ≡ last_key None (good_keys_at m d role party version before)
+  pub user_key : carried.user_key ≡ last_key None (successful_keys_at m d role party version before)
 
 -- what an endpoint keeps agrees with what was heard and said, while its session goes on
-pub record IsInside (m : Meaning) (d : Policy) (role : Role) (party : Party) (units answers : Units) (rest : List ℕ) (kept : Kept) (i : Input) : Type 0 where
+pub record IsInside (m : SuiteData) (d : DecisionsData) (role : Role) (party : ConfigData) (units answers : Units) (rest : List ℕ) (kept : StateData) (i : Input) : Type 0 where
   pub sits : Sits m d role party (version_in units) (payloads_in units) kept.phase kept.guess kept.known
   pub form : HasForm m kept
   pub reads : IsInput m role party units rest i
@@ -77,32 +77,32 @@ pub record IsInside (m : Meaning) (d : Policy) (role : Role) (party : Party) (un
   pub speaks : Speaks m role party units answers kept.sending
 
 -- how an endpoint stands that has come to this end by what it heard: so; or, where it stood open, cut off, or told to disconnect
-pub data StandsSo (heard_end end : Ending) : Type 0 where
-  AsHeard : end ≡ heard_end → StandsSo heard_end end
-  CutOff : heard_end ≡ Open → end ≡ Failed fault.Cut → StandsSo heard_end end
-  Left : (reason : ℕ) → heard_end ≡ Open → end ≡ Disconnected reason → StandsSo heard_end end
+pub data StandsSo (received_end end : EndData) : Type 0 where
+  AsReceived : end ≡ received_end → StandsSo received_end end
+  CutOff : received_end ≡ Open → end ≡ Failed fault.Cut → StandsSo received_end end
+  Left : (reason : ℕ) → received_end ≡ Open → end ≡ Disconnected reason → StandsSo received_end end
 
 -- An endpoint that keeps this, with this reader, has heard and said these bytes; of one that left, what it said before that.
-pub record Stands (m : Meaning) (d : Policy) (role : Role) (party : Party) (kept : Kept) (i : Input) (heard_bytes said_bytes : List ℕ) : Type 0 where
+pub record EndpointStands (m : SuiteData) (d : DecisionsData) (role : Role) (party : ConfigData) (kept : StateData) (i : Input) (received_bytes sent_bytes : List ℕ) : Type 0 where
   pub units : Units
   pub rest : List ℕ
   pub refusal : Option Refusal
   pub answers : Units
-  pub heard_end : Ending
-  pub history : History m d role party units rest refusal answers heard_end heard_bytes said_bytes
-  pub ends : StandsSo heard_end kept.end
+  pub received_end : EndData
+  pub history : History m d role party units rest refusal answers received_end received_bytes sent_bytes
+  pub ends : StandsSo received_end kept.end
   pub inside : IsOngoing kept.end → IsInside m d role party units answers rest kept i
 
 -- An endpoint that goes on from here has heard these bytes more, and said what was appended; its owner didn't end it.
-pub record GoesOn (m : Meaning) (d : Policy) (role : Role) (party : Party) (new : Kept) (j : Input) (h s taken before after : List ℕ) : Type 0 where
+pub record GoesOn (m : SuiteData) (d : DecisionsData) (role : Role) (party : ConfigData) (new : StateData) (j : Input) (h s taken before after : List ℕ) : Type 0 where
   pub added : List ℕ
   pub appended : after ≡ before ++ added
-  pub stands : Stands m d role party new j (h ++ taken) (s ++ added)
+  pub stands : EndpointStands m d role party new j (h ++ taken) (s ++ added)
   pub uncut : by_owner new.end ≡ false
 
 -- what a step did that used these bytes, whatever was heard and said before
-abbrev pub Steps : Meaning → Policy → Role → Party → Input → Kept → Input → Kept → List ℕ → List ℕ → List ℕ → Type 0
-Steps m d role party i old j new taken before after = (h s : List ℕ) → Stands m d role party old i h s → GoesOn m d role party new j h s taken before after
+abbrev pub Steps : SuiteData → DecisionsData → Role → ConfigData → Input → StateData → Input → StateData → List ℕ → List ℕ → List ℕ → Type 0
+Steps m d role party i old j new taken before after = (h s : List ℕ) → EndpointStands m d role party old i h s → GoesOn m d role party new j h s taken before after
 
 -- before any byte is heard
 abbrev pub Begins : Role → Input → Type 0

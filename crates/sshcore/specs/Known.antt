@@ -4,15 +4,15 @@ use Rattle.std.specs.Prelude.{ℕ, ◌+◌, ◌==◌, Bool, List, length}
 use Rattle.sshwire.specs.declared.share_form.ShareForm.{ShareForm}
 use Rattle.sshmsg.specs.declared.numbers.TheConstants.{SSH_MSG_USERAUTH_REQUEST}
 use Rattle.sshneg.specs.declared.role.Role.{Role}
-use Rattle.sshneg.specs.Fields.{Algorithms}
+use Rattle.sshneg.specs.Fields.{AlgorithmsData}
 use Rattle.sshpacket.specs.Stream.{Units}
-use Rattle.sshpacket.specs.Suite.{Meaning}
+use Rattle.sshpacket.specs.Suite.{SuiteData}
 use Rattle.sshcore.specs.Before.{all_kept, count_kept, kexinit, strict_at}
-use Rattle.sshcore.specs.ConfigData.{Attempt}
+use Rattle.sshcore.specs.ConfigParts.{AttemptData}
 use Rattle.sshcore.specs.Exchange.{algorithms_at, shares_at}
-use Rattle.sshcore.specs.Party.{Party, Policy}
+use Rattle.sshcore.specs.EndpointParts.{ConfigData, DecisionsData}
 use Rattle.sshcore.specs.Plan.{is_answer, is_waiting, left_after}
-use Rattle.sshcore.specs.Reached.{Reached, nothing_reached, reached_after}
+use Rattle.sshcore.specs.Reached.{ReachedData, nothing_reached, reached_after}
 use Rattle.sshcore.specs.Tries.{session_known, tried_at}
 
 -- the text of the peer's version line, the payload of its first KEXINIT, the algorithms chosen, the form of shares in 30 and
@@ -22,23 +22,23 @@ use Rattle.sshcore.specs.Tries.{session_known, tried_at}
 pub record Known : Type 0 where
   pub version : List ℕ
   pub kexinit : List ℕ
-  pub algorithms : Algorithms
+  pub algorithms : AlgorithmsData
   pub shares : ShareForm
   pub session : List ℕ
   pub request : ℕ
-  pub left : List Attempt
-  pub reached : Reached
+  pub left : List AttemptData
+  pub reached : ReachedData
   pub strict : Bool
   pub first : Bool
 
 -- what is left of the plan, and whether a query waits for its answer
-abbrev pub left_at : Role → Party → Units → List Attempt
+abbrev pub left_at : Role → ConfigData → Units → List AttemptData
 left_at role party before = left_after party.plan (all_kept role party.offer is_answer before)
 
-abbrev pub waits_at : Role → Party → Units → Bool
+abbrev pub waits_at : Role → ConfigData → Units → Bool
 waits_at role party before = is_waiting (left_at role party before)
 
-abbrev pub known_at : Meaning → Policy → Role → Party → List ℕ → Units → Known
+abbrev pub known_at : SuiteData → DecisionsData → Role → ConfigData → List ℕ → Units → Known
 known_at m d role party version before = record {
   version = version;
   kexinit = kexinit before;

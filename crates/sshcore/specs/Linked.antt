@@ -7,11 +7,11 @@ use Rattle.sshpacket.specs.declared.fault.PacketFault.TheVariants as packet_faul
 use Rattle.sshpacket.specs.declared.reader.PacketReader.{PacketReader}
 use Rattle.sshpacket.specs.declared.reader.PacketStep.{PacketStep}
 use Rattle.sshpacket.specs.declared.reader.PacketStep.TheVariants.{More, Payload}
-use Rattle.sshpacket.specs.KeyData.{KeyData}
+use Rattle.sshpacket.specs.KeysData.{KeysData}
 use Rattle.sshpacket.specs.Parse.{unfinished}
 use Rattle.sshpacket.specs.ProtectedPacket.{IsProtectedPacket, PacketMeans, Refuses}
-use Rattle.sshpacket.specs.ReaderState.{IsStep, PacketAnswer, ReaderWaits, last_used, protection_at, state}
-use Rattle.sshpacket.specs.Suite.{Meaning}
+use Rattle.sshpacket.specs.PacketReaderData.{IsStep, PacketAnswer, ReaderWaits, last_used, packet_reader_data, protection_at}
+use Rattle.sshpacket.specs.Suite.{SuiteData}
 use Rattle.sshpacket.specs.Written.{IsWritten, written, written_sealed}
 use Rattle.sshcore.specs.declared.session.Direction.{Direction}
 use Rattle.sshcore.specs.declared.link.Link.{Link}
@@ -21,7 +21,7 @@ use Rattle.sshcore.specs.declared.link_fault.LinkFault.TheVariants as fault
 
 -- what it seals with: the keys, the number of the next packet, what padding is made of; and how many packets it has sealed
 pub record Outgoing : Type 0 where
-  pub keys : KeyData
+  pub keys : KeysData
   pub number : ℕ
   pub seed : List ℕ
   pub sealed : ℕ
@@ -41,19 +41,19 @@ unfoldable pub outgoing_of : Link → Outgoing
 outgoing_of l = record { keys = l.keys; number = l.number; seed = l.seed; sealed = l.sealed }
 
 unfoldable pub incoming_of : Link → Incoming
-incoming_of l = record { reader = l.reader; opened = l.opened + packet_ended (state l.reader).held (last_used l.reader) }
+incoming_of l = record { reader = l.reader; opened = l.opened + packet_ended (packet_reader_data l.reader).held (last_used l.reader) }
 
 -- at the beginning, by what a session has of this direction
 abbrev pub sent_by : Direction → List ℕ → Outgoing
 sent_by direction seed = record { keys = direction.keys; number = direction.sequence_number; seed = seed; sealed = 0 }
 
 pub record BeginsBy (direction : Direction) (i : Incoming) : Type 0 where
-  pub state_is : state i.reader ≡ record { keys = Some direction.keys; seq = direction.sequence_number; held = []; fault = None }
+  pub state_is : packet_reader_data i.reader ≡ record { keys = Some direction.keys; seq = direction.sequence_number; held = []; fault = None }
   pub none_used : last_used i.reader ≡ 0
   pub none_opened : i.opened ≡ 0
 
 -- what is opened waits for more of this suite's packets
-abbrev pub LinkWaits : Meaning → Incoming → Type 0
+abbrev pub LinkWaits : SuiteData → Incoming → Type 0
 LinkWaits m i = ReaderWaits m i.reader
 
 -- after a packet was sealed: the next number, in 32 bits, and one packet more
@@ -79,11 +79,11 @@ SealRefused o payload (fault.Packet f) = ⊥
 SealRefused o payload fault.Memory = CanSeal o payload
 
 -- the packet of a payload, sealed
-abbrev pub sealed_by : Meaning → Outgoing → List ℕ → List ℕ
+abbrev pub sealed_by : SuiteData → Outgoing → List ℕ → List ℕ
 sealed_by m o payload = written_sealed m o.keys o.seed o.number payload
 
 -- what is sealed in it is a packet of the payload with the least padding
-abbrev pub IsSealed : Meaning → Outgoing → List ℕ → Type 0
+abbrev pub IsSealed : SuiteData → Outgoing → List ℕ → Type 0
 IsSealed m o payload =
     IsWritten (m.counts_length o.keys.cipher o.keys.mac) (m.block o.keys.cipher) (m.tag_len o.keys.cipher o.keys.mac) payload
     (written m (m.counts_length o.keys.cipher o.keys.mac) (m.block o.keys.cipher) o.seed o.number payload)
@@ -102,11 +102,11 @@ told_by (Err f) = Err (fault_by f)
 
 -- What the answer says of the packet at hand, as a reader's does (PacketAnswer): that it is unfinished; that with so many bytes of
 -- the piece it is a packet of the payload, whose number is the next; or that it is refused for this cause.
-abbrev pub OpenAnswer : Meaning → Incoming → List ℕ → Result PacketStep LinkFault → Type 0
-OpenAnswer m i piece (Ok step) = PacketAnswer m (state i.reader) piece (Ok step)
+abbrev pub OpenAnswer : SuiteData → Incoming → List ℕ → Result PacketStep LinkFault → Type 0
+OpenAnswer m i piece (Ok step) = PacketAnswer m (packet_reader_data i.reader) piece (Ok step)
 OpenAnswer m i piece (Err fault.Payload) = ⊥
 OpenAnswer m i piece (Err fault.UsedUp) = ⊥
-OpenAnswer m i piece (Err (fault.Packet f)) = (f ≢ packet_fault.Memory) × PacketAnswer m (state i.reader) piece (Err f)
+OpenAnswer m i piece (Err (fault.Packet f)) = (f ≢ packet_fault.Memory) × PacketAnswer m (packet_reader_data i.reader) piece (Err f)
 OpenAnswer m i piece (Err fault.Memory) = Unit {0}
 
 -- it answers this payload with this number, and so many bytes were used
@@ -115,28 +115,28 @@ Opens payload seq used (Ok step) = IsStep payload seq used step
 Opens payload seq used (Err f) = ⊥
 
 -- No other answer comes than the one that the packet at hand has, want of memory apart.
-pub record OnlyOpenAnswer (m : Meaning) (i : Incoming) (piece : List ℕ) (result : Result PacketStep LinkFault) : Type 0 where
-  pub more : PacketMeans (protection_at m (state i.reader)) ((state i.reader).held ++ piece) unfinished → (result ≡ Ok More) ⊎ (result ≡ Err fault.Memory)
-  pub payload : (payload : List ℕ) (used : ℕ) → used ≤ length piece → IsProtectedPacket (protection_at m (state i.reader)) payload ((state i.reader).held ++ take used piece)
-      → Opens payload (state i.reader).seq used result ⊎ (result ≡ Err fault.Memory)
-  pub refused : (f : PacketFault) (place : ℕ) → Refuses (protection_at m (state i.reader)) ((state i.reader).held ++ piece) f place
+pub record OnlyOpenAnswer (m : SuiteData) (i : Incoming) (piece : List ℕ) (result : Result PacketStep LinkFault) : Type 0 where
+  pub more : PacketMeans (protection_at m (packet_reader_data i.reader)) ((packet_reader_data i.reader).held ++ piece) unfinished → (result ≡ Ok More) ⊎ (result ≡ Err fault.Memory)
+  pub payload : (payload : List ℕ) (used : ℕ) → used ≤ length piece → IsProtectedPacket (protection_at m (packet_reader_data i.reader)) payload ((packet_reader_data i.reader).held ++ take used piece)
+      → Opens payload (packet_reader_data i.reader).seq used result ⊎ (result ≡ Err fault.Memory)
+  pub refused : (f : PacketFault) (place : ℕ) → Refuses (protection_at m (packet_reader_data i.reader)) ((packet_reader_data i.reader).held ++ piece) f place
       → (result ≡ Err (fault.Packet f)) ⊎ (result ≡ Err fault.Memory)
 
 -- How what it opens with is left: with all unfinished bytes; after a packet with none, the next number, in 32 bits, and one packet
 -- more; after a refusal with the fault, for good.
-abbrev pub LinkLeaves : Meaning → Incoming → List ℕ → Result PacketStep LinkFault → Incoming → Type 0
+abbrev pub LinkLeaves : SuiteData → Incoming → List ℕ → Result PacketStep LinkFault → Incoming → Type 0
 LinkLeaves m i piece (Ok More) new =
-    (state new.reader ≡ record (state i.reader) { held = (state i.reader).held ++ piece }) × (new.opened ≡ i.opened) × LinkWaits m new
+    (packet_reader_data new.reader ≡ record (packet_reader_data i.reader) { held = (packet_reader_data i.reader).held ++ piece }) × (new.opened ≡ i.opened) × LinkWaits m new
 LinkLeaves m i piece (Ok (Payload payload seq used)) new =
-    (state new.reader ≡ record (state i.reader) { held = []; seq = ((state i.reader).seq + 1) % 2 ^ 32 }) × (new.opened ≡ i.opened + 1) × LinkWaits m new
+    (packet_reader_data new.reader ≡ record (packet_reader_data i.reader) { held = []; seq = ((packet_reader_data i.reader).seq + 1) % 2 ^ 32 }) × (new.opened ≡ i.opened + 1) × LinkWaits m new
 LinkLeaves m i piece (Err fault.Payload) new = ⊥
 LinkLeaves m i piece (Err fault.UsedUp) new = ⊥
-LinkLeaves m i piece (Err (fault.Packet f)) new = state new.reader ≡ record (state i.reader) { held = []; fault = Some f }
-LinkLeaves m i piece (Err fault.Memory) new = state new.reader ≡ record (state i.reader) { held = []; fault = Some packet_fault.Memory }
+LinkLeaves m i piece (Err (fault.Packet f)) new = packet_reader_data new.reader ≡ record (packet_reader_data i.reader) { held = []; fault = Some f }
+LinkLeaves m i piece (Err fault.Memory) new = packet_reader_data new.reader ≡ record (packet_reader_data i.reader) { held = []; fault = Some packet_fault.Memory }
 
 -- What is sealed with these is opened with those: the keys and the next number are the same, and no packet is unfinished.
 pub record AreLinked (o : Outgoing) (i : Incoming) : Type 0 where
-  pub same_keys : (state i.reader).keys ≡ Some o.keys
-  pub same_number : (state i.reader).seq ≡ o.number
-  pub none_held : (state i.reader).held ≡ []
+  pub same_keys : (packet_reader_data i.reader).keys ≡ Some o.keys
+  pub same_number : (packet_reader_data i.reader).seq ≡ o.number
+  pub none_held : (packet_reader_data i.reader).held ≡ []
   pub in_range : o.number < 2 ^ 32

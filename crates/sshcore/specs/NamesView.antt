@@ -1,9 +1,9 @@
 -- What contracts see of the names that an endpoint lends.
 
-use Rattle.sshneg.specs.Fields.{Algorithms}
+use Rattle.sshneg.specs.Fields.{AlgorithmsData}
 use Rattle.sshcore.specs.declared.chosen_names.ChosenNames.{ChosenNames}
 
-abbrev pub names_of : ChosenNames → Algorithms
+abbrev pub names_of : ChosenNames → AlgorithmsData
 names_of n = record {
   kex = n.kex.now;
   host_key = n.host_key.now;

@@ -1,26 +1,26 @@
 -- What the KEXINITs of both sides come to (RFC 4253 section 7).
 
 use Rattle.std.specs.Prelude.{◌≡◌, ◌&&◌, Bool, List, [], ◌∷◌, ℕ, if◌then◌else◌, Result, Ok, Err}
-use Rattle.sshmsg.specs.Content.{Offer}
+use Rattle.sshmsg.specs.MessageData.{KexInitData}
 use Rattle.sshneg.specs.declared.choice.NoCommon.{NoCommon}
 use Rattle.sshneg.specs.declared.role.Role.{Role}
 use Rattle.sshneg.specs.declared.role.Role.TheVariants.{Client, Server}
 use Rattle.sshneg.specs.ChoiceReadings.{choice}
 use Rattle.sshneg.specs.Strictness.{is_right_guess}
 use Rattle.sshpacket.specs.Stream.{Units}
-use Rattle.sshpacket.specs.Suite.{Meaning}
+use Rattle.sshpacket.specs.Suite.{SuiteData}
 use Rattle.sshcore.specs.declared.kexinit.Negotiated.{Negotiated}
-use Rattle.sshcore.specs.Party.{Party}
+use Rattle.sshcore.specs.EndpointParts.{ConfigData}
 use Rattle.sshcore.specs.Work.{init_for}
 
 -- what a client's KEXINIT and a server's come to: the algorithms of their choice with the form of its shares, and whether a
 -- guess is right; or the field without a choice
-abbrev pub IsNegotiated : Meaning → Offer → Offer → Result Negotiated NoCommon → Type 0
+abbrev pub IsNegotiated : SuiteData → KexInitData → KexInitData → Result Negotiated NoCommon → Type 0
 IsNegotiated m client server (Ok n) =
     (choice m client server ≡ Ok n.algorithms) × (n.shares ≡ m.share_form n.algorithms.kex) × (n.right ≡ is_right_guess client server)
 IsNegotiated m client server (Err f) = choice m client server ≡ Err f
 
 -- what is said at KEXINIT, by whether a guess is right
-abbrev pub says_init : Meaning → Role → Party → Bool → List ℕ → Units
-says_init m Client party right kex = if party.offer.first_kex_packet_follows && right then [] else init_for m party kex ∷ []
-says_init m Server party right kex = []
+abbrev pub sends_init : SuiteData → Role → ConfigData → Bool → List ℕ → Units
+sends_init m Client party right kex = if party.offer.first_kex_packet_follows && right then [] else init_for m party kex ∷ []
+sends_init m Server party right kex = []

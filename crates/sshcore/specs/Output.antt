@@ -4,17 +4,17 @@ use Rattle.std.specs.Prelude.{◌≡◌, ℕ, ◌+◌, ◌%◌, ◌^◌, ◌==�
 use Rattle.sshmsg.specs.declared.numbers.TheConstants.{SSH_MSG_NEWKEYS}
 use Rattle.sshmsg.specs.Numbers.{kind}
 use Rattle.sshneg.specs.declared.role.Role.{Role}
-use Rattle.sshpacket.specs.KeyData.{KeyData}
+use Rattle.sshpacket.specs.KeysData.{KeysData}
 use Rattle.sshpacket.specs.Stream.{Units}
-use Rattle.sshpacket.specs.Suite.{Meaning}
+use Rattle.sshpacket.specs.Suite.{SuiteData}
 use Rattle.sshcore.specs.Before.{strict_at}
 use Rattle.sshcore.specs.Counting.{number_out}
 use Rattle.sshcore.specs.Directions.{keys_out, payloads_in, spelled_by}
-use Rattle.sshcore.specs.Party.{Party}
+use Rattle.sshcore.specs.EndpointParts.{ConfigData}
 
 -- the keys, and the sequence number of the next packet (RFC 4253 section 6.4)
 pub record Sending : Type 0 where
-  pub keys : Option KeyData
+  pub keys : Option KeysData
   pub number : ℕ
 
 -- with one packet more
@@ -22,29 +22,29 @@ abbrev pub with_packet : Sending → Sending
 with_packet o = record { keys = o.keys; number = (o.number + 1) % 2 ^ 32 }
 
 -- behind a NEWKEYS: these keys, and number 0 where the endpoint is strict
-abbrev pub with_newkeys : Bool → KeyData → Sending → Sending
+abbrev pub with_newkeys : Bool → KeysData → Sending → Sending
 with_newkeys strict next o = record { keys = Some next; number = if strict then 0 else (o.number + 1) % 2 ^ 32 }
 
 -- by the keys so far and whether the payload is a NEWKEYS
-abbrev pub sending_by : Option KeyData → Bool → Bool → KeyData → Sending → Sending
+abbrev pub sending_by : Option KeysData → Bool → Bool → KeysData → Sending → Sending
 sending_by (Some keys) newkeys strict next o = with_packet o
 sending_by None newkeys strict next o = if newkeys then with_newkeys strict next o else with_packet o
 
 -- behind a payload; the first NEWKEYS alone brings keys, since there is one exchange (profile)
-abbrev pub behind_saying : Bool → KeyData → Sending → List ℕ → Sending
-behind_saying strict next o payload = sending_by o.keys (kind payload == SSH_MSG_NEWKEYS) strict next o
+abbrev pub after_sending : Bool → KeysData → Sending → List ℕ → Sending
+after_sending strict next o payload = sending_by o.keys (kind payload == SSH_MSG_NEWKEYS) strict next o
 
 -- payloads said one after another
-unfoldable pub said_from : Meaning → List ℕ → Bool → KeyData → Sending → Units → List ℕ
-said_from m seed strict next o [] = []
-said_from m seed strict next o (a ∷ more) = spelled_by m o.keys seed o.number a ++ said_from m seed strict next (behind_saying strict next o a) more
+unfoldable pub sent_from : SuiteData → List ℕ → Bool → KeysData → Sending → Units → List ℕ
+sent_from m seed strict next o [] = []
+sent_from m seed strict next o (a ∷ more) = spelled_by m o.keys seed o.number a ++ sent_from m seed strict next (after_sending strict next o a) more
 
 -- and what the next are said with
-unfoldable pub sending_from : Bool → KeyData → Sending → Units → Sending
+unfoldable pub sending_from : Bool → KeysData → Sending → Units → Sending
 sending_from strict next o [] = o
-sending_from strict next o (a ∷ more) = sending_from strict next (behind_saying strict next o a) more
+sending_from strict next o (a ∷ more) = sending_from strict next (after_sending strict next o a) more
 
 -- what is kept is what was heard and said: the keys and the number of the next packet
-pub record Speaks (m : Meaning) (role : Role) (party : Party) (units said : Units) (o : Sending) : Type 0 where
-  pub keys : o.keys ≡ keys_out m role party units said
-  pub number : o.number ≡ number_out (strict_at role party (payloads_in units)) said
+pub record Speaks (m : SuiteData) (role : Role) (party : ConfigData) (units sent : Units) (o : Sending) : Type 0 where
+  pub keys : o.keys ≡ keys_out m role party units sent
+  pub number : o.number ≡ number_out (strict_at role party (payloads_in units)) sent

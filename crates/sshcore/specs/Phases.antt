@@ -2,7 +2,7 @@
 
 use Rattle.std.specs.Prelude.{ℕ, Bool, true, false, not, if◌then◌else◌}
 use Rattle.sshmsg.specs.declared.numbers.TheConstants.{SSH_MSG_KEXDH_INIT, SSH_MSG_KEXDH_REPLY, SSH_MSG_KEXINIT, SSH_MSG_NEWKEYS, SSH_MSG_SERVICE_ACCEPT, SSH_MSG_SERVICE_REQUEST, SSH_MSG_USERAUTH_REQUEST, SSH_MSG_USERAUTH_SUCCESS}
-use Rattle.sshmsg.specs.Content.{Offer}
+use Rattle.sshmsg.specs.MessageData.{KexInitData}
 use Rattle.sshneg.specs.declared.role.Role.{Role}
 use Rattle.sshneg.specs.declared.role.Role.TheVariants.{Client, Server}
 use Rattle.sshpacket.specs.Stream.{Units}
@@ -31,7 +31,7 @@ phase_by kexinit exchange newkeys service =
     else if not service then phase.Service
     else phase.Auth
 
-abbrev pub phase_at : Role → Offer → Units → Phase
+abbrev pub phase_at : Role → KexInitData → Units → Phase
 phase_at role own before =
     phase_by (stood role own SSH_MSG_KEXINIT before) (stood role own (leaving role phase.Exchange) before)
     (stood role own SSH_MSG_NEWKEYS before) (stood role own (leaving role phase.Service) before)
@@ -56,9 +56,9 @@ past_service phase.Auth = true
 past_service _ = false
 
 -- the phase behind one
-abbrev pub behind : Phase → Phase
-behind phase.KexInit = phase.Exchange
-behind phase.Exchange = phase.NewKeys
-behind phase.NewKeys = phase.Service
-behind phase.Service = phase.Auth
-behind phase.Auth = phase.Auth
+abbrev pub next_phase : Phase → Phase
+next_phase phase.KexInit = phase.Exchange
+next_phase phase.Exchange = phase.NewKeys
+next_phase phase.NewKeys = phase.Service
+next_phase phase.Service = phase.Auth
+next_phase phase.Auth = phase.Auth

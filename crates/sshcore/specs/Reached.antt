@@ -8,7 +8,7 @@ use Rattle.std.specs.Str.{bytes_eq}
 pub record Tried : Type 0 where
   pub user : List ℕ
   pub service : List ℕ
-  pub good : Option (List ℕ)
+  pub successful : Option (List ℕ)
 
 -- it was for this user and this service
 abbrev pub is_for : List ℕ → List ℕ → Tried → Bool
@@ -17,10 +17,10 @@ is_for user service t = bytes_eq user t.user && bytes_eq service t.service
 -- it was good for this method
 abbrev pub is_method : List ℕ → Option (List ℕ) → Bool
 is_method method None = false
-is_method method (Some good) = bytes_eq method good
+is_method method (Some successful) = bytes_eq method successful
 
-abbrev pub is_good_for : List ℕ → Tried → Bool
-is_good_for method t = is_method method t.good
+abbrev pub is_successful_for : List ℕ → Tried → Bool
+is_successful_for method t = is_method method t.successful
 
 -- The unbroken run of requests for this user and service that ends these: the longest end of the list that has no other.
 abbrev pub run_of : List ℕ → List ℕ → List Tried → List Tried
@@ -36,27 +36,27 @@ pub data IsRun (user service : List ℕ) (tried run : List Tried) : Type 0 where
 
 -- for each of these methods a request of that run was good
 abbrev pub are_reached : List (List ℕ) → List ℕ → List ℕ → List Tried → Bool
-are_reached methods user service tried = list_all (λ method. list_any (is_good_for method) (run_of user service tried)) methods
+are_reached methods user service tried = list_all (λ method. list_any (is_successful_for method) (run_of user service tried)) methods
 
 -- What a server keeps of it: for whom and for which service the last good request was, and which of the methods that can be
 -- required are reached.
-pub record Reached : Type 0 where
+pub record ReachedData : Type 0 where
   pub user : List ℕ
   pub service : List ℕ
   pub password : Bool
   pub publickey : Bool
 
-abbrev pub nothing_reached : Reached
+abbrev pub nothing_reached : ReachedData
 nothing_reached = record { user = []; service = []; password = false; publickey = false }
 
 -- A request for another user or service empties it (profile).
-abbrev pub kept_reached : Reached → Tried → Reached
+abbrev pub kept_reached : ReachedData → Tried → ReachedData
 kept_reached r t = if is_for r.user r.service t then r else record r { password = false; publickey = false }
 
 -- A good request adds its method.
-abbrev pub good_reached : Reached → Tried → Option (List ℕ) → Reached
-good_reached r t None = r
-good_reached r t (Some method) = record {
+abbrev pub successful_reached : ReachedData → Tried → Option (List ℕ) → ReachedData
+successful_reached r t None = r
+successful_reached r t (Some method) = record {
   user = t.user;
   service = t.service;
   password = r.password || bytes_eq method (codes "password");
@@ -64,16 +64,16 @@ good_reached r t (Some method) = record {
 }
 
 -- behind a request, and behind some
-abbrev pub reached_behind : Reached → Tried → Reached
-reached_behind r t = good_reached (kept_reached r t) t t.good
+abbrev pub reached_after_one : ReachedData → Tried → ReachedData
+reached_after_one r t = successful_reached (kept_reached r t) t t.successful
 
-abbrev pub reached_after : Reached → List Tried → Reached
+abbrev pub reached_after : ReachedData → List Tried → ReachedData
 reached_after r [] = r
-reached_after r (t ∷ later) = reached_after (reached_behind r t) later
+reached_after r (t ∷ later) = reached_after (reached_after_one r t) later
 
 -- whether a method is reached, and whether all of these are
-abbrev pub has_reached : Reached → List ℕ → Bool
+abbrev pub has_reached : ReachedData → List ℕ → Bool
 has_reached r method = (bytes_eq method (codes "password") && r.password) || (bytes_eq method (codes "publickey") && r.publickey)
 
-abbrev pub is_complete : List (List ℕ) → Reached → Bool
+abbrev pub is_complete : List (List ℕ) → ReachedData → Bool
 is_complete required r = list_all (has_reached r) required

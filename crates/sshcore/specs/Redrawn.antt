@@ -3,7 +3,7 @@
 use Rattle.std.specs.Prelude.{◌≡◌, length}
 use Rattle.sshwire.specs.Types.{IsBytes}
 use Rattle.sshcore.specs.declared.draws.Draws.{Draws}
-use Rattle.sshcore.specs.ConfigData.{ClientData, ServerData, SideData}
+use Rattle.sshcore.specs.ConfigParts.{ClientData, ServerData, SideData}
 
 -- the draws that a side holds itself
 abbrev pub draws_of : SideData → Draws

@@ -2,61 +2,61 @@
 
 use Rattle.std.specs.Prelude.{ℕ, ◌&&◌, Bool, false, nat_le, if◌then◌else◌, List, [], ◌∷◌, codes, length}
 use Rattle.sshwire.specs.TypeReadings.{is_name}
-use Rattle.sshmsg.specs.Content.{Content, Method, PublicKeyQuery, UserauthFailure, UserauthPkOk, UserauthSuccess}
+use Rattle.sshmsg.specs.MessageData.{MessageData, MethodData, PublicKeyQuery, UserauthFailure, UserauthPkOk, UserauthSuccess}
 use Rattle.sshmsg.specs.Written.{written_message}
 use Rattle.sshneg.specs.ChoiceReadings.{is_in}
 use Rattle.sshpacket.specs.declared.limits.TheConstants.{BLOB_LIMIT}
-use Rattle.sshpacket.specs.Suite.{Meaning}
+use Rattle.sshpacket.specs.Suite.{SuiteData}
 use Rattle.sshcore.specs.declared.end.Fault.TheVariants as fault
 use Rattle.sshcore.specs.Attempts.{agreed_by}
-use Rattle.sshcore.specs.Ending.{Authenticated, Reply, fails, goes}
+use Rattle.sshcore.specs.EndData.{Authenticated, Reply, fails, goes}
 use Rattle.sshcore.specs.Known.{Known}
-use Rattle.sshcore.specs.Party.{KeyProof, Party, Policy}
-use Rattle.sshcore.specs.Reached.{is_complete, reached_behind}
-use Rattle.sshcore.specs.Tries.{is_good_at, tried_with}
+use Rattle.sshcore.specs.EndpointParts.{ConfigData, DecisionsData, KeyProof}
+use Rattle.sshcore.specs.Reached.{is_complete, reached_after_one}
+use Rattle.sshcore.specs.Tries.{is_successful_at, tried_with}
 
 -- the request is good
-abbrev pub is_good : Meaning → Policy → Party → Known → List ℕ → List ℕ → Method → Bool
-is_good m d party known user service method = is_good_at m d party known.session known.request user service method
+abbrev pub is_successful : SuiteData → DecisionsData → ConfigData → Known → List ℕ → List ℕ → MethodData → Bool
+is_successful m d party known user service method = is_successful_at m d party known.session known.request user service method
 
 -- It is the last that the server grants: none has a greater number. That every request counts, and that the last one ends the
 -- session, is profile (RFC 4252 section 4).
-abbrev pub is_last_try : Party → Known → Bool
+abbrev pub is_last_try : ConfigData → Known → Bool
 is_last_try party known = nat_le party.tries known.request
 
 -- a request that isn't the last that the server grants is answered by this message
-abbrev pub more_reply : Party → Known → Content → Reply
+abbrev pub more_reply : ConfigData → Known → MessageData → Reply
 more_reply party known answer = if is_last_try party known then fails fault.TooManyTries else goes (written_message answer ∷ [])
 
 -- The key of a query would do: its method is listed, its algorithm is a name, the key isn't longer than one that a suite answers
 -- (profile), and the decision on it is yes for the number of this request.
-abbrev pub would_do : Policy → Party → Known → List ℕ → List ℕ → List ℕ → List ℕ → Bool
+abbrev pub would_do : DecisionsData → ConfigData → Known → List ℕ → List ℕ → List ℕ → List ℕ → Bool
 would_do d party known user service algorithm key =
     is_in party.methods (codes "publickey") && (is_name algorithm
     && (nat_le (length key) BLOB_LIMIT && d.user known.request user service (KeyProof algorithm key)))
 
-abbrev pub query_answer : Policy → Party → Known → List ℕ → List ℕ → List ℕ → List ℕ → Content
+abbrev pub query_answer : DecisionsData → ConfigData → Known → List ℕ → List ℕ → List ℕ → List ℕ → MessageData
 query_answer d party known user service algorithm key =
     if would_do d party known user service algorithm key then UserauthPkOk algorithm key else UserauthFailure party.methods false
 
 -- Behind a request all required methods are reached (RFC 4252 section 5.1; that they are so in an unbroken run of requests for
 -- one user and one service is profile).
-abbrev pub completes : Party → Known → List ℕ → List ℕ → Method → Bool → Bool
-completes party known user service method good = is_complete party.required (reached_behind known.reached (tried_with user service method good))
+abbrev pub completes : ConfigData → Known → List ℕ → List ℕ → MethodData → Bool → Bool
+completes party known user service method successful = is_complete party.required (reached_after_one known.reached (tried_with user service method successful))
 
 -- every other request: SUCCESS where it is good and all required methods are reached behind it; else FAILURE, which tells partial
 -- success where it is good
-abbrev pub tried_reply : Party → Known → List ℕ → List ℕ → Method → Bool → Reply
-tried_reply party known user service method good =
-    if good && completes party known user service method good
+abbrev pub tried_reply : ConfigData → Known → List ℕ → List ℕ → MethodData → Bool → Reply
+tried_reply party known user service method successful =
+    if successful && completes party known user service method successful
     then record { answers = written_message UserauthSuccess ∷ []; end = Authenticated (agreed_by known user service) }
-    else more_reply party known (UserauthFailure party.methods good)
+    else more_reply party known (UserauthFailure party.methods successful)
 
-abbrev pub method_reply : Meaning → Policy → Party → Known → List ℕ → List ℕ → Method → Reply
+abbrev pub method_reply : SuiteData → DecisionsData → ConfigData → Known → List ℕ → List ℕ → MethodData → Reply
 method_reply m d party known user service (PublicKeyQuery algorithm key) = more_reply party known (query_answer d party known user service algorithm key)
-method_reply m d party known user service method = tried_reply party known user service method (is_good m d party known user service method)
+method_reply m d party known user service method = tried_reply party known user service method (is_successful m d party known user service method)
 
 -- USERAUTH_REQUEST (RFC 4252 sections 5, 5.1 and 7): first the service, then the request, then the tries
-unfoldable pub request_reply : Meaning → Policy → Party → Known → List ℕ → List ℕ → Method → Reply
+unfoldable pub request_reply : SuiteData → DecisionsData → ConfigData → Known → List ℕ → List ℕ → MethodData → Reply
 request_reply m d party known user service method =
     if is_in party.services service then method_reply m d party known user service method else fails fault.Service

@@ -5,43 +5,43 @@ use Rattle.std.specs.List.{list_any}
 use Rattle.sshneg.specs.declared.role.Role.{Role}
 use Rattle.sshneg.specs.declared.role.Role.TheVariants.{Client, Server}
 use Rattle.sshpacket.specs.Stream.{Units}
-use Rattle.sshpacket.specs.Suite.{Meaning}
+use Rattle.sshpacket.specs.Suite.{SuiteData}
 use Rattle.sshcore.specs.declared.session.Accepted.{Accepted}
 use Rattle.sshcore.specs.declared.session.Session.{Session}
 use Rattle.sshcore.specs.Before.{strict_at}
 use Rattle.sshcore.specs.Counting.{number_in, number_out}
 use Rattle.sshcore.specs.Directions.{keys_in, keys_out, payloads_in, version_in}
-use Rattle.sshcore.specs.Ending.{AgreedData, agreed_of}
+use Rattle.sshcore.specs.EndData.{AgreedData, agreed_data}
 use Rattle.sshcore.specs.Exchange.{exchange_at}
-use Rattle.sshcore.specs.Kept.{user_key_of}
-use Rattle.sshcore.specs.Party.{Party, Policy, UserKeyData}
-use Rattle.sshcore.specs.Reached.{Tried, is_good_for, run_of}
-use Rattle.sshcore.specs.Tries.{good_keys_at, last_key, tried_at}
+use Rattle.sshcore.specs.StateData.{user_key_data}
+use Rattle.sshcore.specs.EndpointParts.{ConfigData, DecisionsData, UserKeyData}
+use Rattle.sshcore.specs.Reached.{Tried, is_successful_for, run_of}
+use Rattle.sshcore.specs.Tries.{last_key, successful_keys_at, tried_at}
 
 -- How this user came in for this service, by the requests that a server heard and the keys by which they were good: whether a
 -- password was good in the unbroken run of requests for both that ends these; and the last of the keys, if a signed request of that
 -- run was good.
-pub record CameIn (tried : List Tried) (keys : List UserKeyData) (user service : List ℕ) (accepted : Accepted) : Type 0 where
-  pub password : accepted.password ≡ list_any (is_good_for (codes "password")) (run_of user service tried)
-  pub key : user_key_of accepted.key ≡ (if list_any (is_good_for (codes "publickey")) (run_of user service tried) then last_key None keys else None)
+pub record AcceptedBy (tried : List Tried) (keys : List UserKeyData) (user service : List ℕ) (accepted : Accepted) : Type 0 where
+  pub password : accepted.password ≡ list_any (is_successful_for (codes "password")) (run_of user service tried)
+  pub key : user_key_data accepted.key ≡ (if list_any (is_successful_for (codes "publickey")) (run_of user service tried) then last_key None keys else None)
 
 -- a server says so, and a client nothing
-abbrev pub HasAccepted : Meaning → Policy → Role → Party → List ℕ → Units → AgreedData → Option Accepted → Type 0
+abbrev pub HasAccepted : SuiteData → DecisionsData → Role → ConfigData → List ℕ → Units → AgreedData → Option Accepted → Type 0
 HasAccepted m d Client party version before a accepted = accepted ≡ None
 HasAccepted m d Server party version before a None = ⊥
 HasAccepted m d Server party version before a (Some accepted) =
-    CameIn (tried_at m d Server party version before) (good_keys_at m d Server party version before) a.user a.service accepted
+    AcceptedBy (tried_at m d Server party version before) (successful_keys_at m d Server party version before) a.user a.service accepted
 
 -- The session of an endpoint that has heard these units and said these payloads: what was agreed; both version lines; the server's
 -- public host key, which is the exchange's; how the user came in; and of each direction the keys that are in use, which are the
 -- exchange's, and the number of the next packet.
-pub record IsSession (m : Meaning) (d : Policy) (role : Role) (party : Party) (units said : Units) (agreed : AgreedData) (session : Session) : Type 0 where
-  pub agreed_is : agreed_of session.agreed ≡ agreed
+pub record IsSession (m : SuiteData) (d : DecisionsData) (role : Role) (party : ConfigData) (units sent : Units) (agreed : AgreedData) (session : Session) : Type 0 where
+  pub agreed_is : agreed_data session.agreed ≡ agreed
   pub own_version : session.own_version.items ≡ party.version
   pub peer_version : session.peer_version.items ≡ version_in units
   pub host_key : session.host_key.items ≡ (exchange_at m role party (version_in units) (payloads_in units)).host_key
   pub accepted : HasAccepted m d role party (version_in units) (payloads_in units) agreed session.accepted
   pub incoming_keys : keys_in m role party (version_in units) (payloads_in units) ≡ Some session.incoming.keys
   pub incoming_number : session.incoming.sequence_number ≡ number_in role party (payloads_in units)
-  pub outgoing_keys : keys_out m role party units said ≡ Some session.outgoing.keys
-  pub outgoing_number : session.outgoing.sequence_number ≡ number_out (strict_at role party (payloads_in units)) said
+  pub outgoing_keys : keys_out m role party units sent ≡ Some session.outgoing.keys
+  pub outgoing_number : session.outgoing.sequence_number ≡ number_out (strict_at role party (payloads_in units)) sent

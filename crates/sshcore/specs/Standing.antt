@@ -3,27 +3,27 @@
 use Rattle.std.specs.Prelude.{◌≡◌, ℕ, ◌+◌, ◌==◌, Bool, true, false, if◌then◌else◌, List, [], Some}
 use Rattle.sshwire.specs.declared.share_form.ShareForm.TheVariants.{Mpint}
 use Rattle.sshmsg.specs.declared.numbers.TheConstants.{SSH_MSG_KEXINIT, SSH_MSG_NEWKEYS, SSH_MSG_USERAUTH_REQUEST}
-use Rattle.sshmsg.specs.Content.{Offer}
+use Rattle.sshmsg.specs.MessageData.{KexInitData}
 use Rattle.sshmsg.specs.Messages.{message_in}
 use Rattle.sshmsg.specs.Numbers.{kind}
 use Rattle.sshneg.specs.declared.role.Role.{Role}
 use Rattle.sshneg.specs.Derivations.{ExchangeData}
 use Rattle.sshneg.specs.ExchangeEnd.{exchange_hash}
 use Rattle.sshpacket.specs.Stream.{Units}
-use Rattle.sshpacket.specs.Suite.{Meaning}
+use Rattle.sshpacket.specs.Suite.{SuiteData}
 use Rattle.sshcore.specs.declared.table.Phase.{Phase}
 use Rattle.sshcore.specs.declared.table.Phase.TheVariants as phase
 use Rattle.sshcore.specs.Before.{expects_guess, offered, stood, strict_towards}
 use Rattle.sshcore.specs.Exchange.{choice_with, chosen_or, exchange_with, no_algorithms, shares_by}
 use Rattle.sshcore.specs.Known.{Known, known_at}
-use Rattle.sshcore.specs.Party.{Party, Policy}
+use Rattle.sshcore.specs.EndpointParts.{ConfigData, DecisionsData}
 use Rattle.sshcore.specs.Phases.{leaving, past_exchange, past_kexinit, past_newkeys, past_service}
-use Rattle.sshcore.specs.Plan.{is_answer, left_behind}
+use Rattle.sshcore.specs.Plan.{is_answer, left_after_one}
 use Rattle.sshcore.specs.Reached.{nothing_reached, reached_after}
 use Rattle.sshcore.specs.Tries.{tried_in}
 
 -- of the messages that leave phases, those stood that the phase has behind it
-pub record Tied (role : Role) (own : Offer) (before : Units) (p : Phase) : Type 0 where
+pub record Tied (role : Role) (own : KexInitData) (before : Units) (p : Phase) : Type 0 where
   pub offer : offered before ≡ past_kexinit p
   pub kexinit : stood role own SSH_MSG_KEXINIT before ≡ past_kexinit p
   pub exchange : stood role own (leaving role phase.Exchange) before ≡ past_exchange p
@@ -38,7 +38,7 @@ pub record LeavesNone (role : Role) (n : ℕ) : Type 0 where
   pub service : (n == leaving role phase.Service) ≡ false
 
 -- what is known before the peer's KEXINIT
-abbrev pub nothing_known : Party → List ℕ → Known
+abbrev pub nothing_known : ConfigData → List ℕ → Known
 nothing_known party version = record {
   version = version;
   kexinit = [];
@@ -53,8 +53,8 @@ nothing_known party version = record {
 }
 
 -- what is known behind the first KEXINIT, which is this payload and offers this
-abbrev pub behind_offer : Meaning → Role → Party → Known → List ℕ → Offer → Known
-behind_offer m role party known payload peer = record {
+abbrev pub after_offer : SuiteData → Role → ConfigData → Known → List ℕ → KexInitData → Known
+after_offer m role party known payload peer = record {
   version = known.version;
   kexinit = payload;
   algorithms = chosen_or (choice_with m role party.offer (Some peer));
@@ -69,27 +69,27 @@ behind_offer m role party known payload peer = record {
 
 -- What is known behind a payload that is neither dropped nor the first KEXINIT nor the exchange message: a request counts, and
 -- may reach a method; behind an answer the attempt itself or the next one is made.
-abbrev pub behind_payload : Meaning → Policy → Party → Known → List ℕ → Known
-behind_payload m d party known payload = record known {
+abbrev pub after_payload : SuiteData → DecisionsData → ConfigData → Known → List ℕ → Known
+after_payload m d party known payload = record known {
   request = if kind payload == SSH_MSG_USERAUTH_REQUEST then known.request + 1 else known.request;
-  left = if is_answer (kind payload) then left_behind known.left payload else known.left;
+  left = if is_answer (kind payload) then left_after_one known.left payload else known.left;
   reached = if kind payload == SSH_MSG_USERAUTH_REQUEST
       then reached_after known.reached (tried_in m d party known.session known.request payload) else known.reached;
   first = false;
 }
 
 -- what is hashed, once this payload is the exchange message
-abbrev pub exchange_heard : Meaning → Role → Party → Known → List ℕ → ExchangeData
-exchange_heard m role party known payload =
+abbrev pub exchange_received : SuiteData → Role → ConfigData → Known → List ℕ → ExchangeData
+exchange_received m role party known payload =
     exchange_with m role party known.algorithms known.version known.kexinit (message_in known.shares payload)
 
 -- and what is known behind it
-abbrev pub behind_exchange : Meaning → Role → Party → Known → List ℕ → Known
-behind_exchange m role party known payload =
-    record known { session = exchange_hash m known.algorithms.kex (exchange_heard m role party known payload) }
+abbrev pub after_exchange : SuiteData → Role → ConfigData → Known → List ℕ → Known
+after_exchange m role party known payload =
+    record known { session = exchange_hash m known.algorithms.kex (exchange_received m role party known payload) }
 
 -- An endpoint that has heard this version and these payloads stands so.
-pub record Sits (m : Meaning) (d : Policy) (role : Role) (party : Party) (version : List ℕ) (before : Units) (p : Phase) (guess : Bool) (known : Known) : Type 0 where
+pub record Sits (m : SuiteData) (d : DecisionsData) (role : Role) (party : ConfigData) (version : List ℕ) (before : Units) (p : Phase) (guess : Bool) (known : Known) : Type 0 where
   pub tied : Tied role party.offer before p
   pub due : expects_guess role party.offer before ≡ guess
   pub knows : known_at m d role party version before ≡ known

@@ -6,14 +6,14 @@ use Rattle.sshneg.specs.declared.role.Role.{Role}
 use Rattle.sshpacket.specs.Stream.{Units}
 use Rattle.sshcore.specs.Before.{strict_at}
 use Rattle.sshcore.specs.Directions.{payloads_in}
-use Rattle.sshcore.specs.Ending.{Ending}
-use Rattle.sshcore.specs.Party.{Party}
+use Rattle.sshcore.specs.EndData.{EndData}
+use Rattle.sshcore.specs.EndpointParts.{ConfigData}
 use Rattle.sshcore.specs.Phases.{past_newkeys, phase_at}
 use Rattle.sshcore.specs.StrictSequence.{BeginsStrictly, Conforms, EndsStrictly}
 
 -- A strict endpoint that is past phase newkeys, open or ended, was given a strict sequence first. And a payload that shows the
 -- marker and a deviation, with those before it, ended the endpoint, and was the last.
-pub record KeepsStrict (role : Role) (party : Party) (units : Units) (end : Ending) : Type 0 where
+pub record KeepsStrict (role : Role) (party : ConfigData) (units : Units) (end : EndData) : Type 0 where
   pub sequence : strict_at role party (payloads_in units) ≡ true → past_newkeys (phase_at role party.offer (payloads_in units)) ≡ true
       → BeginsStrictly role party.offer (payloads_in units)
   pub deviation : (version : List ℕ) (before : Units) (payload : List ℕ) (more : Units) → units ≡ version ∷ (before ++ payload ∷ more)

@@ -2,14 +2,14 @@
 -- the packet of a wrong guess is profile.
 
 use Rattle.std.specs.Prelude.{◌≡◌, ◌≤◌, ℕ, true, List, [], ◌∷◌, ◌++◌, Some}
-use Rattle.sshmsg.specs.Content.{Offer}
+use Rattle.sshmsg.specs.MessageData.{KexInitData}
 use Rattle.sshneg.specs.declared.role.Role.{Role}
 use Rattle.sshneg.specs.declared.role.Role.TheVariants.{Client, Server}
 use Rattle.sshneg.specs.ExchangeEnd.{client_of, offer_in, server_of}
 use Rattle.sshneg.specs.Markers.{IsRightGuess}
 use Rattle.sshpacket.specs.Stream.{Units}
 use Rattle.sshcore.specs.declared.end.Fault.TheVariants as fault
-use Rattle.sshcore.specs.Ending.{Closed, Ending, Failed}
+use Rattle.sshcore.specs.EndData.{Closed, EndData, Failed}
 
 -- the payload begins with this number
 pub record HasNumber (n : ℕ) (payload : List ℕ) : Type 0 where
@@ -22,7 +22,7 @@ share_number Client = 31
 share_number Server = 30
 
 -- a guess was announced, and it isn't right
-pub record IsWrongGuess (role : Role) (own peer : Offer) : Type 0 where
+pub record IsWrongGuess (role : Role) (own peer : KexInitData) : Type 0 where
   pub announced : peer.first_kex_packet_follows ≡ true
   pub not_right : IsRightGuess (client_of role own peer) (server_of role own peer) → ⊥
 
@@ -34,18 +34,18 @@ pub record IsGuess (payload : List ℕ) : Type 0 where
   pub has : HasNumber number payload
 
 -- between KEXINIT and the share: the packet of a wrong guess, exactly where one was announced
-pub data IsGuessPart (role : Role) (own peer : Offer) (payloads : Units) : Type 0 where
+pub data IsGuessPart (role : Role) (own peer : KexInitData) (payloads : Units) : Type 0 where
   Guessed : IsWrongGuess role own peer → (payload : List ℕ) → IsGuess payload → payloads ≡ payload ∷ [] → IsGuessPart role own peer payloads
   NotGuessed : (IsWrongGuess role own peer → ⊥) → payloads ≡ [] → IsGuessPart role own peer payloads
 
 -- the payload is a KEXINIT with this offer
-pub record IsOffered (peer : Offer) (payload : List ℕ) : Type 0 where
+pub record IsOffered (peer : KexInitData) (payload : List ℕ) : Type 0 where
   pub has : HasNumber 20 payload
   pub offers : offer_in payload ≡ Some peer
 
 -- KEXINIT, a wrong guess's packet, the peer's share, NEWKEYS, and nothing else
-pub record IsStrictSequence (role : Role) (own : Offer) (payloads : Units) : Type 0 where
-  pub peer : Offer
+pub record IsStrictSequence (role : Role) (own : KexInitData) (payloads : Units) : Type 0 where
+  pub peer : KexInitData
   pub kexinit : List ℕ
   pub guess : Units
   pub share : List ℕ
@@ -57,19 +57,19 @@ pub record IsStrictSequence (role : Role) (own : Offer) (payloads : Units) : Typ
   pub newkeys_has : HasNumber 21 newkeys
 
 -- a strict sequence stands first
-pub record BeginsStrictly (role : Role) (own : Offer) (payloads : Units) : Type 0 where
+pub record BeginsStrictly (role : Role) (own : KexInitData) (payloads : Units) : Type 0 where
   pub sequence : Units
   pub rest : Units
   pub is_sequence : IsStrictSequence role own sequence
   pub payloads_are : payloads ≡ sequence ++ rest
 
 -- the payloads don't deviate: they begin with a strict sequence, or are a prefix of one
-pub data Conforms (role : Role) (own : Offer) (payloads : Units) : Type 0 where
+pub data Conforms (role : Role) (own : KexInitData) (payloads : Units) : Type 0 where
   Begins : BeginsStrictly role own payloads → Conforms role own payloads
   IsBegun : (sequence rest : Units) → IsStrictSequence role own sequence → sequence ≡ payloads ++ rest → Conforms role own payloads
 
 -- how a deviation of this number ends an endpoint: as F7, or by a DISCONNECT, which may be malformed
-pub data EndsStrictly (n : ℕ) (end : Ending) : Type 0 where
+pub data EndsStrictly (n : ℕ) (end : EndData) : Type 0 where
   AsStrict : end ≡ Failed (fault.Strict n) → EndsStrictly n end
   AsClosed : n ≡ 1 → (reason : ℕ) → end ≡ Closed reason → EndsStrictly n end
   AsMalformed : n ≡ 1 → end ≡ Failed (fault.Malformed 1) → EndsStrictly n end

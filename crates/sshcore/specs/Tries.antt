@@ -5,7 +5,7 @@ use Rattle.sshwire.specs.TypeReadings.{is_name}
 use Rattle.sshwire.specs.declared.share_form.ShareForm.TheVariants.{Mpint}
 use Rattle.sshmsg.specs.declared.fault.MsgFault.{MsgFault}
 use Rattle.sshmsg.specs.declared.numbers.TheConstants.{SSH_MSG_USERAUTH_REQUEST}
-use Rattle.sshmsg.specs.Content.{Content, Method, NoMethod, Password, PublicKey, UserauthRequest}
+use Rattle.sshmsg.specs.MessageData.{MessageData, MethodData, NoMethod, Password, PublicKey, UserauthRequest}
 use Rattle.sshmsg.specs.Messages.{message_in}
 use Rattle.sshmsg.specs.Written.{method_name}
 use Rattle.sshneg.specs.declared.role.Role.{Role}
@@ -13,17 +13,17 @@ use Rattle.sshneg.specs.ChoiceReadings.{is_in}
 use Rattle.sshneg.specs.Derivations.{signed_text}
 use Rattle.sshpacket.specs.Places.{flat_places}
 use Rattle.sshpacket.specs.Stream.{Units}
-use Rattle.sshpacket.specs.Suite.{Meaning}
+use Rattle.sshpacket.specs.Suite.{SuiteData}
 use Rattle.sshcore.specs.declared.table.Phase.TheVariants as phase
 use Rattle.sshcore.specs.Before.{count_kept, kept, stood}
 use Rattle.sshcore.specs.Exchange.{session_at}
-use Rattle.sshcore.specs.Party.{KeyProof, NoProof, Party, PasswordProof, Policy, ProofData, UserKeyData}
+use Rattle.sshcore.specs.EndpointParts.{ConfigData, DecisionsData, KeyProof, NoProof, PasswordProof, ProofData, UserKeyData}
 use Rattle.sshcore.specs.Phases.{leaving}
 use Rattle.sshcore.specs.Reached.{Tried}
 
 -- What a signature proves: that the user's side has the private key, if the algorithm is a name and the signature of the session
 -- identifier and the request is the key's (RFC 4252 section 7).
-abbrev pub signed_proof : Meaning → List ℕ → List ℕ → List ℕ → List ℕ → List ℕ → List ℕ → Option ProofData
+abbrev pub signed_proof : SuiteData → List ℕ → List ℕ → List ℕ → List ℕ → List ℕ → List ℕ → Option ProofData
 signed_proof m session user service algorithm key signature =
     if is_name algorithm && m.verify algorithm key (signed_text session user service algorithm key) signature
     then Some (KeyProof algorithm key) else None
@@ -31,7 +31,7 @@ signed_proof m session user service algorithm key signature =
 -- What a request proves of its user, if its method may be used and its proof holds: `none` always (RFC 4252 section 5.2), a
 -- password and a signature where the method is listed (sections 8 and 7). A query, a change of the password and any other method
 -- prove nothing.
-unfoldable pub proof_in : Meaning → Party → List ℕ → List ℕ → List ℕ → Method → Option ProofData
+unfoldable pub proof_in : SuiteData → ConfigData → List ℕ → List ℕ → List ℕ → MethodData → Option ProofData
 proof_in m party session user service NoMethod = Some NoProof
 proof_in m party session user service (Password password) =
     if is_in party.methods (codes "password") then Some (PasswordProof password) else None
@@ -40,62 +40,62 @@ proof_in m party session user service (PublicKey algorithm key signature) =
 proof_in m party session user service _ = None
 
 -- the request of this number is good: it proves something, and the decision on that is yes
-abbrev pub is_decided : Policy → ℕ → List ℕ → List ℕ → Option ProofData → Bool
+abbrev pub is_decided : DecisionsData → ℕ → List ℕ → List ℕ → Option ProofData → Bool
 is_decided d request user service None = false
 is_decided d request user service (Some proof) = d.user request user service proof
 
-abbrev pub is_good_at : Meaning → Policy → Party → List ℕ → ℕ → List ℕ → List ℕ → Method → Bool
-is_good_at m d party session request user service method = is_decided d request user service (proof_in m party session user service method)
+abbrev pub is_successful_at : SuiteData → DecisionsData → ConfigData → List ℕ → ℕ → List ℕ → List ℕ → MethodData → Bool
+is_successful_at m d party session request user service method = is_decided d request user service (proof_in m party session user service method)
 
 -- what it came to
-abbrev pub tried_with : List ℕ → List ℕ → Method → Bool → Tried
-tried_with user service method good = record { user = user; service = service; good = if good then Some (method_name method) else None }
+abbrev pub tried_with : List ℕ → List ℕ → MethodData → Bool → Tried
+tried_with user service method successful = record { user = user; service = service; successful = if successful then Some (method_name method) else None }
 
-abbrev pub tried_by : Meaning → Policy → Party → List ℕ → ℕ → Result Content MsgFault → List Tried
+abbrev pub tried_by : SuiteData → DecisionsData → ConfigData → List ℕ → ℕ → Result MessageData MsgFault → List Tried
 tried_by m d party session request (Ok (UserauthRequest user service method)) =
-    tried_with user service method (is_good_at m d party session request user service method) ∷ []
+    tried_with user service method (is_successful_at m d party session request user service method) ∷ []
 tried_by m d party session request _ = []
 
-unfoldable pub tried_in : Meaning → Policy → Party → List ℕ → ℕ → List ℕ → List Tried
+unfoldable pub tried_in : SuiteData → DecisionsData → ConfigData → List ℕ → ℕ → List ℕ → List Tried
 tried_in m d party session request payload = tried_by m d party session request (message_in Mpint payload)
 
 -- the session identifier, once it is known
-abbrev pub session_known : Meaning → Role → Party → List ℕ → Units → List ℕ
+abbrev pub session_known : SuiteData → Role → ConfigData → List ℕ → Units → List ℕ
 session_known m role party version before = if stood role party.offer (leaving role phase.Exchange) before then session_at m role party version before else []
 
 -- What the requests of these payloads came to, in order: each with its number from 1.
-abbrev pub tried_place : Meaning → Policy → Role → Party → List ℕ → Units → List ℕ → List Tried
+abbrev pub tried_place : SuiteData → DecisionsData → Role → ConfigData → List ℕ → Units → List ℕ → List Tried
 tried_place m d role party version before payload =
     if kept role party.offer SSH_MSG_USERAUTH_REQUEST before payload
     then tried_in m d party (session_known m role party version before) (count_kept role party.offer SSH_MSG_USERAUTH_REQUEST before + 1) payload
     else []
 
-unfoldable pub tried_at : Meaning → Policy → Role → Party → List ℕ → Units → List Tried
+unfoldable pub tried_at : SuiteData → DecisionsData → Role → ConfigData → List ℕ → Units → List Tried
 tried_at m d role party version before = flat_places (tried_place m d role party version) [] before
 
 -- The key of a signed request, whose algorithm is a name.
-abbrev pub key_of : Method → List UserKeyData
+abbrev pub key_of : MethodData → List UserKeyData
 key_of (PublicKey algorithm key signature) = if is_name algorithm then record { algorithm = algorithm; blob = key } ∷ [] else []
 key_of _ = []
 
 -- The key by which a request was good, if it was by one.
-abbrev pub good_key_by : Meaning → Policy → Party → List ℕ → ℕ → Result Content MsgFault → List UserKeyData
-good_key_by m d party session request (Ok (UserauthRequest user service method)) =
-    if is_good_at m d party session request user service method then key_of method else []
-good_key_by m d party session request _ = []
+abbrev pub successful_key_by : SuiteData → DecisionsData → ConfigData → List ℕ → ℕ → Result MessageData MsgFault → List UserKeyData
+successful_key_by m d party session request (Ok (UserauthRequest user service method)) =
+    if is_successful_at m d party session request user service method then key_of method else []
+successful_key_by m d party session request _ = []
 
-unfoldable pub good_key_in : Meaning → Policy → Party → List ℕ → ℕ → List ℕ → List UserKeyData
-good_key_in m d party session request payload = good_key_by m d party session request (message_in Mpint payload)
+unfoldable pub successful_key_in : SuiteData → DecisionsData → ConfigData → List ℕ → ℕ → List ℕ → List UserKeyData
+successful_key_in m d party session request payload = successful_key_by m d party session request (message_in Mpint payload)
 
 -- The keys by which the requests of these payloads were good, in order.
-abbrev pub good_key_place : Meaning → Policy → Role → Party → List ℕ → Units → List ℕ → List UserKeyData
-good_key_place m d role party version before payload =
+abbrev pub successful_key_place : SuiteData → DecisionsData → Role → ConfigData → List ℕ → Units → List ℕ → List UserKeyData
+successful_key_place m d role party version before payload =
     if kept role party.offer SSH_MSG_USERAUTH_REQUEST before payload
-    then good_key_in m d party (session_known m role party version before) (count_kept role party.offer SSH_MSG_USERAUTH_REQUEST before + 1) payload
+    then successful_key_in m d party (session_known m role party version before) (count_kept role party.offer SSH_MSG_USERAUTH_REQUEST before + 1) payload
     else []
 
-unfoldable pub good_keys_at : Meaning → Policy → Role → Party → List ℕ → Units → List UserKeyData
-good_keys_at m d role party version before = flat_places (good_key_place m d role party version) [] before
+unfoldable pub successful_keys_at : SuiteData → DecisionsData → Role → ConfigData → List ℕ → Units → List UserKeyData
+successful_keys_at m d role party version before = flat_places (successful_key_place m d role party version) [] before
 
 -- the last of these, or this one where there are none
 abbrev pub last_key : Option UserKeyData → List UserKeyData → Option UserKeyData

@@ -6,40 +6,40 @@ use Rattle.std.specs.Str.{bytes_eq}
 use Rattle.sshwire.specs.declared.share_form.ShareForm.{ShareForm}
 use Rattle.sshwire.specs.declared.share_form.ShareForm.TheVariants.{Hybrid, Mpint, OctetString}
 use Rattle.sshmsg.specs.declared.numbers.TheConstants.{SSH_MSG_KEXINIT, SSH_MSG_SERVICE_ACCEPT}
-use Rattle.sshmsg.specs.Content.{Content, Disconnect, KexEcdhInit, KexEcdhReply, KexInit, KexdhInit, KexdhReply, NewKeys, Offer, ServiceAccept, ServiceRequest, UserauthBanner, UserauthFailure, UserauthPkOk, UserauthRequest, UserauthSuccess}
+use Rattle.sshmsg.specs.MessageData.{Disconnect, KexEcdhInit, KexEcdhReply, KexInit, KexInitData, KexdhInit, KexdhReply, MessageData, NewKeys, ServiceAccept, ServiceRequest, UserauthBanner, UserauthFailure, UserauthPkOk, UserauthRequest, UserauthSuccess}
 use Rattle.sshmsg.specs.Written.{written_message}
 use Rattle.sshneg.specs.declared.choice.NoCommon.{NoCommon}
 use Rattle.sshneg.specs.declared.role.Role.{Role}
 use Rattle.sshneg.specs.declared.role.Role.TheVariants.{Client, Server}
 use Rattle.sshneg.specs.Derivations.{ExchangeData}
 use Rattle.sshneg.specs.ExchangeEnd.{exchange_hash}
-use Rattle.sshneg.specs.Fields.{Algorithms}
+use Rattle.sshneg.specs.Fields.{AlgorithmsData}
 use Rattle.sshneg.specs.Markers.{first_name, methods}
 use Rattle.sshneg.specs.Strictness.{is_right_guess}
 use Rattle.sshpacket.specs.Stream.{Units}
-use Rattle.sshpacket.specs.Suite.{Meaning, ResponseData}
+use Rattle.sshpacket.specs.Suite.{ResponseData, SuiteData}
 use Rattle.sshcore.specs.declared.end.Fault.TheVariants as fault
 use Rattle.sshcore.specs.Attempts.{attempt_reply, failure_reply, pk_ok_reply, success_reply}
 use Rattle.sshcore.specs.Before.{strict_towards}
-use Rattle.sshcore.specs.Ending.{Closed, Reply, fails, goes}
+use Rattle.sshcore.specs.EndData.{Closed, Reply, fails, goes}
 use Rattle.sshcore.specs.Exchange.{answer_with, choice_with, exchange_with, own_kexinit, secret_of}
 use Rattle.sshcore.specs.Known.{Known}
-use Rattle.sshcore.specs.Party.{Party, Policy}
+use Rattle.sshcore.specs.EndpointParts.{ConfigData, DecisionsData}
 use Rattle.sshcore.specs.Requests.{request_reply}
 
 -- the messages of an exchange in a form of shares: RFC 4253 section 8, RFC 5656 section 4
-abbrev pub init_in : ShareForm → List ℕ → Content
+abbrev pub init_in : ShareForm → List ℕ → MessageData
 init_in Mpint share = KexdhInit share
 init_in OctetString share = KexEcdhInit share
 init_in Hybrid share = KexEcdhInit share
 
-abbrev pub reply_in : ShareForm → List ℕ → List ℕ → List ℕ → Content
+abbrev pub reply_in : ShareForm → List ℕ → List ℕ → List ℕ → MessageData
 reply_in Mpint host_key share signature = KexdhReply host_key share signature
 reply_in OctetString host_key share signature = KexEcdhReply host_key share signature
 reply_in Hybrid host_key share signature = KexEcdhReply host_key share signature
 
 -- a client's first message of an exchange by this method, in the method's own form
-abbrev pub init_for : Meaning → Party → List ℕ → List ℕ
+abbrev pub init_for : SuiteData → ConfigData → List ℕ → List ℕ
 init_for m party kex = written_message (init_in (m.share_form kex) (m.share kex party.random))
 
 -- the first of the own methods, which a guess is made for
@@ -47,44 +47,44 @@ abbrev pub name_or : Option (List ℕ) → List ℕ
 name_or (Some name) = name
 name_or None = []
 
-abbrev pub guessed_method : Party → List ℕ
+abbrev pub guessed_method : ConfigData → List ℕ
 guessed_method party = name_or (first_name (methods party.offer.kex_algorithms))
 
 -- a client's guess (RFC 4253 section 7); a server guesses nothing (profile)
-abbrev pub guess_of : Meaning → Role → Party → Units
+abbrev pub guess_of : SuiteData → Role → ConfigData → Units
 guess_of m Server party = []
 guess_of m Client party = if party.offer.first_kex_packet_follows then init_for m party (guessed_method party) ∷ [] else []
 
 -- what is said before anything is heard: KEXINIT, and a guess
-abbrev pub making : Meaning → Role → Party → Units
+abbrev pub making : SuiteData → Role → ConfigData → Units
 making m role party = own_kexinit party ∷ guess_of m role party
 
 -- at KEXINIT a client sends the first message of the exchange, unless it was sent as a guess, and that was right (RFC 4253 section 7)
-abbrev pub opening : Meaning → Role → Party → Offer → List ℕ → Units
+abbrev pub opening : SuiteData → Role → ConfigData → KexInitData → List ℕ → Units
 opening m Server party peer kex = []
 opening m Client party peer kex =
     if party.offer.first_kex_packet_follows && is_right_guess party.offer peer then [] else init_for m party kex ∷ []
 
-abbrev pub chosen_reply : Meaning → Role → Party → Offer → Result Algorithms NoCommon → Reply
+abbrev pub chosen_reply : SuiteData → Role → ConfigData → KexInitData → Result AlgorithmsData NoCommon → Reply
 chosen_reply m role party peer (Ok a) = goes (opening m role party peer a.kex)
 chosen_reply m role party peer (Err f) = fails (fault.NoCommon f)
 
 -- KEXINIT: strictness, which punishes what stood before it (OpenSSH PROTOCOL section 1.10); then the choice; then the guess
-unfoldable pub kexinit_reply : Meaning → Role → Party → Known → Offer → Reply
+unfoldable pub kexinit_reply : SuiteData → Role → ConfigData → Known → KexInitData → Reply
 kexinit_reply m role party known peer =
     if strict_towards role party.strict (Some peer) && not known.first then fails (fault.Strict SSH_MSG_KEXINIT)
     else chosen_reply m role party peer (choice_with m role party.offer (Some peer))
 
 -- The first message of the exchange at a server: its answer to the client's share, then the signature of the exchange hash,
 -- and NEWKEYS (RFC 4253 sections 8 and 7.3).
-abbrev pub answered_by : Meaning → Party → Known → ExchangeData → Option ResponseData → Reply
+abbrev pub answered_by : SuiteData → ConfigData → Known → ExchangeData → Option ResponseData → Reply
 answered_by m party known x None = fails fault.Exchange
 answered_by m party known x (Some answer) =
     goes (written_message (reply_in known.shares x.host_key x.server_share
     (m.sign known.algorithms.host_key (secret_of party.host_keys known.algorithms.host_key) (exchange_hash m known.algorithms.kex x)))
     ∷ written_message NewKeys ∷ [])
 
-unfoldable pub init_reply : Meaning → Role → Party → Known → Content → Reply
+unfoldable pub init_reply : SuiteData → Role → ConfigData → Known → MessageData → Reply
 init_reply m role party known message =
     answered_by m party known (exchange_with m role party known.algorithms known.version known.kexinit (Ok message))
     (answer_with m role party known.algorithms (Ok message))
@@ -95,18 +95,18 @@ userauth = codes "ssh-userauth"
 
 -- Its answer at a client: whether the host key is trusted, then the shared number, then the signature (RFC 4253 section 8);
 -- then NEWKEYS and the request of the service (sections 7.3 and 10).
-abbrev pub signed_by : Meaning → Known → ExchangeData → List ℕ → Option ResponseData → Reply
+abbrev pub signed_by : SuiteData → Known → ExchangeData → List ℕ → Option ResponseData → Reply
 signed_by m known x signature None = fails fault.Exchange
 signed_by m known x signature (Some answer) =
     if m.verify known.algorithms.host_key x.host_key (exchange_hash m known.algorithms.kex x) signature
     then goes (written_message NewKeys ∷ written_message (ServiceRequest userauth) ∷ [])
     else fails fault.Signature
 
-abbrev pub trusted_by : Meaning → Policy → Known → ExchangeData → List ℕ → Option ResponseData → Reply
+abbrev pub trusted_by : SuiteData → DecisionsData → Known → ExchangeData → List ℕ → Option ResponseData → Reply
 trusted_by m d known x signature answer =
     if d.host_key known.algorithms.host_key x.host_key then signed_by m known x signature answer else fails fault.HostKey
 
-unfoldable pub reply_reply : Meaning → Policy → Role → Party → Known → Content → List ℕ → Reply
+unfoldable pub reply_reply : SuiteData → DecisionsData → Role → ConfigData → Known → MessageData → List ℕ → Reply
 reply_reply m d role party known message signature =
     trusted_by m d known (exchange_with m role party known.algorithms known.version known.kexinit (Ok message)) signature
     (answer_with m role party known.algorithms (Ok message))
@@ -116,18 +116,18 @@ abbrev pub banner_by : Option (List ℕ) → Units
 banner_by None = []
 banner_by (Some text) = written_message (UserauthBanner text []) ∷ []
 
-abbrev pub service_reply : Party → List ℕ → Reply
+abbrev pub service_reply : ConfigData → List ℕ → Reply
 service_reply party service =
     if bytes_eq service userauth then goes (written_message (ServiceAccept userauth) ∷ banner_by party.banner)
     else fails fault.Service
 
 -- SERVICE_ACCEPT at a client: the first attempt of its plan is made (RFC 4252 section 5)
-abbrev pub accept_reply : Meaning → Known → List ℕ → Reply
+abbrev pub accept_reply : SuiteData → Known → List ℕ → Reply
 accept_reply m known service =
     if bytes_eq service userauth then attempt_reply m known.session known.left else fails (fault.Unexpected SSH_MSG_SERVICE_ACCEPT)
 
 -- what a message is answered; every other is read and ignored
-unfoldable pub work : Meaning → Policy → Role → Party → Known → Content → Reply
+unfoldable pub work : SuiteData → DecisionsData → Role → ConfigData → Known → MessageData → Reply
 work m d role party known (Disconnect reason description language) = record { answers = []; end = Closed reason }
 work m d role party known (KexInit peer) = kexinit_reply m role party known peer
 work m d role party known (KexdhInit e) = init_reply m role party known (KexdhInit e)

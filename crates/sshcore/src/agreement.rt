@@ -3,9 +3,9 @@
 ghost use Rattle.std.specs.Prelude.{◌≡◌, IfOk, OnOk, is_some, true};
 ghost use Rattle.sshcore.specs.declared.table.Phase.TheVariants as phase;
 ghost use Rattle.sshcore.specs.Attempts.{agreed_by};
-ghost use Rattle.sshcore.specs.Brings.{heard_one};
-ghost use Rattle.sshcore.specs.Ending.{Authenticated, Open, ending};
-ghost use Rattle.sshcore.specs.Kept.{kept_of};
+ghost use Rattle.sshcore.specs.Brings.{received_one};
+ghost use Rattle.sshcore.specs.EndData.{Authenticated, Open, end_data};
+ghost use Rattle.sshcore.specs.StateData.{state_data};
 
 use crate::end::End;
 use crate::lent::put;
@@ -15,11 +15,11 @@ use sshwire::Memory;
 impl State<'_> {
     /// The user is authenticated for this service.
     pub(crate) fn authenticate(&mut self, user: &str, service: &str) -> Result<(), Memory>
-        requires open { ending self.old.end ≡ Open }
+        requires open { end_data self.old.end ≡ Open }
         requires at { self.old.phase ≡ phase.Auth }
-        ensures { OnOk result (kept_of self.new ≡ record (kept_of self.old) {
-          end = Authenticated (agreed_by (kept_of self.old).known user.now service.now);
-          known = heard_one (kept_of self.old).known;
+        ensures { OnOk result (state_data self.new ≡ record (state_data self.old) {
+          end = Authenticated (agreed_by (state_data self.old).known user.now service.now);
+          known = received_one (state_data self.old).known;
         }) }
     {
         let end = self.agreed_end(user, service);
@@ -31,7 +31,7 @@ impl State<'_> {
     /// are copied.
     fn agreed_end(&self, user: &str, service: &str) -> Result<End, Memory>
         requires { is_some self.now.algorithms ≡ true }
-        ensures { IfOk result (λ end. ending end ≡ Authenticated (agreed_by (kept_of self.now).known user.now service.now)) }
+        ensures { IfOk result (λ end. end_data end ≡ Authenticated (agreed_by (state_data self.now).known user.now service.now)) }
     {
         let session = Vec::from_slice(self.alloc, &self.session)?;
         let user = String::from_str(self.alloc, user)?;

@@ -3,10 +3,10 @@
 ghost use Rattle.std.specs.Prelude.{◌≡◌, ◌<◌, IfOk, Some, length, string_bytes};
 ghost use Rattle.std.specs.List.{slice_get};
 ghost use Rattle.sshwire.specs.Types.{IsName};
-ghost use Rattle.sshmsg.specs.View.{offer_of};
+ghost use Rattle.sshmsg.specs.View.{kexinit_data};
 ghost use Rattle.sshneg.specs.Fields as fields;
 ghost use Rattle.sshcore.specs.Chosen.{AreAt, ArePlaced, cipher_of, mac_of};
-ghost use Rattle.sshcore.specs.Ending.{agreed_of};
+ghost use Rattle.sshcore.specs.EndData.{agreed_data};
 ghost use Rattle.sshcore.specs.NamesView.{names_of};
 
 use crate::chosen_names::ChosenNames;
@@ -53,7 +53,7 @@ impl Model for Algorithms {
     ghost use Rattle.sshcore.specs.Chosen.{AreNamed};
     ghost use Rattle.sshcore.specs.ChosenView.{algorithms_of};
 
-    ghost Value = { fields.Algorithms };
+    ghost Value = { fields.AlgorithmsData };
 
     ghost view = { algorithms_of };
 
@@ -67,8 +67,8 @@ impl Algorithms {
         client: &KexInit<'_>,
         chosen: &Chosen,
     ) -> Result<Algorithms, Memory>
-        requires { ArePlaced (offer_of client.now) chosen.now }
-        ensures { (a : fields.Algorithms) → AreAt (offer_of client.now) chosen.now a → IfOk result (λ names. names ≡ a) }
+        requires { ArePlaced (kexinit_data client.now) chosen.now }
+        ensures { (a : fields.AlgorithmsData) → AreAt (kexinit_data client.now) chosen.now a → IfOk result (λ names. names ≡ a) }
     {
         let kex = name_at(alloc, &client.kex_algorithms, chosen.kex)?;
         let host_key = name_at(alloc, &client.server_host_key_algorithms, chosen.host_key)?;
@@ -110,7 +110,7 @@ impl Algorithms {
         user: String,
         service: String,
     ) -> Agreed
-        ensures { agreed_of result ≡ record { algorithms = self; strict = strict; session = session.items; user = string_bytes user; service = string_bytes service } }
+        ensures { agreed_data result ≡ record { algorithms = self; strict = strict; session = session.items; user = string_bytes user; service = string_bytes service } }
     {
         Agreed {
             kex: self.kex,
@@ -184,7 +184,7 @@ impl Algorithms {
 }
 
 fn ciphers_at(alloc: Global, client: &KexInit<'_>, chosen: &Chosen) -> Result<Directions, Memory>
-    requires { ArePlaced (offer_of client.now) chosen.now }
+    requires { ArePlaced (kexinit_data client.now) chosen.now }
     ensures to_server { IfOk result (λ d. slice_get client.now.encryption_client_to_server chosen.now.encryption_client_to_server ≡ Some (string_bytes d.client_to_server)) }
     ensures to_client { IfOk result (λ d. slice_get client.now.encryption_server_to_client chosen.now.encryption_server_to_client ≡ Some (string_bytes d.server_to_client)) }
     ensures names { IfOk result (λ d. IsName (string_bytes d.client_to_server) × IsName (string_bytes d.server_to_client)) }
@@ -204,7 +204,7 @@ fn ciphers_at(alloc: Global, client: &KexInit<'_>, chosen: &Chosen) -> Result<Di
 }
 
 fn macs_at(alloc: Global, client: &KexInit<'_>, chosen: &Chosen) -> Result<Directions, Memory>
-    requires { ArePlaced (offer_of client.now) chosen.now }
+    requires { ArePlaced (kexinit_data client.now) chosen.now }
     ensures to_server { IfOk result (λ d. slice_get client.now.mac_client_to_server chosen.now.mac_client_to_server ≡ Some (string_bytes d.client_to_server)) }
     ensures to_client { IfOk result (λ d. slice_get client.now.mac_server_to_client chosen.now.mac_server_to_client ≡ Some (string_bytes d.server_to_client)) }
     ensures names { IfOk result (λ d. IsName (string_bytes d.client_to_server) × IsName (string_bytes d.server_to_client)) }
@@ -228,7 +228,7 @@ fn compressions_at(
     client: &KexInit<'_>,
     chosen: &Chosen,
 ) -> Result<Directions, Memory>
-    requires { ArePlaced (offer_of client.now) chosen.now }
+    requires { ArePlaced (kexinit_data client.now) chosen.now }
     ensures to_server { IfOk result (λ d. slice_get client.now.compression_client_to_server chosen.now.compression_client_to_server ≡ Some (string_bytes d.client_to_server)) }
     ensures to_client { IfOk result (λ d. slice_get client.now.compression_server_to_client chosen.now.compression_server_to_client ≡ Some (string_bytes d.server_to_client)) }
     ensures names { IfOk result (λ d. IsName (string_bytes d.client_to_server) × IsName (string_bytes d.server_to_client)) }

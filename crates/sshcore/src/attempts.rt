@@ -2,26 +2,26 @@
 
 ghost use Rattle.std.specs.Prelude.{◌≡◌, ◌≢◌, ◌≤◌, [], true, false, Bool, IfOk, OnOk, if◌then◌else◌, length, map};
 ghost use Rattle.sshwire.specs.Types.{IsName};
-ghost use Rattle.sshmsg.specs.Content as content;
-ghost use Rattle.sshmsg.specs.View.{method_of};
+ghost use Rattle.sshmsg.specs.MessageData as content;
+ghost use Rattle.sshmsg.specs.View.{method_data};
 ghost use Rattle.sshmsg.specs.Written.{written_message};
 ghost use Rattle.sshneg.specs.ChoiceReadings.{is_in};
-ghost use Rattle.sshpacket.specs.KeyData.{KeyData};
+ghost use Rattle.sshpacket.specs.KeysData.{KeysData};
 ghost use Rattle.sshpacket.specs.declared.limits.TheConstants.{DIGEST_LIMIT};
 ghost use Rattle.sshcore.specs.declared.end.Fault.TheVariants as fault;
 ghost use Rattle.sshcore.specs.declared.table.Phase.TheVariants as phase;
 ghost use Rattle.sshcore.specs.declared.config_parts.TheConstants.{PRIVATE_KEY_LIMIT};
 ghost use Rattle.sshcore.specs.Attempts.{attempt_reply, failure_reply, is_asked, method_by, pk_ok_reply, request_of, success_reply};
 ghost use Rattle.sshcore.specs.Authenticating.{FitsRequest, confirmed_attempt, failed_attempt};
-ghost use Rattle.sshcore.specs.Brings.{Gives, IsOngoing, StandsAt, heard_one};
-ghost use Rattle.sshcore.specs.ConfigParty.{party_of};
+ghost use Rattle.sshcore.specs.Brings.{Gives, IsOngoing, StandsAt, received_one};
+ghost use Rattle.sshcore.specs.EndpointConfig.{config_data};
 ghost use Rattle.sshcore.specs.ConfigRules.{IsAttempt};
-ghost use Rattle.sshcore.specs.ConfigData.{ByKey};
-ghost use Rattle.sshcore.specs.ConfigView.{attempt_of, proving_of};
-ghost use Rattle.sshcore.specs.Ending.{Failed, Open, ending, fails};
-ghost use Rattle.sshcore.specs.Kept.{kept_of};
+ghost use Rattle.sshcore.specs.ConfigParts.{ByKey};
+ghost use Rattle.sshcore.specs.ConfigView.{attempt_data, credential_data};
+ghost use Rattle.sshcore.specs.EndData.{Failed, Open, end_data, fails};
+ghost use Rattle.sshcore.specs.StateData.{state_data};
 ghost use Rattle.sshcore.specs.Made.{IsMade};
-ghost use Rattle.sshcore.specs.Plan.{confirmed, first_made, next_behind, next_listed, proving_name};
+ghost use Rattle.sshcore.specs.Plan.{confirmed, first_made, next_after, next_listed, proving_name};
 
 use crate::config::Config;
 use crate::config_parts::{Attempt, Credential};
@@ -41,17 +41,17 @@ impl State<'_> {
         &mut self,
         config: &Config<'_>,
         suite: &S,
-        said: &mut Vec<u8>,
+        sent: &mut Vec<u8>,
     ) -> Result<(), Memory>
-        requires open { ending self.old.end ≡ Open }
-        ensures gives { OnOk result ((strict : Bool) (next : KeyData)
-            → Gives (S.meaning suite.now) (party_of config.now).seed strict next (kept_of self.old) (kept_of self.new) said.old.items said.new.items
-            (attempt_reply (S.meaning suite.now) (kept_of self.old).known.session (kept_of self.old).known.left)) }
-        ensures stays { OnOk result (kept_of self.new ≡ record (kept_of self.old) { end = (kept_of self.new).end; sending = (kept_of self.new).sending }) }
-        ensures kept { OnOk result (ending self.new.end ≢ Failed fault.Memory) }
+        requires open { end_data self.old.end ≡ Open }
+        ensures gives { OnOk result ((strict : Bool) (next : KeysData)
+            → Gives (S.meaning suite.now) (config_data config.now).seed strict next (state_data self.old) (state_data self.new) sent.old.items sent.new.items
+            (attempt_reply (S.meaning suite.now) (state_data self.old).known.session (state_data self.old).known.left)) }
+        ensures stays { OnOk result (state_data self.new ≡ record (state_data self.old) { end = (state_data self.new).end; sending = (state_data self.new).sending }) }
+        ensures kept { OnOk result (end_data self.new.end ≢ Failed fault.Memory) }
     {
         match self.left.first() {
-            None => self.fail(config, suite, Fault::NoMoreMethods, said),
+            None => self.fail(config, suite, Fault::NoMoreMethods, sent),
             Some(attempt) => {
                 let request = next_payload(
                     self.alloc,
@@ -60,72 +60,72 @@ impl State<'_> {
                     self.confirmed,
                     attempt,
                 )?;
-                self.say(config, suite, &request, said)
+                self.send(config, suite, &request, sent)
             }
         }
     }
 
     /// A client hears FAILURE: it makes the next attempt whose method is listed; those that it skips
     /// aren't made later (RFC 4252 section 5.1). Fails as `NoMoreMethods` where none is left.
-    pub(crate) fn hear_failure<S: Suite>(
+    pub(crate) fn receive_failure<S: Suite>(
         &mut self,
         config: &Config<'_>,
         suite: &S,
         methods: &NameList,
-        said: &mut Vec<u8>,
+        sent: &mut Vec<u8>,
     ) -> Result<(), Memory>
-        requires open { ending self.old.end ≡ Open }
-        ensures gives { OnOk result ((strict : Bool) (next : KeyData)
-            → Gives (S.meaning suite.now) (party_of config.now).seed strict next (kept_of self.old) (kept_of self.new) said.old.items said.new.items
-            (failure_reply (S.meaning suite.now) (kept_of self.old).known methods.now)) }
-        ensures stays { OnOk result (kept_of self.new ≡ record (kept_of self.old) {
-          end = (kept_of self.new).end;
-          known = failed_attempt (kept_of self.old).known methods.now;
-          sending = (kept_of self.new).sending;
+        requires open { end_data self.old.end ≡ Open }
+        ensures gives { OnOk result ((strict : Bool) (next : KeysData)
+            → Gives (S.meaning suite.now) (config_data config.now).seed strict next (state_data self.old) (state_data self.new) sent.old.items sent.new.items
+            (failure_reply (S.meaning suite.now) (state_data self.old).known methods.now)) }
+        ensures stays { OnOk result (state_data self.new ≡ record (state_data self.old) {
+          end = (state_data self.new).end;
+          known = failed_attempt (state_data self.old).known methods.now;
+          sending = (state_data self.new).sending;
         }) }
-        ensures kept { OnOk result (ending self.new.end ≢ Failed fault.Memory) }
+        ensures kept { OnOk result (end_data self.new.end ≢ Failed fault.Memory) }
     {
         self.left = next_attempts(self.left, methods);
         self.confirmed = false;
         self.first = false;
-        self.make_attempt(config, suite, said)
+        self.make_attempt(config, suite, sent)
     }
 
     /// A client hears PK_OK: the attempt of the query is made itself, if the key is the one that was asked
     /// about; else it is unexpected (RFC 4252 section 7).
-    pub(crate) fn hear_pk_ok<S: Suite>(
+    pub(crate) fn receive_pk_ok<S: Suite>(
         &mut self,
         config: &Config<'_>,
         suite: &S,
         algorithm: &[u8],
         key: &[u8],
-        said: &mut Vec<u8>,
+        sent: &mut Vec<u8>,
     ) -> Result<(), Memory>
-        requires open { ending self.old.end ≡ Open }
-        ensures gives { OnOk result ((strict : Bool) (next : KeyData)
-            → Gives (S.meaning suite.now) (party_of config.now).seed strict next (kept_of self.old) (kept_of self.new) said.old.items said.new.items
-            (pk_ok_reply (S.meaning suite.now) (kept_of self.old).known algorithm.now key.now)) }
-        ensures stays { OnOk result (IsOngoing (kept_of self.new).end → kept_of self.new ≡ record (kept_of self.old) {
-          end = (kept_of self.new).end;
-          known = confirmed_attempt (kept_of self.old).known;
-          sending = (kept_of self.new).sending;
+        requires open { end_data self.old.end ≡ Open }
+        ensures gives { OnOk result ((strict : Bool) (next : KeysData)
+            → Gives (S.meaning suite.now) (config_data config.now).seed strict next (state_data self.old) (state_data self.new) sent.old.items sent.new.items
+            (pk_ok_reply (S.meaning suite.now) (state_data self.old).known algorithm.now key.now)) }
+        ensures stays { OnOk result (IsOngoing (state_data self.new).end → state_data self.new ≡ record (state_data self.old) {
+          end = (state_data self.new).end;
+          known = confirmed_attempt (state_data self.old).known;
+          sending = (state_data self.new).sending;
         }) }
-        ensures kept { OnOk result (ending self.new.end ≢ Failed fault.Memory) }
+        ensures kept { OnOk result (end_data self.new.end ≢ Failed fault.Memory) }
     {
         if !self.is_about(suite, algorithm, key)? {
             let unexpected = Fault::Unexpected(SSH_MSG_USERAUTH_PK_OK);
-            return self.fail(config, suite, unexpected, said);
+            return self.fail(config, suite, unexpected, sent);
         }
         self.confirmed = true;
         self.first = false;
-        self.make_attempt(config, suite, said)
+        self.make_attempt(config, suite, sent)
     }
 
     /// Whether the query that waits for its answer is about this key.
     fn is_about<S: Suite>(&self, suite: &S, algorithm: &[u8], key: &[u8]) -> Result<bool, Memory>
         ensures { IfOk result (λ about.
-            (if about then attempt_reply (S.meaning suite.now) (kept_of self.now).known.session (confirmed (kept_of self.now).known.left) else fails (fault.Unexpected SSH_MSG_USERAUTH_PK_OK))
-            ≡ pk_ok_reply (S.meaning suite.now) (kept_of self.now).known algorithm.now key.now) }
+            (if about then attempt_reply (S.meaning suite.now) (state_data self.now).known.session (confirmed (state_data self.now).known.left) else fails (fault.Unexpected SSH_MSG_USERAUTH_PK_OK))
+            ≡ pk_ok_reply (S.meaning suite.now) (state_data self.now).known algorithm.now key.now) }
     {
         match self.left.first() {
             None => Ok(false),
@@ -140,25 +140,25 @@ impl State<'_> {
 
     /// A client hears SUCCESS: the user of the attempt that was made last is authenticated (RFC 4252
     /// section 5.1). Fails as `Unexpected(52)` where none was made.
-    pub(crate) fn hear_success<S: Suite>(
+    pub(crate) fn receive_success<S: Suite>(
         &mut self,
         config: &Config<'_>,
         suite: &S,
-        said: &mut Vec<u8>,
+        sent: &mut Vec<u8>,
     ) -> Result<(), Memory>
-        requires open { ending self.old.end ≡ Open }
+        requires open { end_data self.old.end ≡ Open }
         requires at { self.old.phase ≡ phase.Auth }
-        ensures gives { OnOk result ((strict : Bool) (next : KeyData)
-            → Gives (S.meaning suite.now) (party_of config.now).seed strict next (kept_of self.old) (kept_of self.new) said.old.items said.new.items
-            (success_reply (kept_of self.old).known)) }
-        ensures stays { OnOk result (IsOngoing (kept_of self.new).end
-            → kept_of self.new ≡ record (kept_of self.old) { end = (kept_of self.new).end; known = heard_one (kept_of self.old).known }) }
-        ensures kept { OnOk result (ending self.new.end ≢ Failed fault.Memory) }
+        ensures gives { OnOk result ((strict : Bool) (next : KeysData)
+            → Gives (S.meaning suite.now) (config_data config.now).seed strict next (state_data self.old) (state_data self.new) sent.old.items sent.new.items
+            (success_reply (state_data self.old).known)) }
+        ensures stays { OnOk result (IsOngoing (state_data self.new).end
+            → state_data self.new ≡ record (state_data self.old) { end = (state_data self.new).end; known = received_one (state_data self.old).known }) }
+        ensures kept { OnOk result (end_data self.new.end ≢ Failed fault.Memory) }
     {
         match self.left.first() {
             None => {
                 let fault = Fault::Unexpected(SSH_MSG_USERAUTH_SUCCESS);
-                self.fail(config, suite, fault, said)
+                self.fail(config, suite, fault, sent)
             }
             Some(attempt) => self.authenticate(&attempt.user, &attempt.service),
         }
@@ -167,7 +167,7 @@ impl State<'_> {
 
 /// The attempts behind the first, from the next one on whose method is listed.
 fn next_attempts<'a>(attempts: &'a [Attempt], listed: &NameList) -> &'a [Attempt]
-    ensures { map attempt_of result.now ≡ next_behind listed.now (map attempt_of attempts.now) }
+    ensures { map attempt_data result.now ≡ next_after listed.now (map attempt_data attempts.now) }
 {
     match attempts.split_first() {
         None => attempts,
@@ -177,7 +177,7 @@ fn next_attempts<'a>(attempts: &'a [Attempt], listed: &NameList) -> &'a [Attempt
 
 /// These attempts from the first one on whose method is listed.
 fn from_listed<'a>(attempts: &'a [Attempt], listed: &NameList) -> &'a [Attempt]
-    ensures { map attempt_of result.now ≡ next_listed listed.now (map attempt_of attempts.now) }
+    ensures { map attempt_data result.now ≡ next_listed listed.now (map attempt_data attempts.now) }
 {
     let found = attempts
         .iter()
@@ -190,7 +190,7 @@ fn from_listed<'a>(attempts: &'a [Attempt], listed: &NameList) -> &'a [Attempt]
 
 /// Whether the method of an attempt is listed.
 fn is_listed(attempt: &Attempt, listed: &NameList) -> bool
-    ensures { result ≡ is_in listed.now (proving_name (proving_of attempt.now.credential)) }
+    ensures { result ≡ is_in listed.now (proving_name (credential_data attempt.now.credential)) }
 {
     listed.contains(attempt.credential.method())
 }
@@ -204,9 +204,9 @@ fn next_payload<S: Suite>(
     confirmed: bool,
     attempt: &Attempt,
 ) -> Result<Vec<u8>, Memory>
-    requires attempt { IsAttempt (attempt_of attempt.now) }
+    requires attempt { IsAttempt (attempt_data attempt.now) }
     requires session { length session.now ≤ DIGEST_LIMIT }
-    ensures { IfOk result (λ made. IsMade (request_of (S.meaning suite.now) session.now (first_made confirmed (attempt_of attempt.now))) made.items) }
+    ensures { IfOk result (λ made. IsMade (request_of (S.meaning suite.now) session.now (first_made confirmed (attempt_data attempt.now))) made.items) }
 {
     match &attempt.credential {
         Credential::None => method_payload(alloc, attempt, Method::None),
@@ -235,10 +235,10 @@ fn query_payload<S: Suite>(
     algorithm: &str,
     private_key: &[u8],
 ) -> Result<Vec<u8>, Memory>
-    requires attempt { IsAttempt (attempt_of attempt.now) }
+    requires attempt { IsAttempt (attempt_data attempt.now) }
     requires named { IsName algorithm.now }
     requires key { length private_key.now ≤ PRIVATE_KEY_LIMIT }
-    ensures { IfOk result (λ made. IsMade (written_message (content.UserauthRequest (attempt_of attempt.now).user (attempt_of attempt.now).service
+    ensures { IfOk result (λ made. IsMade (written_message (content.UserauthRequest (attempt_data attempt.now).user (attempt_data attempt.now).service
         (method_by (S.meaning suite.now) [] [] [] (ByKey algorithm.now private_key.now true)))) made.items) }
 {
     let key = suite.blob(alloc, algorithm, private_key)?;
@@ -259,12 +259,12 @@ fn signed_payload<S: Suite>(
     algorithm: &str,
     private_key: &[u8],
 ) -> Result<Vec<u8>, Memory>
-    requires attempt { IsAttempt (attempt_of attempt.now) }
+    requires attempt { IsAttempt (attempt_data attempt.now) }
     requires named { IsName algorithm.now }
     requires key { length private_key.now ≤ PRIVATE_KEY_LIMIT }
     requires session { length session.now ≤ DIGEST_LIMIT }
-    ensures { IfOk result (λ made. IsMade (written_message (content.UserauthRequest (attempt_of attempt.now).user (attempt_of attempt.now).service
-        (method_by (S.meaning suite.now) session.now (attempt_of attempt.now).user (attempt_of attempt.now).service (ByKey algorithm.now private_key.now false)))) made.items) }
+    ensures { IfOk result (λ made. IsMade (written_message (content.UserauthRequest (attempt_data attempt.now).user (attempt_data attempt.now).service
+        (method_by (S.meaning suite.now) session.now (attempt_data attempt.now).user (attempt_data attempt.now).service (ByKey algorithm.now private_key.now false)))) made.items) }
 {
     sshneg::exchange_law();
     let key = suite.blob(alloc, algorithm, private_key)?;
@@ -287,8 +287,8 @@ fn is_asked<S: Suite>(
     algorithm: &[u8],
     key: &[u8],
 ) -> Result<bool, Memory>
-    requires { IsAttempt (attempt_of attempt.now) }
-    ensures { IfOk result (λ asked. asked ≡ is_asked (S.meaning suite.now) (proving_of attempt.now.credential) algorithm.now key.now) }
+    requires { IsAttempt (attempt_data attempt.now) }
+    ensures { IfOk result (λ asked. asked ≡ is_asked (S.meaning suite.now) (credential_data attempt.now.credential) algorithm.now key.now) }
 {
     match &attempt.credential {
         Credential::PublicKey {
@@ -308,9 +308,9 @@ fn is_asked<S: Suite>(
 
 /// The payload of the request of an attempt by this method.
 fn method_payload(alloc: Global, attempt: &Attempt, method: Method<'_>) -> Result<Vec<u8>, Memory>
-    requires attempt { IsAttempt (attempt_of attempt.now) }
-    requires fits { FitsRequest (method_of method) }
-    ensures { IfOk result (λ made. IsMade (written_message (content.UserauthRequest (attempt_of attempt.now).user (attempt_of attempt.now).service (method_of method.entry))) made.items) }
+    requires attempt { IsAttempt (attempt_data attempt.now) }
+    requires fits { FitsRequest (method_data method) }
+    ensures { IfOk result (λ made. IsMade (written_message (content.UserauthRequest (attempt_data attempt.now).user (attempt_data attempt.now).service (method_data method.entry))) made.items) }
 {
     sshmsg::lengths_law();
     let message = Message::UserauthRequest {

@@ -2,12 +2,12 @@
 
 ghost use Rattle.std.specs.Prelude.{◌≡◌, ◌≢◌, ◌≤◌, Err, IfErr, IfOk, length};
 ghost use Rattle.sshwire.specs.declared.limits.TheConstants.{PAYLOAD_LIMIT};
-ghost use Rattle.sshmsg.specs.Content as content;
-ghost use Rattle.sshmsg.specs.View.{offer_of};
+ghost use Rattle.sshmsg.specs.MessageData as content;
+ghost use Rattle.sshmsg.specs.View.{kexinit_data};
 ghost use Rattle.sshmsg.specs.Written.{IsOffer, written_message};
 ghost use Rattle.sshcore.specs.declared.config_fault.ConfigFault.{ConfigFault};
 ghost use Rattle.sshcore.specs.declared.config_fault.ConfigFault.TheVariants as fault;
-ghost use Rattle.sshcore.specs.ConfigData.{client_offer, version_of};
+ghost use Rattle.sshcore.specs.ConfigParts.{client_offer, version_of};
 ghost use Rattle.sshcore.specs.ConfigRules.{ClientRule, IsClient, IsLeastBroken};
 ghost use Rattle.sshcore.specs.ConfigView.{client_data};
 ghost use Rattle.sshcore.specs.Redrawn.{draws_of, redrawn_client};
@@ -37,7 +37,7 @@ pub struct ClientConfig {
 
 impl Model for ClientConfig {
     ghost use Rattle.std.specs.Prelude.{◌≡◌};
-    ghost use Rattle.sshcore.specs.ConfigData.{ClientData, version_of};
+    ghost use Rattle.sshcore.specs.ConfigParts.{ClientData, version_of};
     ghost use Rattle.sshcore.specs.ConfigRules.{IsClient};
     ghost use Rattle.sshcore.specs.ConfigView.{client_data};
 
@@ -102,7 +102,7 @@ impl ClientConfig {
     /// behind the methods the own marker where the side is willing to be strict, no compression and no
     /// languages. It fits a payload. Answers `Memory` for want of memory.
     pub fn kexinit(&self) -> Result<KexInit<'_>, Memory>
-        ensures offer { IfOk result (λ kexinit. offer_of kexinit ≡ client_offer self.now) }
+        ensures offer { IfOk result (λ kexinit. kexinit_data kexinit ≡ client_offer self.now) }
         ensures formed { IsOffer (client_offer self.now) }
         ensures fits { length (written_message (content.KexInit (client_offer self.now))) ≤ PAYLOAD_LIMIT }
     {
@@ -113,7 +113,7 @@ impl ClientConfig {
     /// The KEXINIT that an endpoint of this config with these draws sends: it has their cookie, and the rest
     /// is that of [`ClientConfig::kexinit`]. It fits a payload. Answers `Memory` for want of memory.
     pub fn kexinit_with<'b>(&'b self, draws: &'b Draws) -> Result<KexInit<'b>, Memory>
-        ensures offer { IfOk result (λ kexinit. offer_of kexinit ≡ client_offer (redrawn_client draws.now self.now)) }
+        ensures offer { IfOk result (λ kexinit. kexinit_data kexinit ≡ client_offer (redrawn_client draws.now self.now)) }
         ensures formed { IsOffer (client_offer (redrawn_client draws.now self.now)) }
         ensures fits { length (written_message (content.KexInit (client_offer (redrawn_client draws.now self.now)))) ≤ PAYLOAD_LIMIT }
     {
@@ -124,7 +124,7 @@ impl ClientConfig {
 
     /// The KEXINIT of this config with this cookie.
     fn kexinit_by<'b>(&'b self, cookie: &'b [u8; 16]) -> Result<KexInit<'b>, Memory>
-        ensures offer { IfOk result (λ kexinit. offer_of kexinit ≡ record (client_offer self.now) { cookie = cookie.now }) }
+        ensures offer { IfOk result (λ kexinit. kexinit_data kexinit ≡ record (client_offer self.now) { cookie = cookie.now }) }
         ensures accepted { IsClient self.now }
     {
         config_law();

@@ -5,12 +5,12 @@ ghost use Rattle.std.specs.List.{AllByRecursion};
 ghost use Rattle.sshwire.specs.declared.limits.TheConstants.{LINE_LIMIT, NAME_LIMIT, PAYLOAD_LIMIT};
 ghost use Rattle.sshwire.specs.Lines.{version_line};
 ghost use Rattle.sshcore.specs.declared.config_parts.TheConstants.{BANNER_LIMIT, LIST_LIMIT, PRIVATE_KEY_LIMIT, TRIES_LIMIT};
-ghost use Rattle.sshmsg.specs.Content as content;
-ghost use Rattle.sshmsg.specs.View.{offer_of};
+ghost use Rattle.sshmsg.specs.MessageData as content;
+ghost use Rattle.sshmsg.specs.View.{kexinit_data};
 ghost use Rattle.sshmsg.specs.Written.{written_message};
-ghost use Rattle.sshcore.specs.ConfigParty.{party_of, role_of};
+ghost use Rattle.sshcore.specs.EndpointConfig.{config_data, role_of};
 ghost use Rattle.sshcore.specs.ConfigRules.{IsAttempt};
-ghost use Rattle.sshcore.specs.ConfigView.{attempt_of, host_key_of};
+ghost use Rattle.sshcore.specs.ConfigView.{attempt_data, host_key_data};
 ghost use Rattle.sshcore.specs.Exchange.{secret_of};
 ghost use Rattle.sshcore.specs.Work.{guessed_method};
 ghost use Rattle.sshwire.specs.Types.{AreNames, IsName, names_body};
@@ -44,9 +44,9 @@ impl<'a> Config<'a> {
 
     /// What both roles have, besides draws.
     pub(crate) fn side(&self) -> &'a SideParts
-        ensures strict { result.now.strict ≡ (party_of self.now).strict }
+        ensures strict { result.now.strict ≡ (config_data self.now).strict }
         // The methods are some names, and they are those of the KEXINIT, whose marker is no method.
-        ensures methods { map string_bytes result.now.kex_algorithms.items ≡ methods (party_of self.now).offer.kex_algorithms }
+        ensures methods { map string_bytes result.now.kex_algorithms.items ≡ methods (config_data self.now).offer.kex_algorithms }
         ensures some { 0 < length result.now.kex_algorithms.items }
         ensures names { AreNames (map string_bytes result.now.kex_algorithms.items) }
     {
@@ -58,8 +58,8 @@ impl<'a> Config<'a> {
 
     /// What this connection has drawn.
     fn draws(&self) -> &Draws
-        ensures random { result.now.exchange_random ≡ (party_of self.now).random }
-        ensures seed { result.now.padding_seed ≡ (party_of self.now).seed }
+        ensures random { result.now.exchange_random ≡ (config_data self.now).random }
+        ensures seed { result.now.padding_seed ≡ (config_data self.now).seed }
     {
         match self {
             Config::Client(_, draws) => draws,
@@ -69,24 +69,24 @@ impl<'a> Config<'a> {
 
     /// The secret of which the suite makes this side's share.
     pub(crate) fn exchange_random(&self) -> &[u8]
-        ensures random { result.now ≡ (party_of self.now).random }
-        ensures random_length { length (party_of self.now).random ≡ 32 }
+        ensures random { result.now ≡ (config_data self.now).random }
+        ensures random_length { length (config_data self.now).random ≡ 32 }
     {
         &self.draws().exchange_random
     }
 
     /// The secret of which the suite makes padding.
     pub(crate) fn padding_seed(&self) -> &[u8]
-        ensures seed { result.now ≡ (party_of self.now).seed }
-        ensures seed_length { length (party_of self.now).seed ≡ 32 }
+        ensures seed { result.now ≡ (config_data self.now).seed }
+        ensures seed_length { length (config_data self.now).seed ≡ 32 }
     {
         &self.draws().padding_seed
     }
 
     /// The version line that is sent.
     pub(crate) fn version(&self) -> &'a VersionLine
-        ensures version { result.now ≡ (party_of self.now).version }
-        ensures short { length (version_line (party_of self.now).version) ≤ LINE_LIMIT }
+        ensures version { result.now ≡ (config_data self.now).version }
+        ensures short { length (version_line (config_data self.now).version) ≤ LINE_LIMIT }
     {
         match self {
             Config::Client(client, _) => client.version(),
@@ -96,8 +96,8 @@ impl<'a> Config<'a> {
 
     /// The KEXINIT that is sent.
     pub(crate) fn kexinit(&self) -> Result<KexInit<'_>, Memory>
-        ensures offer { IfOk result (λ kexinit. offer_of kexinit ≡ (party_of self.now).offer) }
-        ensures fits { length (written_message (content.KexInit (party_of self.now).offer)) ≤ PAYLOAD_LIMIT }
+        ensures offer { IfOk result (λ kexinit. kexinit_data kexinit ≡ (config_data self.now).offer) }
+        ensures fits { length (written_message (content.KexInit (config_data self.now).offer)) ≤ PAYLOAD_LIMIT }
     {
         match self {
             Config::Client(client, draws) => client.kexinit_with(draws),
@@ -107,7 +107,7 @@ impl<'a> Config<'a> {
 
     /// Whether the KEXINIT that is sent announces a guess; a server guesses nothing (profile).
     pub(crate) fn guesses(&self) -> bool
-        ensures { result ≡ (party_of self.now).offer.first_kex_packet_follows }
+        ensures { result ≡ (config_data self.now).offer.first_kex_packet_follows }
     {
         match self {
             Config::Client(client, _) => client.parts().guess,
@@ -117,7 +117,7 @@ impl<'a> Config<'a> {
 
     /// The first of the methods, for which a guess is made.
     pub(crate) fn first_method(&self) -> &'a str
-        ensures method { result.now ≡ guessed_method (party_of self.now) }
+        ensures method { result.now ≡ guessed_method (config_data self.now) }
         ensures name { IsName result.now }
     {
         self.side().kex_algorithms[0].as_str()
@@ -125,7 +125,7 @@ impl<'a> Config<'a> {
 
     /// The notice lines of a server.
     pub(crate) fn notices(&self) -> &'a [Vec<u8>]
-        ensures { map (λ line. line.items) result.now ≡ (party_of self.now).notices }
+        ensures { map (λ line. line.items) result.now ≡ (config_data self.now).notices }
     {
         match self {
             Config::Client(..) => &[],
@@ -135,7 +135,7 @@ impl<'a> Config<'a> {
 
     /// The private key of the first host key of this algorithm; none of a client (no bytes).
     pub(crate) fn secret(&self, algorithm: &str) -> &'a [u8]
-        ensures secret { result.now ≡ secret_of (party_of self.now).host_keys algorithm.now }
+        ensures secret { result.now ≡ secret_of (config_data self.now).host_keys algorithm.now }
         ensures short { length result.now ≤ PRIVATE_KEY_LIMIT }
     {
         match self {
@@ -146,8 +146,8 @@ impl<'a> Config<'a> {
 
     /// The attempts of a client's plan; a server has none.
     pub(crate) fn plan(&self) -> &'a [Attempt]
-        ensures plan { map attempt_of result.now ≡ (party_of self.now).plan }
-        ensures accepted { AllByRecursion IsAttempt (map attempt_of result.now) }
+        ensures plan { map attempt_data result.now ≡ (config_data self.now).plan }
+        ensures accepted { AllByRecursion IsAttempt (map attempt_data result.now) }
     {
         match self {
             Config::Client(client, _) => &client.parts().plan,
@@ -157,7 +157,7 @@ impl<'a> Config<'a> {
 
     /// The service of a server that has this name; a client has none.
     pub(crate) fn service(&self, name: &[u8]) -> Option<&'a str>
-        ensures service { option_map (λ service. service.now) result ≡ (if is_in (party_of self.now).services name.now then Some name.now else None) }
+        ensures service { option_map (λ service. service.now) result ≡ (if is_in (config_data self.now).services name.now then Some name.now else None) }
         ensures short { IfSome result (λ service. length service.now ≤ NAME_LIMIT) }
     {
         match self {
@@ -168,7 +168,7 @@ impl<'a> Config<'a> {
 
     /// Whether a server lists this method in a FAILURE; a client lists none.
     pub(crate) fn lists(&self, method: &str) -> bool
-        ensures { result ≡ is_in (party_of self.now).methods method.now }
+        ensures { result ≡ is_in (config_data self.now).methods method.now }
     {
         match self {
             Config::Client(..) => false,
@@ -181,9 +181,9 @@ impl<'a> Config<'a> {
 
     /// The methods that a server's FAILURE lists; a client lists none.
     pub(crate) fn methods(&self) -> &'a [String]
-        ensures methods { map string_bytes result.now ≡ (party_of self.now).methods }
-        ensures names { AreNames (party_of self.now).methods }
-        ensures short { length (names_body (party_of self.now).methods) ≤ LIST_LIMIT }
+        ensures methods { map string_bytes result.now ≡ (config_data self.now).methods }
+        ensures names { AreNames (config_data self.now).methods }
+        ensures short { length (names_body (config_data self.now).methods) ≤ LIST_LIMIT }
     {
         match self {
             Config::Client(..) => &[],
@@ -193,7 +193,7 @@ impl<'a> Config<'a> {
 
     /// The methods that a user has to prove all; a client requires none.
     pub(crate) fn required(&self) -> &'a [String]
-        ensures { map string_bytes result.now ≡ (party_of self.now).required }
+        ensures { map string_bytes result.now ≡ (config_data self.now).required }
     {
         match self {
             Config::Client(..) => &[],
@@ -203,7 +203,7 @@ impl<'a> Config<'a> {
 
     /// How many requests a server grants; a client none.
     pub(crate) fn tries(&self) -> u32
-        ensures tries { result ≡ (party_of self.now).tries }
+        ensures tries { result ≡ (config_data self.now).tries }
         ensures bound { result ≤ TRIES_LIMIT }
     {
         match self {
@@ -214,7 +214,7 @@ impl<'a> Config<'a> {
 
     /// The text of a server's banner.
     pub(crate) fn banner(&self) -> Option<&'a [u8]>
-        ensures banner { option_map (λ text. text.now) result ≡ (party_of self.now).banner }
+        ensures banner { option_map (λ text. text.now) result ≡ (config_data self.now).banner }
         ensures short { IfSome result (λ text. length text.now ≤ BANNER_LIMIT) }
     {
         match self {
@@ -236,7 +236,7 @@ pub(crate) fn name_in<'a>(names: &'a [String], name: &[u8]) -> Option<&'a str>
 
 /// The private key of the first of these keys that has this algorithm, or no bytes.
 fn secret_in<'a>(keys: &'a [HostKey], algorithm: &str) -> &'a [u8]
-    ensures { result.now ≡ secret_of (map host_key_of keys.now) algorithm.now }
+    ensures { result.now ≡ secret_of (map host_key_data keys.now) algorithm.now }
 {
     match keys.iter().find(|key| algorithm == key.algorithm.as_str()) {
         Some(key) => &key.private_key,

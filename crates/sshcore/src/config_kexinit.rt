@@ -1,10 +1,10 @@
 //! Builds the KEXINIT of accepted parts (RFC 4253 section 7.1).
 
 ghost use Rattle.std.specs.Prelude.{◌≡◌, ◌+◌, ◌<◌, ◌^◌, ◌++◌, ◌∷◌, [], IfOk, codes, length, map, string_bytes};
-ghost use Rattle.sshmsg.specs.View.{offer_of};
-ghost use Rattle.sshcore.specs.ConfigData.{key_algorithms, own_marker, side_offer};
+ghost use Rattle.sshmsg.specs.View.{kexinit_data};
+ghost use Rattle.sshcore.specs.ConfigParts.{key_algorithms, own_marker, side_offer};
 ghost use Rattle.sshcore.specs.ConfigRules.{FitsKexInit};
-ghost use Rattle.sshcore.specs.ConfigView.{host_key_of, side_data};
+ghost use Rattle.sshcore.specs.ConfigView.{host_key_data, side_data};
 
 use crate::config_parts::{HostKey, SideParts};
 use sshmsg::KexInit;
@@ -41,7 +41,7 @@ pub(crate) fn kexinit_of<'a>(
     guess: bool,
 ) -> Result<KexInit<'a>, Memory>
     requires { FitsKexInit (side_data side.now) }
-    ensures { IfOk result (λ k. offer_of k ≡ record (side_offer role (side_data side.now) host_keys guess) { cookie = cookie.now }) }
+    ensures { IfOk result (λ k. kexinit_data k ≡ record (side_offer role (side_data side.now) host_keys guess) { cookie = cookie.now }) }
 {
     let kex_algorithms = kex_list(alloc, role, side)?;
     let directions = directions_of(alloc, side)?;
@@ -117,7 +117,7 @@ pub(crate) fn list_of(alloc: Global, names: &[String]) -> Result<NameList, Memor
 #[tactic(auto, using(crate::proofs::ConfigJudged::host_keys_mapped))]
 pub(crate) fn list_of_host_keys(alloc: Global, keys: &[HostKey]) -> Result<NameList, Memory>
     requires { length keys.now < 2 ^ 25 }
-    ensures { IfOk result (λ list. list ≡ key_algorithms (map host_key_of keys.now)) }
+    ensures { IfOk result (λ list. list ≡ key_algorithms (map host_key_data keys.now)) }
 {
     let texts = texts_of_host_keys(alloc, keys)?;
     list_of_texts(alloc, &texts)

@@ -2,12 +2,12 @@
 
 ghost use Rattle.std.specs.Prelude.{◌+◌, ◌≤◌, Contains, length};
 ghost use Rattle.sshwire.specs.declared.limits.TheConstants.{PAYLOAD_LIMIT};
-ghost use Rattle.sshmsg.specs.Content.{KexInit};
+ghost use Rattle.sshmsg.specs.MessageData.{KexInit};
 ghost use Rattle.sshmsg.specs.Written.{IsOffer, written_message};
 ghost use Rattle.sshneg.specs.declared.role.Role.{Role};
 ghost use Rattle.sshneg.specs.Markers.{strict_marker};
 ghost use Rattle.sshcore.specs.declared.config_parts.TheConstants.{LIST_LIMIT};
-ghost use Rattle.sshcore.specs.ConfigData.{ClientData, ServerData, client_offer, server_offer};
+ghost use Rattle.sshcore.specs.ConfigParts.{ClientData, ServerData, client_offer, server_offer};
 ghost use Rattle.sshcore.specs.declared.draws.Draws.{Draws};
 ghost use Rattle.sshcore.specs.ConfigRules.{FitsKexInit, IsClient, IsServer};
 ghost use Rattle.sshcore.specs.Redrawn.{AreDraws, redrawn_client, redrawn_server};

@@ -51,12 +51,12 @@ pub enum Credential {
 }
 
 impl Credential {
-    ghost use Rattle.sshcore.specs.ConfigView.{proving_of};
+    ghost use Rattle.sshcore.specs.ConfigView.{credential_data};
     ghost use Rattle.sshcore.specs.Plan.{asks, proving_name};
 
     /// The name of the method of the request. Takes no memory.
     pub fn method(&self) -> &'static str
-        ensures { result.now ≡ proving_name (proving_of self.now) }
+        ensures { result.now ≡ proving_name (credential_data self.now) }
     {
         match self {
             Credential::None => "none",
@@ -67,7 +67,7 @@ impl Credential {
 
     /// Whether the server is asked first if the key would do. Takes no memory.
     pub fn asks(&self) -> bool
-        ensures { result ≡ asks (proving_of self.now) }
+        ensures { result ≡ asks (credential_data self.now) }
     {
         match self {
             Credential::PublicKey { ask, .. } => *ask,

@@ -2,7 +2,7 @@
 
 ghost use Rattle.std.specs.Prelude.{◌≡◌, IfOk};
 ghost use Rattle.sshwire.specs.Types.{IsBytes};
-ghost use Rattle.sshcore.specs.ConfigData.{version_of};
+ghost use Rattle.sshcore.specs.ConfigParts.{version_of};
 ghost use Rattle.sshcore.specs.ConfigRules.{HasBytes};
 ghost use Rattle.sshcore.specs.ConfigView.{side_data};
 

@@ -1,8 +1,8 @@
 //! What whoever runs an endpoint decides.
 
 ghost use Rattle.std.specs.Prelude.{◌≡◌};
-ghost use Rattle.sshcore.specs.Party.{Policy};
-ghost use Rattle.sshcore.specs.PartyView.{proof_of};
+ghost use Rattle.sshcore.specs.EndpointParts.{DecisionsData};
+ghost use Rattle.sshcore.specs.EndpointPartsView.{proof_data};
 
 use crate::notice::Notice;
 
@@ -34,7 +34,7 @@ pub enum Proof<'a> {
 /// lawful `Decisions`. Who has one takes the answers once, before the endpoint is made, and hands in a value
 /// that holds them; the next connection may get another.
 pub trait Decisions {
-    ghost policy: { Self → Policy };
+    ghost policy: { Self → DecisionsData };
 
     /// Whether the public key of this algorithm is trusted as the server's host key (RFC 4253 section
     /// 8). The algorithm is the one that was chosen; its name isn't compared with the one inside the blob,
@@ -47,7 +47,7 @@ pub trait Decisions {
     /// are required that aren't reached yet (section 5.1). It is asked of the method `none` too, whatever
     /// methods the server lists: say no to `Proof::None` where nobody comes in without a proof.
     fn user(&self, request_number: u32, user: &str, service: &str, proof: &Proof<'_>) -> bool
-        ensures { result ≡ (policy self.now).user request_number user.now service.now (proof_of proof.now) };
+        ensures { result ≡ (policy self.now).user request_number user.now service.now (proof_data proof.now) };
 
     /// Hears what the peer says to people, by a message before the endpoint answers that, or by a line before the
     /// version line. It can't change what is answered. Does nothing, unless whoever decides has a body of its own.

@@ -1,11 +1,11 @@
 //! The DISCONNECT of an endpoint that its owner ends.
 
 ghost use Rattle.std.specs.Prelude.{◌≡◌, ◌≤◌, Bool, OnErr, OnOk, length};
-ghost use Rattle.sshpacket.specs.KeyData.{KeyData};
+ghost use Rattle.sshpacket.specs.KeysData.{KeysData};
 ghost use Rattle.sshcore.specs.Brings.{Gives};
-ghost use Rattle.sshcore.specs.ConfigParty.{party_of};
-ghost use Rattle.sshcore.specs.Ending.{Disconnected, Open, description_sent, disconnects, ending};
-ghost use Rattle.sshcore.specs.Kept.{kept_of};
+ghost use Rattle.sshcore.specs.EndpointConfig.{config_data};
+ghost use Rattle.sshcore.specs.EndData.{Disconnected, Open, description_sent, disconnects, end_data};
+ghost use Rattle.sshcore.specs.StateData.{state_data};
 
 use crate::config::Config;
 use crate::end::End;
@@ -28,30 +28,30 @@ impl State<'_> {
         description: &str,
         out: &mut Vec<u8>,
     ) -> Result<(), Memory>
-        requires open { ending self.old.end ≡ Open }
-        ensures gives { OnOk result ((strict : Bool) (next : KeyData)
-            → Gives (S.meaning suite.now) (party_of config.now).seed strict next (kept_of self.old) (kept_of self.new) out.old.items out.new.items
+        requires open { end_data self.old.end ≡ Open }
+        ensures gives { OnOk result ((strict : Bool) (next : KeysData)
+            → Gives (S.meaning suite.now) (config_data config.now).seed strict next (state_data self.old) (state_data self.new) out.old.items out.new.items
             (disconnects reason description.now)) }
-        ensures stays { OnOk result (kept_of self.new ≡ record (kept_of self.old) { end = Disconnected reason; sending = (kept_of self.new).sending }) }
-        ensures ends { OnOk result (ending self.new.end ≡ Disconnected reason) }
+        ensures stays { OnOk result (state_data self.new ≡ record (state_data self.old) { end = Disconnected reason; sending = (state_data self.new).sending }) }
+        ensures ends { OnOk result (end_data self.new.end ≡ Disconnected reason) }
         ensures memory { OnErr result (out.new.items ≡ out.old.items) }
     {
         sshmsg::lengths_law();
-        let mut said = Vec::new(self.alloc);
+        let mut sent = Vec::new(self.alloc);
         let parting = Message::Disconnect {
             reason,
-            description: sent(description),
+            description: sent_text(description),
             language: b"",
         };
-        self.tell(config, suite, parting, &mut said)?;
-        out.extend_from_slice(&said)?;
+        self.tell(config, suite, parting, &mut sent)?;
+        out.extend_from_slice(&sent)?;
         self.end = End::Disconnected(reason);
         Ok(())
     }
 }
 
 /// What is sent of a description: all of it, or none where it is too long.
-fn sent(description: &str) -> &[u8]
+fn sent_text(description: &str) -> &[u8]
     ensures same { result.now ≡ description_sent description.now }
     ensures short { length result.now ≤ DESCRIPTION_LIMIT }
 {

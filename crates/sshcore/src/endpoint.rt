@@ -4,16 +4,16 @@ ghost use Rattle.std.specs.Prelude.{◌≡◌, ◌≢◌, None, Some, ◌<◌, �
 ghost use Rattle.sshneg.specs.declared.role.Role.TheVariants.{Client, Server};
 ghost use Rattle.sshpacket.specs.declared.limits.TheConstants.{PACKET_LIMIT};
 ghost use Rattle.sshcore.specs.declared.end.Fault.TheVariants as fault;
-ghost use Rattle.sshcore.specs.Ending.{AgreedData, Authenticated, Failed, Open, ending};
-ghost use Rattle.sshcore.specs.Party.{client_party, server_party};
+ghost use Rattle.sshcore.specs.EndData.{AgreedData, Authenticated, Failed, Open, end_data};
+ghost use Rattle.sshcore.specs.EndpointParts.{config_of_client, config_of_server};
 ghost use Rattle.sshcore.specs.Before.{strict_at};
 ghost use Rattle.sshcore.specs.Brings.{IsOngoing};
-ghost use Rattle.sshcore.specs.ConfigParty.{party_of, role_of};
-ghost use Rattle.sshcore.specs.Endpoints.{After, Breaks, Cuts, Fed, HasUnfinished, Leaves, Made, buffered_of, ending_of, turns_of};
+ghost use Rattle.sshcore.specs.EndpointConfig.{config_data, role_of};
+ghost use Rattle.sshcore.specs.Endpoints.{Breaks, Cuts, EndpointAfter, EndpointMade, Fed, HasUnfinished, Leaves, buffered_of, endpoint_end, turns_of};
 ghost use Rattle.sshcore.specs.Inputs.{CanRead, Steps, turns_left};
 ghost use Rattle.sshcore.specs.Directions.{payloads_in};
 ghost use Rattle.sshcore.specs.Exchange.{algorithms_at};
-ghost use Rattle.sshcore.specs.Kept.{kept_of};
+ghost use Rattle.sshcore.specs.StateData.{state_data};
 ghost use Rattle.sshcore.specs.NamesView.{names_of};
 ghost use Rattle.sshcore.specs.Phases.{past_kexinit, phase_at};
 ghost use Rattle.sshcore.specs.Redrawn.{redrawn_client, redrawn_server};
@@ -48,8 +48,8 @@ pub struct Endpoint<'a, S: Suite, D: Decisions> {
 
 impl<'a, S: Suite, D: Decisions> Model for Endpoint<'a, S, D> {
     ghost use Rattle.sshcore.specs.Brings.{IsOngoing};
-    ghost use Rattle.sshcore.specs.ConfigParty.{party_of, role_of};
-    ghost use Rattle.sshcore.specs.Ending.{ending};
+    ghost use Rattle.sshcore.specs.EndpointConfig.{config_data, role_of};
+    ghost use Rattle.sshcore.specs.EndData.{end_data};
     ghost use Rattle.sshcore.specs.EndpointData.{EndpointData};
     ghost use Rattle.sshcore.specs.Inputs.{CanRead};
     ghost use Rattle.sshcore.specs.AttemptProps.{IsAttempt-prop};
@@ -63,14 +63,14 @@ impl<'a, S: Suite, D: Decisions> Model for Endpoint<'a, S, D> {
 
     ghost view = { λ e. record {
       role = role_of e.config;
-      party = party_of e.config;
+      party = config_data e.config;
       suite = e.suite.now;
       decisions = e.decisions.now;
       input = e.input;
       state = e.state;
     } };
 
-    ghost invariant = { λ e. IsOngoing (ending e.state.end) → CanRead (S.meaning e.suite.now) e.input };
+    ghost invariant = { λ e. IsOngoing (end_data e.state.end) → CanRead (S.meaning e.suite.now) e.input };
 }
 
 impl<'a, S: Suite, D: Decisions> Endpoint<'a, S, D> {
@@ -87,7 +87,7 @@ impl<'a, S: Suite, D: Decisions> Endpoint<'a, S, D> {
         decisions: &'a D,
         out: &mut Vec<u8>,
     ) -> Result<Endpoint<'a, S, D>, Memory>
-        ensures made { IfOk result (λ e. Made S.meaning D.policy Client (client_party config.now) suite.now decisions.now e out.old.items out.new.items) }
+        ensures made { IfOk result (λ e. EndpointMade S.meaning D.policy Client (config_of_client config.now) suite.now decisions.now e out.old.items out.new.items) }
         ensures memory { OnErr result (out.new.items ≡ out.old.items) }
     {
         Endpoint::client_with(alloc, config, config.draws(), suite, decisions, out)
@@ -104,7 +104,7 @@ impl<'a, S: Suite, D: Decisions> Endpoint<'a, S, D> {
         decisions: &'a D,
         out: &mut Vec<u8>,
     ) -> Result<Endpoint<'a, S, D>, Memory>
-        ensures made { IfOk result (λ e. Made S.meaning D.policy Client (client_party (redrawn_client draws config.now)) suite.now decisions.now e out.old.items out.new.items) }
+        ensures made { IfOk result (λ e. EndpointMade S.meaning D.policy Client (config_of_client (redrawn_client draws config.now)) suite.now decisions.now e out.old.items out.new.items) }
         ensures memory { OnErr result (out.new.items ≡ out.old.items) }
     {
         Endpoint::begin(alloc, Config::Client(config, draws), suite, decisions, out)
@@ -124,7 +124,7 @@ impl<'a, S: Suite, D: Decisions> Endpoint<'a, S, D> {
         decisions: &'a D,
         out: &mut Vec<u8>,
     ) -> Result<Endpoint<'a, S, D>, Memory>
-        ensures made { IfOk result (λ e. Made S.meaning D.policy Server (server_party config.now) suite.now decisions.now e out.old.items out.new.items) }
+        ensures made { IfOk result (λ e. EndpointMade S.meaning D.policy Server (config_of_server config.now) suite.now decisions.now e out.old.items out.new.items) }
         ensures memory { OnErr result (out.new.items ≡ out.old.items) }
     {
         Endpoint::server_with(alloc, config, config.draws(), suite, decisions, out)
@@ -142,7 +142,7 @@ impl<'a, S: Suite, D: Decisions> Endpoint<'a, S, D> {
         decisions: &'a D,
         out: &mut Vec<u8>,
     ) -> Result<Endpoint<'a, S, D>, Memory>
-        ensures made { IfOk result (λ e. Made S.meaning D.policy Server (server_party (redrawn_server draws config.now)) suite.now decisions.now e out.old.items out.new.items) }
+        ensures made { IfOk result (λ e. EndpointMade S.meaning D.policy Server (config_of_server (redrawn_server draws config.now)) suite.now decisions.now e out.old.items out.new.items) }
         ensures memory { OnErr result (out.new.items ≡ out.old.items) }
     {
         Endpoint::begin(alloc, Config::Server(config, draws), suite, decisions, out)
@@ -156,7 +156,7 @@ impl<'a, S: Suite, D: Decisions> Endpoint<'a, S, D> {
         decisions: &'a D,
         out: &mut Vec<u8>,
     ) -> Result<Endpoint<'a, S, D>, Memory>
-        ensures made { IfOk result (λ e. Made S.meaning D.policy (role_of config.entry) (party_of config.entry) suite.now decisions.now e out.old.items out.new.items) }
+        ensures made { IfOk result (λ e. EndpointMade S.meaning D.policy (role_of config.entry) (config_data config.entry) suite.now decisions.now e out.old.items out.new.items) }
         ensures memory { OnErr result (out.new.items ≡ out.old.items) }
     {
         sshpacket::parser_law();
@@ -164,7 +164,7 @@ impl<'a, S: Suite, D: Decisions> Endpoint<'a, S, D> {
         sshmsg::numbers_law();
         sshneg::markers_law();
         let mut state = State::new(alloc, &config);
-        state.say_greeting(&config, suite, out)?;
+        state.send_greeting(&config, suite, out)?;
         Ok(Endpoint {
             input: Input::new(alloc, config.role()),
             config,
@@ -188,11 +188,11 @@ impl<'a, S: Suite, D: Decisions> Endpoint<'a, S, D> {
     /// the endpoint has then failed, and `out` has its old bytes followed by whole packets.
     pub fn feed(&mut self, piece: &[u8], out: &mut Vec<u8>) -> Result<usize, Memory>
         ensures fed { IfOk result (λ used. Fed S.meaning D.policy self.old self.new (take used piece.now) out.old.items out.new.items) }
-        ensures used { IfOk result (λ used. (used ≤ length piece.now) × (ending_of self.new ≡ Open → used ≡ length piece.now)) }
-        ensures memory { OnErr result ((ending_of self.new ≡ Failed fault.Memory) × Breaks S.meaning D.policy self.old self.new piece.now out.old.items out.new.items) }
+        ensures used { IfOk result (λ used. (used ≤ length piece.now) × (endpoint_end self.new ≡ Open → used ≡ length piece.now)) }
+        ensures memory { OnErr result ((endpoint_end self.new ≡ Failed fault.Memory) × Breaks S.meaning D.policy self.old self.new piece.now out.old.items out.new.items) }
         // Want of memory is answered, and never found later.
-        ensures kept { OnOk result (ending_of self.new ≡ Failed fault.Memory → ending_of self.old ≡ Failed fault.Memory) }
-        ensures ended { ending_of self.old ≢ Open → (result ≡ Ok 0) × (self.new ≡ self.old) × (out.new ≡ out.old) }
+        ensures kept { OnOk result (endpoint_end self.new ≡ Failed fault.Memory → endpoint_end self.old ≡ Failed fault.Memory) }
+        ensures ended { endpoint_end self.old ≢ Open → (result ≡ Ok 0) × (self.new ≡ self.old) × (out.new ≡ out.old) }
     {
         let mut used = 0;
         while used < piece.len() && self.is_open() {
@@ -203,15 +203,15 @@ impl<'a, S: Suite, D: Decisions> Endpoint<'a, S, D> {
 
     /// Reads on up to the end of one unit.
     fn take(&mut self, piece: &[u8], out: &mut Vec<u8>) -> Result<usize, Memory>
-        requires open { ending_of self.old ≡ Open }
+        requires open { endpoint_end self.old ≡ Open }
         requires some { 0 < length piece.now }
         ensures fed { IfOk result (λ used. Fed S.meaning D.policy self.old self.new (take used piece.now) out.old.items out.new.items) }
         ensures used { IfOk result (λ used. used ≤ length piece.now) }
         ensures turns { IfOk result (λ used. turns_of self.new < turns_of self.old + 3 * used) }
-        ensures memory { OnErr result ((ending_of self.new ≡ Failed fault.Memory) × Breaks S.meaning D.policy self.old self.new piece.now out.old.items out.new.items) }
-        ensures kept { OnOk result (ending_of self.new ≢ Failed fault.Memory) }
+        ensures memory { OnErr result ((endpoint_end self.new ≡ Failed fault.Memory) × Breaks S.meaning D.policy self.old self.new piece.now out.old.items out.new.items) }
+        ensures kept { OnOk result (endpoint_end self.new ≢ Failed fault.Memory) }
     {
-        let heard = hear(
+        let received = receive(
             &mut self.input,
             &mut self.state,
             &self.config,
@@ -220,7 +220,7 @@ impl<'a, S: Suite, D: Decisions> Endpoint<'a, S, D> {
             piece,
             out,
         );
-        match heard {
+        match received {
             Ok(used) => Ok(used),
             Err(_) => {
                 self.state.end = End::Failed(Fault::Memory);
@@ -231,8 +231,8 @@ impl<'a, S: Suite, D: Decisions> Endpoint<'a, S, D> {
 
     /// The input has ended: an open endpoint fails as `Cut`, another doesn't change. Takes no memory.
     pub fn end_of_input(&mut self)
-        ensures cuts { ending_of self.old ≡ Open → Cuts S.meaning D.policy self.old self.new }
-        ensures ended { ending_of self.old ≢ Open → self.new ≡ self.old }
+        ensures cuts { endpoint_end self.old ≡ Open → Cuts S.meaning D.policy self.old self.new }
+        ensures ended { endpoint_end self.old ≢ Open → self.new ≡ self.old }
     {
         if self.is_open() {
             self.state.end = End::Failed(Fault::Cut);
@@ -254,18 +254,18 @@ impl<'a, S: Suite, D: Decisions> Endpoint<'a, S, D> {
         description: &str,
         out: &mut Vec<u8>,
     ) -> Result<(), Memory>
-        ensures leaves { ending_of self.old ≡ Open → OnOk result (Leaves S.meaning D.policy self.old self.new reason description.now out.old.items out.new.items) }
-        ensures memory { OnErr result ((ending_of self.new ≡ Failed fault.Memory) × (out.new.items ≡ out.old.items) × Breaks S.meaning D.policy self.old self.new [] out.old.items out.new.items) }
-        ensures ended { ending_of self.old ≢ Open → (result ≡ Ok tt) × (self.new ≡ self.old) × (out.new ≡ out.old) }
+        ensures leaves { endpoint_end self.old ≡ Open → OnOk result (Leaves S.meaning D.policy self.old self.new reason description.now out.old.items out.new.items) }
+        ensures memory { OnErr result ((endpoint_end self.new ≡ Failed fault.Memory) × (out.new.items ≡ out.old.items) × Breaks S.meaning D.policy self.old self.new [] out.old.items out.new.items) }
+        ensures ended { endpoint_end self.old ≢ Open → (result ≡ Ok tt) × (self.new ≡ self.old) × (out.new ≡ out.old) }
     {
         sshpacket::stream_law();
         if !self.is_open() {
             return Ok(());
         }
-        let said = self
+        let sent = self
             .state
             .disconnect(&self.config, self.suite, reason, description, out);
-        match said {
+        match sent {
             Ok(()) => Ok(()),
             Err(_) => {
                 self.state.end = End::Failed(Fault::Memory);
@@ -285,7 +285,7 @@ impl<'a, S: Suite, D: Decisions> Endpoint<'a, S, D> {
     pub fn phase(&self) -> Phase
         ensures kept { result ≡ self.now.state.phase }
         // For every history of an open endpoint: the first phase whose leaving message it hasn't heard.
-        ensures waits { (h s : List ℕ) (a : After S.meaning D.policy self.now h s) → ending_of self.now ≡ Open → phase_at self.now.role self.now.party.offer (payloads_in a.units) ≡ result }
+        ensures waits { (h s : List ℕ) (a : EndpointAfter S.meaning D.policy self.now h s) → endpoint_end self.now ≡ Open → phase_at self.now.role self.now.party.offer (payloads_in a.units) ≡ result }
     {
         self.state.phase
     }
@@ -296,7 +296,7 @@ impl<'a, S: Suite, D: Decisions> Endpoint<'a, S, D> {
         ensures some { IfSome result (λ strict. self.now.state.strict ≡ strict) }
         ensures there { is_some result ≡ past_kexinit self.now.state.phase }
         // For every history of an open endpoint: what both KEXINITs say.
-        ensures both { (h s : List ℕ) (a : After S.meaning D.policy self.now h s) → ending_of self.now ≡ Open
+        ensures both { (h s : List ℕ) (a : EndpointAfter S.meaning D.policy self.now h s) → endpoint_end self.now ≡ Open
             → IfSome result (λ strict. strict ≡ strict_at self.now.role self.now.party (payloads_in a.units)) }
     {
         match &self.state.algorithms {
@@ -313,7 +313,7 @@ impl<'a, S: Suite, D: Decisions> Endpoint<'a, S, D> {
         // They are there from the peer's KEXINIT on.
         ensures there { is_some result ≡ past_kexinit self.now.state.phase }
         // For every history of an open endpoint: they are chosen by what was heard and said.
-        ensures chosen { (h s : List ℕ) (a : After S.meaning D.policy self.now h s) → ending_of self.now ≡ Open
+        ensures chosen { (h s : List ℕ) (a : EndpointAfter S.meaning D.policy self.now h s) → endpoint_end self.now ≡ Open
             → IfSome result (λ names. names_of names ≡ algorithms_at (S.meaning self.now.suite) self.now.role self.now.party (payloads_in a.units)) }
     {
         match &self.state.algorithms {
@@ -327,7 +327,7 @@ impl<'a, S: Suite, D: Decisions> Endpoint<'a, S, D> {
     pub fn buffered(&self) -> usize
         ensures held { result ≡ buffered_of self.now }
         ensures bound { result ≤ PACKET_LIMIT }
-        ensures unfinished { (h s : List ℕ) (a : After S.meaning D.policy self.now h s) → HasUnfinished self.now.role a.units a.rest (ending_of self.now) result }
+        ensures unfinished { (h s : List ℕ) (a : EndpointAfter S.meaning D.policy self.now h s) → HasUnfinished self.now.role a.units a.rest (endpoint_end self.now) result }
     {
         if self.is_open() {
             self.input.buffered()
@@ -341,9 +341,9 @@ impl<'a, S: Suite, D: Decisions> Endpoint<'a, S, D> {
     /// keys and numbers of both directions. The session's first byte is the one behind those that `feed` has
     /// used. Takes no memory.
     pub fn into_session(self) -> Option<Session>
-        ensures session { (h s : List ℕ) (p : After S.meaning D.policy self.entry h s) (a : AgreedData) → ending_of self.entry ≡ Authenticated a
+        ensures session { (h s : List ℕ) (p : EndpointAfter S.meaning D.policy self.entry h s) (a : AgreedData) → endpoint_end self.entry ≡ Authenticated a
             → (session : Session) × (result ≡ Some session) × IsSession (S.meaning self.entry.suite) (D.policy self.entry.decisions) self.entry.role self.entry.party p.units p.answers a session × (p.rest ≡ []) }
-        ensures none { ((a : AgreedData) → ending_of self.entry ≢ Authenticated a) → result ≡ None }
+        ensures none { ((a : AgreedData) → endpoint_end self.entry ≢ Authenticated a) → result ≡ None }
     {
         sshmsg::numbers_law();
         sshneg::markers_law();
@@ -365,7 +365,7 @@ impl<'a, S: Suite, D: Decisions> Endpoint<'a, S, D> {
 
     /// Whether it is open.
     fn is_open(&self) -> bool
-        ensures { IsTrue result ↔ (ending_of self.now ≡ Open) }
+        ensures { IsTrue result ↔ (endpoint_end self.now ≡ Open) }
     {
         match self.state.end {
             End::Open => true,
@@ -375,7 +375,7 @@ impl<'a, S: Suite, D: Decisions> Endpoint<'a, S, D> {
 }
 
 /// Reads on up to the end of one unit; for want of memory `out` is unchanged.
-fn hear<S: Suite, D: Decisions>(
+fn receive<S: Suite, D: Decisions>(
     input: &mut Input,
     state: &mut State<'_>,
     config: &Config<'_>,
@@ -384,19 +384,19 @@ fn hear<S: Suite, D: Decisions>(
     piece: &[u8],
     out: &mut Vec<u8>,
 ) -> Result<usize, Memory>
-    requires open { ending state.old.end ≡ Open }
+    requires open { end_data state.old.end ≡ Open }
     requires some { 0 < length piece.now }
     requires reads { CanRead (S.meaning suite.now) input.old }
     ensures steps { IfOk result (λ used. (added : List ℕ) × (out.new.items ≡ out.old.items ++ added)
-        × Steps (S.meaning suite.now) (D.policy decisions.now) (role_of config.now) (party_of config.now) input.old (kept_of state.old) input.new (kept_of state.new) (take used piece.now) [] added) }
+        × Steps (S.meaning suite.now) (D.policy decisions.now) (role_of config.now) (config_data config.now) input.old (state_data state.old) input.new (state_data state.new) (take used piece.now) [] added) }
     ensures used { IfOk result (λ used. used ≤ length piece.now) }
-    ensures turns { IfOk result (λ used. turns_left (ending state.new.end) input.new < turns_left (ending state.old.end) input.old + 3 * used) }
-    ensures reads { OnOk result (IsOngoing (ending state.new.end) → CanRead (S.meaning suite.now) input.new) }
-    ensures kept { OnOk result (ending state.new.end ≢ Failed fault.Memory) }
+    ensures turns { IfOk result (λ used. turns_left (end_data state.new.end) input.new < turns_left (end_data state.old.end) input.old + 3 * used) }
+    ensures reads { OnOk result (IsOngoing (end_data state.new.end) → CanRead (S.meaning suite.now) input.new) }
+    ensures kept { OnOk result (end_data state.new.end ≢ Failed fault.Memory) }
     ensures memory { OnErr result (out.new.items ≡ out.old.items) }
 {
-    let mut said = Vec::new(state.alloc);
-    let used = input.hear(state, config, suite, decisions, piece, &mut said)?;
-    out.extend_from_slice(&said)?;
+    let mut sent = Vec::new(state.alloc);
+    let used = input.receive(state, config, suite, decisions, piece, &mut sent)?;
+    out.extend_from_slice(&sent)?;
     Ok(used)
 }

@@ -5,8 +5,8 @@ ghost use Rattle.sshcore.specs.declared.end.Fault.TheVariants as fault;
 ghost use Rattle.sshcore.specs.Authenticated.{IsAuthenticated};
 ghost use Rattle.sshcore.specs.Before.{strict_at};
 ghost use Rattle.sshcore.specs.Directions.{payloads_in};
-ghost use Rattle.sshcore.specs.Ending.{AgreedData, Authenticated, Disconnected, Failed, Open, by_owner};
-ghost use Rattle.sshcore.specs.Endpoints.{After, IsSameEndpoint, ending_of};
+ghost use Rattle.sshcore.specs.EndData.{AgreedData, Authenticated, Disconnected, Failed, Open, by_owner};
+ghost use Rattle.sshcore.specs.Endpoints.{EndpointAfter, IsSameEndpoint, endpoint_end};
 ghost use Rattle.sshcore.specs.StrictClause.{KeepsStrict};
 ghost use Rattle.sshcore.specs.StrictSequence.{BeginsStrictly};
 
@@ -21,23 +21,23 @@ use sshpacket::Suite;
 pub fn endpoint_law<S: Suite, D: Decisions>(one: &Endpoint<'_, S, D>, other: &Endpoint<'_, S, D>)
     // Two endpoints of one role, config and suite, and with the same decisions, each used a prefix of one input, all of it where it
     // is open; and neither was ended by its owner.
-    ensures joined { IsSameEndpoint one.now other.now → by_owner (ending_of one.now) ≡ false → by_owner (ending_of other.now) ≡ false
-        → (h g s t x y : List ℕ) → After S.meaning D.policy one.now h s → After S.meaning D.policy other.now g t
-        → h ++ x ≡ g ++ y → (ending_of one.now ≡ Open → x ≡ []) → (ending_of other.now ≡ Open → y ≡ [])
-        → (h ≡ g) × (s ≡ t) × (ending_of one.now ≡ ending_of other.now) }
+    ensures joined { IsSameEndpoint one.now other.now → by_owner (endpoint_end one.now) ≡ false → by_owner (endpoint_end other.now) ≡ false
+        → (h g s t x y : List ℕ) → EndpointAfter S.meaning D.policy one.now h s → EndpointAfter S.meaning D.policy other.now g t
+        → h ++ x ≡ g ++ y → (endpoint_end one.now ≡ Open → x ≡ []) → (endpoint_end other.now ≡ Open → y ≡ [])
+        → (h ≡ g) × (s ≡ t) × (endpoint_end one.now ≡ endpoint_end other.now) }
     // The same of what was heard before an owner's end: endpoints that were cut off, or told to disconnect, used the same bytes too, and
     // had said the same.
-    ensures joined_heard { IsSameEndpoint one.now other.now → (h g s t x y : List ℕ) (a : After S.meaning D.policy one.now h s) (b : After S.meaning D.policy other.now g t)
-        → h ++ x ≡ g ++ y → (a.heard_end ≡ Open → x ≡ []) → (b.heard_end ≡ Open → y ≡ [])
-        → (h ≡ g) × (s ≡ t) × (a.heard_end ≡ b.heard_end) }
+    ensures joined_received { IsSameEndpoint one.now other.now → (h g s t x y : List ℕ) (a : EndpointAfter S.meaning D.policy one.now h s) (b : EndpointAfter S.meaning D.policy other.now g t)
+        → h ++ x ≡ g ++ y → (a.received_end ≡ Open → x ≡ []) → (b.received_end ≡ Open → y ≡ [])
+        → (h ≡ g) × (s ≡ t) × (a.received_end ≡ b.received_end) }
     // An endpoint stands as what it heard left it, or was ended by its owner where that left it open.
-    ensures heard { (h s : List ℕ) (a : After S.meaning D.policy one.now h s) → by_owner (ending_of one.now) ≡ false → a.heard_end ≡ ending_of one.now }
-    ensures cut { (h s : List ℕ) (a : After S.meaning D.policy one.now h s) → ending_of one.now ≡ Failed fault.Cut → a.heard_end ≡ Open }
-    ensures left { (h s : List ℕ) (a : After S.meaning D.policy one.now h s) (reason : ℕ) → ending_of one.now ≡ Disconnected reason → a.heard_end ≡ Open }
+    ensures received { (h s : List ℕ) (a : EndpointAfter S.meaning D.policy one.now h s) → by_owner (endpoint_end one.now) ≡ false → a.received_end ≡ endpoint_end one.now }
+    ensures cut { (h s : List ℕ) (a : EndpointAfter S.meaning D.policy one.now h s) → endpoint_end one.now ≡ Failed fault.Cut → a.received_end ≡ Open }
+    ensures left { (h s : List ℕ) (a : EndpointAfter S.meaning D.policy one.now h s) (reason : ℕ) → endpoint_end one.now ≡ Disconnected reason → a.received_end ≡ Open }
     // What was heard keeps strictness, whoever sent it.
-    ensures strict { (h s : List ℕ) (a : After S.meaning D.policy one.now h s) → KeepsStrict one.now.role one.now.party a.units a.heard_end }
+    ensures strict { (h s : List ℕ) (a : EndpointAfter S.meaning D.policy one.now h s) → KeepsStrict one.now.role one.now.party a.units a.received_end }
     // What was heard let the user in, where an endpoint ended authenticated; and one that is strict was given a strict sequence first.
-    ensures authenticated { (h s : List ℕ) (a : After S.meaning D.policy one.now h s) (g : AgreedData) → ending_of one.now ≡ Authenticated g
+    ensures authenticated { (h s : List ℕ) (a : EndpointAfter S.meaning D.policy one.now h s) (g : AgreedData) → endpoint_end one.now ≡ Authenticated g
         → IsAuthenticated (S.meaning one.now.suite) (D.policy one.now.decisions) one.now.role one.now.party a.units g
         × (strict_at one.now.role one.now.party (payloads_in a.units) ≡ true → BeginsStrictly one.now.role one.now.party.offer (payloads_in a.units)) }
 {

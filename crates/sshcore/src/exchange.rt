@@ -1,7 +1,7 @@
 //! Phase exchange: the peer's share (RFC 4253 section 8, RFC 5656 section 4).
 
 ghost use Rattle.std.specs.Prelude.{◌≡◌, ◌≢◌, ◌≤◌, ◌++◌, ◌∷◌, [], ◌<◌, ◌^◌, IfOk, List, Ok, OnOk, Some, is_some, length, option_map, true, ℕ};
-ghost use Rattle.sshmsg.specs.Content as content;
+ghost use Rattle.sshmsg.specs.MessageData as content;
 ghost use Rattle.sshmsg.specs.Written.{written_message};
 ghost use Rattle.sshpacket.specs.declared.limits.TheConstants.{DIGEST_LIMIT, PACKET_LIMIT, SHARE_LIMIT};
 ghost use Rattle.sshpacket.specs.Suite.{FitsShare, ResponseData, response_data};
@@ -12,12 +12,12 @@ ghost use Rattle.sshneg.specs.Markers.{other};
 ghost use Rattle.sshcore.specs.declared.end.Fault.TheVariants as fault;
 ghost use Rattle.sshcore.specs.declared.table.Phase.TheVariants as phase;
 ghost use Rattle.sshcore.specs.Brings.{Gives};
-ghost use Rattle.sshcore.specs.ConfigParty.{party_of, role_of};
-ghost use Rattle.sshcore.specs.Ending.{Failed, Open, ending};
+ghost use Rattle.sshcore.specs.EndpointConfig.{config_data, role_of};
+ghost use Rattle.sshcore.specs.EndData.{Failed, Open, end_data};
 ghost use Rattle.sshcore.specs.Exchange.{host_key_read, secret_of, share_read};
-ghost use Rattle.sshcore.specs.Exchanged.{AcceptsReply, AnswersInit, HasForm, HearsExchange, IsSigned, JudgesReply, client_shares, exchanged, kex_keys};
-ghost use Rattle.sshcore.specs.ExchangedView.{shares_of};
-ghost use Rattle.sshcore.specs.Kept.{kept_of, with_exchange};
+ghost use Rattle.sshcore.specs.Exchanged.{AcceptsReply, AnswersInit, HasForm, IsSigned, JudgesReply, ReceivesExchange, client_shares, exchanged, kex_keys};
+ghost use Rattle.sshcore.specs.ExchangedView.{shares_data};
+ghost use Rattle.sshcore.specs.StateData.{state_data, with_exchange};
 ghost use Rattle.sshcore.specs.History.{FitsPacket};
 ghost use Rattle.sshcore.specs.Output.{with_packet, with_newkeys};
 ghost use Rattle.sshcore.specs.Work.{init_reply, reply_in, reply_reply, userauth};
@@ -37,7 +37,7 @@ use std::alloc::Global;
 
 /// A server's answer as a client has received it.
 #[derive(Drop)]
-pub(crate) struct Reply<'a> {
+pub(crate) struct KexReply<'a> {
     pub(crate) host_key: &'a [u8],
     pub(crate) share: &'a [u8],
     pub(crate) signature: &'a [u8],
@@ -68,33 +68,33 @@ pub(crate) struct BothKeys {
 }
 
 impl State<'_> {
-    ghost use Rattle.sshmsg.specs.Content.{Content};
+    ghost use Rattle.sshmsg.specs.MessageData.{MessageData};
     ghost use Rattle.sshcore.specs.Directions.{spelled_by};
 
     /// A server hears the client's share: it answers with its own and the signature of the exchange
     /// hash, then with NEWKEYS. Fails as `Exchange` where the suite gives no shared number.
-    pub(crate) fn hear_init<S: Suite>(
+    pub(crate) fn receive_init<S: Suite>(
         &mut self,
         config: &Config<'_>,
         suite: &S,
         share: &[u8],
-        said: &mut Vec<u8>,
+        sent: &mut Vec<u8>,
     ) -> Result<(), Memory>
-        requires open { ending self.old.end ≡ Open }
+        requires open { end_data self.old.end ≡ Open }
         requires at { self.old.phase ≡ phase.Exchange }
         requires server { role_of config.now ≡ Server }
         requires short { length share.now ≤ PACKET_LIMIT }
-        ensures hears { OnOk result ((message : Content) → share_read (Ok message) ≡ share.now → HasForm (S.meaning suite.now) (kept_of self.old)
-            → HearsExchange (S.meaning suite.now) Server (party_of config.now) (kept_of self.old) (kept_of self.new) said.old.items said.new.items message
-            (init_reply (S.meaning suite.now) Server (party_of config.now) (kept_of self.old).known message)) }
-        ensures kept { OnOk result (ending self.new.end ≢ Failed fault.Memory) }
+        ensures receives { OnOk result ((message : MessageData) → share_read (Ok message) ≡ share.now → HasForm (S.meaning suite.now) (state_data self.old)
+            → ReceivesExchange (S.meaning suite.now) Server (config_data config.now) (state_data self.old) (state_data self.new) sent.old.items sent.new.items message
+            (init_reply (S.meaning suite.now) Server (config_data config.now) (state_data self.old).known message)) }
+        ensures kept { OnOk result (end_data self.new.end ≢ Failed fault.Memory) }
     {
         match self.respond(config, suite, share)? {
-            None => self.fail(config, suite, Fault::Exchange, said),
+            None => self.fail(config, suite, Fault::Exchange, sent),
             Some(response) => {
                 answer_law(config, suite);
                 let signed = self.sign(config, suite, share, &response)?;
-                self.answer_init(config, suite, &response.shared, signed, said)
+                self.answer_init(config, suite, &response.shared, signed, sent)
             }
         }
     }
@@ -109,7 +109,7 @@ impl State<'_> {
         requires chosen { is_some self.now.algorithms ≡ true }
         requires short { length share.now ≤ PACKET_LIMIT }
         ensures { IfOk result (λ o. option_map (λ r. response_data r) o
-            ≡ (S.meaning suite.now).respond (kept_of self.now).known.algorithms.kex (party_of config.now).random share.now) }
+            ≡ (S.meaning suite.now).respond (state_data self.now).known.algorithms.kex (config_data config.now).random share.now) }
     {
         let algorithms = self.algorithms.as_ref().unwrap();
         let random = config.exchange_random();
@@ -126,8 +126,8 @@ impl State<'_> {
     ) -> Result<Signed, Memory>
         requires chosen { is_some self.now.algorithms ≡ true }
         requires short { length share.now ≤ PACKET_LIMIT }
-        requires answer { (S.meaning suite.now).respond (kept_of self.now).known.algorithms.kex (party_of config.now).random share.now ≡ Some (response_data response.now) }
-        ensures { IfOk result (λ signed. IsSigned (S.meaning suite.now) (role_of config.now) (party_of config.now) (kept_of self.now).known share.now (response_data response.now) signed.hash.items signed.host_key.items signed.reply.items) }
+        requires answer { (S.meaning suite.now).respond (state_data self.now).known.algorithms.kex (config_data config.now).random share.now ≡ Some (response_data response.now) }
+        ensures { IfOk result (λ signed. IsSigned (S.meaning suite.now) (role_of config.now) (config_data config.now) (state_data self.now).known share.now (response_data response.now) signed.hash.items signed.host_key.items signed.reply.items) }
     {
         answer_law(config, suite);
         let algorithms = self.algorithms.as_ref().unwrap();
@@ -157,50 +157,50 @@ impl State<'_> {
         suite: &S,
         shared: &[u8],
         signed: Signed,
-        said: &mut Vec<u8>,
+        sent: &mut Vec<u8>,
     ) -> Result<(), Memory>
         requires at { self.old.phase ≡ phase.Exchange }
         requires reply { FitsPacket signed.reply.items }
         requires hash { length signed.hash.items ≤ DIGEST_LIMIT }
         requires shared { length shared.now ≤ SHARE_LIMIT }
-        ensures { OnOk result (AnswersInit (S.meaning suite.now) (role_of config.now) (party_of config.now) (kept_of self.old) (kept_of self.new) signed.host_key.items shared.now signed.hash.items signed.reply.items said.old.items said.new.items) }
+        ensures { OnOk result (AnswersInit (S.meaning suite.now) (role_of config.now) (config_data config.now) (state_data self.old) (state_data self.new) signed.host_key.items shared.now signed.hash.items signed.reply.items sent.old.items sent.new.items) }
     {
         let keys = self.both_keys(config, suite, shared, &signed.hash)?;
-        self.say(config, suite, &signed.reply, said)?;
-        self.say_new_keys(config, suite, keys.outgoing, said)?;
-        self.stand_behind_exchange(config, signed.hash, signed.host_key, keys.incoming)
+        self.send(config, suite, &signed.reply, sent)?;
+        self.send_new_keys(config, suite, keys.outgoing, sent)?;
+        self.stand_after_exchange(config, signed.hash, signed.host_key, keys.incoming)
     }
 
     /// A client hears the server's share: it asks whether the host key is trusted (else `HostKey`), then
     /// makes the shared number (`Exchange` where the suite gives none), then verifies the signature of
     /// the exchange hash (else `Signature`); then it says NEWKEYS and requests the service.
-    pub(crate) fn hear_reply<S: Suite, D: Decisions>(
+    pub(crate) fn receive_reply<S: Suite, D: Decisions>(
         &mut self,
         config: &Config<'_>,
         suite: &S,
         decisions: &D,
-        reply: &Reply<'_>,
-        said: &mut Vec<u8>,
+        reply: &KexReply<'_>,
+        sent: &mut Vec<u8>,
     ) -> Result<(), Memory>
-        requires open { ending self.old.end ≡ Open }
+        requires open { end_data self.old.end ≡ Open }
         requires at { self.old.phase ≡ phase.Exchange }
         requires client { role_of config.now ≡ Client }
         requires host_key { length reply.now.host_key.now ≤ PACKET_LIMIT }
         requires share { length reply.now.share.now ≤ PACKET_LIMIT }
         requires signature { length reply.now.signature.now ≤ PACKET_LIMIT }
-        ensures hears { OnOk result ((message : Content) → share_read (Ok message) ≡ reply.now.share.now → host_key_read (Ok message) ≡ reply.now.host_key.now → HasForm (S.meaning suite.now) (kept_of self.old)
-            → HearsExchange (S.meaning suite.now) Client (party_of config.now) (kept_of self.old) (kept_of self.new) said.old.items said.new.items message
-            (reply_reply (S.meaning suite.now) (D.policy decisions.now) Client (party_of config.now) (kept_of self.old).known message reply.now.signature.now)) }
-        ensures kept { OnOk result (ending self.new.end ≢ Failed fault.Memory) }
+        ensures receives { OnOk result ((message : MessageData) → share_read (Ok message) ≡ reply.now.share.now → host_key_read (Ok message) ≡ reply.now.host_key.now → HasForm (S.meaning suite.now) (state_data self.old)
+            → ReceivesExchange (S.meaning suite.now) Client (config_data config.now) (state_data self.old) (state_data self.new) sent.old.items sent.new.items message
+            (reply_reply (S.meaning suite.now) (D.policy decisions.now) Client (config_data config.now) (state_data self.old).known message reply.now.signature.now)) }
+        ensures kept { OnOk result (end_data self.new.end ≢ Failed fault.Memory) }
     {
         let algorithms = self.algorithms.as_ref().unwrap();
         if !decisions.host_key(algorithms.host_key(), reply.host_key) {
-            return self.fail(config, suite, Fault::HostKey, said);
+            return self.fail(config, suite, Fault::HostKey, sent);
         }
         let random = config.exchange_random();
         match suite.shared(self.alloc, algorithms.kex(), random, reply.share)? {
-            None => self.fail(config, suite, Fault::Exchange, said),
-            Some(shared) => self.judge_reply(config, suite, reply, &shared, said),
+            None => self.fail(config, suite, Fault::Exchange, sent),
+            Some(shared) => self.judge_reply(config, suite, reply, &shared, sent),
         }
     }
 
@@ -209,29 +209,29 @@ impl State<'_> {
         &mut self,
         config: &Config<'_>,
         suite: &S,
-        reply: &Reply<'_>,
+        reply: &KexReply<'_>,
         shared: &[u8],
-        said: &mut Vec<u8>,
+        sent: &mut Vec<u8>,
     ) -> Result<(), Memory>
-        requires open { ending self.old.end ≡ Open }
+        requires open { end_data self.old.end ≡ Open }
         requires at { self.old.phase ≡ phase.Exchange }
         requires host_key { length reply.now.host_key.now ≤ PACKET_LIMIT }
         requires share { length reply.now.share.now ≤ PACKET_LIMIT }
         requires signature { length reply.now.signature.now ≤ PACKET_LIMIT }
         requires shared { length shared.now ≤ SHARE_LIMIT }
-        ensures judges { OnOk result (JudgesReply (S.meaning suite.now) (role_of config.now) (party_of config.now) (kept_of self.old) (kept_of self.new)
-            (client_shares (S.meaning suite.now) (party_of config.now) (kept_of self.old).known reply.now.host_key.now reply.now.share.now shared.now)
-            reply.now.signature.now said.old.items said.new.items) }
-        ensures kept { OnOk result (ending self.new.end ≢ Failed fault.Memory) }
+        ensures judges { OnOk result (JudgesReply (S.meaning suite.now) (role_of config.now) (config_data config.now) (state_data self.old) (state_data self.new)
+            (client_shares (S.meaning suite.now) (config_data config.now) (state_data self.old).known reply.now.host_key.now reply.now.share.now shared.now)
+            reply.now.signature.now sent.old.items sent.new.items) }
+        ensures kept { OnOk result (end_data self.new.end ≢ Failed fault.Memory) }
     {
         let hash = self.reply_hash(config, suite, reply, shared)?;
         let algorithms = self.algorithms.as_ref().unwrap();
         let host_key = algorithms.host_key();
         if !suite.verify(self.alloc, host_key, reply.host_key, &hash, reply.signature)? {
-            return self.fail(config, suite, Fault::Signature, said);
+            return self.fail(config, suite, Fault::Signature, sent);
         }
         let key = Vec::from_slice(self.alloc, reply.host_key)?;
-        self.accept_reply(config, suite, shared, hash, key, said)
+        self.accept_reply(config, suite, shared, hash, key, sent)
     }
 
     /// The exchange hash at a client.
@@ -239,16 +239,16 @@ impl State<'_> {
         &self,
         config: &Config<'_>,
         suite: &S,
-        reply: &Reply<'_>,
+        reply: &KexReply<'_>,
         shared: &[u8],
     ) -> Result<Vec<u8>, Memory>
         requires chosen { is_some self.now.algorithms ≡ true }
         requires host_key { length reply.now.host_key.now ≤ PACKET_LIMIT }
         requires share { length reply.now.share.now ≤ PACKET_LIMIT }
         requires shared { length shared.now ≤ SHARE_LIMIT }
-        ensures hash { IfOk result (λ hash. hash.items ≡ exchange_hash (S.meaning suite.now) (kept_of self.now).known.algorithms.kex
-            (exchanged (role_of config.now) (party_of config.now) (kept_of self.now).known
-            (client_shares (S.meaning suite.now) (party_of config.now) (kept_of self.now).known reply.now.host_key.now reply.now.share.now shared.now))) }
+        ensures hash { IfOk result (λ hash. hash.items ≡ exchange_hash (S.meaning suite.now) (state_data self.now).known.algorithms.kex
+            (exchanged (role_of config.now) (config_data config.now) (state_data self.now).known
+            (client_shares (S.meaning suite.now) (config_data config.now) (state_data self.now).known reply.now.host_key.now reply.now.share.now shared.now))) }
         ensures short { IfOk result (λ hash. length hash.items ≤ DIGEST_LIMIT) }
     {
         let algorithms = self.algorithms.as_ref().unwrap();
@@ -271,18 +271,18 @@ impl State<'_> {
         shared: &[u8],
         hash: Vec<u8>,
         host_key: Vec<u8>,
-        said: &mut Vec<u8>,
+        sent: &mut Vec<u8>,
     ) -> Result<(), Memory>
         requires at { self.old.phase ≡ phase.Exchange }
         requires hash { length hash.items ≤ DIGEST_LIMIT }
         requires shared { length shared.now ≤ SHARE_LIMIT }
-        ensures { OnOk result (AcceptsReply (S.meaning suite.now) (role_of config.now) (party_of config.now) (kept_of self.old) (kept_of self.new) host_key.items shared.now hash.items said.old.items said.new.items) }
+        ensures { OnOk result (AcceptsReply (S.meaning suite.now) (role_of config.now) (config_data config.now) (state_data self.old) (state_data self.new) host_key.items shared.now hash.items sent.old.items sent.new.items) }
     {
         let keys = self.both_keys(config, suite, shared, &hash)?;
         let request = payload_of(self.alloc, &Message::ServiceRequest { service: USERAUTH })?;
-        self.say_new_keys(config, suite, keys.outgoing, said)?;
-        self.say(config, suite, &request, said)?;
-        self.stand_behind_exchange(config, hash, host_key, keys.incoming)
+        self.send_new_keys(config, suite, keys.outgoing, sent)?;
+        self.send(config, suite, &request, sent)?;
+        self.stand_after_exchange(config, hash, host_key, keys.incoming)
     }
 
     /// The exchange hash (RFC 4253 section 8).
@@ -297,8 +297,8 @@ impl State<'_> {
         requires client_share { length shares.now.client_share.now ≤ PACKET_LIMIT }
         requires server_share { length shares.now.server_share.now ≤ PACKET_LIMIT }
         requires shared { length shares.now.shared.now ≤ SHARE_LIMIT }
-        ensures hash { IfOk result (λ hash. hash.items ≡ exchange_hash (S.meaning suite.now) (kept_of self.now).known.algorithms.kex
-            (exchanged (role_of config.now) (party_of config.now) (kept_of self.now).known (shares_of shares.now))) }
+        ensures hash { IfOk result (λ hash. hash.items ≡ exchange_hash (S.meaning suite.now) (state_data self.now).known.algorithms.kex
+            (exchanged (role_of config.now) (config_data config.now) (state_data self.now).known (shares_data shares.now))) }
         ensures short { IfOk result (λ hash. length hash.items ≤ DIGEST_LIMIT) }
     {
         sshneg::exchange_law();
@@ -313,7 +313,7 @@ impl State<'_> {
         requires client_share { length shares.now.client_share.now ≤ PACKET_LIMIT }
         requires server_share { length shares.now.server_share.now ≤ PACKET_LIMIT }
         requires shared { length shares.now.shared.now ≤ SHARE_LIMIT }
-        ensures input { IfOk result (λ input. input.items ≡ exchange_text (exchanged (role_of config.now) (party_of config.now) (kept_of self.now).known (shares_of shares.now))) }
+        ensures input { IfOk result (λ input. input.items ≡ exchange_text (exchanged (role_of config.now) (config_data config.now) (state_data self.now).known (shares_data shares.now))) }
         ensures short { IfOk result (λ input. length input.items < 2 ^ 32) }
     {
         sshneg::exchange_law();
@@ -346,8 +346,8 @@ impl State<'_> {
         requires chosen { is_some self.now.algorithms ≡ true }
         requires shared { length shared.now ≤ SHARE_LIMIT }
         requires hash { length hash.now ≤ DIGEST_LIMIT }
-        ensures incoming { IfOk result (λ keys. keys.incoming ≡ kex_keys (S.meaning suite.now) (kept_of self.now).known.algorithms shared.now hash.now (other (role_of config.now))) }
-        ensures outgoing { IfOk result (λ keys. keys.outgoing ≡ kex_keys (S.meaning suite.now) (kept_of self.now).known.algorithms shared.now hash.now (role_of config.now)) }
+        ensures incoming { IfOk result (λ keys. keys.incoming ≡ kex_keys (S.meaning suite.now) (state_data self.now).known.algorithms shared.now hash.now (other (role_of config.now))) }
+        ensures outgoing { IfOk result (λ keys. keys.outgoing ≡ kex_keys (S.meaning suite.now) (state_data self.now).known.algorithms shared.now hash.now (role_of config.now)) }
     {
         let role = config.role();
         let algorithms = self.algorithms.as_ref().unwrap();
@@ -359,7 +359,7 @@ impl State<'_> {
 
     /// Goes on to phase newkeys, with the session identifier, the server's public host key and the keys of
     /// what is heard.
-    fn stand_behind_exchange(
+    fn stand_after_exchange(
         &mut self,
         config: &Config<'_>,
         hash: Vec<u8>,
@@ -368,10 +368,10 @@ impl State<'_> {
     ) -> Result<(), Memory>
         requires at { self.old.phase ≡ phase.Exchange }
         requires short { length hash.items ≤ DIGEST_LIMIT }
-        ensures { OnOk result (kept_of self.new ≡ record (kept_of self.old) {
+        ensures { OnOk result (state_data self.new ≡ record (state_data self.old) {
           phase = phase.NewKeys;
-          known = record (kept_of self.old).known { session = hash.items };
-          carried = with_exchange (party_of config.now) incoming host_key.items (kept_of self.old).carried;
+          known = record (state_data self.old).known { session = hash.items };
+          carried = with_exchange (config_data config.now) incoming host_key.items (state_data self.old).carried;
         }) }
     {
         self.own_version = Vec::from_slice(self.alloc, config.version().text())?;
@@ -385,9 +385,9 @@ impl State<'_> {
 
 /// The law of a server's answer: its share has the method's form, and the shared number is short.
 fn answer_law<S: Suite>(config: &Config<'_>, suite: &S)
-    ensures share { (kex share : List ℕ) (r : ResponseData) → (S.meaning suite.now).respond kex (party_of config.now).random share ≡ Some r
+    ensures share { (kex share : List ℕ) (r : ResponseData) → (S.meaning suite.now).respond kex (config_data config.now).random share ≡ Some r
         → FitsShare ((S.meaning suite.now).share_form kex) r.share }
-    ensures shared { (kex share : List ℕ) (r : ResponseData) → (S.meaning suite.now).respond kex (party_of config.now).random share ≡ Some r
+    ensures shared { (kex share : List ℕ) (r : ResponseData) → (S.meaning suite.now).respond kex (config_data config.now).random share ≡ Some r
         → length r.shared ≤ SHARE_LIMIT }
 {
     config.exchange_random();

@@ -1,21 +1,21 @@
 //! Phase kexinit: the peer's KEXINIT (RFC 4253 section 7.1).
 
 ghost use Rattle.std.specs.Prelude.{◌≡◌, ◌≢◌, ◌≤◌, ◌++◌, ◌∷◌, ◌&&◌, [], Bool, IfOk, None, OnOk, Some, false, length, not};
-ghost use Rattle.sshmsg.specs.View.{offer_of};
+ghost use Rattle.sshmsg.specs.View.{kexinit_data};
 ghost use Rattle.sshpacket.specs.declared.limits.TheConstants.{PACKET_LIMIT};
-ghost use Rattle.sshpacket.specs.KeyData.{KeyData};
+ghost use Rattle.sshpacket.specs.KeysData.{KeysData};
 ghost use Rattle.sshneg.specs.declared.role.Role.TheVariants.{Client, Server};
 ghost use Rattle.sshneg.specs.ExchangeEnd.{client_of, server_of};
 ghost use Rattle.sshcore.specs.declared.end.Fault.TheVariants as fault;
 ghost use Rattle.sshcore.specs.declared.table.Phase.TheVariants as phase;
 ghost use Rattle.sshcore.specs.Before.{strict_towards, wrong_guess};
 ghost use Rattle.sshcore.specs.Brings.{Gives, IsOngoing, StandsAt};
-ghost use Rattle.sshcore.specs.ConfigParty.{party_of, role_of};
-ghost use Rattle.sshcore.specs.Ending.{Failed, Open, ending, goes};
+ghost use Rattle.sshcore.specs.EndpointConfig.{config_data, role_of};
+ghost use Rattle.sshcore.specs.EndData.{Failed, Open, end_data, goes};
 ghost use Rattle.sshcore.specs.Exchange.{choice_with};
-ghost use Rattle.sshcore.specs.Kept.{kept_of};
-ghost use Rattle.sshcore.specs.Negotiated.{IsNegotiated, says_init};
-ghost use Rattle.sshcore.specs.Standing.{behind_offer};
+ghost use Rattle.sshcore.specs.StateData.{state_data};
+ghost use Rattle.sshcore.specs.Negotiated.{IsNegotiated, sends_init};
+ghost use Rattle.sshcore.specs.Standing.{after_offer};
 ghost use Rattle.sshcore.specs.Work.{kexinit_reply, opening};
 
 use crate::algorithms::Algorithms;
@@ -42,37 +42,37 @@ pub(crate) struct Negotiated {
 impl State<'_> {
     /// Hears the peer's KEXINIT: judges strictness, then chooses, then judges guesses; a client sends its
     /// share unless a right guess has it (RFC 4253 section 7).
-    pub(crate) fn hear_kexinit<S: Suite>(
+    pub(crate) fn receive_kexinit<S: Suite>(
         &mut self,
         config: &Config<'_>,
         suite: &S,
         payload: &[u8],
         peer: &KexInit<'_>,
-        said: &mut Vec<u8>,
+        sent: &mut Vec<u8>,
     ) -> Result<(), Memory>
-        requires open { ending self.old.end ≡ Open }
+        requires open { end_data self.old.end ≡ Open }
         requires short { length payload.now ≤ PACKET_LIMIT }
-        ensures gives { OnOk result ((strict : Bool) (next : KeyData)
-            → Gives (S.meaning suite.now) (party_of config.now).seed strict next (kept_of self.old) (kept_of self.new) said.old.items said.new.items
-            (kexinit_reply (S.meaning suite.now) (role_of config.now) (party_of config.now) (kept_of self.old).known (offer_of peer.now))) }
-        ensures form { OnOk result (IsOngoing (kept_of self.new).end
-            → (kept_of self.new).known.shares ≡ (S.meaning suite.now).share_form (kept_of self.new).known.algorithms.kex) }
-        ensures carries { OnOk result ((kept_of self.new).carried ≡ (kept_of self.old).carried) }
-        ensures moves { OnOk result (IsOngoing (kept_of self.new).end
-            → StandsAt (kept_of self.new) phase.Exchange (wrong_guess (role_of config.now) (party_of config.now).offer (Some (offer_of peer.now)))
-            (behind_offer (S.meaning suite.now) (role_of config.now) (party_of config.now) (kept_of self.old).known payload.now (offer_of peer.now))) }
-        ensures kept { OnOk result (ending self.new.end ≢ Failed fault.Memory) }
+        ensures gives { OnOk result ((strict : Bool) (next : KeysData)
+            → Gives (S.meaning suite.now) (config_data config.now).seed strict next (state_data self.old) (state_data self.new) sent.old.items sent.new.items
+            (kexinit_reply (S.meaning suite.now) (role_of config.now) (config_data config.now) (state_data self.old).known (kexinit_data peer.now))) }
+        ensures form { OnOk result (IsOngoing (state_data self.new).end
+            → (state_data self.new).known.shares ≡ (S.meaning suite.now).share_form (state_data self.new).known.algorithms.kex) }
+        ensures carries { OnOk result ((state_data self.new).carried ≡ (state_data self.old).carried) }
+        ensures moves { OnOk result (IsOngoing (state_data self.new).end
+            → StandsAt (state_data self.new) phase.Exchange (wrong_guess (role_of config.now) (config_data config.now).offer (Some (kexinit_data peer.now)))
+            (after_offer (S.meaning suite.now) (role_of config.now) (config_data config.now) (state_data self.old).known payload.now (kexinit_data peer.now))) }
+        ensures kept { OnOk result (end_data self.new.end ≢ Failed fault.Memory) }
     {
         let strict = is_strict(config, peer);
         if strict && !self.first {
-            return self.fail(config, suite, Fault::Strict(SSH_MSG_KEXINIT), said);
+            return self.fail(config, suite, Fault::Strict(SSH_MSG_KEXINIT), sent);
         }
         match negotiate(self.alloc, config, suite, peer)? {
-            Err(field) => self.fail(config, suite, Fault::NoCommon(field), said),
+            Err(field) => self.fail(config, suite, Fault::NoCommon(field), sent),
             Ok(negotiated) => {
                 self.strict = strict;
                 self.guess = peer.first_kex_packet_follows && !negotiated.right;
-                self.open_exchange(config, suite, payload, negotiated, said)
+                self.open_exchange(config, suite, payload, negotiated, sent)
             }
         }
     }
@@ -84,21 +84,21 @@ impl State<'_> {
         suite: &S,
         payload: &[u8],
         negotiated: Negotiated,
-        said: &mut Vec<u8>,
+        sent: &mut Vec<u8>,
     ) -> Result<(), Memory>
-        requires open { ending self.old.end ≡ Open }
+        requires open { end_data self.old.end ≡ Open }
         requires short { length payload.now ≤ PACKET_LIMIT }
-        ensures gives { OnOk result ((strict : Bool) (next : KeyData)
-            → Gives (S.meaning suite.now) (party_of config.now).seed strict next (kept_of self.old) (kept_of self.new) said.old.items said.new.items
-            (goes (says_init (S.meaning suite.now) (role_of config.now) (party_of config.now) negotiated.right negotiated.algorithms.kex))) }
-        ensures stays { OnOk result (kept_of self.new ≡ record (kept_of self.old) {
+        ensures gives { OnOk result ((strict : Bool) (next : KeysData)
+            → Gives (S.meaning suite.now) (config_data config.now).seed strict next (state_data self.old) (state_data self.new) sent.old.items sent.new.items
+            (goes (sends_init (S.meaning suite.now) (role_of config.now) (config_data config.now) negotiated.right negotiated.algorithms.kex))) }
+        ensures stays { OnOk result (state_data self.new ≡ record (state_data self.old) {
           phase = phase.Exchange;
-          sending = (kept_of self.new).sending;
-          known = record (kept_of self.old).known { kexinit = payload.now; algorithms = negotiated.algorithms; shares = negotiated.shares; first = false };
+          sending = (state_data self.new).sending;
+          known = record (state_data self.old).known { kexinit = payload.now; algorithms = negotiated.algorithms; shares = negotiated.shares; first = false };
         }) }
     {
         let kexinit = Vec::from_slice(self.alloc, payload)?;
-        self.say_init(config, suite, &negotiated, said)?;
+        self.send_init(config, suite, &negotiated, sent)?;
         self.kexinit = kexinit;
         self.shares = negotiated.shares;
         self.algorithms = Some(negotiated.algorithms);
@@ -108,30 +108,30 @@ impl State<'_> {
     }
 
     /// Says a client's share, unless a right guess has it.
-    fn say_init<S: Suite>(
+    fn send_init<S: Suite>(
         &mut self,
         config: &Config<'_>,
         suite: &S,
         negotiated: &Negotiated,
-        said: &mut Vec<u8>,
+        sent: &mut Vec<u8>,
     ) -> Result<(), Memory>
-        requires open { ending self.old.end ≡ Open }
-        ensures gives { OnOk result ((strict : Bool) (next : KeyData)
-            → Gives (S.meaning suite.now) (party_of config.now).seed strict next (kept_of self.old) (kept_of self.new) said.old.items said.new.items
-            (goes (says_init (S.meaning suite.now) (role_of config.now) (party_of config.now) negotiated.now.right negotiated.now.algorithms.kex))) }
-        ensures stays { OnOk result (kept_of self.new ≡ record (kept_of self.old) { sending = (kept_of self.new).sending }) }
+        requires open { end_data self.old.end ≡ Open }
+        ensures gives { OnOk result ((strict : Bool) (next : KeysData)
+            → Gives (S.meaning suite.now) (config_data config.now).seed strict next (state_data self.old) (state_data self.new) sent.old.items sent.new.items
+            (goes (sends_init (S.meaning suite.now) (role_of config.now) (config_data config.now) negotiated.now.right negotiated.now.algorithms.kex))) }
+        ensures stays { OnOk result (state_data self.new ≡ record (state_data self.old) { sending = (state_data self.new).sending }) }
     {
         if !opens(config, negotiated.right) {
             return Ok(());
         }
         let init = init_payload(self.alloc, config, suite, negotiated.algorithms.kex())?;
-        self.say(config, suite, &init, said)
+        self.send(config, suite, &init, sent)
     }
 }
 
 /// Whether the endpoint is strict towards this peer (OpenSSH PROTOCOL section 1.10).
 fn is_strict(config: &Config<'_>, peer: &KexInit<'_>) -> bool
-    ensures { result ≡ strict_towards (role_of config.now) (party_of config.now).strict (Some (offer_of peer.now)) }
+    ensures { result ≡ strict_towards (role_of config.now) (config_data config.now).strict (Some (kexinit_data peer.now)) }
 {
     sshneg::markers_law();
     strict_of(config.side().strict, config.role(), peer)
@@ -140,7 +140,7 @@ fn is_strict(config: &Config<'_>, peer: &KexInit<'_>) -> bool
 /// Whether a message of the exchange is said at KEXINIT: a client says its share, unless a right guess
 /// has it.
 fn opens(config: &Config<'_>, right: bool) -> bool
-    ensures client { role_of config.now ≡ Client → result ≡ not ((party_of config.now).offer.first_kex_packet_follows && right) }
+    ensures client { role_of config.now ≡ Client → result ≡ not ((config_data config.now).offer.first_kex_packet_follows && right) }
     ensures server { role_of config.now ≡ Server → result ≡ false }
 {
     match config {
@@ -157,7 +157,7 @@ fn negotiate<S: Suite>(
     peer: &KexInit<'_>,
 ) -> Result<Result<Negotiated, NoCommon>, Memory>
     ensures { IfOk result (λ found. IsNegotiated (S.meaning suite.now)
-        (client_of (role_of config.now) (party_of config.now).offer (offer_of peer.now)) (server_of (role_of config.now) (party_of config.now).offer (offer_of peer.now)) found) }
+        (client_of (role_of config.now) (config_data config.now).offer (kexinit_data peer.now)) (server_of (role_of config.now) (config_data config.now).offer (kexinit_data peer.now)) found) }
 {
     let own = config.kexinit()?;
     agree_as(alloc, suite, config.role(), &own, peer)
@@ -172,7 +172,7 @@ fn agree_as<S: Suite>(
     peer: &KexInit<'_>,
 ) -> Result<Result<Negotiated, NoCommon>, Memory>
     ensures { IfOk result (λ found. IsNegotiated (S.meaning suite.now)
-        (client_of role (offer_of own.now) (offer_of peer.now)) (server_of role (offer_of own.now) (offer_of peer.now)) found) }
+        (client_of role (kexinit_data own.now) (kexinit_data peer.now)) (server_of role (kexinit_data own.now) (kexinit_data peer.now)) found) }
 {
     match role {
         Role::Client => agree(alloc, suite, own, peer),
@@ -187,7 +187,7 @@ fn agree<S: Suite>(
     client: &KexInit<'_>,
     server: &KexInit<'_>,
 ) -> Result<Result<Negotiated, NoCommon>, Memory>
-    ensures { IfOk result (λ found. IsNegotiated (S.meaning suite.now) (offer_of client.now) (offer_of server.now) found) }
+    ensures { IfOk result (λ found. IsNegotiated (S.meaning suite.now) (kexinit_data client.now) (kexinit_data server.now) found) }
 {
     sshneg::choice_law();
     sshneg::markers_law();

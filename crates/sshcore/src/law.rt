@@ -4,12 +4,12 @@ ghost use Rattle.std.specs.Prelude.{◌≡◌, ◌⊎◌, ℕ, ◌+◌, ◌<◌,
 ghost use Rattle.std.specs.List.{AllByRecursion};
 ghost use Rattle.sshwire.specs.declared.share_form.ShareForm.{ShareForm};
 ghost use Rattle.sshmsg.specs.declared.numbers.TheConstants.{SSH_MSG_DISCONNECT, SSH_MSG_NEWKEYS, SSH_MSG_USERAUTH_REQUEST};
-ghost use Rattle.sshmsg.specs.Content.{Offer};
+ghost use Rattle.sshmsg.specs.MessageData.{KexInitData};
 ghost use Rattle.sshmsg.specs.Numbers.{kind};
 ghost use Rattle.sshpacket.specs.Parse.{Refusal, refused, unfinished, whole};
 ghost use Rattle.sshpacket.specs.Places.{IsPrefix, flat_places};
-ghost use Rattle.sshpacket.specs.Stream.{IsIncremental, Said, Units};
-ghost use Rattle.sshpacket.specs.Suite.{Meaning};
+ghost use Rattle.sshpacket.specs.Stream.{IsIncremental, Sent, Units};
+ghost use Rattle.sshpacket.specs.Suite.{SuiteData};
 ghost use Rattle.sshneg.specs.declared.role.Role.{Role};
 ghost use Rattle.sshneg.specs.declared.role.Role.TheVariants.{Server};
 ghost use Rattle.sshneg.specs.ExchangeEnd.{offer_in};
@@ -20,17 +20,17 @@ ghost use Rattle.sshcore.specs.Authenticated.{IsAuthenticated};
 ghost use Rattle.sshcore.specs.Before.{count_kept, kept, wrong_guess};
 ghost use Rattle.sshcore.specs.Counting.{number_in, number_out, switched_out};
 ghost use Rattle.sshcore.specs.Directions.{parsers, payloads_in, spells};
-ghost use Rattle.sshcore.specs.Ending.{AgreedData, Authenticated, Ending, Failed, Open, disconnect};
+ghost use Rattle.sshcore.specs.EndData.{AgreedData, Authenticated, EndData, Failed, Open, disconnect};
 ghost use Rattle.sshcore.specs.Exchange.{keys_at, keys_by};
 ghost use Rattle.sshcore.specs.History.{AllFit, BrokenOff, History, IsOneHistory, IsReady};
 ghost use Rattle.sshcore.specs.Known.{Known};
-ghost use Rattle.sshcore.specs.Party.{Party, Policy};
-ghost use Rattle.sshcore.specs.Phases.{behind, leaving, past_exchange, past_newkeys};
+ghost use Rattle.sshcore.specs.EndpointParts.{ConfigData, DecisionsData};
+ghost use Rattle.sshcore.specs.Phases.{leaving, next_phase, past_exchange, past_newkeys};
 ghost use Rattle.sshcore.specs.Plan.{is_waiting};
 ghost use Rattle.sshcore.specs.ConfigRules.{IsListed};
-ghost use Rattle.sshcore.specs.Reached.{IsRun, Tried, are_reached, is_complete, nothing_reached, reached_after, reached_behind, run_of};
+ghost use Rattle.sshcore.specs.Reached.{IsRun, Tried, are_reached, is_complete, nothing_reached, reached_after, reached_after_one, run_of};
 ghost use Rattle.sshcore.specs.Replies.{Ends, StaysOpen, answers_at, end_at, fault_of, line_reply, reply_at};
-ghost use Rattle.sshcore.specs.Standing.{LeavesNone, Sits, behind_exchange, behind_offer, behind_payload, exchange_heard, nothing_known};
+ghost use Rattle.sshcore.specs.Standing.{LeavesNone, Sits, after_exchange, after_offer, after_payload, exchange_received, nothing_known};
 ghost use Rattle.sshcore.specs.StrictClause.{KeepsStrict};
 ghost use Rattle.sshcore.specs.Table.{line_by};
 ghost use Rattle.sshcore.specs.Work.{making};
@@ -38,7 +38,7 @@ ghost use Rattle.sshcore.specs.Work.{making};
 /// The law of strictness (OpenSSH PROTOCOL section 1.10): an endpoint that heard these units and
 /// ended so, or stands open, keeps it, whoever sent them.
 pub fn strict_law()
-    ensures keeps { (m : Meaning) (d : Policy) (role : Role) (party : Party) (units : Units) (refusal : Option Refusal) (end : Ending)
+    ensures keeps { (m : SuiteData) (d : DecisionsData) (role : Role) (party : ConfigData) (units : Units) (refusal : Option Refusal) (end : EndData)
         → Ends m d role party units refusal end → KeepsStrict role party units end }
 {
     sshmsg::numbers_law();
@@ -49,10 +49,10 @@ pub fn strict_law()
 /// auth, and agreed on what the payloads before have given. At a server that was a request for a
 /// service that it has, and good; at a client the answer to the attempt that it made last.
 pub fn authentication_law()
-    ensures authenticated { (m : Meaning) (d : Policy) (role : Role) (party : Party) (units : Units) (refusal : Option Refusal) (a : AgreedData)
+    ensures authenticated { (m : SuiteData) (d : DecisionsData) (role : Role) (party : ConfigData) (units : Units) (refusal : Option Refusal) (a : AgreedData)
         → Ends m d role party units refusal (Authenticated a) → IsAuthenticated m d role party units a }
     // While a server stays open, fewer requests stood than it grants, so the number of the next one is among those that it grants.
-    ensures granted { (m : Meaning) (d : Policy) (party : Party) (version : List ℕ) (before : Units) → 1 ≤ party.tries
+    ensures granted { (m : SuiteData) (d : DecisionsData) (party : ConfigData) (version : List ℕ) (before : Units) → 1 ≤ party.tries
         → StaysOpen m d Server party (version ∷ before) → count_kept Server party.offer SSH_MSG_USERAUTH_REQUEST before < party.tries }
 {
     sshmsg::numbers_law();
@@ -66,60 +66,60 @@ pub fn reached_law()
     ensures run { (user service : List ℕ) (tried : List Tried) → IsRun user service tried (run_of user service tried) }
     ensures only { (user service : List ℕ) (tried run : List Tried) → IsRun user service tried run → run ≡ run_of user service tried }
     // Behind a good request all required methods are reached exactly if requests of its run were good for them all.
-    ensures kept { (tried : List Tried) (t : Tried) (good : List ℕ) (required : List (List ℕ)) → t.good ≡ Some good → AllByRecursion IsListed required
-        → is_complete required (reached_behind (reached_after nothing_reached tried) t) ≡ are_reached required t.user t.service (tried ++ t ∷ []) }
+    ensures kept { (tried : List Tried) (t : Tried) (successful : List ℕ) (required : List (List ℕ)) → t.successful ≡ Some successful → AllByRecursion IsListed required
+        → is_complete required (reached_after_one (reached_after nothing_reached tried) t) ≡ are_reached required t.user t.service (tried ++ t ∷ []) }
 {}
 
 /// The law of standing: where an endpoint stands between two payloads, what the next one brings there,
 /// and where it stands behind it.
 pub fn standing_law()
     // Before anything but the peer's version line was heard.
-    ensures begins { (m : Meaning) (d : Policy) (role : Role) (party : Party) (version : List ℕ) → Sits m d role party version [] phase.KexInit false (nothing_known party version) }
+    ensures begins { (m : SuiteData) (d : DecisionsData) (role : Role) (party : ConfigData) (version : List ℕ) → Sits m d role party version [] phase.KexInit false (nothing_known party version) }
     // What a payload brings is what its line of the phase table says.
-    ensures replies { (m : Meaning) (d : Policy) (role : Role) (party : Party) (version : List ℕ) (before : Units) (payload : List ℕ) (p : Phase) (guess : Bool) (known : Known)
+    ensures replies { (m : SuiteData) (d : DecisionsData) (role : Role) (party : ConfigData) (version : List ℕ) (before : Units) (payload : List ℕ) (p : Phase) (guess : Bool) (known : Known)
         → Sits m d role party version before p guess known → reply_at m d role party version before payload
         ≡ line_reply m d role party known (number_in role party before) (line_by role p known.strict guess (is_waiting known.left) (kind payload)) payload }
 
     // Behind the peer's KEXINIT; behind the packet of a wrong guess; behind the exchange message; behind every other message that
     // leaves a phase; and behind one that leaves none.
-    ensures offers { (m : Meaning) (d : Policy) (role : Role) (party : Party) (version : List ℕ) (before : Units) (payload : List ℕ) (peer : Offer) (known : Known)
+    ensures offers { (m : SuiteData) (d : DecisionsData) (role : Role) (party : ConfigData) (version : List ℕ) (before : Units) (payload : List ℕ) (peer : KexInitData) (known : Known)
         → Sits m d role party version before phase.KexInit false known → offer_in payload ≡ Some peer
-        → Sits m d role party version (before ++ payload ∷ []) phase.Exchange (wrong_guess role party.offer (Some peer)) (behind_offer m role party known payload peer) }
-    ensures drops { (m : Meaning) (d : Policy) (role : Role) (party : Party) (version : List ℕ) (before : Units) (payload : List ℕ) (p : Phase) (known : Known)
+        → Sits m d role party version (before ++ payload ∷ []) phase.Exchange (wrong_guess role party.offer (Some peer)) (after_offer m role party known payload peer) }
+    ensures drops { (m : SuiteData) (d : DecisionsData) (role : Role) (party : ConfigData) (version : List ℕ) (before : Units) (payload : List ℕ) (p : Phase) (known : Known)
         → Sits m d role party version before p true known → (kind payload == SSH_MSG_DISCONNECT) ≡ false
         → Sits m d role party version (before ++ payload ∷ []) p false (record known { first = false }) }
-    ensures exchanges { (m : Meaning) (d : Policy) (role : Role) (party : Party) (version : List ℕ) (before : Units) (payload : List ℕ) (known : Known)
+    ensures exchanges { (m : SuiteData) (d : DecisionsData) (role : Role) (party : ConfigData) (version : List ℕ) (before : Units) (payload : List ℕ) (known : Known)
         → Sits m d role party version before phase.Exchange false known → kind payload ≡ leaving role phase.Exchange
-        → Sits m d role party version (before ++ payload ∷ []) phase.NewKeys false (behind_exchange m role party known payload) }
-    ensures leaves { (m : Meaning) (d : Policy) (role : Role) (party : Party) (version : List ℕ) (before : Units) (payload : List ℕ) (p : Phase) (known : Known)
+        → Sits m d role party version (before ++ payload ∷ []) phase.NewKeys false (after_exchange m role party known payload) }
+    ensures leaves { (m : SuiteData) (d : DecisionsData) (role : Role) (party : ConfigData) (version : List ℕ) (before : Units) (payload : List ℕ) (p : Phase) (known : Known)
         → Sits m d role party version before p false known → past_exchange p ≡ true → kind payload ≡ leaving role p
-        → Sits m d role party version (before ++ payload ∷ []) (behind p) false (behind_payload m d party known payload) }
-    ensures stays { (m : Meaning) (d : Policy) (role : Role) (party : Party) (version : List ℕ) (before : Units) (payload : List ℕ) (p : Phase) (known : Known)
+        → Sits m d role party version (before ++ payload ∷ []) (next_phase p) false (after_payload m d party known payload) }
+    ensures stays { (m : SuiteData) (d : DecisionsData) (role : Role) (party : ConfigData) (version : List ℕ) (before : Units) (payload : List ℕ) (p : Phase) (known : Known)
         → Sits m d role party version before p false known → LeavesNone role (kind payload)
-        → Sits m d role party version (before ++ payload ∷ []) p false (behind_payload m d party known payload) }
+        → Sits m d role party version (before ++ payload ∷ []) p false (after_payload m d party known payload) }
 
     // A number that is read or unknown where no guess is due, and neither closes nor leaves the phase, leaves none.
     ensures quiet { (role : Role) (p : Phase) (strict waits : Bool) (n : ℕ) → (n == SSH_MSG_DISCONNECT) ≡ false → (n == leaving role p) ≡ false
         → (line_by role p strict false waits n ≡ line.Reads) ⊎ (line_by role p strict false waits n ≡ line.Unknown) → LeavesNone role n }
 
     // Before a choice nothing depends on the form of shares.
-    ensures formless { (m : Meaning) (d : Policy) (role : Role) (party : Party) (known : Known) (packet : ℕ) (payload : List ℕ) (form : ShareForm)
+    ensures formless { (m : SuiteData) (d : DecisionsData) (role : Role) (party : ConfigData) (known : Known) (packet : ℕ) (payload : List ℕ) (form : ShareForm)
         → line_reply m d role party (record known { shares = form }) packet (line_by role phase.KexInit known.strict false (is_waiting known.left) (kind payload)) payload
         ≡ line_reply m d role party known packet (line_by role phase.KexInit known.strict false (is_waiting known.left) (kind payload)) payload }
 
     // The keys of both directions come of the exchange message, and stay.
-    ensures makes_keys { (m : Meaning) (d : Policy) (role : Role) (party : Party) (version : List ℕ) (before : Units) (payload : List ℕ) (known : Known)
+    ensures makes_keys { (m : SuiteData) (d : DecisionsData) (role : Role) (party : ConfigData) (version : List ℕ) (before : Units) (payload : List ℕ) (known : Known)
         → Sits m d role party version before phase.Exchange false known → kind payload ≡ leaving role phase.Exchange → (sender : Role)
-        → keys_at m role party version (before ++ payload ∷ []) sender ≡ keys_by m known.algorithms (exchange_heard m role party known payload) sender }
-    ensures keeps_keys { (m : Meaning) (d : Policy) (role : Role) (party : Party) (version : List ℕ) (before : Units) (payload : List ℕ) (p : Phase) (guess : Bool) (known : Known)
+        → keys_at m role party version (before ++ payload ∷ []) sender ≡ keys_by m known.algorithms (exchange_received m role party known payload) sender }
+    ensures keeps_keys { (m : SuiteData) (d : DecisionsData) (role : Role) (party : ConfigData) (version : List ℕ) (before : Units) (payload : List ℕ) (p : Phase) (guess : Bool) (known : Known)
         → Sits m d role party version before p guess known → past_exchange p ≡ true → (sender : Role)
         → keys_at m role party version (before ++ payload ∷ []) sender ≡ keys_at m role party version before sender }
 
     // Behind the key switch a strict endpoint counts packets anew; behind every other packet it counts one more.
-    ensures counts_anew { (m : Meaning) (d : Policy) (role : Role) (party : Party) (version : List ℕ) (before : Units) (payload : List ℕ) (known : Known)
+    ensures counts_anew { (m : SuiteData) (d : DecisionsData) (role : Role) (party : ConfigData) (version : List ℕ) (before : Units) (payload : List ℕ) (known : Known)
         → Sits m d role party version before phase.NewKeys false known → kind payload ≡ SSH_MSG_NEWKEYS
         → number_in role party (before ++ payload ∷ []) ≡ (if known.strict then 0 else (number_in role party before + 1) % 2 ^ 32) }
-    ensures counts_on { (m : Meaning) (d : Policy) (role : Role) (party : Party) (version : List ℕ) (before : Units) (payload : List ℕ) (p : Phase) (guess : Bool) (known : Known)
+    ensures counts_on { (m : SuiteData) (d : DecisionsData) (role : Role) (party : ConfigData) (version : List ℕ) (before : Units) (payload : List ℕ) (p : Phase) (guess : Bool) (known : Known)
         → Sits m d role party version before p guess known → (past_newkeys p ≡ true) ⊎ (kept role party.offer SSH_MSG_NEWKEYS before payload ≡ false)
         → number_in role party (before ++ payload ∷ []) ≡ (number_in role party before + 1) % 2 ^ 32 }
 {
@@ -129,22 +129,22 @@ pub fn standing_law()
 
 /// The law of saying: the key switch and the number of the next packet that is said, before anything
 /// and with one payload more (RFC 4253 sections 6.4 and 7.3, OpenSSH PROTOCOL section 1.10).
-pub fn saying_law()
+pub fn sending_law()
     ensures nothing { (strict : Bool) → (switched_out [] ≡ false) × (number_out strict [] ≡ 0) }
-    ensures switches { (said : Units) (payload : List ℕ)
-        → switched_out (said ++ payload ∷ []) ≡ (if switched_out said then true else kind payload == SSH_MSG_NEWKEYS) }
-    ensures counts { (strict : Bool) (said : Units) (payload : List ℕ)
-        → number_out strict (said ++ payload ∷ []) ≡ (if switched_out said then (number_out strict said + 1) % 2 ^ 32
-        else if kind payload == SSH_MSG_NEWKEYS then (if strict then 0 else (number_out strict said + 1) % 2 ^ 32)
-        else (number_out strict said + 1) % 2 ^ 32) }
+    ensures switches { (sent : Units) (payload : List ℕ)
+        → switched_out (sent ++ payload ∷ []) ≡ (if switched_out sent then true else kind payload == SSH_MSG_NEWKEYS) }
+    ensures counts { (strict : Bool) (sent : Units) (payload : List ℕ)
+        → number_out strict (sent ++ payload ∷ []) ≡ (if switched_out sent then (number_out strict sent + 1) % 2 ^ 32
+        else if kind payload == SSH_MSG_NEWKEYS then (if strict then 0 else (number_out strict sent + 1) % 2 ^ 32)
+        else (number_out strict sent + 1) % 2 ^ 32) }
 
     // Before the key switch strictness doesn't matter.
-    ensures unswitched { (strict other : Bool) (said : Units) → switched_out said ≡ false → number_out strict said ≡ number_out other said }
+    ensures unswitched { (strict other : Bool) (sent : Units) → switched_out sent ≡ false → number_out strict sent ≡ number_out other sent }
 
     // What was said stays spelled as it is when more is heard, once both directions have their keys.
-    ensures stays { (m : Meaning) (role : Role) (party : Party) (units more answers : Units) (s : List ℕ)
+    ensures stays { (m : SuiteData) (role : Role) (party : ConfigData) (units more answers : Units) (s : List ℕ)
         → (switched_out answers ≡ true → IsReady role party (payloads_in units))
-        → Said (spells m role party units) s (party.version ∷ answers) → Said (spells m role party (units ++ more)) s (party.version ∷ answers) }
+        → Sent (spells m role party units) s (party.version ∷ answers) → Sent (spells m role party (units ++ more)) s (party.version ∷ answers) }
 {}
 
 /// The law of histories: what an endpoint has heard and said, before any byte and with each piece more;
@@ -154,39 +154,39 @@ pub fn saying_law()
 /// refusal, or a unit with its answers. That NEWKEYS is said only where the exchange was heard comes of
 /// the definitions; that the answers fit packets is for the code to see to.
 pub fn history_law()
-    ensures parsers { (m : Meaning) (role : Role) (party : Party) (units : Units) → IsIncremental (parsers m role party units) }
-    ensures begins { (m : Meaning) (d : Policy) (role : Role) (party : Party) → AllFit (making m role party)
+    ensures parsers { (m : SuiteData) (role : Role) (party : ConfigData) (units : Units) → IsIncremental (parsers m role party units) }
+    ensures begins { (m : SuiteData) (d : DecisionsData) (role : Role) (party : ConfigData) → AllFit (making m role party)
         → History m d role party [] [] None (making m role party) Open [] (flat_places (spells m role party []) [] (party.version ∷ making m role party)) }
-    ensures part { (m : Meaning) (d : Policy) (role : Role) (party : Party) (units : Units) (rest : List ℕ) (answers : Units) (h s : List ℕ)
+    ensures part { (m : SuiteData) (d : DecisionsData) (role : Role) (party : ConfigData) (units : Units) (rest : List ℕ) (answers : Units) (h s : List ℕ)
         → History m d role party units rest None answers Open h s → (piece : List ℕ) → parsers m role party units (rest ++ piece) ≡ unfinished
         → History m d role party units (rest ++ piece) None answers Open (h ++ piece) s }
-    ensures refusal { (m : Meaning) (d : Policy) (role : Role) (party : Party) (units : Units) (rest : List ℕ) (answers : Units) (h s : List ℕ)
+    ensures refusal { (m : SuiteData) (d : DecisionsData) (role : Role) (party : ConfigData) (units : Units) (rest : List ℕ) (answers : Units) (h s : List ℕ)
         → History m d role party units rest None answers Open h s → (piece : List ℕ) (used : ℕ) (r : Refusal) → used ≤ length piece
         → parsers m role party units (rest ++ piece) ≡ refused r (length rest + used) → AllFit (disconnect (fault_of r))
         → History m d role party units (rest ++ take used piece) (Some r) (answers ++ disconnect (fault_of r)) (Failed (fault_of r)) (h ++ take used piece)
         (s ++ flat_places (spells m role party units) (party.version ∷ answers) (disconnect (fault_of r))) }
-    ensures unit { (m : Meaning) (d : Policy) (role : Role) (party : Party) (units : Units) (rest : List ℕ) (answers : Units) (h s : List ℕ)
+    ensures unit { (m : SuiteData) (d : DecisionsData) (role : Role) (party : ConfigData) (units : Units) (rest : List ℕ) (answers : Units) (h s : List ℕ)
         → History m d role party units rest None answers Open h s → (piece u : List ℕ) (used : ℕ) → used ≤ length piece
         → parsers m role party units (rest ++ piece) ≡ whole u (length rest + used) → AllFit (answers_at m d role party units u)
         → History m d role party (units ++ u ∷ []) [] None (answers ++ answers_at m d role party units u) (end_at m d role party units u) (h ++ take used piece)
         (s ++ flat_places (spells m role party (units ++ u ∷ [])) (party.version ∷ answers) (answers_at m d role party units u)) }
 
     // Where memory is wanted: before anything was said, or behind some of the answers to a unit.
-    ensures broken { (m : Meaning) (d : Policy) (role : Role) (party : Party) (units : Units) (rest : List ℕ) (r : Option Refusal) (answers : Units) (end : Ending) (h s : List ℕ)
+    ensures broken { (m : SuiteData) (d : DecisionsData) (role : Role) (party : ConfigData) (units : Units) (rest : List ℕ) (r : Option Refusal) (answers : Units) (end : EndData) (h s : List ℕ)
         → History m d role party units rest r answers end h s → BrokenOff m d role party h s }
-    ensures breaks { (m : Meaning) (d : Policy) (role : Role) (party : Party) (units : Units) (rest : List ℕ) (answers : Units) (h s : List ℕ)
+    ensures breaks { (m : SuiteData) (d : DecisionsData) (role : Role) (party : ConfigData) (units : Units) (rest : List ℕ) (answers : Units) (h s : List ℕ)
         → History m d role party units rest None answers Open h s → (piece u : List ℕ) (used : ℕ) (some : Units) → used ≤ length piece
         → parsers m role party units (rest ++ piece) ≡ whole u (length rest + used) → IsPrefix some (answers_at m d role party units u)
         → BrokenOff m d role party (h ++ take used piece) (s ++ flat_places (spells m role party (units ++ u ∷ [])) (party.version ∷ answers) some) }
 
     // The bytes used decide the units, the rest, the answers, the end and the bytes said. And one input decides the bytes used: an
     // endpoint uses some bytes at the front of its input, and all of them while it stands open.
-    ensures one { (m : Meaning) (d : Policy) (role : Role) (party : Party) (units other_units : Units) (rest other_rest : List ℕ) (r other_r : Option Refusal)
-        (answers other_answers : Units) (end other_end : Ending) (h s t : List ℕ)
+    ensures one { (m : SuiteData) (d : DecisionsData) (role : Role) (party : ConfigData) (units other_units : Units) (rest other_rest : List ℕ) (r other_r : Option Refusal)
+        (answers other_answers : Units) (end other_end : EndData) (h s t : List ℕ)
         → History m d role party units rest r answers end h s → History m d role party other_units other_rest other_r other_answers other_end h t
         → IsOneHistory units other_units rest other_rest r other_r answers other_answers end other_end s t }
-    ensures joined { (m : Meaning) (d : Policy) (role : Role) (party : Party) (units other_units : Units) (rest other_rest : List ℕ) (r other_r : Option Refusal)
-        (answers other_answers : Units) (end other_end : Ending) (h g s t x y : List ℕ)
+    ensures joined { (m : SuiteData) (d : DecisionsData) (role : Role) (party : ConfigData) (units other_units : Units) (rest other_rest : List ℕ) (r other_r : Option Refusal)
+        (answers other_answers : Units) (end other_end : EndData) (h g s t x y : List ℕ)
         → History m d role party units rest r answers end h s → History m d role party other_units other_rest other_r other_answers other_end g t
         → h ++ x ≡ g ++ y → (end ≡ Open → x ≡ []) → (other_end ≡ Open → y ≡ [])
         → (h ≡ g) × IsOneHistory units other_units rest other_rest r other_r answers other_answers end other_end s t }

@@ -36,7 +36,7 @@ mod notice;
 mod packet;
 mod payloads;
 mod requests;
-mod saying;
+mod sending;
 mod server_config;
 mod service;
 mod session;
@@ -58,7 +58,9 @@ pub use draws::Draws;
 pub use end::{Agreed, End, Fault, ShortFault};
 pub use endpoint::Endpoint;
 pub use endpoint_laws::endpoint_law;
-pub use law::{authentication_law, history_law, reached_law, saying_law, standing_law, strict_law};
+pub use law::{
+    authentication_law, history_law, reached_law, sending_law, standing_law, strict_law,
+};
 pub use limits_laws::limits_law;
 pub use link::{LINK_LIMIT, Link};
 pub use link_fault::LinkFault;

@@ -41,8 +41,8 @@ impl Link {
     ghost use Rattle.std.specs.Io.BufRead.{Rests};
     ghost use Rattle.std.specs.Prelude.{◌≡◌, ◌<◌, ◌≤◌, ◌^◌, ◌++◌, Err, IfErr, IfOk, IfSome, OnOk, if◌then◌else◌, is_ok, length};
     ghost use Rattle.sshpacket.specs.declared.limits.TheConstants.{PACKET_LIMIT};
-    ghost use Rattle.sshpacket.specs.ReaderState.{Uses, last_used, state};
-    ghost use Rattle.sshpacket.specs.Suite.{Meaning};
+    ghost use Rattle.sshpacket.specs.PacketReaderData.{Uses, last_used, packet_reader_data};
+    ghost use Rattle.sshpacket.specs.Suite.{SuiteData};
     ghost use Rattle.sshcore.specs.declared.link_fault.LinkFault.TheVariants as fault;
     ghost use Rattle.sshcore.specs.Linked.{BeginsBy, CanSeal, IsSealed, LinkLeaves, LinkWaits, OnlyOpenAnswer, OpenAnswer, SealRefused, fault_by, incoming_of, outgoing_of, raised, sealed_by, sent_by};
     ghost use Rattle.sshcore.specs.contracts.link.Link.{the_row};
@@ -55,7 +55,7 @@ impl Link {
         ensures seals { outgoing_of result ≡ sent_by outgoing seed }
         ensures in_range { (outgoing_of result).number < 2 ^ 32 }
         ensures opens { BeginsBy incoming (incoming_of result) }
-        ensures waits { (m : Meaning) → LinkWaits m (incoming_of result) }
+        ensures waits { (m : SuiteData) → LinkWaits m (incoming_of result) }
     {
         Link {
             alloc,
@@ -121,7 +121,7 @@ impl Link {
         // packet there is refused, want of memory apart.
         ensures tells { (incoming_of self.old).opened < LINK_LIMIT → LinkWaits (S.meaning suite.now) (incoming_of self.old) → OpenAnswer (S.meaning suite.now) (incoming_of self.old) piece.now result }
         ensures only { (incoming_of self.old).opened < LINK_LIMIT → LinkWaits (S.meaning suite.now) (incoming_of self.old) → OnlyOpenAnswer (S.meaning suite.now) (incoming_of self.old) piece.now result }
-        ensures again { (incoming_of self.old).opened < LINK_LIMIT → IfSome (state (incoming_of self.old).reader).fault (λ f. result ≡ Err (fault_by f)) }
+        ensures again { (incoming_of self.old).opened < LINK_LIMIT → IfSome (packet_reader_data (incoming_of self.old).reader).fault (λ f. result ≡ Err (fault_by f)) }
         // In every state: a packet uses some bytes of the piece, and no more than it has.
         ensures uses { IfOk result (λ step. Uses (length piece.now) step) }
         // How the link is left: what it seals with stays as it is.
@@ -173,7 +173,7 @@ impl Link {
     /// How many bytes of the unfinished packet are held, at most `PACKET_LIMIT`. Takes no memory.
     #[tactic(auto, unfolding(crate::specs::Linked::incoming_of))]
     pub fn buffered(&self) -> usize
-        ensures held { result ≡ length (state (incoming_of self.now).reader).held }
+        ensures held { result ≡ length (packet_reader_data (incoming_of self.now).reader).held }
         ensures bound { result ≤ PACKET_LIMIT }
     {
         self.reader.buffered()

@@ -2,7 +2,7 @@
 
 ghost use Rattle.std.specs.Prelude.{◌≡◌, ◌≢◌, ◌⊎◌, ℕ, ◌+◌, ◌<◌, ◌^◌, ◌++◌, Err, List, Ok, Result, length};
 ghost use Rattle.sshwire.specs.Types.{IsBytes};
-ghost use Rattle.sshpacket.specs.Suite.{IsLawful, Meaning};
+ghost use Rattle.sshpacket.specs.Suite.{IsLawful, SuiteData};
 ghost use Rattle.sshpacket.specs.declared.reader.PacketStep.{PacketStep};
 ghost use Rattle.sshcore.specs.declared.link_fault.LinkFault.{LinkFault};
 ghost use Rattle.sshcore.specs.declared.link_fault.LinkFault.TheVariants as fault;
@@ -16,10 +16,10 @@ pub fn link_law()
     ensures begins { (direction : Direction) (seed : List ℕ) (i : Incoming) → direction.sequence_number < 2 ^ 32 → BeginsBy direction i → AreLinked (sent_by direction seed) i }
     // Of two that are linked, the one's packet is opened by the other as its payload, with its number, whatever follows it, want of
     // memory apart; and they stay linked.
-    ensures opens { (m : Meaning) → IsLawful m → (o : Outgoing) (i : Incoming) → AreLinked o i → (payload rest : List ℕ) → IsBytes payload → CanSeal o payload
+    ensures opens { (m : SuiteData) → IsLawful m → (o : Outgoing) (i : Incoming) → AreLinked o i → (payload rest : List ℕ) → IsBytes payload → CanSeal o payload
         → (result : Result PacketStep LinkFault) → OnlyOpenAnswer m i (sealed_by m o payload ++ rest) result
         → Opens payload o.number (length (sealed_by m o payload)) result ⊎ (result ≡ Err fault.Memory) }
-    ensures goes_on { (m : Meaning) (o : Outgoing) (i new : Incoming) → AreLinked o i → (piece : List ℕ) (step : PacketStep) (payload : List ℕ) (seq used : ℕ)
+    ensures goes_on { (m : SuiteData) (o : Outgoing) (i new : Incoming) → AreLinked o i → (piece : List ℕ) (step : PacketStep) (payload : List ℕ) (seq used : ℕ)
         → Opens payload seq used (Ok step) → LinkLeaves m i piece (Ok step) new → AreLinked (raised o) new }
     // Of 2^32 packets one after another no two have the same number.
     ensures counts { (o : Outgoing) (n : ℕ) → (raised_times n o).sealed ≡ o.sealed + n }

@@ -2,8 +2,8 @@
 
 ghost use Rattle.std.specs.Prelude.{◌≡◌};
 ghost use Rattle.sshcore.specs.declared.table.Phase.TheVariants as phase;
-ghost use Rattle.sshcore.specs.Brings.{heard_one};
-ghost use Rattle.sshcore.specs.Kept.{keys_due, keys_left, kept_of};
+ghost use Rattle.sshcore.specs.Brings.{received_one};
+ghost use Rattle.sshcore.specs.StateData.{keys_due, keys_left, state_data};
 
 use crate::state::State;
 use crate::table::Phase;
@@ -11,9 +11,9 @@ use sshpacket::Keys;
 
 impl State<'_> {
     /// Hears that the peer goes over to the new keys.
-    pub(crate) fn hear_new_keys(&mut self)
+    pub(crate) fn receive_new_keys(&mut self)
         requires { self.old.phase ≡ phase.NewKeys }
-        ensures { kept_of self.new ≡ record (kept_of self.old) { phase = phase.Service; known = heard_one (kept_of self.old).known } }
+        ensures { state_data self.new ≡ record (state_data self.old) { phase = phase.Service; known = received_one (state_data self.old).known } }
     {
         self.phase = Phase::Service;
         self.first = false;
@@ -22,7 +22,7 @@ impl State<'_> {
     /// The keys of what is heard from here on, right behind NEWKEYS.
     pub(crate) fn take_keys(&mut self) -> Option<Keys>
         ensures keys { result ≡ keys_due self.old.phase self.old.pending }
-        ensures left { kept_of self.new ≡ record (kept_of self.old) { carried = record (kept_of self.old).carried { pending = keys_left self.old.phase self.old.pending } } }
+        ensures left { state_data self.new ≡ record (state_data self.old) { carried = record (state_data self.old).carried { pending = keys_left self.old.phase self.old.pending } } }
     {
         match self.phase {
             Phase::Service => self.pending.take(),

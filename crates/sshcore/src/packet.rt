@@ -4,15 +4,15 @@ ghost use Rattle.std.specs.Prelude.{◌≡◌, ◌≢◌, ◌==◌, ◌≤◌, O
 ghost use Rattle.sshmsg.specs.Messages.{Spells, message_in};
 ghost use Rattle.sshmsg.specs.Numbers.{kind, number_of};
 ghost use Rattle.sshmsg.specs.declared.numbers.TheConstants.{SSH_MSG_USERAUTH_REQUEST, SSH_MSG_USERAUTH_SUCCESS};
-ghost use Rattle.sshmsg.specs.View.{content_of};
+ghost use Rattle.sshmsg.specs.View.{message_data};
 ghost use Rattle.sshpacket.specs.declared.limits.TheConstants.{PACKET_LIMIT};
 ghost use Rattle.sshcore.specs.declared.end.Fault.TheVariants as fault;
 ghost use Rattle.sshcore.specs.declared.table.Line.TheVariants as line;
-ghost use Rattle.sshcore.specs.Brings.{Brings, Works, heard_one};
-ghost use Rattle.sshcore.specs.ConfigParty.{party_of, role_of};
-ghost use Rattle.sshcore.specs.Ending.{Failed, Open, ending};
+ghost use Rattle.sshcore.specs.Brings.{Brings, Works, received_one};
+ghost use Rattle.sshcore.specs.EndpointConfig.{config_data, role_of};
+ghost use Rattle.sshcore.specs.EndData.{Failed, Open, end_data};
 ghost use Rattle.sshcore.specs.Exchanged.{HasForm};
-ghost use Rattle.sshcore.specs.Kept.{kept_of};
+ghost use Rattle.sshcore.specs.StateData.{state_data};
 ghost use Rattle.sshcore.specs.Phases.{leaving};
 ghost use Rattle.sshcore.specs.Replies.{read_reply};
 ghost use Rattle.sshcore.specs.Authenticating.{IsOfRequests};
@@ -23,7 +23,7 @@ ghost use Rattle.sshcore.specs.Work.{work};
 use crate::config::Config;
 use crate::decisions::Decisions;
 use crate::end::{End, Fault};
-use crate::exchange::Reply;
+use crate::exchange::KexReply;
 use crate::lent::set;
 use crate::notice::tell_notice;
 use crate::state::State;
@@ -40,20 +40,20 @@ use sshwire::Memory;
 
 impl State<'_> {
     /// Hears a packet with this number: its line of the phase table says what becomes of it.
-    pub(crate) fn hear<S: Suite, D: Decisions>(
+    pub(crate) fn receive<S: Suite, D: Decisions>(
         &mut self,
         config: &Config<'_>,
         suite: &S,
         decisions: &D,
         payload: &[u8],
         packet: u32,
-        said: &mut Vec<u8>,
+        sent: &mut Vec<u8>,
     ) -> Result<(), Memory>
-        requires open { ending self.old.end ≡ Open }
+        requires open { end_data self.old.end ≡ Open }
         requires short { length payload.now ≤ PACKET_LIMIT }
-        ensures brings { OnOk result (HasForm (S.meaning suite.now) (kept_of self.old)
-            → Brings (S.meaning suite.now) (D.policy decisions.now) (role_of config.now) (party_of config.now) (kept_of self.old) (kept_of self.new) packet payload.now said.old.items said.new.items) }
-        ensures kept { OnOk result (ending self.new.end ≢ Failed fault.Memory) }
+        ensures brings { OnOk result (HasForm (S.meaning suite.now) (state_data self.old)
+            → Brings (S.meaning suite.now) (D.policy decisions.now) (role_of config.now) (config_data config.now) (state_data self.old) (state_data self.new) packet payload.now sent.old.items sent.new.items) }
+        ensures kept { OnOk result (end_data self.new.end ≢ Failed fault.Memory) }
     {
         let number = kind(payload);
         let waits = self.waits();
@@ -65,20 +65,20 @@ impl State<'_> {
             waits,
             number,
         ) {
-            Line::Reads => self.read(config, suite, decisions, payload, said),
+            Line::Reads => self.read(config, suite, decisions, payload, sent),
             Line::Drops => {
                 self.drop_guess();
                 Ok(())
             }
-            Line::Deviates => self.fail(config, suite, Fault::Strict(number), said),
-            Line::Unknown => self.tell_unknown(config, suite, packet, said),
-            Line::Unexpected => self.fail(config, suite, Fault::Unexpected(number), said),
+            Line::Deviates => self.fail(config, suite, Fault::Strict(number), sent),
+            Line::Unknown => self.tell_unknown(config, suite, packet, sent),
+            Line::Unexpected => self.fail(config, suite, Fault::Unexpected(number), sent),
         }
     }
 
     /// Drops the packet of a wrong guess unread (RFC 4253 section 7).
     fn drop_guess(&mut self)
-        ensures { kept_of self.new ≡ record (kept_of self.old) { guess = false; known = heard_one (kept_of self.old).known } }
+        ensures { state_data self.new ≡ record (state_data self.old) { guess = false; known = received_one (state_data self.old).known } }
     {
         self.guess = false;
         self.first = false;
@@ -91,20 +91,20 @@ impl State<'_> {
         suite: &S,
         decisions: &D,
         payload: &[u8],
-        said: &mut Vec<u8>,
+        sent: &mut Vec<u8>,
     ) -> Result<(), Memory>
-        requires open { ending self.old.end ≡ Open }
+        requires open { end_data self.old.end ≡ Open }
         requires short { length payload.now ≤ PACKET_LIMIT }
-        requires reads { line_by (role_of config.now) self.old.phase self.old.strict self.old.guess (is_waiting (kept_of self.old).known.left) (kind payload.now) ≡ line.Reads }
-        ensures works { OnOk result (HasForm (S.meaning suite.now) (kept_of self.old)
-            → Works (S.meaning suite.now) (D.policy decisions.now) (role_of config.now) (party_of config.now) (kept_of self.old) (kept_of self.new) payload.now said.old.items said.new.items
-            (read_reply (S.meaning suite.now) (D.policy decisions.now) (role_of config.now) (party_of config.now) (kept_of self.old).known (kind payload.now) (message_in self.old.shares payload.now))) }
-        ensures kept { OnOk result (ending self.new.end ≢ Failed fault.Memory) }
+        requires reads { line_by (role_of config.now) self.old.phase self.old.strict self.old.guess (is_waiting (state_data self.old).known.left) (kind payload.now) ≡ line.Reads }
+        ensures works { OnOk result (HasForm (S.meaning suite.now) (state_data self.old)
+            → Works (S.meaning suite.now) (D.policy decisions.now) (role_of config.now) (config_data config.now) (state_data self.old) (state_data self.new) payload.now sent.old.items sent.new.items
+            (read_reply (S.meaning suite.now) (D.policy decisions.now) (role_of config.now) (config_data config.now) (state_data self.old).known (kind payload.now) (message_in self.old.shares payload.now))) }
+        ensures kept { OnOk result (end_data self.new.end ≢ Failed fault.Memory) }
     {
         match read_exchange(self.alloc, payload, self.shares) {
-            Ok(message) => self.work(config, suite, decisions, payload, &message, said),
+            Ok(message) => self.work(config, suite, decisions, payload, &message, sent),
             Err(MsgFault::Memory) => Err(Memory),
-            Err(_) => self.fail(config, suite, Fault::Malformed(kind(payload)), said),
+            Err(_) => self.fail(config, suite, Fault::Malformed(kind(payload)), sent),
         }
     }
 
@@ -116,16 +116,16 @@ impl State<'_> {
         decisions: &D,
         payload: &[u8],
         message: &Message<'_>,
-        said: &mut Vec<u8>,
+        sent: &mut Vec<u8>,
     ) -> Result<(), Memory>
-        requires open { ending self.old.end ≡ Open }
+        requires open { end_data self.old.end ≡ Open }
         requires short { length payload.now ≤ PACKET_LIMIT }
-        requires reads { line_by (role_of config.now) self.old.phase self.old.strict self.old.guess (is_waiting (kept_of self.old).known.left) (kind payload.now) ≡ line.Reads }
-        requires spelled { Spells self.old.shares (content_of message.now) payload.now }
-        ensures works { OnOk result (HasForm (S.meaning suite.now) (kept_of self.old)
-            → Works (S.meaning suite.now) (D.policy decisions.now) (role_of config.now) (party_of config.now) (kept_of self.old) (kept_of self.new) payload.now said.old.items said.new.items
-            (work (S.meaning suite.now) (D.policy decisions.now) (role_of config.now) (party_of config.now) (kept_of self.old).known (content_of message.now))) }
-        ensures kept { OnOk result (ending self.new.end ≢ Failed fault.Memory) }
+        requires reads { line_by (role_of config.now) self.old.phase self.old.strict self.old.guess (is_waiting (state_data self.old).known.left) (kind payload.now) ≡ line.Reads }
+        requires spelled { Spells self.old.shares (message_data message.now) payload.now }
+        ensures works { OnOk result (HasForm (S.meaning suite.now) (state_data self.old)
+            → Works (S.meaning suite.now) (D.policy decisions.now) (role_of config.now) (config_data config.now) (state_data self.old) (state_data self.new) payload.now sent.old.items sent.new.items
+            (work (S.meaning suite.now) (D.policy decisions.now) (role_of config.now) (config_data config.now) (state_data self.old).known (message_data message.now))) }
+        ensures kept { OnOk result (end_data self.new.end ≢ Failed fault.Memory) }
     {
         sshmsg::messages_law();
         sshmsg::numbers_law();
@@ -135,28 +135,28 @@ impl State<'_> {
                 set(&mut self.end, End::Closed(*reason));
                 Ok(())
             }
-            Message::KexInit(peer) => self.hear_kexinit(config, suite, payload, peer, said),
+            Message::KexInit(peer) => self.receive_kexinit(config, suite, payload, peer, sent),
             Message::KexdhInit { .. }
             | Message::KexdhReply { .. }
             | Message::KexEcdhInit { .. }
             | Message::KexEcdhReply { .. } => {
-                self.work_exchange(config, suite, decisions, payload, message, said)
+                self.work_exchange(config, suite, decisions, payload, message, sent)
             }
             Message::NewKeys => {
-                self.hear_new_keys();
+                self.receive_new_keys();
                 Ok(())
             }
             Message::ServiceRequest { service } => {
-                self.hear_service_request(config, suite, service, said)
+                self.receive_service_request(config, suite, service, sent)
             }
             Message::ServiceAccept { service } => {
-                self.hear_service_accept(config, suite, service, said)
+                self.receive_service_accept(config, suite, service, sent)
             }
             Message::UserauthRequest { .. }
             | Message::UserauthFailure { .. }
             | Message::UserauthSuccess
             | Message::UserauthPkOk { .. } => {
-                self.work_auth(config, suite, decisions, payload, message, said)
+                self.work_auth(config, suite, decisions, payload, message, sent)
             }
             _ => {
                 self.first = false;
@@ -173,49 +173,49 @@ impl State<'_> {
         decisions: &D,
         payload: &[u8],
         message: &Message<'_>,
-        said: &mut Vec<u8>,
+        sent: &mut Vec<u8>,
     ) -> Result<(), Memory>
-        requires open { ending self.old.end ≡ Open }
+        requires open { end_data self.old.end ≡ Open }
         requires short { length payload.now ≤ PACKET_LIMIT }
-        requires reads { line_by (role_of config.now) self.old.phase self.old.strict self.old.guess (is_waiting (kept_of self.old).known.left) (kind payload.now) ≡ line.Reads }
-        requires spelled { Spells self.old.shares (content_of message.now) payload.now }
-        requires exchange { is_of_method (number_of (content_of message.now)) ≡ true }
-        ensures works { OnOk result (HasForm (S.meaning suite.now) (kept_of self.old)
-            → Works (S.meaning suite.now) (D.policy decisions.now) (role_of config.now) (party_of config.now) (kept_of self.old) (kept_of self.new) payload.now said.old.items said.new.items
-            (work (S.meaning suite.now) (D.policy decisions.now) (role_of config.now) (party_of config.now) (kept_of self.old).known (content_of message.now))) }
-        ensures kept { OnOk result (ending self.new.end ≢ Failed fault.Memory) }
+        requires reads { line_by (role_of config.now) self.old.phase self.old.strict self.old.guess (is_waiting (state_data self.old).known.left) (kind payload.now) ≡ line.Reads }
+        requires spelled { Spells self.old.shares (message_data message.now) payload.now }
+        requires exchange { is_of_method (number_of (message_data message.now)) ≡ true }
+        ensures works { OnOk result (HasForm (S.meaning suite.now) (state_data self.old)
+            → Works (S.meaning suite.now) (D.policy decisions.now) (role_of config.now) (config_data config.now) (state_data self.old) (state_data self.new) payload.now sent.old.items sent.new.items
+            (work (S.meaning suite.now) (D.policy decisions.now) (role_of config.now) (config_data config.now) (state_data self.old).known (message_data message.now))) }
+        ensures kept { OnOk result (end_data self.new.end ≢ Failed fault.Memory) }
     {
         sshmsg::messages_law();
         sshmsg::numbers_law();
         sshmsg::lengths_law();
         match message {
-            Message::KexdhInit { e } => self.hear_init(config, suite, e.body(), said),
+            Message::KexdhInit { e } => self.receive_init(config, suite, e.body(), sent),
             Message::KexEcdhInit { client_share } => {
-                self.hear_init(config, suite, client_share, said)
+                self.receive_init(config, suite, client_share, sent)
             }
             Message::KexdhReply {
                 host_key,
                 f,
                 signature,
             } => {
-                let reply = Reply {
+                let reply = KexReply {
                     host_key,
                     share: f.body(),
                     signature,
                 };
-                self.hear_reply(config, suite, decisions, &reply, said)
+                self.receive_reply(config, suite, decisions, &reply, sent)
             }
             Message::KexEcdhReply {
                 host_key,
                 server_share,
                 signature,
             } => {
-                let reply = Reply {
+                let reply = KexReply {
                     host_key,
                     share: server_share,
                     signature,
                 };
-                self.hear_reply(config, suite, decisions, &reply, said)
+                self.receive_reply(config, suite, decisions, &reply, sent)
             }
             _ => unreachable!(),
         }
@@ -229,17 +229,17 @@ impl State<'_> {
         decisions: &D,
         payload: &[u8],
         message: &Message<'_>,
-        said: &mut Vec<u8>,
+        sent: &mut Vec<u8>,
     ) -> Result<(), Memory>
-        requires open { ending self.old.end ≡ Open }
+        requires open { end_data self.old.end ≡ Open }
         requires short { length payload.now ≤ PACKET_LIMIT }
-        requires reads { line_by (role_of config.now) self.old.phase self.old.strict self.old.guess (is_waiting (kept_of self.old).known.left) (kind payload.now) ≡ line.Reads }
-        requires spelled { Spells self.old.shares (content_of message.now) payload.now }
-        requires auth { IsOfRequests (number_of (content_of message.now)) }
-        ensures works { OnOk result (HasForm (S.meaning suite.now) (kept_of self.old)
-            → Works (S.meaning suite.now) (D.policy decisions.now) (role_of config.now) (party_of config.now) (kept_of self.old) (kept_of self.new) payload.now said.old.items said.new.items
-            (work (S.meaning suite.now) (D.policy decisions.now) (role_of config.now) (party_of config.now) (kept_of self.old).known (content_of message.now))) }
-        ensures kept { OnOk result (ending self.new.end ≢ Failed fault.Memory) }
+        requires reads { line_by (role_of config.now) self.old.phase self.old.strict self.old.guess (is_waiting (state_data self.old).known.left) (kind payload.now) ≡ line.Reads }
+        requires spelled { Spells self.old.shares (message_data message.now) payload.now }
+        requires auth { IsOfRequests (number_of (message_data message.now)) }
+        ensures works { OnOk result (HasForm (S.meaning suite.now) (state_data self.old)
+            → Works (S.meaning suite.now) (D.policy decisions.now) (role_of config.now) (config_data config.now) (state_data self.old) (state_data self.new) payload.now sent.old.items sent.new.items
+            (work (S.meaning suite.now) (D.policy decisions.now) (role_of config.now) (config_data config.now) (state_data self.old).known (message_data message.now))) }
+        ensures kept { OnOk result (end_data self.new.end ≢ Failed fault.Memory) }
     {
         sshmsg::messages_law();
         sshmsg::numbers_law();
@@ -249,13 +249,13 @@ impl State<'_> {
                 user,
                 service,
                 method,
-            } => self.hear_request(config, suite, decisions, user, service, method, said),
+            } => self.receive_request(config, suite, decisions, user, service, method, sent),
             Message::UserauthFailure { methods, .. } => {
-                self.hear_failure(config, suite, methods, said)
+                self.receive_failure(config, suite, methods, sent)
             }
-            Message::UserauthSuccess => self.hear_success(config, suite, said),
+            Message::UserauthSuccess => self.receive_success(config, suite, sent),
             Message::UserauthPkOk { algorithm, key } => {
-                self.hear_pk_ok(config, suite, algorithm, key, said)
+                self.receive_pk_ok(config, suite, algorithm, key, sent)
             }
             _ => unreachable!(),
         }

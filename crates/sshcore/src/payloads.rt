@@ -3,12 +3,12 @@
 ghost use Rattle.std.specs.Prelude.{◌≡◌, ◌<◌, ◌≤◌, ◌+◌, [], IfOk, length};
 ghost use Rattle.sshwire.specs.declared.limits.TheConstants.{PAYLOAD_LIMIT};
 ghost use Rattle.sshwire.specs.Types.{IsName};
-ghost use Rattle.sshmsg.specs.Content as content;
-ghost use Rattle.sshmsg.specs.View.{content_of};
+ghost use Rattle.sshmsg.specs.MessageData as content;
+ghost use Rattle.sshmsg.specs.View.{message_data};
 ghost use Rattle.sshmsg.specs.Written.{written_message};
 ghost use Rattle.sshpacket.specs.declared.limits.TheConstants.{BLOB_LIMIT, SIGNATURE_LIMIT};
 ghost use Rattle.sshpacket.specs.Suite.{FitsShare};
-ghost use Rattle.sshcore.specs.ConfigParty.{party_of};
+ghost use Rattle.sshcore.specs.EndpointConfig.{config_data};
 ghost use Rattle.sshcore.specs.Exchange.{own_kexinit};
 ghost use Rattle.sshcore.specs.Made.{IsMade};
 ghost use Rattle.sshcore.specs.Work.{init_for, init_in, reply_in, userauth};
@@ -25,8 +25,8 @@ pub(crate) const USERAUTH: &[u8] = b"ssh-userauth";
 
 /// The payload of a message that fits one. Answers `Memory` for want of memory, as each function below.
 pub(crate) fn payload_of(alloc: Global, message: &Message<'_>) -> Result<Vec<u8>, Memory>
-    requires { length (written_message (content_of message.now)) ≤ PAYLOAD_LIMIT }
-    ensures { IfOk result (λ made. IsMade (written_message (content_of message.now)) made.items) }
+    requires { length (written_message (message_data message.now)) ≤ PAYLOAD_LIMIT }
+    ensures { IfOk result (λ made. IsMade (written_message (message_data message.now)) made.items) }
 {
     let mut payload = Vec::new(alloc);
     write(message, &mut payload)?;
@@ -36,15 +36,15 @@ pub(crate) fn payload_of(alloc: Global, message: &Message<'_>) -> Result<Vec<u8>
 
 /// The same of a message that is given up: so a message is looked into for that here, once.
 pub(crate) fn payload_from(alloc: Global, message: Message<'_>) -> Result<Vec<u8>, Memory>
-    requires { length (written_message (content_of message)) ≤ PAYLOAD_LIMIT }
-    ensures { IfOk result (λ made. IsMade (written_message (content_of message.entry)) made.items) }
+    requires { length (written_message (message_data message)) ≤ PAYLOAD_LIMIT }
+    ensures { IfOk result (λ made. IsMade (written_message (message_data message.entry)) made.items) }
 {
     payload_of(alloc, &message)
 }
 
 /// The payload of the KEXINIT of a config (RFC 4253 section 7.1).
 pub(crate) fn kexinit_payload(alloc: Global, config: &Config<'_>) -> Result<Vec<u8>, Memory>
-    ensures { IfOk result (λ made. IsMade (own_kexinit (party_of config.now)) made.items) }
+    ensures { IfOk result (λ made. IsMade (own_kexinit (config_data config.now)) made.items) }
 {
     let kexinit = config.kexinit()?;
     payload_from(alloc, Message::KexInit(Box::new(alloc, kexinit)?))
@@ -59,7 +59,7 @@ pub(crate) fn init_payload<S: Suite>(
     kex: &str,
 ) -> Result<Vec<u8>, Memory>
     requires { IsName kex.now }
-    ensures { IfOk result (λ made. IsMade (init_for (S.meaning suite.now) (party_of config.now) kex.now) made.items) }
+    ensures { IfOk result (λ made. IsMade (init_for (S.meaning suite.now) (config_data config.now) kex.now) made.items) }
 {
     let share = suite.public(alloc, kex, config.exchange_random())?;
     share_payload(alloc, suite.share_form(kex), &share)

@@ -3,10 +3,10 @@
 ghost use Rattle.std.specs.Prelude.{◌≡◌, ◌≢◌, ◌<◌, ◌≤◌, ◌∷◌, [], Bool, IfOk, IfSome, None, OnOk, Some, false, if◌then◌else◌, length, map, option_map, string_bytes, true};
 ghost use Rattle.sshwire.specs.declared.limits.TheConstants.{NAME_LIMIT};
 ghost use Rattle.std.specs.List.{list_all};
-ghost use Rattle.sshmsg.specs.Content as content;
-ghost use Rattle.sshmsg.specs.View.{method_of};
+ghost use Rattle.sshmsg.specs.MessageData as content;
+ghost use Rattle.sshmsg.specs.View.{method_data};
 ghost use Rattle.sshmsg.specs.Written.{method_name, written_message};
-ghost use Rattle.sshpacket.specs.KeyData.{KeyData};
+ghost use Rattle.sshpacket.specs.KeysData.{KeysData};
 ghost use Rattle.sshpacket.specs.declared.limits.TheConstants.{BLOB_LIMIT, PACKET_LIMIT};
 ghost use Rattle.sshcore.specs.declared.config_parts.TheConstants.{TRIES_LIMIT};
 ghost use Rattle.sshcore.specs.declared.end.Fault.TheVariants as fault;
@@ -14,12 +14,12 @@ ghost use Rattle.sshcore.specs.declared.table.Phase.TheVariants as phase;
 ghost use Rattle.sshcore.specs.Attempts.{agreed_by};
 ghost use Rattle.sshcore.specs.Authenticating.{FitsMethod, counted_request, one_request, tried_key};
 ghost use Rattle.sshcore.specs.Brings.{Gives, IsOngoing};
-ghost use Rattle.sshcore.specs.ConfigParty.{party_of};
-ghost use Rattle.sshcore.specs.Ending.{Authenticated, Failed, Open, ending, goes};
-ghost use Rattle.sshcore.specs.Kept.{kept_of, reached_of};
-ghost use Rattle.sshcore.specs.PartyView.{proof_of};
-ghost use Rattle.sshcore.specs.Reached.{good_reached, has_reached, is_complete, kept_reached};
-ghost use Rattle.sshcore.specs.Requests.{is_good, more_reply, query_answer, request_reply, tried_reply, would_do};
+ghost use Rattle.sshcore.specs.EndpointConfig.{config_data};
+ghost use Rattle.sshcore.specs.EndData.{Authenticated, Failed, Open, end_data, goes};
+ghost use Rattle.sshcore.specs.StateData.{reached_data, state_data};
+ghost use Rattle.sshcore.specs.EndpointPartsView.{proof_data};
+ghost use Rattle.sshcore.specs.Reached.{has_reached, is_complete, kept_reached, successful_reached};
+ghost use Rattle.sshcore.specs.Requests.{is_successful, more_reply, query_answer, request_reply, tried_reply, would_do};
 ghost use Rattle.sshcore.specs.Tries.{proof_in, signed_proof, tried_with};
 
 use crate::config::Config;
@@ -27,7 +27,7 @@ use crate::config_kexinit::list_of;
 use crate::decisions::{Decisions, Proof};
 use crate::end::Fault;
 use crate::session::UserKey;
-use crate::state::{ReachedMethods, State};
+use crate::state::{Reached, State};
 use sshmsg::{Message, Method};
 use sshneg::signed_request;
 use sshpacket::{BLOB_LIMIT, Suite};
@@ -38,7 +38,7 @@ impl State<'_> {
     /// whether a key would do; a good request by which all required methods are reached authenticates the
     /// user; any other is answered by FAILURE, which tells partial success where it is good, or at the last
     /// try fails as `TooManyTries` (RFC 4252 sections 5, 5.1 and 7).
-    pub(crate) fn hear_request<S: Suite, D: Decisions>(
+    pub(crate) fn receive_request<S: Suite, D: Decisions>(
         &mut self,
         config: &Config<'_>,
         suite: &S,
@@ -46,44 +46,44 @@ impl State<'_> {
         user: &str,
         service: &[u8],
         method: &Method<'_>,
-        said: &mut Vec<u8>,
+        sent: &mut Vec<u8>,
     ) -> Result<(), Memory>
-        requires open { ending self.old.end ≡ Open }
+        requires open { end_data self.old.end ≡ Open }
         requires at { self.old.phase ≡ phase.Auth }
         requires user { length user.now ≤ PACKET_LIMIT }
-        requires method { FitsMethod (method_of method.now) }
-        ensures gives { OnOk result ((strict : Bool) (next : KeyData)
-            → Gives (S.meaning suite.now) (party_of config.now).seed strict next (kept_of self.old) (kept_of self.new) said.old.items said.new.items
-            (request_reply (S.meaning suite.now) (D.policy decisions.now) (party_of config.now) (kept_of self.old).known user.now service.now (method_of method.now))) }
-        ensures stays { OnOk result (IsOngoing (kept_of self.new).end → kept_of self.new ≡ record (kept_of self.old) {
-          end = (kept_of self.new).end;
-          known = counted_request (kept_of self.old).known (tried_with user.now service.now (method_of method.now)
-              (is_good (S.meaning suite.now) (D.policy decisions.now) (party_of config.now) (kept_of self.old).known user.now service.now (method_of method.now)));
-          carried = tried_key (kept_of self.old).carried (method_of method.now)
-              (is_good (S.meaning suite.now) (D.policy decisions.now) (party_of config.now) (kept_of self.old).known user.now service.now (method_of method.now));
-          sending = (kept_of self.new).sending;
+        requires method { FitsMethod (method_data method.now) }
+        ensures gives { OnOk result ((strict : Bool) (next : KeysData)
+            → Gives (S.meaning suite.now) (config_data config.now).seed strict next (state_data self.old) (state_data self.new) sent.old.items sent.new.items
+            (request_reply (S.meaning suite.now) (D.policy decisions.now) (config_data config.now) (state_data self.old).known user.now service.now (method_data method.now))) }
+        ensures stays { OnOk result (IsOngoing (state_data self.new).end → state_data self.new ≡ record (state_data self.old) {
+          end = (state_data self.new).end;
+          known = counted_request (state_data self.old).known (tried_with user.now service.now (method_data method.now)
+              (is_successful (S.meaning suite.now) (D.policy decisions.now) (config_data config.now) (state_data self.old).known user.now service.now (method_data method.now)));
+          carried = tried_key (state_data self.old).carried (method_data method.now)
+              (is_successful (S.meaning suite.now) (D.policy decisions.now) (config_data config.now) (state_data self.old).known user.now service.now (method_data method.now));
+          sending = (state_data self.new).sending;
         }) }
-        ensures kept { OnOk result (ending self.new.end ≢ Failed fault.Memory) }
+        ensures kept { OnOk result (end_data self.new.end ≢ Failed fault.Memory) }
     {
         let Some(service) = config.service(service) else {
-            return self.fail(config, suite, Fault::Service, said);
+            return self.fail(config, suite, Fault::Service, sent);
         };
         if let Method::PublicKeyQuery { algorithm, key } = method {
-            return self.hear_query(
-                config, suite, decisions, user, service, algorithm, key, said,
+            return self.receive_query(
+                config, suite, decisions, user, service, algorithm, key, sent,
             );
         }
-        if self.is_good(config, suite, decisions, user, service, method)? {
+        if self.is_successful(config, suite, decisions, user, service, method)? {
             self.keep_key(method)?;
-            return self.hear_good(config, suite, user, service, method, said);
+            return self.receive_successful(config, suite, user, service, method, sent);
         }
         self.forget_others(user, service);
-        self.refuse_more(config, suite, false, said)
+        self.refuse_more(config, suite, false, sent)
     }
 
     /// Keeps the key of a good request, if it is signed.
     fn keep_key(&mut self, method: &Method<'_>) -> Result<(), Memory>
-        ensures { OnOk result (kept_of self.new ≡ record (kept_of self.old) { carried = tried_key (kept_of self.old).carried (method_of method.now) true }) }
+        ensures { OnOk result (state_data self.new ≡ record (state_data self.old) { carried = tried_key (state_data self.old).carried (method_data method.now) true }) }
     {
         sshwire::names_law();
         let Method::PublicKey { algorithm, key, .. } = method else {
@@ -100,7 +100,7 @@ impl State<'_> {
 
     /// A server hears a query whether a key would do, for a service that it has: at the last try it fails as
     /// `TooManyTries`, and nothing is asked; else it is answered by PK_OK or FAILURE (RFC 4252 section 7).
-    fn hear_query<S: Suite, D: Decisions>(
+    fn receive_query<S: Suite, D: Decisions>(
         &mut self,
         config: &Config<'_>,
         suite: &S,
@@ -109,65 +109,65 @@ impl State<'_> {
         service: &str,
         algorithm: &[u8],
         key: &[u8],
-        said: &mut Vec<u8>,
+        sent: &mut Vec<u8>,
     ) -> Result<(), Memory>
-        requires open { ending self.old.end ≡ Open }
-        ensures gives { OnOk result ((strict : Bool) (next : KeyData)
-            → Gives (S.meaning suite.now) (party_of config.now).seed strict next (kept_of self.old) (kept_of self.new) said.old.items said.new.items
-            (more_reply (party_of config.now) (kept_of self.old).known
-            (query_answer (D.policy decisions.now) (party_of config.now) (kept_of self.old).known user.now service.now algorithm.now key.now))) }
-        ensures stays { OnOk result (IsOngoing (kept_of self.new).end → kept_of self.new ≡ record (kept_of self.old) {
-          known = counted_request (kept_of self.old).known (tried_with user.now service.now (content.PublicKeyQuery algorithm.now key.now) false);
-          sending = (kept_of self.new).sending;
+        requires open { end_data self.old.end ≡ Open }
+        ensures gives { OnOk result ((strict : Bool) (next : KeysData)
+            → Gives (S.meaning suite.now) (config_data config.now).seed strict next (state_data self.old) (state_data self.new) sent.old.items sent.new.items
+            (more_reply (config_data config.now) (state_data self.old).known
+            (query_answer (D.policy decisions.now) (config_data config.now) (state_data self.old).known user.now service.now algorithm.now key.now))) }
+        ensures stays { OnOk result (IsOngoing (state_data self.new).end → state_data self.new ≡ record (state_data self.old) {
+          known = counted_request (state_data self.old).known (tried_with user.now service.now (content.PublicKeyQuery algorithm.now key.now) false);
+          sending = (state_data self.new).sending;
         }) }
-        ensures kept { OnOk result (ending self.new.end ≢ Failed fault.Memory) }
+        ensures kept { OnOk result (end_data self.new.end ≢ Failed fault.Memory) }
     {
         if config.tries() <= self.request {
-            return self.fail(config, suite, Fault::TooManyTries, said);
+            return self.fail(config, suite, Fault::TooManyTries, sent);
         }
         self.forget_others(user, service);
         match self.would_do(config, decisions, user, service, algorithm, key) {
-            None => self.refuse(config, suite, false, said),
-            Some(name) => self.confirm(config, suite, name, key, said),
+            None => self.refuse(config, suite, false, sent),
+            Some(name) => self.confirm(config, suite, name, key, sent),
         }
     }
 
     /// A server hears a good request for a service that it has: the user is authenticated if all required
     /// methods are reached, else it goes on (RFC 4252 section 5.1).
-    fn hear_good<S: Suite>(
+    fn receive_successful<S: Suite>(
         &mut self,
         config: &Config<'_>,
         suite: &S,
         user: &str,
         service: &str,
         method: &Method<'_>,
-        said: &mut Vec<u8>,
+        sent: &mut Vec<u8>,
     ) -> Result<(), Memory>
-        requires open { ending self.old.end ≡ Open }
+        requires open { end_data self.old.end ≡ Open }
         requires at { self.old.phase ≡ phase.Auth }
-        ensures gives { OnOk result ((strict : Bool) (next : KeyData)
-            → Gives (S.meaning suite.now) (party_of config.now).seed strict next (kept_of self.old) (kept_of self.new) said.old.items said.new.items
-            (tried_reply (party_of config.now) (kept_of self.old).known user.now service.now (method_of method.now) true)) }
-        ensures stays { OnOk result (IsOngoing (kept_of self.new).end → kept_of self.new ≡ record (kept_of self.old) {
-          end = (kept_of self.new).end;
-          known = counted_request (kept_of self.old).known (tried_with user.now service.now (method_of method.now) true);
-          sending = (kept_of self.new).sending;
+        ensures gives { OnOk result ((strict : Bool) (next : KeysData)
+            → Gives (S.meaning suite.now) (config_data config.now).seed strict next (state_data self.old) (state_data self.new) sent.old.items sent.new.items
+            (tried_reply (config_data config.now) (state_data self.old).known user.now service.now (method_data method.now) true)) }
+        ensures stays { OnOk result (IsOngoing (state_data self.new).end → state_data self.new ≡ record (state_data self.old) {
+          end = (state_data self.new).end;
+          known = counted_request (state_data self.old).known (tried_with user.now service.now (method_data method.now) true);
+          sending = (state_data self.new).sending;
         }) }
-        ensures kept { OnOk result (ending self.new.end ≢ Failed fault.Memory) }
+        ensures kept { OnOk result (end_data self.new.end ≢ Failed fault.Memory) }
     {
         self.forget_others(user, service);
         self.reach(user, service, method)?;
         if self.is_complete(config) {
-            return self.succeed(config, suite, user, service, said);
+            return self.succeed(config, suite, user, service, sent);
         }
-        self.refuse_more(config, suite, true, said)
+        self.refuse_more(config, suite, true, sent)
     }
 
     /// Forgets what was reached for another user or another service.
     fn forget_others(&mut self, user: &str, service: &str)
-        ensures { kept_of self.new ≡ record (kept_of self.old) {
-          known = record (kept_of self.old).known {
-            reached = kept_reached (kept_of self.old).known.reached (record { user = user.now; service = service.now; good = None });
+        ensures { state_data self.new ≡ record (state_data self.old) {
+          known = record (state_data self.old).known {
+            reached = kept_reached (state_data self.old).known.reached (record { user = user.now; service = service.now; successful = None });
           };
         } }
     {
@@ -180,9 +180,9 @@ impl State<'_> {
 
     /// Keeps that a good request by this method was heard.
     fn reach(&mut self, user: &str, service: &str, method: &Method<'_>) -> Result<(), Memory>
-        ensures { OnOk result (kept_of self.new ≡ record (kept_of self.old) {
-          known = record (kept_of self.old).known {
-            reached = good_reached (kept_of self.old).known.reached (tried_with user.now service.now (method_of method.now) true) (Some (method_name (method_of method.now)));
+        ensures { OnOk result (state_data self.new ≡ record (state_data self.old) {
+          known = record (state_data self.old).known {
+            reached = successful_reached (state_data self.old).known.reached (tried_with user.now service.now (method_data method.now) true) (Some (method_name (method_data method.now)));
           };
         }) }
     {
@@ -191,7 +191,7 @@ impl State<'_> {
         let publickey = self.reached.publickey || name == b"publickey".as_slice();
         let user = String::from_str(self.alloc, user)?;
         let service = String::from_str(self.alloc, service)?;
-        self.reached = ReachedMethods {
+        self.reached = Reached {
             user,
             service,
             password,
@@ -202,7 +202,7 @@ impl State<'_> {
 
     /// Whether all required methods are reached.
     fn is_complete(&self, config: &Config<'_>) -> bool
-        ensures { result ≡ is_complete (party_of config.now).required (kept_of self.now).known.reached }
+        ensures { result ≡ is_complete (config_data config.now).required (state_data self.now).known.reached }
     {
         are_reached(config.required(), &self.reached)
     }
@@ -219,7 +219,7 @@ impl State<'_> {
         key: &[u8],
     ) -> Option<&'m str>
         ensures would { option_map (λ name. name.now) result
-            ≡ (if would_do (D.policy decisions.now) (party_of config.now) (kept_of self.now).known user.now service.now algorithm.now key.now then Some algorithm.now else None) }
+            ≡ (if would_do (D.policy decisions.now) (config_data config.now) (state_data self.now).known user.now service.now algorithm.now key.now then Some algorithm.now else None) }
         ensures fits { IfSome result (λ name. (length name.now ≤ NAME_LIMIT) × (length key.now ≤ BLOB_LIMIT)) }
     {
         sshwire::names_law();
@@ -247,27 +247,27 @@ impl State<'_> {
         config: &Config<'_>,
         suite: &S,
         partial: bool,
-        said: &mut Vec<u8>,
+        sent: &mut Vec<u8>,
     ) -> Result<(), Memory>
-        requires open { ending self.old.end ≡ Open }
-        ensures gives { OnOk result ((strict : Bool) (next : KeyData)
-            → Gives (S.meaning suite.now) (party_of config.now).seed strict next (kept_of self.old) (kept_of self.new) said.old.items said.new.items
-            (more_reply (party_of config.now) (kept_of self.old).known (content.UserauthFailure (party_of config.now).methods partial))) }
-        ensures stays { OnOk result (IsOngoing (kept_of self.new).end → kept_of self.new ≡ record (kept_of self.old) {
-          known = one_request (kept_of self.old).known;
-          sending = (kept_of self.new).sending;
+        requires open { end_data self.old.end ≡ Open }
+        ensures gives { OnOk result ((strict : Bool) (next : KeysData)
+            → Gives (S.meaning suite.now) (config_data config.now).seed strict next (state_data self.old) (state_data self.new) sent.old.items sent.new.items
+            (more_reply (config_data config.now) (state_data self.old).known (content.UserauthFailure (config_data config.now).methods partial))) }
+        ensures stays { OnOk result (IsOngoing (state_data self.new).end → state_data self.new ≡ record (state_data self.old) {
+          known = one_request (state_data self.old).known;
+          sending = (state_data self.new).sending;
         }) }
-        ensures kept { OnOk result (ending self.new.end ≢ Failed fault.Memory) }
+        ensures kept { OnOk result (end_data self.new.end ≢ Failed fault.Memory) }
     {
         if self.request >= config.tries() {
-            return self.fail(config, suite, Fault::TooManyTries, said);
+            return self.fail(config, suite, Fault::TooManyTries, sent);
         }
-        self.refuse(config, suite, partial, said)
+        self.refuse(config, suite, partial, sent)
     }
 
     /// Whether a request is good: it proves something, and the decision on that is yes. The decision is
     /// asked of nothing else.
-    fn is_good<S: Suite, D: Decisions>(
+    fn is_successful<S: Suite, D: Decisions>(
         &self,
         config: &Config<'_>,
         suite: &S,
@@ -278,9 +278,9 @@ impl State<'_> {
     ) -> Result<bool, Memory>
         requires user { length user.now ≤ PACKET_LIMIT }
         requires service { length service.now ≤ NAME_LIMIT }
-        requires method { FitsMethod (method_of method.now) }
-        ensures { IfOk result (λ good. good
-            ≡ is_good (S.meaning suite.now) (D.policy decisions.now) (party_of config.now) (kept_of self.now).known user.now service.now (method_of method.now)) }
+        requires method { FitsMethod (method_data method.now) }
+        ensures { IfOk result (λ successful. successful
+            ≡ is_successful (S.meaning suite.now) (D.policy decisions.now) (config_data config.now) (state_data self.now).known user.now service.now (method_data method.now)) }
     {
         match self.proof_in(config, suite, user, service, method)? {
             None => Ok(false),
@@ -301,9 +301,9 @@ impl State<'_> {
     ) -> Result<Option<Proof<'m>>, Memory>
         requires user { length user.now ≤ PACKET_LIMIT }
         requires service { length service.now ≤ NAME_LIMIT }
-        requires method { FitsMethod (method_of method.now) }
-        ensures { IfOk result (λ proof. option_map proof_of proof
-            ≡ proof_in (S.meaning suite.now) (party_of config.now) (kept_of self.now).known.session user.now service.now (method_of method.now)) }
+        requires method { FitsMethod (method_data method.now) }
+        ensures { IfOk result (λ proof. option_map proof_data proof
+            ≡ proof_in (S.meaning suite.now) (config_data config.now) (state_data self.now).known.session user.now service.now (method_data method.now)) }
     {
         match method {
             Method::None => Ok(Some(Proof::None)),
@@ -343,8 +343,8 @@ impl State<'_> {
         requires service { length service.now ≤ NAME_LIMIT }
         requires key { length key.now ≤ PACKET_LIMIT }
         requires signature { length signature.now ≤ PACKET_LIMIT }
-        ensures { IfOk result (λ proof. option_map proof_of proof
-            ≡ signed_proof (S.meaning suite.now) (kept_of self.now).known.session user.now service.now algorithm.now key.now signature.now) }
+        ensures { IfOk result (λ proof. option_map proof_data proof
+            ≡ signed_proof (S.meaning suite.now) (state_data self.now).known.session user.now service.now algorithm.now key.now signature.now) }
     {
         sshneg::exchange_law();
         sshwire::names_law();
@@ -375,21 +375,21 @@ impl State<'_> {
         suite: &S,
         user: &str,
         service: &str,
-        said: &mut Vec<u8>,
+        sent: &mut Vec<u8>,
     ) -> Result<(), Memory>
-        requires open { ending self.old.end ≡ Open }
+        requires open { end_data self.old.end ≡ Open }
         requires at { self.old.phase ≡ phase.Auth }
-        ensures gives { OnOk result ((strict : Bool) (next : KeyData)
-            → Gives (S.meaning suite.now) (party_of config.now).seed strict next (kept_of self.old) (kept_of self.new) said.old.items said.new.items
-            (record { answers = written_message content.UserauthSuccess ∷ []; end = Authenticated (agreed_by (kept_of self.old).known user.now service.now) })) }
-        ensures stays { OnOk result (kept_of self.new ≡ record (kept_of self.old) {
-          end = Authenticated (agreed_by (kept_of self.old).known user.now service.now);
-          known = one_request (kept_of self.old).known;
-          sending = (kept_of self.new).sending;
+        ensures gives { OnOk result ((strict : Bool) (next : KeysData)
+            → Gives (S.meaning suite.now) (config_data config.now).seed strict next (state_data self.old) (state_data self.new) sent.old.items sent.new.items
+            (record { answers = written_message content.UserauthSuccess ∷ []; end = Authenticated (agreed_by (state_data self.old).known user.now service.now) })) }
+        ensures stays { OnOk result (state_data self.new ≡ record (state_data self.old) {
+          end = Authenticated (agreed_by (state_data self.old).known user.now service.now);
+          known = one_request (state_data self.old).known;
+          sending = (state_data self.new).sending;
         }) }
     {
         sshmsg::lengths_law();
-        self.tell(config, suite, Message::UserauthSuccess, said)?;
+        self.tell(config, suite, Message::UserauthSuccess, sent)?;
         self.authenticate(user, service)?;
         self.count_request();
         Ok(())
@@ -398,8 +398,8 @@ impl State<'_> {
     /// Counts a request.
     fn count_request(&mut self)
         requires counted { self.old.request ≤ TRIES_LIMIT }
-        requires more { ending self.old.end ≡ Open → self.old.request < TRIES_LIMIT }
-        ensures { kept_of self.new ≡ record (kept_of self.old) { known = one_request (kept_of self.old).known } }
+        requires more { end_data self.old.end ≡ Open → self.old.request < TRIES_LIMIT }
+        ensures { state_data self.new ≡ record (state_data self.old) { known = one_request (state_data self.old).known } }
     {
         self.request += 1;
         self.first = false;
@@ -411,16 +411,16 @@ impl State<'_> {
         config: &Config<'_>,
         suite: &S,
         partial: bool,
-        said: &mut Vec<u8>,
+        sent: &mut Vec<u8>,
     ) -> Result<(), Memory>
-        requires open { ending self.old.end ≡ Open }
+        requires open { end_data self.old.end ≡ Open }
         requires granted { self.old.request < TRIES_LIMIT }
-        ensures gives { OnOk result ((strict : Bool) (next : KeyData)
-            → Gives (S.meaning suite.now) (party_of config.now).seed strict next (kept_of self.old) (kept_of self.new) said.old.items said.new.items
-            (goes (written_message (content.UserauthFailure (party_of config.now).methods partial) ∷ []))) }
-        ensures stays { OnOk result (kept_of self.new ≡ record (kept_of self.old) {
-          known = one_request (kept_of self.old).known;
-          sending = (kept_of self.new).sending;
+        ensures gives { OnOk result ((strict : Bool) (next : KeysData)
+            → Gives (S.meaning suite.now) (config_data config.now).seed strict next (state_data self.old) (state_data self.new) sent.old.items sent.new.items
+            (goes (written_message (content.UserauthFailure (config_data config.now).methods partial) ∷ []))) }
+        ensures stays { OnOk result (state_data self.new ≡ record (state_data self.old) {
+          known = one_request (state_data self.old).known;
+          sending = (state_data self.new).sending;
         }) }
     {
         sshmsg::lengths_law();
@@ -431,7 +431,7 @@ impl State<'_> {
             methods,
             partial_success: partial,
         };
-        self.tell(config, suite, refusal, said)
+        self.tell(config, suite, refusal, sent)
     }
 
     /// Says PK_OK.
@@ -441,18 +441,18 @@ impl State<'_> {
         suite: &S,
         algorithm: &str,
         key: &[u8],
-        said: &mut Vec<u8>,
+        sent: &mut Vec<u8>,
     ) -> Result<(), Memory>
-        requires open { ending self.old.end ≡ Open }
+        requires open { end_data self.old.end ≡ Open }
         requires granted { self.old.request < TRIES_LIMIT }
         requires algorithm { length algorithm.now ≤ NAME_LIMIT }
         requires key { length key.now ≤ BLOB_LIMIT }
-        ensures gives { OnOk result ((strict : Bool) (next : KeyData)
-            → Gives (S.meaning suite.now) (party_of config.now).seed strict next (kept_of self.old) (kept_of self.new) said.old.items said.new.items
+        ensures gives { OnOk result ((strict : Bool) (next : KeysData)
+            → Gives (S.meaning suite.now) (config_data config.now).seed strict next (state_data self.old) (state_data self.new) sent.old.items sent.new.items
             (goes (written_message (content.UserauthPkOk algorithm.now key.now) ∷ []))) }
-        ensures stays { OnOk result (kept_of self.new ≡ record (kept_of self.old) {
-          known = one_request (kept_of self.old).known;
-          sending = (kept_of self.new).sending;
+        ensures stays { OnOk result (state_data self.new ≡ record (state_data self.old) {
+          known = one_request (state_data self.old).known;
+          sending = (state_data self.new).sending;
         }) }
     {
         sshmsg::lengths_law();
@@ -461,20 +461,20 @@ impl State<'_> {
             algorithm: algorithm.as_bytes(),
             key,
         };
-        self.tell(config, suite, confirmation, said)
+        self.tell(config, suite, confirmation, sent)
     }
 }
 
 /// Whether all these methods are reached.
-fn are_reached(required: &[String], reached: &ReachedMethods) -> bool
-    ensures { result ≡ list_all (λ own. has_reached (reached_of reached.now) (string_bytes own)) required.now }
+fn are_reached(required: &[String], reached: &Reached) -> bool
+    ensures { result ≡ list_all (λ own. has_reached (reached_data reached.now) (string_bytes own)) required.now }
 {
     required.iter().all(|method| has_reached(method, reached))
 }
 
 /// Whether this method is reached.
-fn has_reached(method: &str, reached: &ReachedMethods) -> bool
-    ensures { result ≡ has_reached (reached_of reached.now) method.now }
+fn has_reached(method: &str, reached: &Reached) -> bool
+    ensures { result ≡ has_reached (reached_data reached.now) method.now }
 {
     method == "password" && reached.password || method == "publickey" && reached.publickey
 }

@@ -2,12 +2,12 @@
 
 ghost use Rattle.std.specs.Prelude.{◌≡◌, ◌≢◌, ◌≤◌, Err, IfErr, IfOk, length};
 ghost use Rattle.sshwire.specs.declared.limits.TheConstants.{PAYLOAD_LIMIT};
-ghost use Rattle.sshmsg.specs.Content as content;
-ghost use Rattle.sshmsg.specs.View.{offer_of};
+ghost use Rattle.sshmsg.specs.MessageData as content;
+ghost use Rattle.sshmsg.specs.View.{kexinit_data};
 ghost use Rattle.sshmsg.specs.Written.{IsOffer, written_message};
 ghost use Rattle.sshcore.specs.declared.config_fault.ConfigFault.{ConfigFault};
 ghost use Rattle.sshcore.specs.declared.config_fault.ConfigFault.TheVariants as fault;
-ghost use Rattle.sshcore.specs.ConfigData.{server_offer, version_of};
+ghost use Rattle.sshcore.specs.ConfigParts.{server_offer, version_of};
 ghost use Rattle.sshcore.specs.ConfigRules.{ServerRule, IsServer, IsLeastBroken};
 ghost use Rattle.sshcore.specs.ConfigView.{server_data};
 ghost use Rattle.sshcore.specs.Redrawn.{draws_of, redrawn_server};
@@ -37,7 +37,7 @@ pub struct ServerConfig {
 
 impl Model for ServerConfig {
     ghost use Rattle.std.specs.Prelude.{◌≡◌};
-    ghost use Rattle.sshcore.specs.ConfigData.{ServerData, version_of};
+    ghost use Rattle.sshcore.specs.ConfigParts.{ServerData, version_of};
     ghost use Rattle.sshcore.specs.ConfigRules.{IsServer};
     ghost use Rattle.sshcore.specs.ConfigView.{server_data};
 
@@ -94,7 +94,7 @@ impl ServerConfig {
     /// behind the methods the own marker where the side is willing to be strict, no compression and no
     /// languages, and no guess. It fits a payload. Answers `Memory` for want of memory.
     pub fn kexinit(&self) -> Result<KexInit<'_>, Memory>
-        ensures offer { IfOk result (λ kexinit. offer_of kexinit ≡ server_offer self.now) }
+        ensures offer { IfOk result (λ kexinit. kexinit_data kexinit ≡ server_offer self.now) }
         ensures formed { IsOffer (server_offer self.now) }
         ensures fits { length (written_message (content.KexInit (server_offer self.now))) ≤ PAYLOAD_LIMIT }
     {
@@ -105,7 +105,7 @@ impl ServerConfig {
     /// The KEXINIT that an endpoint of this config with these draws sends: it has their cookie, and the rest
     /// is that of [`ServerConfig::kexinit`]. It fits a payload. Answers `Memory` for want of memory.
     pub fn kexinit_with<'b>(&'b self, draws: &'b Draws) -> Result<KexInit<'b>, Memory>
-        ensures offer { IfOk result (λ kexinit. offer_of kexinit ≡ server_offer (redrawn_server draws.now self.now)) }
+        ensures offer { IfOk result (λ kexinit. kexinit_data kexinit ≡ server_offer (redrawn_server draws.now self.now)) }
         ensures formed { IsOffer (server_offer (redrawn_server draws.now self.now)) }
         ensures fits { length (written_message (content.KexInit (server_offer (redrawn_server draws.now self.now)))) ≤ PAYLOAD_LIMIT }
     {
@@ -116,7 +116,7 @@ impl ServerConfig {
 
     /// The KEXINIT of this config with this cookie.
     fn kexinit_by<'b>(&'b self, cookie: &'b [u8; 16]) -> Result<KexInit<'b>, Memory>
-        ensures offer { IfOk result (λ kexinit. offer_of kexinit ≡ record (server_offer self.now) { cookie = cookie.now }) }
+        ensures offer { IfOk result (λ kexinit. kexinit_data kexinit ≡ record (server_offer self.now) { cookie = cookie.now }) }
         ensures accepted { IsServer self.now }
     {
         config_law();

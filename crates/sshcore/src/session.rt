@@ -2,12 +2,12 @@
 
 ghost use Rattle.std.specs.Prelude.{◌≡◌, if◌then◌else◌, None, Some};
 ghost use Rattle.sshneg.specs.declared.role.Role.TheVariants.{Client, Server};
-ghost use Rattle.sshpacket.specs.KeyData.{KeyData};
+ghost use Rattle.sshpacket.specs.KeysData.{KeysData};
 ghost use Rattle.sshcore.specs.declared.end.Agreed.{Agreed};
 
 use crate::end::Agreed;
 use crate::link::Link;
-use crate::state::ReachedMethods;
+use crate::state::Reached;
 use sshneg::Role;
 use sshpacket::Keys;
 use std::alloc::Global;
@@ -71,7 +71,7 @@ pub struct Session {
 
 impl Session {
     ghost use Rattle.std.specs.Prelude.{◌<◌, ◌^◌};
-    ghost use Rattle.sshpacket.specs.Suite.{Meaning};
+    ghost use Rattle.sshpacket.specs.Suite.{SuiteData};
     ghost use Rattle.sshcore.specs.Linked.{BeginsBy, LinkWaits, incoming_of, outgoing_of, sent_by};
 
     /// The link of both directions, with a padding seed of the caller's own: 32 random bytes that served nothing
@@ -80,7 +80,7 @@ impl Session {
         ensures seals { outgoing_of result ≡ sent_by self.outgoing seed }
         ensures in_range { (outgoing_of result).number < 2 ^ 32 }
         ensures opens { BeginsBy self.incoming (incoming_of result) }
-        ensures waits { (m : Meaning) → LinkWaits m (incoming_of result) }
+        ensures waits { (m : SuiteData) → LinkWaits m (incoming_of result) }
     {
         Link::new(alloc, self.incoming, self.outgoing, seed)
     }
@@ -96,7 +96,7 @@ pub(crate) fn session_of(
     incoming: (Option<Keys>, u32),
     outgoing: (Option<Keys>, u32),
 ) -> Option<Session>
-    ensures whole { (end : Agreed) (a b : KeyData) → agreed ≡ Some end → incoming.0 ≡ Some a → outgoing.0 ≡ Some b → result ≡ Some (record {
+    ensures whole { (end : Agreed) (a b : KeysData) → agreed ≡ Some end → incoming.0 ≡ Some a → outgoing.0 ≡ Some b → result ≡ Some (record {
       agreed = end;
       own_version = versions.0;
       peer_version = versions.1;
@@ -129,11 +129,7 @@ pub(crate) fn session_of(
 
 /// How the user came in, by what is reached and the key of the last signed request that was good; a client
 /// doesn't say.
-pub(crate) fn accepted_by(
-    role: Role,
-    reached: &ReachedMethods,
-    key: Option<UserKey>,
-) -> Option<Accepted>
+pub(crate) fn accepted_by(role: Role, reached: &Reached, key: Option<UserKey>) -> Option<Accepted>
     ensures client { role ≡ Client → result ≡ None }
     ensures server { role ≡ Server → result ≡ Some (record { password = reached.now.password; key = if reached.now.publickey then key else None }) }
 {

@@ -3,17 +3,17 @@
 ghost use Rattle.std.specs.Prelude.{◌≡◌, ◌<◌, ◌≤◌, ◌++◌, ◌==◌, ◌∷◌, [], ℕ, Bool, IfOk, None, OnOk, Some, false, is_some, length, map, true};
 ghost use Rattle.std.specs.List.{AllByRecursion, AllByRecursion-prop};
 ghost use Rattle.sshwire.specs.declared.limits.TheConstants.{LINE_LIMIT, PAYLOAD_LIMIT};
-ghost use Rattle.sshmsg.specs.Content as content;
+ghost use Rattle.sshmsg.specs.MessageData as content;
 ghost use Rattle.sshmsg.specs.Written.{written_message};
 ghost use Rattle.sshpacket.specs.declared.limits.TheConstants.{DIGEST_LIMIT, PACKET_LIMIT};
-ghost use Rattle.sshpacket.specs.KeyData.{KeyData};
+ghost use Rattle.sshpacket.specs.KeysData.{KeysData};
 ghost use Rattle.sshcore.specs.Made.{IsMade};
 ghost use Rattle.sshcore.specs.declared.config_parts.TheConstants.{TRIES_LIMIT};
 ghost use Rattle.sshcore.specs.AttemptProps.{IsAttempt-prop};
 ghost use Rattle.sshcore.specs.ConfigRules.{IsAttempt};
-ghost use Rattle.sshcore.specs.ConfigView.{attempt_of};
+ghost use Rattle.sshcore.specs.ConfigView.{attempt_data};
 ghost use Rattle.sshcore.specs.Phases.{past_kexinit};
-ghost use Rattle.sshcore.specs.Ending.{Open, ending, reason_of};
+ghost use Rattle.sshcore.specs.EndData.{Open, end_data, reason_of};
 
 use crate::algorithms::Algorithms;
 use crate::config::Config;
@@ -33,7 +33,7 @@ use std::alloc::Global;
 
 /// Which of the methods that can be required are reached, and for whom.
 #[derive(Drop)]
-pub(crate) struct ReachedMethods {
+pub(crate) struct Reached {
     /// The user of the last good request.
     pub(crate) user: String,
     /// The service of the last good request.
@@ -69,7 +69,7 @@ pub(crate) struct State<'a> {
     /// Whether the query of the first of them was answered by PK_OK.
     pub(crate) confirmed: bool,
     /// What the requests that a server heard have reached.
-    pub(crate) reached: ReachedMethods,
+    pub(crate) reached: Reached,
     /// The keys of what is heard, from the exchange up to NEWKEYS.
     pub(crate) pending: Option<Keys>,
     /// The text of the own version line, from the exchange on.
@@ -86,23 +86,23 @@ pub(crate) struct State<'a> {
     ghost kexinit_short: { length kexinit.items ≤ PACKET_LIMIT },
     ghost chosen: { is_some algorithms ≡ past_kexinit phase },
     ghost session_short: { length session.items ≤ DIGEST_LIMIT },
-    ghost granted: { ending end ≡ Open → request ≤ TRIES_LIMIT },
-    ghost accepted: { AllByRecursion IsAttempt (map attempt_of left.now) } by { AllByRecursion-prop IsAttempt IsAttempt-prop (map attempt_of left.now) },
+    ghost granted: { end_data end ≡ Open → request ≤ TRIES_LIMIT },
+    ghost accepted: { AllByRecursion IsAttempt (map attempt_data left.now) } by { AllByRecursion-prop IsAttempt IsAttempt-prop (map attempt_data left.now) },
 }
 
 impl<'a> State<'a> {
     ghost use Rattle.sshcore.specs.declared.end.Fault.TheVariants as fault;
-    ghost use Rattle.sshcore.specs.Brings.{Gives, heard_one};
-    ghost use Rattle.sshcore.specs.ConfigParty.{party_of};
+    ghost use Rattle.sshcore.specs.Brings.{Gives, received_one};
+    ghost use Rattle.sshcore.specs.EndpointConfig.{config_data};
     ghost use Rattle.sshcore.specs.Directions.{spelled_by};
-    ghost use Rattle.sshcore.specs.Ending.{Failed, disconnect, fails, goes};
-    ghost use Rattle.sshcore.specs.Kept.{begun, kept_of};
+    ghost use Rattle.sshcore.specs.EndData.{Failed, disconnect, fails, goes};
+    ghost use Rattle.sshcore.specs.StateData.{begun, state_data};
     ghost use Rattle.sshcore.specs.Output.{with_packet, with_newkeys};
     ghost use Rattle.sshcore.specs.Plan.{is_waiting};
 
     /// Before any byte.
     pub(crate) fn new(alloc: Global, config: &Config<'a>) -> State<'a>
-        ensures { kept_of result ≡ begun (party_of config.now) }
+        ensures { state_data result ≡ begun (config_data config.now) }
     {
         State {
             alloc,
@@ -119,7 +119,7 @@ impl<'a> State<'a> {
             request: 1,
             left: config.plan(),
             confirmed: false,
-            reached: ReachedMethods {
+            reached: Reached {
                 user: String::new(alloc),
                 service: String::new(alloc),
                 password: false,
@@ -137,7 +137,7 @@ impl<'a> State<'a> {
     /// Whether a query waits for its answer: the first of the attempts that are left asks, and wasn't
     /// confirmed.
     pub(crate) fn waits(&self) -> bool
-        ensures { result ≡ is_waiting (kept_of self.now).known.left }
+        ensures { result ≡ is_waiting (state_data self.now).known.left }
     {
         match self.left.first() {
             None => false,
@@ -146,22 +146,22 @@ impl<'a> State<'a> {
     }
 
     /// Says a payload in a packet with the keys and the number at hand.
-    pub(crate) fn say<S: Suite>(
+    pub(crate) fn send<S: Suite>(
         &mut self,
         config: &Config<'_>,
         suite: &S,
         payload: &[u8],
-        said: &mut Vec<u8>,
+        sent: &mut Vec<u8>,
     ) -> Result<(), Memory>
         requires some { 0 < length payload.now }
         requires short { length payload.now ≤ PAYLOAD_LIMIT }
-        ensures spells { OnOk result (said.new.items ≡ said.old.items
-            ++ spelled_by (S.meaning suite.now) (kept_of self.old).sending.keys (party_of config.now).seed (kept_of self.old).sending.number payload.now) }
-        ensures counts { OnOk result (kept_of self.new ≡ record (kept_of self.old) { sending = with_packet (kept_of self.old).sending }) }
+        ensures spells { OnOk result (sent.new.items ≡ sent.old.items
+            ++ spelled_by (S.meaning suite.now) (state_data self.old).sending.keys (config_data config.now).seed (state_data self.old).sending.number payload.now) }
+        ensures counts { OnOk result (state_data self.new ≡ record (state_data self.old) { sending = with_packet (state_data self.old).sending }) }
     {
         let seed = config.padding_seed();
         match &self.keys_out {
-            None => write_clear(self.alloc, suite, self.number_out, payload, seed, said)?,
+            None => write_clear(self.alloc, suite, self.number_out, payload, seed, sent)?,
             Some(keys) => {
                 write_sealed(
                     self.alloc,
@@ -170,7 +170,7 @@ impl<'a> State<'a> {
                     self.number_out,
                     payload,
                     seed,
-                    said,
+                    sent,
                 )?
             }
         }
@@ -180,20 +180,20 @@ impl<'a> State<'a> {
 
     /// Says NEWKEYS; what follows is said with these keys (RFC 4253 section 7.3), from number 0 where the
     /// endpoint is strict (OpenSSH PROTOCOL section 1.10).
-    pub(crate) fn say_new_keys<S: Suite>(
+    pub(crate) fn send_new_keys<S: Suite>(
         &mut self,
         config: &Config<'_>,
         suite: &S,
         keys: Keys,
-        said: &mut Vec<u8>,
+        sent: &mut Vec<u8>,
     ) -> Result<(), Memory>
-        ensures spells { OnOk result (said.new.items ≡ said.old.items
-            ++ spelled_by (S.meaning suite.now) (kept_of self.old).sending.keys (party_of config.now).seed (kept_of self.old).sending.number (written_message content.NewKeys)) }
-        ensures switches { OnOk result (kept_of self.new ≡ record (kept_of self.old) { sending = with_newkeys (kept_of self.old).known.strict keys (kept_of self.old).sending }) }
+        ensures spells { OnOk result (sent.new.items ≡ sent.old.items
+            ++ spelled_by (S.meaning suite.now) (state_data self.old).sending.keys (config_data config.now).seed (state_data self.old).sending.number (written_message content.NewKeys)) }
+        ensures switches { OnOk result (state_data self.new ≡ record (state_data self.old) { sending = with_newkeys (state_data self.old).known.strict keys (state_data self.old).sending }) }
     {
         sshmsg::lengths_law();
         let payload = payload_of(self.alloc, &Message::NewKeys)?;
-        self.say(config, suite, &payload, said)?;
+        self.send(config, suite, &payload, sent)?;
         self.keys_out = Some(keys);
         if self.strict {
             self.number_out = 0;
@@ -207,14 +207,14 @@ impl<'a> State<'a> {
         config: &Config<'_>,
         suite: &S,
         fault: Fault,
-        said: &mut Vec<u8>,
+        sent: &mut Vec<u8>,
     ) -> Result<(), Memory>
-        ensures gives { OnOk result ((strict : Bool) (next : KeyData)
-            → Gives (S.meaning suite.now) (party_of config.now).seed strict next (kept_of self.old) (kept_of self.new) said.old.items said.new.items (fails fault)) }
-        ensures stays { OnOk result (kept_of self.new ≡ record (kept_of self.old) { end = Failed fault; sending = (kept_of self.new).sending }) }
-        ensures ends { OnOk result (ending self.new.end ≡ Failed fault) }
+        ensures gives { OnOk result ((strict : Bool) (next : KeysData)
+            → Gives (S.meaning suite.now) (config_data config.now).seed strict next (state_data self.old) (state_data self.new) sent.old.items sent.new.items (fails fault)) }
+        ensures stays { OnOk result (state_data self.new ≡ record (state_data self.old) { end = Failed fault; sending = (state_data self.new).sending }) }
+        ensures ends { OnOk result (end_data self.new.end ≡ Failed fault) }
     {
-        self.tell_fault(config, suite, fault, said)?;
+        self.tell_fault(config, suite, fault, sent)?;
         self.end = End::Failed(fault);
         Ok(())
     }
@@ -225,18 +225,18 @@ impl<'a> State<'a> {
         config: &Config<'_>,
         suite: &S,
         fault: Fault,
-        said: &mut Vec<u8>,
+        sent: &mut Vec<u8>,
     ) -> Result<(), Memory>
-        ensures gives { OnOk result ((strict : Bool) (next : KeyData)
-            → Gives (S.meaning suite.now) (party_of config.now).seed strict next (kept_of self.old) (kept_of self.new) said.old.items said.new.items
-            (record { answers = disconnect fault; end = (kept_of self.old).end })) }
-        ensures stays { OnOk result (kept_of self.new ≡ record (kept_of self.old) { sending = (kept_of self.new).sending }) }
+        ensures gives { OnOk result ((strict : Bool) (next : KeysData)
+            → Gives (S.meaning suite.now) (config_data config.now).seed strict next (state_data self.old) (state_data self.new) sent.old.items sent.new.items
+            (record { answers = disconnect fault; end = (state_data self.old).end })) }
+        ensures stays { OnOk result (state_data self.new ≡ record (state_data self.old) { sending = (state_data self.new).sending }) }
     {
         match reason_of(fault) {
             None => Ok(()),
             Some(reason) => {
                 let payload = disconnect_payload(self.alloc, reason)?;
-                self.say(config, suite, &payload, said)
+                self.send(config, suite, &payload, sent)
             }
         }
     }
@@ -247,20 +247,20 @@ impl<'a> State<'a> {
         config: &Config<'_>,
         suite: &S,
         packet: u32,
-        said: &mut Vec<u8>,
+        sent: &mut Vec<u8>,
     ) -> Result<(), Memory>
-        requires { ending self.old.end ≡ Open }
-        ensures gives { OnOk result ((strict : Bool) (next : KeyData)
-            → Gives (S.meaning suite.now) (party_of config.now).seed strict next (kept_of self.old) (kept_of self.new) said.old.items said.new.items
+        requires { end_data self.old.end ≡ Open }
+        ensures gives { OnOk result ((strict : Bool) (next : KeysData)
+            → Gives (S.meaning suite.now) (config_data config.now).seed strict next (state_data self.old) (state_data self.new) sent.old.items sent.new.items
             (goes (written_message (content.Unimplemented packet) ∷ []))) }
-        ensures stays { OnOk result (kept_of self.new ≡ record (kept_of self.old) { known = heard_one (kept_of self.old).known; sending = (kept_of self.new).sending }) }
+        ensures stays { OnOk result (state_data self.new ≡ record (state_data self.old) { known = received_one (state_data self.old).known; sending = (state_data self.new).sending }) }
     {
         sshmsg::lengths_law();
         self.first = false;
         let unknown = Message::Unimplemented {
             sequence_number: packet,
         };
-        self.tell(config, suite, unknown, said)
+        self.tell(config, suite, unknown, sent)
     }
 }
 

@@ -27,7 +27,7 @@ fn main(rt: HostRuntime) -> anyhow::Result<()> {
 fn payload_of(alloc: Global, text: &str, mark: &str, others: u32) -> anyhow::Result<Vec<u8>> {
     let stream = stream_of(alloc, text, mark)?;
     let mut packets = PacketReader::new(alloc);
-    find_kexinit(alloc, &mut packets, behind_version(alloc, &stream, others)?)
+    find_kexinit(alloc, &mut packets, after_version(alloc, &stream, others)?)
 }
 
 /// What a side sent: the bytes of its lines, one behind the other.
@@ -43,7 +43,7 @@ fn stream_of(alloc: Global, text: &str, mark: &str) -> anyhow::Result<Vec<u8>> {
 }
 
 /// What stands behind the version line.
-fn behind_version(alloc: Global, stream: &[u8], others: u32) -> anyhow::Result<&[u8]> {
+fn after_version(alloc: Global, stream: &[u8], others: u32) -> anyhow::Result<&[u8]> {
     let mut lines = LineReader::new(alloc, others);
     match lines.feed(stream)? {
         LineStep::Done { used, .. } => Ok(stream.get(used..).unwrap_or(&[])),

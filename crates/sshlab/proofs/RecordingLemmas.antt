@@ -14,12 +14,12 @@ cut_at ls line n within at =
 -- where the lines before place n are good and the one there isn't
 pub bad_at : (ls before : List (List ℕ)) (line : List ℕ) (number n : ℕ) → before ≡ take n ls → n < length ls → line ≡ get_or ls n line → number ≡ n
     → length before ≡ n → list_all is_recorded before ≡ true → is_recorded line ≡ false → IsFirstBadLine (number + 1) ls
-bad_at ls before line number n front within at count long good bad = record {
+bad_at ls before line number n front within at count long readable bad = record {
   before = before;
   line = line;
-  behind = drop (suc n) ls;
+  after = drop (suc n) ls;
   is = (rw front (cut_at ls line n within at));
   place = omega arith;
-  good = good;
+  readable = readable;
   bad = bad;
 }

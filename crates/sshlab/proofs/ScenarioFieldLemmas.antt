@@ -60,12 +60,12 @@ parts_cut c [] h = absurd (omega arith)
 parts_cut c (b ∷ s) h = cut_by c b s (b == c) refl h (parts_cut c s)
 
 -- the parts found so far and those of the rest are those of the whole text
-pub found_more : (found : List (Bor (List ℕ))) (part : Bor (List ℕ)) (rest behind whole : List (List ℕ))
-    → map (λ p. p.now) found ++ rest ≡ whole → rest ≡ part.now ∷ behind
-    → map (λ p. p.now) (found ++ part ∷ []) ++ behind ≡ whole
-found_more found part rest behind whole h e =
-    ap (λ (xs : List (List ℕ)). xs ++ behind) (map-append (λ p. p.now) found (part ∷ []))
-    ∙ (append_assoc (map (λ p. p.now) found) (part.now ∷ []) behind
+pub found_more : (found : List (Bor (List ℕ))) (part : Bor (List ℕ)) (rest after whole : List (List ℕ))
+    → map (λ p. p.now) found ++ rest ≡ whole → rest ≡ part.now ∷ after
+    → map (λ p. p.now) (found ++ part ∷ []) ++ after ≡ whole
+found_more found part rest after whole h e =
+    ap (λ (xs : List (List ℕ)). xs ++ after) (map-append (λ p. p.now) found (part ∷ []))
+    ∙ (append_assoc (map (λ p. p.now) found) (part.now ∷ []) after
     ∙ (ap (λ (xs : List (List ℕ)). map (λ p. p.now) found ++ xs) (sym e) ∙ h))
 
 -- a digit taken
@@ -118,7 +118,7 @@ found_last new found part rest whole is one h =
 -- a text with the byte, where the two parts are named
 pub parts_split : (c : ℕ) (s front back : List ℕ) → position_or_len (λ x. x == c) s < length s → front ≡ before_first (λ x. x == c) s
     → back ≡ after_first (λ x. x == c) s → parts c s ≡ front ∷ parts c back
-parts_split c s front back h is behind = parts_cut c s h ∙ rw (is, behind) refl
+parts_split c s front back h is after = parts_cut c s h ∙ rw (is, after) refl
 
 pub number_empty : (field : List ℕ) → length field ≡ 0 → number_of field ≡ None
 unfolding number_of
@@ -139,7 +139,7 @@ number_is field h k =
     rw (some, short) refl
 
 -- the same, where the longer list is named
-pub found_next : (new found : List (Bor (List ℕ))) (part : Bor (List ℕ)) (rest behind whole : List (List ℕ)) → new ≡ found ++ part ∷ []
-    → map (λ p. p.now) found ++ rest ≡ whole → rest ≡ part.now ∷ behind → map (λ p. p.now) new ++ behind ≡ whole
-found_next new found part rest behind whole is h e =
-    ap (λ (xs : List (Bor (List ℕ))). map (λ p. p.now) xs ++ behind) is ∙ found_more found part rest behind whole h e
+pub found_next : (new found : List (Bor (List ℕ))) (part : Bor (List ℕ)) (rest after whole : List (List ℕ)) → new ≡ found ++ part ∷ []
+    → map (λ p. p.now) found ++ rest ≡ whole → rest ≡ part.now ∷ after → map (λ p. p.now) new ++ after ≡ whole
+found_next new found part rest after whole is h e =
+    ap (λ (xs : List (Bor (List ℕ))). map (λ p. p.now) xs ++ after) is ∙ found_more found part rest after whole h e

@@ -11,26 +11,26 @@ use Rattle.std.proofs.Math.Seq.{get_or-append_seam}
 use Rattle.sshworld.specs.declared.side.Side.{Side}
 use Rattle.sshlab.specs.declared.scenario_settings.Setting.{Setting}
 use Rattle.sshlab.specs.ScenarioSettings.{setting_in}
-use Rattle.sshlab.specs.ScenarioText.{CanBeRead, CanFollow, said, said_in, settings}
-use Rattle.sshlab.specs.Scenarios.{Saying, statement}
+use Rattle.sshlab.specs.ScenarioText.{CanBeRead, CanFollow, settings, statement_in, statements_in}
+use Rattle.sshlab.specs.Scenarios.{StatementData, statement}
 
 -- the setting that a line makes
 abbrev pub made_by : List ℕ → Option (Side × Setting)
-made_by line = option_and_then setting_in (said_in line)
+made_by line = option_and_then setting_in (statement_in line)
 
-pub said_more : (ls : List (List ℕ)) (line : List ℕ) → said (ls ++ line ∷ []) ≡ said ls ++ cons_option (said_in line) []
-unfolding said
-said_more ls line = filter_map-append said_in ls (line ∷ [])
+pub statements_more : (ls : List (List ℕ)) (line : List ℕ) → statements_in (ls ++ line ∷ []) ≡ statements_in ls ++ cons_option (statement_in line) []
+unfolding statements_in
+statements_more ls line = filter_map-append statement_in ls (line ∷ [])
 
-one_setting : (o : Option Saying) → filter_map setting_in (cons_option o []) ≡ cons_option (option_and_then setting_in o) []
+one_setting : (o : Option StatementData) → filter_map setting_in (cons_option o []) ≡ cons_option (option_and_then setting_in o) []
 one_setting None = refl
-one_setting (Some saying) = refl
+one_setting (Some stated) = refl
 
 pub settings_more : (ls : List (List ℕ)) (line : List ℕ) → settings (ls ++ line ∷ []) ≡ settings ls ++ cons_option (made_by line) []
 settings_more ls line =
-    ap (filter_map setting_in) (said_more ls line)
-    ∙ (filter_map-append setting_in (said ls) (cons_option (said_in line) [])
-    ∙ ap (λ (xs : List (Side × Setting)). settings ls ++ xs) (one_setting (said_in line)))
+    ap (filter_map setting_in) (statements_more ls line)
+    ∙ (filter_map-append setting_in (statements_in ls) (cons_option (statement_in line) [])
+    ∙ ap (λ (xs : List (Side × Setting)). settings ls ++ xs) (one_setting (statement_in line)))
 
 module _ {X : Type 0} (P : X → Type 0) (x : X) where
   all_more : (xs : List X) → AllByRecursion P xs → P x → AllByRecursion P (xs ++ x ∷ [])

@@ -9,8 +9,8 @@ use Rattle.std.proofs.lemmas.List.Sums.{count_by-le-length}
 use Rattle.std.proofs.Math.Seq.{take-suc}
 use Rattle.sshworld.specs.declared.side.Side.{Side}
 use Rattle.sshlab.specs.declared.scenario_settings.Setting.{Setting}
-use Rattle.sshlab.specs.ScenarioDrafts.{Drafted, after_line, drafted, no_lines}
-use Rattle.sshlab.specs.ScenarioText.{CanBeRead, CanFollow, IsFirstBad, said, settings}
+use Rattle.sshlab.specs.ScenarioDrafts.{DraftData, after_line, drafted, no_lines}
+use Rattle.sshlab.specs.ScenarioText.{CanBeRead, CanFollow, IsFirstBad, settings, statements_in}
 use Rattle.sshlab.specs.TextLines.{lines}
 use Rattle.sshlab.proofs.ScenarioDraftLemmas.{drafted_more, drafted_settings}
 use Rattle.sshlab.proofs.ScenarioLineLemmas.{read_less, read_more}
@@ -36,11 +36,11 @@ lines_few text =
 
 -- no line is read
 pub none_bad : CanBeRead []
-unfolding said
+unfolding statements_in
 none_bad = record { forms = tt; once = λ i j d before within. absurd (omega arith) }
 
-pub none_given : no_lines ≡ drafted (said [])
-unfolding drafted said
+pub none_given : no_lines ≡ drafted (statements_in [])
+unfolding drafted statements_in
 none_given = refl
 
 pub lines_end : (text : List ℕ) (n : ℕ) → n ≡ length (slice_split (λ b. b == 10) text) → take n (lines text) ≡ lines text
@@ -54,19 +54,19 @@ module _ (ls : List (List ℕ)) (n : ℕ) (line : List ℕ) (at : IsLineAt ls n 
       ap (λ (k : ℕ). take k ls) (add-one n)
       ∙ (take-suc ls n line at.within ∙ ap (λ (x : List ℕ). take n ls ++ x ∷ []) (sym at.is))
 
-  module _ (draft : Drafted) (read : CanBeRead (take n ls)) (is : draft ≡ drafted (said (take n ls))) where
+  module _ (draft : DraftData) (read : CanBeRead (take n ls)) (is : draft ≡ drafted (statements_in (take n ls))) where
     made_are : draft.settings ≡ settings (take n ls)
-    made_are = ap (λ (d : Drafted). d.settings) is ∙ drafted_settings (take n ls)
+    made_are = ap (λ (d : DraftData). d.settings) is ∙ drafted_settings (take n ls)
 
     pub reads_on : CanFollow draft.settings line → CanBeRead (take (n + 1) ls)
     reads_on follows =
         subst (λ (xs : List (List ℕ)). CanBeRead xs) (sym next_line)
         (read_more (take n ls) line read (subst (λ (made : List (Side × Setting)). CanFollow made line) made_are follows))
 
-    pub drafts_on : (new : Drafted) → new ≡ after_line draft line → new ≡ drafted (said (take (n + 1) ls))
+    pub drafts_on : (new : DraftData) → new ≡ after_line draft line → new ≡ drafted (statements_in (take (n + 1) ls))
     drafts_on new more =
-        more ∙ (ap (λ (d : Drafted). after_line d line) is
-        ∙ (sym (drafted_more (take n ls) line) ∙ ap (λ (xs : List (List ℕ)). drafted (said xs)) (sym next_line)))
+        more ∙ (ap (λ (d : DraftData). after_line d line) is
+        ∙ (sym (drafted_more (take n ls) line) ∙ ap (λ (xs : List (List ℕ)). drafted (statements_in xs)) (sym next_line)))
 
     pub stops_here : (CanFollow draft.settings line → ⊥) → IsFirstBad (n + 1) ls
     stops_here bad =

@@ -13,13 +13,13 @@ use Rattle.sshlab.specs.contracts.scenario_settings.Setting as setting
 use Rattle.sshwire.specs.Types.{IsName}
 use Rattle.sshwire.specs.TypeReadings.{is_name}
 use Rattle.sshwire.proofs.NameLemmas.{name_from_test, name_tested}
-use Rattle.sshcore.specs.ConfigData.{ByKey, ByNothing, ByPassword, Proving}
+use Rattle.sshcore.specs.ConfigParts.{ByKey, ByNothing, ByPassword, CredentialData}
 use Rattle.sshcore.specs.ConfigRules.{IsNamed}
-use Rattle.sshlab.specs.ScenarioDrafts.{Drafted, after, after_line, noting}
+use Rattle.sshlab.specs.ScenarioDrafts.{DraftData, after, after_line, noting}
 use Rattle.sshlab.specs.ScenarioParts.{can_be_proved}
 use Rattle.sshlab.specs.ScenarioSettings.{setting_in}
-use Rattle.sshlab.specs.ScenarioText.{CanFollow, said_in}
-use Rattle.sshlab.specs.Scenarios.{Saying, statement}
+use Rattle.sshlab.specs.ScenarioText.{CanFollow, statement_in}
+use Rattle.sshlab.specs.Scenarios.{StatementData, statement}
 use Rattle.sshsuites.proofs.DecisionLaws.{any_is}
 
 abbrev is_made : Side × Setting → Side × Setting → Bool
@@ -46,7 +46,7 @@ pub holds_at_ok : {T E P : Type 0} (result : Result T E) → P → OnOk result P
 holds_at_ok (Ok x) p = p
 holds_at_ok (Err e) p = tt
 
-module _ (line : List ℕ) (d : Drafted) where
+module _ (line : List ℕ) (d : DraftData) where
   -- a line that says nothing
   pub silent_follows : statement line ≡ Some None → CanFollow d.settings line × (d ≡ after_line d line)
   unfolding after_line
@@ -55,31 +55,31 @@ module _ (line : List ℕ) (d : Drafted) where
     rw e refl,
   )
 
-  module _ (saying : Saying) (says : statement line ≡ Some (Some saying)) (new mid : Drafted) (gives : new ≡ after mid saying) where
-    said_is : said_in line ≡ Some saying
-    said_is = ap option_flatten says
+  module _ (stated : StatementData) (states : statement line ≡ Some (Some stated)) (new mid : DraftData) (gives : new ≡ after mid stated) where
+    statement_is : statement_in line ≡ Some stated
+    statement_is = ap option_flatten states
 
-    gives_line : mid ≡ noting d (setting_in saying) → new ≡ after_line d line
+    gives_line : mid ≡ noting d (setting_in stated) → new ≡ after_line d line
     unfolding after_line
-    gives_line noted = gives ∙ (ap (λ (m : Drafted). after m saying) noted ∙ rw said_is refl)
+    gives_line noted = gives ∙ (ap (λ (m : DraftData). after m stated) noted ∙ rw statement_is refl)
 
-    pub setting_follows : (one : Side × Setting) → setting_in saying ≡ Some one → (Contains d.settings one → ⊥)
+    pub setting_follows : (one : Side × Setting) → setting_in stated ≡ Some one → (Contains d.settings one → ⊥)
         → mid ≡ record d { settings = d.settings ++ one ∷ [] } → CanFollow d.settings line × (new ≡ after_line d line)
     setting_follows one is free noted =
-        let made : option_and_then setting_in (said_in line) ≡ Some one = ap (option_and_then setting_in) said_is ∙ is in (
+        let made : option_and_then setting_in (statement_in line) ≡ Some one = ap (option_and_then setting_in) statement_is ∙ is in (
           record { form = λ none. cc; new = rw made free },
           gives_line (noted ∙ ap (noting d) (sym is)),
         )
 
-    pub other_follows : setting_in saying ≡ None → mid ≡ d → CanFollow d.settings line × (new ≡ after_line d line)
+    pub other_follows : setting_in stated ≡ None → mid ≡ d → CanFollow d.settings line × (new ≡ after_line d line)
     other_follows is same =
-        let made : option_and_then setting_in (said_in line) ≡ None = ap (option_and_then setting_in) said_is ∙ is in (
+        let made : option_and_then setting_in (statement_in line) ≡ None = ap (option_and_then setting_in) statement_is ∙ is in (
           record { form = λ none. cc; new = rw made tt },
           gives_line (same ∙ ap (noting d) (sym is)),
         )
 
 -- whom a request can be
-pub named : (proving : Proving) → can_be_proved proving ≡ true → IsNamed proving
+pub named : (proving : CredentialData) → can_be_proved proving ≡ true → IsNamed proving
 named ByNothing e = tt
 named (ByPassword password) e = tt
 named (ByKey algorithm secret ask) e = name_from_test algorithm e

@@ -5,10 +5,10 @@ use Rattle.std.specs.Prelude.{◌==◌, ◌&&◌, Bool, true, false, if◌then�
 use Rattle.std.specs.Borrow.{Bor}
 use Rattle.std.specs.Str.{bytes_eq}
 use Rattle.std.proofs.lemmas.List.{drop-map, length-map}
-use Rattle.sshcore.specs.ConfigData.{ByKey, ByNothing, ByPassword}
+use Rattle.sshcore.specs.ConfigParts.{ByKey, ByNothing, ByPassword}
 use Rattle.sshlab.specs.ScenarioFields.{bytes_of, number_of, side_of}
 use Rattle.sshlab.specs.ScenarioView.{texts}
-use Rattle.sshlab.specs.Scenarios.{Allows, Denies, Distrusts, Does, Holds, Notes, Tries, attempting, client_value, delivery, field, proving, rounds, said_by, said_of_client, said_of_server, server_value, step}
+use Rattle.sshlab.specs.Scenarios.{Allows, Denies, Distrusts, Does, Holds, Notes, Tries, attempting, client_value, delivery, field, proving, rounds, server_value, statement_by, statement_of_client, statement_of_server, step}
 
 abbrev pub Lent : Type 0
 Lent = List (Bor (List ℕ))
@@ -53,27 +53,27 @@ pub attempting_seen : (fields : Lent) → attempting (texts fields) ≡ (
 unfolding attempting
 attempting_seen fields = rw (count_of fields, field_text fields 0, field_text fields 1, field_text fields 2) refl
 
-pub of_client_seen : (fields : Lent) → said_of_client (texts fields) ≡ (
+pub of_client_seen : (fields : Lent) → statement_of_client (texts fields) ≡ (
     if is_start fields (codes "try") 3 then
     option_map (λ proof. Tries (record { user = lent fields 1; service = lent fields 2; proving = proof })) (attempting (texts (drop 3 fields)))
     else if length fields == 2 then client_value (lent fields 0) (lent fields 1) else None)
-unfolding said_of_client
+unfolding statement_of_client
 of_client_seen fields = rw (count_of fields, rest_of 3 fields, field_text fields 0, field_text fields 1, field_text fields 2) refl
 
-pub of_server_seen : (fields : Lent) → said_of_server (texts fields) ≡ (
+pub of_server_seen : (fields : Lent) → statement_of_server (texts fields) ≡ (
     if is_form fields (codes "hostkey") 3 then
     option_map (λ secret. Holds (record { algorithm = lent fields 1; secret = secret })) (bytes_of (lent fields 2))
     else if is_form fields (codes "notice") 2 then option_map Notes (bytes_of (lent fields 1))
     else if length fields == 2 then server_value (lent fields 0) (lent fields 1) else None)
-unfolding said_of_server
+unfolding statement_of_server
 of_server_seen fields = rw (count_of fields, field_text fields 0, field_text fields 1, field_text fields 2) refl
 
-pub said_seen : (fields : Lent) → said_by (texts fields) ≡ (
-    if is_start fields (codes "client") 1 then said_of_client (texts (drop 1 fields))
-    else if is_start fields (codes "server") 1 then said_of_server (texts (drop 1 fields))
+pub statement_seen : (fields : Lent) → statement_by (texts fields) ≡ (
+    if is_start fields (codes "client") 1 then statement_of_client (texts (drop 1 fields))
+    else if is_start fields (codes "server") 1 then statement_of_server (texts (drop 1 fields))
     else if is_form fields (codes "distrust") 2 then Some (Distrusts (lent fields 1))
     else if is_start fields (codes "allow") 2 then option_map (Allows (lent fields 1)) (proving (texts (drop 2 fields)))
     else if is_form fields (codes "deny") 2 then option_map Denies (number_of (lent fields 1))
     else option_map Does (step (texts fields)))
-unfolding said_by
-said_seen fields = rw (count_of fields, rest_of 1 fields, rest_of 2 fields, field_text fields 0, field_text fields 1) refl
+unfolding statement_by
+statement_seen fields = rw (count_of fields, rest_of 1 fields, rest_of 2 fields, field_text fields 0, field_text fields 1) refl

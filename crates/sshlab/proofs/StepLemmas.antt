@@ -3,9 +3,9 @@
 use Rattle.std.proofs.Common.{◌≡◌, ◌∙◌, ℕ, zero, suc, ◌+◌, ◌<◌, inl, inr, List, [], ◌∷◌, ◌++◌, length, take, min, Result, Ok, Err, refl, sym, ap, subst, arith, get_or}
 use Rattle.std.specs.Result.{OnErr}
 use Rattle.std.proofs.lemmas.List.{length-append, take_more}
-use Rattle.sshpacket.specs.Suite.{Meaning}
-use Rattle.sshcore.specs.ConfigData.{ClientData}
-use Rattle.sshcore.specs.Party.{Policy}
+use Rattle.sshpacket.specs.Suite.{SuiteData}
+use Rattle.sshcore.specs.ConfigParts.{ClientData}
+use Rattle.sshcore.specs.EndpointParts.{DecisionsData}
 use Rattle.sshworld.specs.Offered.{most_requests}
 use Rattle.sshworld.specs.declared.side.Delivery.{Delivery}
 use Rattle.sshworld.specs.Conversed.{EachReplies}
@@ -30,7 +30,7 @@ settles_at steps i default least lt e =
     let one : get_or steps i default ≡ e.last = last_same (take i steps) e.front _ e.last (sym (take_more steps i default lt) ∙ e.is) in
     subst (λ (step : Step). SettlesFor least step) (sym one) e.settles
 
-module _ {S D : Type 0} (meaning : S → Meaning) (policy : D → Policy) where
+module _ {S D : Type 0} (meaning : S → SuiteData) (policy : D → DecisionsData) where
   -- a delivery that answered how many bytes it moved
   pub delivery_done : (step : Step) (delivery : Delivery) (n : ℕ) (old new : WorldData S D) → step ≡ Deliver delivery → n ≡ min delivery.count (waiting_for delivery.to old)
       → Delivered delivery.to n old new → IsSameSetup old new → EachReplies meaning policy new → KeepsHeadline meaning policy new → StepDone meaning policy step old new

@@ -5,12 +5,12 @@ use Rattle.std.specs.Prelude.{String, codes}
 use Rattle.std.specs.Result.{IfErr, IfOk, OnErr, OnOk}
 use Rattle.std.specs.Io.KnownBytes.{Appends}
 use Rattle.std.specs.declared.alloc.Global.{Global}
-use Rattle.sshcore.specs.ConfigData.{ClientData, ServerData}
+use Rattle.sshcore.specs.ConfigParts.{ClientData, ServerData}
 use Rattle.sshworld.specs.Offered.{most_requests}
 use Rattle.sshworld.specs.Outcome.{outcome}
 use Rattle.sshworld.specs.Worlds.{Complete, WorldData}
 use Rattle.sshsuites.specs.Lab.{lab}
-use Rattle.sshsuites.specs.LabRules.{LabRules, lab_policy}
+use Rattle.sshsuites.specs.LabDecisionsData.{LabDecisionsData, lab_policy}
 use Rattle.sshsuites.specs.declared.lab_suite.LabSuite.{LabSuite}
 use Rattle.sshlab.specs.declared.command_fault.CommandFault.{CommandFault}
 use Rattle.sshlab.specs.declared.command_fault.CommandFault.TheVariants as command
@@ -26,24 +26,24 @@ use Rattle.sshlab.specs.Told.{IsAnswered, IsToldOfInput, IsToldOfRun, PredictTel
 
 module _ {A E : Type 0} (text : A → List ℕ) (status : A → ℕ) where
   -- what is told of a world to which the steps of a scenario lead
-  pub run_told : (client : ClientData) (server : ServerData) (rules : LabRules) (steps : List Step) (session : Bool) (w : WorldData LabSuite LabRules) (r : Result A E)
+  pub run_told : (client : ClientData) (server : ServerData) (rules : LabDecisionsData) (steps : List Step) (session : Bool) (w : WorldData LabSuite LabDecisionsData) (r : Result A E)
       → StepsLeadTo (λ suite. lab) lab_policy client server rules steps w
       → (Complete w → (w.client.end ≡ (outcome lab (lab_policy rules) client server).client) × (w.server.end ≡ (outcome lab (lab_policy rules) client server).server))
       → (EndsSettling (most_requests client.plan + 4) steps → Complete w)
       → IfOk r (λ a. text a ≡ report_text w.client.end w.server.end (Some (status a == 0)) session)
       → IfOk r (λ a. (status a ≡ 0) ↔ Complete w)
       → IfOk r (λ a. IsToldOfRun client server rules steps session (text a) (status a))
-  run_told client server rules steps session w (Ok a) led predicted settled is says = record {
+  run_told client server rules steps session w (Ok a) led predicted settled is states = record {
     world = w;
     led = led;
-    of_world = record { is_text = is; by_status = says };
+    of_world = record { is_text = is; by_status = states };
     predicted = predicted;
-    settled = λ ends. says.1 (settled ends);
+    settled = λ ends. states.1 (settled ends);
   }
-  run_told client server rules steps session w (Err e) led predicted settled is says = says
+  run_told client server rules steps session w (Err e) led predicted settled is states = states
 
   -- the same of equal parts
-  pub run_of_equal : (client client' : ClientData) (server server' : ServerData) (rules rules' : LabRules) (steps steps' : List Step) (session : Bool) (r : Result A E)
+  pub run_of_equal : (client client' : ClientData) (server server' : ServerData) (rules rules' : LabDecisionsData) (steps steps' : List Step) (session : Bool) (r : Result A E)
       → client ≡ client' → server ≡ server' → rules ≡ rules' → steps ≡ steps'
       → IfOk r (λ a. IsToldOfRun client server rules steps session (text a) (status a))
       → IfOk r (λ a. IsToldOfRun client' server' rules' steps' session (text a) (status a))

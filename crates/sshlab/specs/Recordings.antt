@@ -43,10 +43,10 @@ stream side text = flat_map (sent side) (lines text)
 pub record IsFirstBadLine (k : ℕ) (ls : List (List ℕ)) : Type 0 where
   pub before : List (List ℕ)
   pub line : List ℕ
-  pub behind : List (List ℕ)
-  pub is : ls ≡ before ++ line ∷ behind
+  pub after : List (List ℕ)
+  pub is : ls ≡ before ++ line ∷ after
   pub place : k ≡ length before + 1
-  pub good : list_all is_recorded before ≡ true
+  pub readable : list_all is_recorded before ≡ true
   pub bad : is_recorded line ≡ false
 
 -- why lines are no recording; want of memory has no cause in them

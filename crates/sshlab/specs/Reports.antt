@@ -2,12 +2,12 @@
 
 use Rattle.std.specs.Prelude.{◌/◌, ◌%◌, ℕ, Bool, false, List, [], ◌∷◌, ◌++◌, codes, decimal, Option, None, Some, if◌then◌else◌, flat_map}
 use Rattle.std.specs.Fmt.{digit_glyph}
-use Rattle.sshneg.specs.Fields.{Algorithms}
-use Rattle.sshcore.specs.Ending.{AgreedData, Authenticated, Closed, Disconnected, Ending, Failed, Open}
+use Rattle.sshneg.specs.Fields.{AlgorithmsData}
+use Rattle.sshcore.specs.EndData.{AgreedData, Authenticated, Closed, Disconnected, EndData, Failed, Open}
 use Rattle.sshcore.specs.Printed.{fault_text}
 
 -- how a side stands, or how it is to end
-abbrev pub end_text : Ending → List ℕ
+abbrev pub end_text : EndData → List ℕ
 end_text Open = codes "open"
 end_text (Authenticated agreed) = codes "authenticated " ++ (agreed.user ++ (codes " " ++ agreed.service))
 end_text (Failed fault) = codes "failed " ++ fault_text fault
@@ -35,7 +35,7 @@ abbrev pub session_text : Bool → List ℕ → List ℕ
 session_text asked session = if asked then line (codes "session") (flat_map hex_digits session) else []
 
 -- the names of the algorithms; compression has no line
-abbrev pub algorithms_text : Algorithms → List ℕ
+abbrev pub algorithms_text : AlgorithmsData → List ℕ
 algorithms_text names =
     line (codes "kex") names.kex ++ (line (codes "hostkey") names.host_key
     ++ (line (codes "cipher_cs") names.encryption_client_to_server ++ (line (codes "cipher_sc") names.encryption_server_to_client
@@ -47,13 +47,13 @@ agreed_text session agreed =
     algorithms_text agreed.algorithms ++ (line (codes "strict") (yes_or_no agreed.strict) ++ session_text session agreed.session)
 
 -- what was agreed where a side is authenticated; where both are, it is the client's
-abbrev pub agreement_text : Bool → Ending → Ending → List ℕ
+abbrev pub agreement_text : Bool → EndData → EndData → List ℕ
 agreement_text session (Authenticated agreed) server = agreed_text session agreed
 agreement_text session client (Authenticated agreed) = agreed_text session agreed
 agreement_text session client server = []
 
 -- What is printed of the client's end and of the server's.
-unfoldable pub report_text : Ending → Ending → Option Bool → Bool → List ℕ
+unfoldable pub report_text : EndData → EndData → Option Bool → Bool → List ℕ
 report_text client server complete session =
     line (codes "client") (end_text client) ++ (line (codes "server") (end_text server)
     ++ (complete_text complete ++ agreement_text session client server))

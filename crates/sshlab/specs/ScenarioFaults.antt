@@ -2,23 +2,23 @@
 
 use Rattle.std.specs.Prelude.{ℕ, List}
 use Rattle.sshcore.specs.declared.config_fault.ConfigFault.{ConfigFault}
-use Rattle.sshcore.specs.ConfigData.{ClientData, ServerData}
+use Rattle.sshcore.specs.ConfigParts.{ClientData, ServerData}
 use Rattle.sshcore.specs.ConfigRules.{ClientRule, IsLeastBroken, ServerRule}
 use Rattle.sshlab.specs.declared.scenario.ScenarioFault.{ScenarioFault}
 use Rattle.sshlab.specs.declared.scenario.ScenarioFault.TheVariants as fault
 use Rattle.sshlab.specs.ScenarioParts.{client_of_lines, server_of_lines}
-use Rattle.sshlab.specs.ScenarioText.{CanBeRead, IsFirstBad, said}
+use Rattle.sshlab.specs.ScenarioText.{CanBeRead, IsFirstBad, statements_in}
 
 -- all lines can be read, and the client's parts break the rule of this number and none of a lesser one
 pub record IsClientCause (ls : List (List ℕ)) (code : ConfigFault) : Type 0 where
   pub read : CanBeRead ls
-  pub client : IsLeastBroken (λ rule. ClientRule rule (client_of_lines (said ls))) code
+  pub client : IsLeastBroken (λ rule. ClientRule rule (client_of_lines (statements_in ls))) code
 
 -- all lines can be read, the client's parts keep every rule, and the server's break this one and none of a lesser number
 pub record IsServerCause (ls : List (List ℕ)) (code : ConfigFault) : Type 0 where
   pub read : CanBeRead ls
-  pub client : (rule : ConfigFault) → ClientRule rule (client_of_lines (said ls))
-  pub server : IsLeastBroken (λ rule. ServerRule rule (server_of_lines (said ls))) code
+  pub client : (rule : ConfigFault) → ClientRule rule (client_of_lines (statements_in ls))
+  pub server : IsLeastBroken (λ rule. ServerRule rule (server_of_lines (statements_in ls))) code
 
 -- why lines are refused so; want of memory has no cause in them
 abbrev pub IsCause : List (List ℕ) → ScenarioFault → Type 0

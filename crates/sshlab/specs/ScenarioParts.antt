@@ -3,14 +3,14 @@
 use Rattle.std.specs.Prelude.{ℕ, ◌==◌, Bool, true, if◌then◌else◌, List, [], ◌∷◌, length, Option, Some, None, fold}
 use Rattle.std.specs.List.{filter_map}
 use Rattle.sshwire.specs.TypeReadings.{is_name}
-use Rattle.sshcore.specs.ConfigData.{Attempt, ByKey, ClientData, HostKey, Proving, ServerData, SideData}
+use Rattle.sshcore.specs.ConfigParts.{AttemptData, ByKey, ClientData, CredentialData, HostKeyData, ServerData, SideData}
 use Rattle.sshworld.specs.declared.side.Side.{Side}
 use Rattle.sshworld.specs.declared.side.Side.TheVariants.{Client, Server}
 use Rattle.sshlab.specs.declared.scenario_line.Step.{Step}
 use Rattle.sshsuites.specs.LabParties.{lab_client, lab_server}
-use Rattle.sshsuites.specs.LabRules.{Allowance, LabRules, proof_by}
+use Rattle.sshsuites.specs.LabDecisionsData.{AllowedData, LabDecisionsData, proof_by}
 use Rattle.sshlab.specs.ScenarioSettings.{with_side}
-use Rattle.sshlab.specs.Scenarios.{Allows, Denies, Distrusts, Does, Holds, Notes, OfClient, OfServer, OfSide, Saying, SetBanner, SetGuess, SetHostKeys, SetMethods, SetRequired, SetServices, SetTries, SideValue, Tries}
+use Rattle.sshlab.specs.Scenarios.{Allows, Denies, Distrusts, Does, Holds, Notes, OfClient, OfServer, OfSide, SetBanner, SetGuess, SetHostKeys, SetMethods, SetRequired, SetServices, SetTries, SideSettingData, StatementData, Tries}
 
 -- the value that the lines set, which stands once at most, else the default
 abbrev pub set_or : {A : Type 0} → A → List A → A
@@ -22,108 +22,108 @@ abbrev pub some_or : {A : Type 0} → List A → List A → List A
 some_or default items = if length items == 0 then default else items
 
 -- a setting of this side that both sides have
-abbrev pub side_value_in : Side → Saying → Option SideValue
+abbrev pub side_value_in : Side → StatementData → Option SideSettingData
 side_value_in Client (OfSide Client value) = Some value
 side_value_in Server (OfSide Server value) = Some value
-side_value_in side saying = None
+side_value_in side stated = None
 
-abbrev pub host_key_algorithms_in : Saying → Option (List (List ℕ))
+abbrev pub host_key_algorithms_in : StatementData → Option (List (List ℕ))
 host_key_algorithms_in (OfClient (SetHostKeys names)) = Some names
-host_key_algorithms_in saying = None
+host_key_algorithms_in stated = None
 
-abbrev pub guess_in : Saying → Option Bool
+abbrev pub guess_in : StatementData → Option Bool
 guess_in (OfClient (SetGuess guess)) = Some guess
-guess_in saying = None
+guess_in stated = None
 
-abbrev pub attempt_in : Saying → Option Attempt
+abbrev pub attempt_in : StatementData → Option AttemptData
 attempt_in (Tries attempt) = Some attempt
-attempt_in saying = None
+attempt_in stated = None
 
-abbrev pub host_key_in : Saying → Option HostKey
+abbrev pub host_key_in : StatementData → Option HostKeyData
 host_key_in (Holds key) = Some key
-host_key_in saying = None
+host_key_in stated = None
 
-abbrev pub services_in : Saying → Option (List (List ℕ))
+abbrev pub services_in : StatementData → Option (List (List ℕ))
 services_in (OfServer (SetServices names)) = Some names
-services_in saying = None
+services_in stated = None
 
-abbrev pub methods_in : Saying → Option (List (List ℕ))
+abbrev pub methods_in : StatementData → Option (List (List ℕ))
 methods_in (OfServer (SetMethods names)) = Some names
-methods_in saying = None
+methods_in stated = None
 
-abbrev pub required_in : Saying → Option (List (List ℕ))
+abbrev pub required_in : StatementData → Option (List (List ℕ))
 required_in (OfServer (SetRequired names)) = Some names
-required_in saying = None
+required_in stated = None
 
-abbrev pub tries_in : Saying → Option ℕ
+abbrev pub tries_in : StatementData → Option ℕ
 tries_in (OfServer (SetTries tries)) = Some tries
-tries_in saying = None
+tries_in stated = None
 
 -- a banner, which may have no bytes
-abbrev pub banner_in : Saying → Option (Option (List ℕ))
+abbrev pub banner_in : StatementData → Option (Option (List ℕ))
 banner_in (OfServer (SetBanner text)) = Some (Some text)
-banner_in saying = None
+banner_in stated = None
 
-abbrev pub notice_in : Saying → Option (List ℕ)
+abbrev pub notice_in : StatementData → Option (List ℕ)
 notice_in (Notes line) = Some line
-notice_in saying = None
+notice_in stated = None
 
-abbrev pub distrusted_in : Saying → Option (List ℕ)
+abbrev pub distrusted_in : StatementData → Option (List ℕ)
 distrusted_in (Distrusts algorithm) = Some algorithm
-distrusted_in saying = None
+distrusted_in stated = None
 
 -- a key whose algorithm isn't a name is no request's
-abbrev pub can_be_proved : Proving → Bool
+abbrev pub can_be_proved : CredentialData → Bool
 can_be_proved (ByKey algorithm secret ask) = is_name algorithm
 can_be_proved proving = true
 
 -- who is let in, and by what
-abbrev pub allowance_in : Saying → Option Allowance
+abbrev pub allowance_in : StatementData → Option AllowedData
 allowance_in (Allows user proving) = if can_be_proved proving then Some (record { user = user; proof = proof_by proving }) else None
-allowance_in saying = None
+allowance_in stated = None
 
-abbrev pub denied_in : Saying → Option ℕ
+abbrev pub denied_in : StatementData → Option ℕ
 denied_in (Denies number) = Some number
-denied_in saying = None
+denied_in stated = None
 
-abbrev pub step_in : Saying → Option Step
+abbrev pub step_in : StatementData → Option Step
 step_in (Does step) = Some step
-step_in saying = None
+step_in stated = None
 
 -- the parts of a side: the defaults with the settings of its lines
-abbrev pub side_of_lines : Side → SideData → List Saying → SideData
-side_of_lines side default sayings = fold with_side default (filter_map (side_value_in side) sayings)
+abbrev pub side_of_lines : Side → SideData → List StatementData → SideData
+side_of_lines side default statements = fold with_side default (filter_map (side_value_in side) statements)
 
 -- the client's parts: what the lines say, and the defaults elsewhere
-unfoldable pub client_of_lines : List Saying → ClientData
-client_of_lines sayings = record {
-  side = side_of_lines Client lab_client.side sayings;
-  host_key_algorithms = set_or lab_client.host_key_algorithms (filter_map host_key_algorithms_in sayings);
-  guess = set_or lab_client.guess (filter_map guess_in sayings);
-  plan = filter_map attempt_in sayings;
+unfoldable pub client_of_lines : List StatementData → ClientData
+client_of_lines statements = record {
+  side = side_of_lines Client lab_client.side statements;
+  host_key_algorithms = set_or lab_client.host_key_algorithms (filter_map host_key_algorithms_in statements);
+  guess = set_or lab_client.guess (filter_map guess_in statements);
+  plan = filter_map attempt_in statements;
 }
 
 -- the server's parts
-unfoldable pub server_of_lines : List Saying → ServerData
-server_of_lines sayings = record {
-  side = side_of_lines Server lab_server.side sayings;
-  host_keys = some_or lab_server.host_keys (filter_map host_key_in sayings);
-  services = set_or lab_server.services (filter_map services_in sayings);
-  methods = set_or lab_server.methods (filter_map methods_in sayings);
-  required = set_or lab_server.required (filter_map required_in sayings);
-  tries = set_or lab_server.tries (filter_map tries_in sayings);
-  banner = set_or lab_server.banner (filter_map banner_in sayings);
-  notices = filter_map notice_in sayings;
+unfoldable pub server_of_lines : List StatementData → ServerData
+server_of_lines statements = record {
+  side = side_of_lines Server lab_server.side statements;
+  host_keys = some_or lab_server.host_keys (filter_map host_key_in statements);
+  services = set_or lab_server.services (filter_map services_in statements);
+  methods = set_or lab_server.methods (filter_map methods_in statements);
+  required = set_or lab_server.required (filter_map required_in statements);
+  tries = set_or lab_server.tries (filter_map tries_in statements);
+  banner = set_or lab_server.banner (filter_map banner_in statements);
+  notices = filter_map notice_in statements;
 }
 
 -- the decisions of both
-unfoldable pub rules_of_lines : List Saying → LabRules
-rules_of_lines sayings = record {
-  distrusted = filter_map distrusted_in sayings;
-  allowed = filter_map allowance_in sayings;
-  denied = filter_map denied_in sayings;
+unfoldable pub rules_of_lines : List StatementData → LabDecisionsData
+rules_of_lines statements = record {
+  distrusted = filter_map distrusted_in statements;
+  allowed = filter_map allowance_in statements;
+  denied = filter_map denied_in statements;
 }
 
 -- what happens in a world
-unfoldable pub steps_of_lines : List Saying → List Step
-steps_of_lines sayings = filter_map step_in sayings
+unfoldable pub steps_of_lines : List StatementData → List Step
+steps_of_lines statements = filter_map step_in statements

@@ -1,14 +1,14 @@
 -- The settings of a scenario: which one a line makes, and what it makes of the parts.
 
 use Rattle.std.specs.Prelude.{Option, Some, None}
-use Rattle.sshcore.specs.ConfigData.{ClientData, ServerData, SideData}
+use Rattle.sshcore.specs.ConfigParts.{ClientData, ServerData, SideData}
 use Rattle.sshworld.specs.declared.side.Side.{Side}
 use Rattle.sshworld.specs.declared.side.Side.TheVariants.{Client, Server}
 use Rattle.sshlab.specs.declared.scenario_settings.Setting.{Setting}
 use Rattle.sshlab.specs.declared.scenario_settings.Setting.TheVariants as setting
-use Rattle.sshlab.specs.Scenarios.{ClientValue, OfClient, OfServer, OfSide, Saying, ServerValue, SetBanner, SetCipherToClient, SetCipherToServer, SetCookie, SetGuess, SetHostKeys, SetKex, SetMacToClient, SetMacToServer, SetMethods, SetRandom, SetRequired, SetSeed, SetServices, SetStrict, SetTries, SetVersion, SideValue}
+use Rattle.sshlab.specs.Scenarios.{ClientSettingData, OfClient, OfServer, OfSide, ServerSettingData, SetBanner, SetCipherToClient, SetCipherToServer, SetCookie, SetGuess, SetHostKeys, SetKex, SetMacToClient, SetMacToServer, SetMethods, SetRandom, SetRequired, SetSeed, SetServices, SetStrict, SetTries, SetVersion, SideSettingData, StatementData}
 
-abbrev pub side_setting : SideValue → Setting
+abbrev pub side_setting : SideSettingData → Setting
 side_setting (SetVersion text) = setting.Version
 side_setting (SetKex names) = setting.KexAlgorithms
 side_setting (SetCipherToServer names) = setting.EncryptionClientToServer
@@ -20,11 +20,11 @@ side_setting (SetCookie bytes) = setting.Cookie
 side_setting (SetRandom bytes) = setting.ExchangeRandom
 side_setting (SetSeed bytes) = setting.PaddingSeed
 
-abbrev pub client_setting : ClientValue → Setting
+abbrev pub client_setting : ClientSettingData → Setting
 client_setting (SetHostKeys names) = setting.HostKeyAlgorithms
 client_setting (SetGuess guess) = setting.Guess
 
-abbrev pub server_setting : ServerValue → Setting
+abbrev pub server_setting : ServerSettingData → Setting
 server_setting (SetServices names) = setting.Services
 server_setting (SetMethods names) = setting.Methods
 server_setting (SetRequired names) = setting.Required
@@ -32,14 +32,14 @@ server_setting (SetTries tries) = setting.Tries
 server_setting (SetBanner text) = setting.Banner
 
 -- the setting that a line makes, with its side: a line that makes none may stand any number of times
-abbrev pub setting_in : Saying → Option (Side × Setting)
+abbrev pub setting_in : StatementData → Option (Side × Setting)
 setting_in (OfSide side value) = Some (side, side_setting value)
 setting_in (OfClient value) = Some (Client, client_setting value)
 setting_in (OfServer value) = Some (Server, server_setting value)
-setting_in saying = None
+setting_in stated = None
 
 -- the parts of a side with a setting
-abbrev pub with_side : SideData → SideValue → SideData
+abbrev pub with_side : SideData → SideSettingData → SideData
 with_side side (SetVersion text) = record side { softwareversion = text }
 with_side side (SetKex names) = record side { kex_algorithms = names }
 with_side side (SetCipherToServer names) = record side { encryption_client_to_server = names }
@@ -51,11 +51,11 @@ with_side side (SetCookie bytes) = record side { cookie = bytes }
 with_side side (SetRandom bytes) = record side { random = bytes }
 with_side side (SetSeed bytes) = record side { seed = bytes }
 
-abbrev pub with_client : ClientData → ClientValue → ClientData
+abbrev pub with_client : ClientData → ClientSettingData → ClientData
 with_client client (SetHostKeys names) = record client { host_key_algorithms = names }
 with_client client (SetGuess guess) = record client { guess = guess }
 
-abbrev pub with_server : ServerData → ServerValue → ServerData
+abbrev pub with_server : ServerData → ServerSettingData → ServerData
 with_server server (SetServices names) = record server { services = names }
 with_server server (SetMethods names) = record server { methods = names }
 with_server server (SetRequired names) = record server { required = names }

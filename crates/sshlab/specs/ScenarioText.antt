@@ -6,18 +6,18 @@ use Rattle.std.specs.Option.{option_and_then, option_flatten}
 use Rattle.sshworld.specs.declared.side.Side.{Side}
 use Rattle.sshlab.specs.declared.scenario_settings.Setting.{Setting}
 use Rattle.sshlab.specs.ScenarioSettings.{setting_in}
-use Rattle.sshlab.specs.Scenarios.{Saying, statement}
+use Rattle.sshlab.specs.Scenarios.{StatementData, statement}
 
-abbrev pub said_in : List ℕ → Option Saying
-said_in line = option_flatten (statement line)
+abbrev pub statement_in : List ℕ → Option StatementData
+statement_in line = option_flatten (statement line)
 
 -- what the lines say, in their order, those left out that say nothing
-unfoldable pub said : List (List ℕ) → List Saying
-said ls = filter_map said_in ls
+unfoldable pub statements_in : List (List ℕ) → List StatementData
+statements_in ls = filter_map statement_in ls
 
 -- the settings that the lines make
 abbrev pub settings : List (List ℕ) → List (Side × Setting)
-settings ls = filter_map setting_in (said ls)
+settings ls = filter_map setting_in (statements_in ls)
 
 -- The lines can be read: each has a form, and no two make one setting of one side.
 pub record CanBeRead (ls : List (List ℕ)) : Type 0 where
@@ -34,4 +34,4 @@ pub record IsFirstBad (k : ℕ) (ls : List (List ℕ)) : Type 0 where
 -- A line can stand behind others that made these settings: it has a form, and makes none of them.
 pub record CanFollow (made : List (Side × Setting)) (line : List ℕ) : Type 0 where
   pub form : statement line ≢ None
-  pub new : IfSome (option_and_then setting_in (said_in line)) (λ setting. Contains made setting → ⊥)
+  pub new : IfSome (option_and_then setting_in (statement_in line)) (λ setting. Contains made setting → ⊥)

@@ -3,7 +3,7 @@
 use Rattle.std.specs.Prelude.{ℕ, ◌==◌, ◌&&◌, ◌||◌, nat_le, Bool, true, false, if◌then◌else◌, List, [], length, drop, codes, Option, Some, None, option_map, slice_index, slice_index_or}
 use Rattle.std.specs.List.{list_all, list_any}
 use Rattle.std.specs.Str.{bytes_eq}
-use Rattle.sshcore.specs.ConfigData.{Attempt, ByKey, ByNothing, ByPassword, HostKey, Proving}
+use Rattle.sshcore.specs.ConfigParts.{AttemptData, ByKey, ByNothing, ByPassword, CredentialData, HostKeyData}
 use Rattle.sshworld.specs.declared.side.Side.{Side}
 use Rattle.sshworld.specs.declared.side.Side.TheVariants.{Client, Server}
 use Rattle.sshlab.specs.declared.scenario_line.Step.{Step}
@@ -12,43 +12,43 @@ use Rattle.sshlab.specs.declared.scenario_line.TheConstants.{LINE_LIMIT}
 use Rattle.sshlab.specs.ScenarioFields.{bytes_of, flag_of, list_of, number_of, parts, side_of}
 
 -- a setting that either side has
-pub data SideValue : Type 0 where
-  SetVersion : List ℕ → SideValue
-  SetKex : List (List ℕ) → SideValue
-  SetCipherToServer : List (List ℕ) → SideValue
-  SetCipherToClient : List (List ℕ) → SideValue
-  SetMacToServer : List (List ℕ) → SideValue
-  SetMacToClient : List (List ℕ) → SideValue
-  SetStrict : Bool → SideValue
-  SetCookie : List ℕ → SideValue
-  SetRandom : List ℕ → SideValue
-  SetSeed : List ℕ → SideValue
+pub data SideSettingData : Type 0 where
+  SetVersion : List ℕ → SideSettingData
+  SetKex : List (List ℕ) → SideSettingData
+  SetCipherToServer : List (List ℕ) → SideSettingData
+  SetCipherToClient : List (List ℕ) → SideSettingData
+  SetMacToServer : List (List ℕ) → SideSettingData
+  SetMacToClient : List (List ℕ) → SideSettingData
+  SetStrict : Bool → SideSettingData
+  SetCookie : List ℕ → SideSettingData
+  SetRandom : List ℕ → SideSettingData
+  SetSeed : List ℕ → SideSettingData
 
 -- a setting of the client alone
-pub data ClientValue : Type 0 where
-  SetHostKeys : List (List ℕ) → ClientValue
-  SetGuess : Bool → ClientValue
+pub data ClientSettingData : Type 0 where
+  SetHostKeys : List (List ℕ) → ClientSettingData
+  SetGuess : Bool → ClientSettingData
 
 -- a setting of the server alone
-pub data ServerValue : Type 0 where
-  SetServices : List (List ℕ) → ServerValue
-  SetMethods : List (List ℕ) → ServerValue
-  SetRequired : List (List ℕ) → ServerValue
-  SetTries : ℕ → ServerValue
-  SetBanner : List ℕ → ServerValue
+pub data ServerSettingData : Type 0 where
+  SetServices : List (List ℕ) → ServerSettingData
+  SetMethods : List (List ℕ) → ServerSettingData
+  SetRequired : List (List ℕ) → ServerSettingData
+  SetTries : ℕ → ServerSettingData
+  SetBanner : List ℕ → ServerSettingData
 
 -- what a line says that is neither empty nor a comment
-pub data Saying : Type 0 where
-  OfSide : Side → SideValue → Saying
-  OfClient : ClientValue → Saying
-  OfServer : ServerValue → Saying
-  Tries : Attempt → Saying
-  Holds : HostKey → Saying
-  Notes : List ℕ → Saying
-  Distrusts : List ℕ → Saying
-  Allows : List ℕ → Proving → Saying
-  Denies : ℕ → Saying
-  Does : Step → Saying
+pub data StatementData : Type 0 where
+  OfSide : Side → SideSettingData → StatementData
+  OfClient : ClientSettingData → StatementData
+  OfServer : ServerSettingData → StatementData
+  Tries : AttemptData → StatementData
+  Holds : HostKeyData → StatementData
+  Notes : List ℕ → StatementData
+  Distrusts : List ℕ → StatementData
+  Allows : List ℕ → CredentialData → StatementData
+  Denies : ℕ → StatementData
+  Does : Step → StatementData
 
 -- the fields of a line
 abbrev pub Fields : Type 0
@@ -67,7 +67,7 @@ abbrev pub begins_with_word : Fields → List ℕ → ℕ → Bool
 begins_with_word fields word least = nat_le least (length fields) && bytes_eq (field fields 0) word
 
 -- the setting of either side with this name and value
-unfoldable pub side_value : List ℕ → List ℕ → Option SideValue
+unfoldable pub side_value : List ℕ → List ℕ → Option SideSettingData
 side_value name value =
     if bytes_eq name (codes "version") then Some (SetVersion value)
     else if bytes_eq name (codes "kex") then Some (SetKex (list_of value))
@@ -81,14 +81,14 @@ side_value name value =
     else if bytes_eq name (codes "seed") then option_map SetSeed (bytes_of value) else None
 
 -- the setting of the client with this name and value
-unfoldable pub client_value : List ℕ → List ℕ → Option Saying
+unfoldable pub client_value : List ℕ → List ℕ → Option StatementData
 client_value name value =
     if bytes_eq name (codes "hostkey") then Some (OfClient (SetHostKeys (list_of value)))
     else if bytes_eq name (codes "guess") then option_map (λ guess. OfClient (SetGuess guess)) (flag_of value)
     else option_map (OfSide Client) (side_value name value)
 
 -- the setting of the server with this name and value
-unfoldable pub server_value : List ℕ → List ℕ → Option Saying
+unfoldable pub server_value : List ℕ → List ℕ → Option StatementData
 server_value name value =
     if bytes_eq name (codes "services") then Some (OfServer (SetServices (list_of value)))
     else if bytes_eq name (codes "methods") then Some (OfServer (SetMethods (list_of value)))
@@ -98,14 +98,14 @@ server_value name value =
     else option_map (OfSide Server) (side_value name value)
 
 -- how a user is proved by these fields: `none`, `password HEX` or `publickey ALG HEX`
-unfoldable pub proving : Fields → Option Proving
+unfoldable pub proving : Fields → Option CredentialData
 proving fields =
     if has_form fields (codes "none") 1 then Some ByNothing
     else if has_form fields (codes "password") 2 then option_map ByPassword (bytes_of (field fields 1))
     else if has_form fields (codes "publickey") 3 then option_map (λ secret. ByKey (field fields 1) secret false) (bytes_of (field fields 2)) else None
 
 -- how an attempt proves its user by these fields: as above, or `query ALG HEX`, by a key about which the server is asked first
-unfoldable pub attempting : Fields → Option Proving
+unfoldable pub attempting : Fields → Option CredentialData
 attempting fields =
     if has_form fields (codes "query") 3 then option_map (λ secret. ByKey (field fields 1) secret true) (bytes_of (field fields 2)) else proving fields
 
@@ -126,25 +126,25 @@ step fields =
     else if has_form fields (codes "settle") 2 then rounds (number_of (field fields 1)) else None
 
 -- what is said by the fields behind `client`: `try USER SERVICE PROOF`, `try USER SERVICE query ALG HEX`, or a setting
-unfoldable pub said_of_client : Fields → Option Saying
-said_of_client fields =
+unfoldable pub statement_of_client : Fields → Option StatementData
+statement_of_client fields =
     if begins_with_word fields (codes "try") 3 then
     option_map (λ proof. Tries (record { user = field fields 1; service = field fields 2; proving = proof })) (attempting (drop 3 fields))
     else if length fields == 2 then client_value (field fields 0) (field fields 1) else None
 
 -- what is said by the fields behind `server`: `hostkey ALG HEX`, `notice HEX`, or a setting
-unfoldable pub said_of_server : Fields → Option Saying
-said_of_server fields =
+unfoldable pub statement_of_server : Fields → Option StatementData
+statement_of_server fields =
     if has_form fields (codes "hostkey") 3 then
     option_map (λ secret. Holds (record { algorithm = field fields 1; secret = secret })) (bytes_of (field fields 2))
     else if has_form fields (codes "notice") 2 then option_map Notes (bytes_of (field fields 1))
     else if length fields == 2 then server_value (field fields 0) (field fields 1) else None
 
 -- what the fields of a line say
-unfoldable pub said_by : Fields → Option Saying
-said_by fields =
-    if begins_with_word fields (codes "client") 1 then said_of_client (drop 1 fields)
-    else if begins_with_word fields (codes "server") 1 then said_of_server (drop 1 fields)
+unfoldable pub statement_by : Fields → Option StatementData
+statement_by fields =
+    if begins_with_word fields (codes "client") 1 then statement_of_client (drop 1 fields)
+    else if begins_with_word fields (codes "server") 1 then statement_of_server (drop 1 fields)
     else if has_form fields (codes "distrust") 2 then Some (Distrusts (field fields 1))
     else if begins_with_word fields (codes "allow") 2 then option_map (Allows (field fields 1)) (proving (drop 2 fields))
     else if has_form fields (codes "deny") 2 then option_map Denies (number_of (field fields 1))
@@ -158,17 +158,17 @@ abbrev pub is_text : List ℕ → Bool
 is_text line = nat_le (length line) LINE_LIMIT && list_all is_line_byte line
 
 -- an empty line, and a comment, which begins with `#`, say nothing
-abbrev pub says_nothing : List ℕ → Bool
-says_nothing line = (length line == 0) || (slice_index line 0 == 35)
+abbrev pub states_nothing : List ℕ → Bool
+states_nothing line = (length line == 0) || (slice_index line 0 == 35)
 
 -- two blanks side by side, or one at an end, leave an empty field
 abbrev pub has_empty : Fields → Bool
 has_empty fields = list_any (λ field. length field == 0) fields
 
 -- what is said by the fields between the blanks of a line
-unfoldable pub said_in_fields : List ℕ → Option Saying
-said_in_fields line = if has_empty (parts 32 line) then None else said_by (parts 32 line)
+unfoldable pub statement_in_fields : List ℕ → Option StatementData
+statement_in_fields line = if has_empty (parts 32 line) then None else statement_by (parts 32 line)
 
 -- What a line without its LF says, if it has a form; it may say nothing.
-unfoldable pub statement : List ℕ → Option (Option Saying)
-statement line = if is_text line then (if says_nothing line then Some None else option_map Some (said_in_fields line)) else None
+unfoldable pub statement : List ℕ → Option (Option StatementData)
+statement line = if is_text line then (if states_nothing line then Some None else option_map Some (statement_in_fields line)) else None

@@ -1,16 +1,16 @@
 -- What the steps of a scenario do in a world.
 
 use Rattle.std.specs.Prelude.{◌≡◌, ◌≤◌, ◌⊎◌, ◌++◌, ℕ, List, [], ◌∷◌, min}
-use Rattle.sshpacket.specs.Suite.{Meaning}
-use Rattle.sshcore.specs.ConfigData.{ClientData, ServerData}
-use Rattle.sshcore.specs.Party.{Policy}
+use Rattle.sshpacket.specs.Suite.{SuiteData}
+use Rattle.sshcore.specs.ConfigParts.{ClientData, ServerData}
+use Rattle.sshcore.specs.EndpointParts.{DecisionsData}
 use Rattle.sshworld.specs.Conversed.{EachReplies, IsNew}
 use Rattle.sshworld.specs.Deliveries.{DoneBy, Refused, Rounds, RoundsInto}
 use Rattle.sshworld.specs.Worlds.{IsSameSetup, WorldData, waiting_for}
 use Rattle.sshlab.specs.declared.scenario_line.Step.{Step}
 use Rattle.sshlab.specs.declared.scenario_line.Step.TheVariants.{Deliver, Settle}
 
-module _ {S D : Type 0} (meaning : S → Meaning) (policy : D → Policy) where
+module _ {S D : Type 0} (meaning : S → SuiteData) (policy : D → DecisionsData) where
   -- what a step moves: one delivery, or so many rounds
   abbrev pub MovesByStep : Step → WorldData S D → WorldData S D → Type 0
   MovesByStep (Deliver delivery) old new = DoneBy meaning policy delivery old new

@@ -2,12 +2,12 @@
 
 use Rattle.std.specs.Prelude.{◌≡◌, ◌≤◌, ◌+◌, ◌==◌, ◌↔◌, ℕ, Bool, true, List, take, Option, None, Some, IfSome, Result, Ok, Err}
 use Rattle.std.specs.Io.KnownBytes.{Appends}
-use Rattle.sshcore.specs.ConfigData.{ClientData, ServerData}
+use Rattle.sshcore.specs.ConfigParts.{ClientData, ServerData}
 use Rattle.sshworld.specs.Offered.{most_requests}
 use Rattle.sshworld.specs.Outcome.{BothEnds, outcome}
 use Rattle.sshworld.specs.Worlds.{Complete, WorldData}
 use Rattle.sshsuites.specs.Lab.{lab}
-use Rattle.sshsuites.specs.LabRules.{LabRules, lab_policy}
+use Rattle.sshsuites.specs.LabDecisionsData.{LabDecisionsData, lab_policy}
 use Rattle.sshsuites.specs.declared.lab_suite.LabSuite.{LabSuite}
 use Rattle.sshlab.specs.declared.command_fault.CommandFault.{CommandFault}
 use Rattle.sshlab.specs.declared.command_fault.CommandFault.TheVariants as command
@@ -17,7 +17,7 @@ use Rattle.sshlab.specs.declared.request.Request.{Request}
 use Rattle.sshlab.specs.declared.request.Request.TheVariants as asks
 use Rattle.sshlab.specs.Reports.{report_text}
 use Rattle.sshlab.specs.ScenarioParts.{client_of_lines, rules_of_lines, server_of_lines, steps_of_lines}
-use Rattle.sshlab.specs.ScenarioText.{said}
+use Rattle.sshlab.specs.ScenarioText.{statements_in}
 use Rattle.sshlab.specs.Steps.{EndsSettling, StepsLeadTo}
 use Rattle.sshlab.specs.TextLines.{lines}
 
@@ -28,8 +28,8 @@ pub record IsToldOfWorld {S D : Type 0} (w : WorldData S D) (session : Bool) (to
 
 -- What `run` tells of a scenario is told of a world to which its steps lead. Where that is complete, its ends are those of the
 -- outcome; and it is, where the last step is four rounds more than the client has requests at the most.
-pub record IsToldOfRun (client : ClientData) (server : ServerData) (rules : LabRules) (steps : List Step) (session : Bool) (told : List ℕ) (status : ℕ) : Type 0 where
-  pub world : WorldData LabSuite LabRules
+pub record IsToldOfRun (client : ClientData) (server : ServerData) (rules : LabDecisionsData) (steps : List Step) (session : Bool) (told : List ℕ) (status : ℕ) : Type 0 where
+  pub world : WorldData LabSuite LabDecisionsData
   pub led : StepsLeadTo (λ suite. lab) lab_policy client server rules steps world
   pub of_world : IsToldOfWorld world session told status
   pub predicted : Complete world → (world.client.end ≡ (outcome lab (lab_policy rules) client server).client)
@@ -39,11 +39,11 @@ pub record IsToldOfRun (client : ClientData) (server : ServerData) (rules : LabR
 -- what `run` tells of a scenario's text
 abbrev pub RunTells : Bool → List ℕ → List ℕ → ℕ → Type 0
 RunTells session text told status =
-    IsToldOfRun (client_of_lines (said (lines text))) (server_of_lines (said (lines text))) (rules_of_lines (said (lines text))) (steps_of_lines (said (lines text))) session told status
+    IsToldOfRun (client_of_lines (statements_in (lines text))) (server_of_lines (statements_in (lines text))) (rules_of_lines (statements_in (lines text))) (steps_of_lines (statements_in (lines text))) session told status
 
 -- the outcome of a scenario's text, without its steps
 abbrev pub foretold : List ℕ → BothEnds
-foretold text = outcome lab (lab_policy (rules_of_lines (said (lines text)))) (client_of_lines (said (lines text))) (server_of_lines (said (lines text)))
+foretold text = outcome lab (lab_policy (rules_of_lines (statements_in (lines text)))) (client_of_lines (statements_in (lines text))) (server_of_lines (statements_in (lines text)))
 
 -- What `predict` tells of it: the ends of its outcome, always with status 0.
 pub record PredictTells (session : Bool) (text told : List ℕ) (status : ℕ) : Type 0 where

@@ -32,6 +32,6 @@ pub use sshsuites::{
     KemSuite, LabDecisions, LabSuite, lab_client_parts, lab_decisions_law, lab_law,
     lab_server_parts,
 };
-pub use sshworld::{Delivery, Greeting, Hearing, Side, greet};
+pub use sshworld::{Delivery, Greeting, Reception, Side, greet};
 pub use streams::{Broken, Sink, Source, StreamSink, StreamSource};
 pub use tool_fault::ToolFault;

@@ -3,7 +3,7 @@
 ghost use Rattle.std.specs.Prelude.{◌≡◌, ◌≢◌, ◌≤◌, ◌==◌, ◌↔◌, ◌||◌, ℕ, Bool, Err, IfErr, IfOk, OnErr, OnOk, Some, codes, false, length, string_bytes, take, true};
 ghost use Rattle.std.specs.Io.KnownBytes.{Appends, Keeps};
 ghost use Rattle.std.specs.IoError.{error_kind};
-ghost use Rattle.sshcore.specs.Ending.{ending};
+ghost use Rattle.sshcore.specs.EndData.{end_data};
 ghost use Rattle.sshworld.specs.Worlds.{Complete};
 ghost use Rattle.sshlab.specs.Reports.{report_text};
 ghost use Rattle.sshlab.specs.Statuses.{AsksForInput, IsFirstWord, IsGreet, IsNoToolFault, status_of, words_status};
@@ -203,8 +203,8 @@ fn prediction_of(alloc: Global, text: &[u8], session: bool) -> Result<Answer, Co
 /// The ends of the sides of a scenario with this text, the client's end first.
 fn ends_of(alloc: Global, text: &[u8]) -> Result<(End, End), CommandFault>
     requires { length text.now ≤ TEXT_LIMIT }
-    ensures client { IfOk result (λ ends. ending ends.0 ≡ (foretold text.now).client) }
-    ensures server { IfOk result (λ ends. ending ends.1 ≡ (foretold text.now).server) }
+    ensures client { IfOk result (λ ends. end_data ends.0 ≡ (foretold text.now).client) }
+    ensures server { IfOk result (λ ends. end_data ends.1 ≡ (foretold text.now).server) }
     ensures fault { IfErr result IsNoToolFault }
 {
     match Scenario::parse(alloc, text) {
@@ -267,7 +267,7 @@ fn world_told<S: Suite, D: Decisions>(
 /// The report as text, with the status once it is written.
 fn printed(alloc: Global, report: &Report<'_>, status: u8) -> Result<Answer, CommandFault>
     ensures status { IfOk result (λ answer. answer.status ≡ status) }
-    ensures text { IfOk result (λ answer. string_bytes answer.text ≡ report_text (ending report.now.client.now) (ending report.now.server.now) report.now.complete report.now.session) }
+    ensures text { IfOk result (λ answer. string_bytes answer.text ≡ report_text (end_data report.now.client.now) (end_data report.now.server.now) report.now.complete report.now.session) }
     ensures fault { IfErr result IsNoToolFault }
 {
     match report.to_string(alloc) {

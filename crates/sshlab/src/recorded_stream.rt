@@ -129,8 +129,8 @@ impl<'a> RecordedStream<'a> {
     ) -> Result<RecordedStream<'a>, Memory> {
         let mut reader = LineReader::new(alloc, others);
         let step = reader.feed(bytes);
-        let (judged, behind) = bytes.split_at(reader.taken());
-        RecordedStream::of_step(alloc, step, judged, behind, reader.buffered())
+        let (judged, after) = bytes.split_at(reader.taken());
+        RecordedStream::of_step(alloc, step, judged, after, reader.buffered())
     }
 
     /// What stands in a stream whose lines ended so. Of its bytes some were judged as lines, and so many of these
@@ -139,12 +139,12 @@ impl<'a> RecordedStream<'a> {
         alloc: Global,
         step: Result<LineStep, WireFault>,
         judged: &'a [u8],
-        behind: &[u8],
+        after: &[u8],
         unfinished: usize,
     ) -> Result<RecordedStream<'a>, Memory> {
         match step {
             Ok(LineStep::Done { version, .. }) => {
-                RecordedStream::of_version(alloc, version, judged, behind)
+                RecordedStream::of_version(alloc, version, judged, after)
             }
             Ok(LineStep::More) => {
                 let end = StreamEnd::Partial(unfinished);
@@ -163,11 +163,11 @@ impl<'a> RecordedStream<'a> {
         alloc: Global,
         version: VersionLine,
         judged: &'a [u8],
-        behind: &[u8],
+        after: &[u8],
     ) -> Result<RecordedStream<'a>, Memory> {
         let lines = lines_before_last(alloc, judged);
         let head = beside(version, lines)?;
-        let packets = ClearPackets::of(alloc, behind);
+        let packets = ClearPackets::of(alloc, after);
         let ((version, lines), (clear, end)) = beside(head, packets)?;
         Ok(RecordedStream {
             lines,

@@ -2,7 +2,7 @@
 
 ghost use Rattle.std.specs.Prelude.{◌≡◌, Some, flat_map};
 ghost use Rattle.std.specs.Fmt.{WritesOnOk};
-ghost use Rattle.sshcore.specs.Ending.{agreed_of, ending};
+ghost use Rattle.sshcore.specs.EndData.{agreed_data, end_data};
 ghost use Rattle.sshlab.specs.Reports.{agreed_text, agreement_text, algorithms_text, complete_text, end_text, hex_digits, report_text, session_text, yes_or_no};
 
 use sshcore::{Agreed, End};
@@ -20,7 +20,7 @@ pub(crate) struct Report<'a> {
 }
 
 impl fmt::Display for Report<'_> {
-    ghost output = { λ r. Some (report_text (ending r.client.now) (ending r.server.now) r.complete r.session) };
+    ghost output = { λ r. Some (report_text (end_data r.client.now) (end_data r.server.now) r.complete r.session) };
 
     #[tactic(auto, unfolding(crate::specs::Reports::report_text))]
     fn fmt<W: fmt::Write>(&self, f: &mut fmt::Formatter<W>) -> fmt::Result {
@@ -37,7 +37,7 @@ impl fmt::Display for Report<'_> {
 struct EndText<'a>(&'a End);
 
 impl fmt::Display for EndText<'_> {
-    ghost output = { λ e. Some (end_text (ending e.0.now)) };
+    ghost output = { λ e. Some (end_text (end_data e.0.now)) };
 
     fn fmt<W: fmt::Write>(&self, f: &mut fmt::Formatter<W>) -> fmt::Result {
         match self.0 {
@@ -71,7 +71,7 @@ fn write_agreement<W: fmt::Write>(
     server: &End,
     session: bool,
 ) -> fmt::Result
-    ensures { WritesOnOk W.write_str_gives f.old result (agreement_text session (ending client.now) (ending server.now)) f.new }
+    ensures { WritesOnOk W.write_str_gives f.old result (agreement_text session (end_data client.now) (end_data server.now)) f.new }
 {
     match (client, server) {
         (End::Authenticated(agreed), _) | (_, End::Authenticated(agreed)) => {
@@ -86,7 +86,7 @@ fn write_agreed<W: fmt::Write>(
     agreed: &Agreed,
     session: bool,
 ) -> fmt::Result
-    ensures { WritesOnOk W.write_str_gives f.old result (agreed_text session (agreed_of agreed.now)) f.new }
+    ensures { WritesOnOk W.write_str_gives f.old result (agreed_text session (agreed_data agreed.now)) f.new }
 {
     write_algorithms(f, agreed)?;
     let strict = yes_or_no(agreed.strict);
@@ -95,7 +95,7 @@ fn write_agreed<W: fmt::Write>(
 }
 
 fn write_algorithms<W: fmt::Write>(f: &mut fmt::Formatter<W>, agreed: &Agreed) -> fmt::Result
-    ensures { WritesOnOk W.write_str_gives f.old result (algorithms_text (agreed_of agreed.now).algorithms) f.new }
+    ensures { WritesOnOk W.write_str_gives f.old result (algorithms_text (agreed_data agreed.now).algorithms) f.new }
 {
     let (kex, host_key) = (&agreed.kex, &agreed.host_key);
     writeln!(f, "kex {kex}")?;

@@ -48,7 +48,7 @@ ghost use Rattle.sshcore.specs.ConfigView.{client_data, server_data};
 ghost use Rattle.sshlab.specs.ScenarioDrafts.{drafted, no_lines};
 ghost use Rattle.sshlab.specs.ScenarioFaults.{IsCause, IsClientRefusal, IsLineCause, IsServerRefusal};
 ghost use Rattle.sshlab.specs.ScenarioParts.{client_of_lines, rules_of_lines, server_of_lines, steps_of_lines};
-ghost use Rattle.sshlab.specs.ScenarioText.{CanBeRead, said};
+ghost use Rattle.sshlab.specs.ScenarioText.{CanBeRead, statements_in};
 ghost use Rattle.sshlab.specs.TextLines.{lines};
 ghost use Rattle.sshlab.specs.declared.scenario.TheConstants.{TEXT_LIMIT};
 
@@ -110,9 +110,9 @@ impl From<Memory> for ScenarioFault {
 }
 
 impl Scenario {
-    ghost use Rattle.sshcore.specs.Ending.{ending};
+    ghost use Rattle.sshcore.specs.EndData.{end_data};
     ghost use Rattle.sshsuites.specs.Lab.{lab};
-    ghost use Rattle.sshsuites.specs.LabRules.{lab_policy};
+    ghost use Rattle.sshsuites.specs.LabDecisionsData.{lab_policy};
     ghost use Rattle.sshworld.specs.Outcome.{outcome};
 
     /// Reads a scenario of at most 1048576 bytes.
@@ -122,10 +122,10 @@ impl Scenario {
     pub fn parse(alloc: Global, text: &[u8]) -> Result<Scenario, ScenarioFault>
         requires { length text.now ≤ TEXT_LIMIT }
         ensures read { IfOk result (λ scenario. CanBeRead (lines text.now)) }
-        ensures client { IfOk result (λ scenario. scenario.client ≡ client_of_lines (said (lines text.now))) }
-        ensures server { IfOk result (λ scenario. scenario.server ≡ server_of_lines (said (lines text.now))) }
-        ensures decisions { IfOk result (λ scenario. scenario.decisions ≡ rules_of_lines (said (lines text.now))) }
-        ensures steps { IfOk result (λ scenario. scenario.steps.items ≡ steps_of_lines (said (lines text.now))) }
+        ensures client { IfOk result (λ scenario. scenario.client ≡ client_of_lines (statements_in (lines text.now))) }
+        ensures server { IfOk result (λ scenario. scenario.server ≡ server_of_lines (statements_in (lines text.now))) }
+        ensures decisions { IfOk result (λ scenario. scenario.decisions ≡ rules_of_lines (statements_in (lines text.now))) }
+        ensures steps { IfOk result (λ scenario. scenario.steps.items ≡ steps_of_lines (statements_in (lines text.now))) }
         ensures refused { IfErr result (λ fault. IsCause (lines text.now) fault) }
     {
         let ScenarioParts {
@@ -147,8 +147,8 @@ impl Scenario {
     /// How both sides end, the client's end first, where they use the lab suite and all that either
     /// sends reaches the other. Answers `Memory` for want of memory alone.
     pub fn predict(&self, alloc: Global) -> Result<(End, End), Memory>
-        ensures client { IfOk result (λ ends. ending ends.0 ≡ (outcome lab (lab_policy self.now.decisions) self.now.client self.now.server).client) }
-        ensures server { IfOk result (λ ends. ending ends.1 ≡ (outcome lab (lab_policy self.now.decisions) self.now.client self.now.server).server) }
+        ensures client { IfOk result (λ ends. end_data ends.0 ≡ (outcome lab (lab_policy self.now.decisions) self.now.client self.now.server).client) }
+        ensures server { IfOk result (λ ends. end_data ends.1 ≡ (outcome lab (lab_policy self.now.decisions) self.now.client self.now.server).server) }
     {
         predict(
             alloc,
@@ -164,10 +164,10 @@ impl Scenario {
 fn parts_of_text(alloc: Global, text: &[u8]) -> Result<ScenarioParts, ScenarioFault>
     requires { length text.now ≤ TEXT_LIMIT }
     ensures read { IfOk result (λ parts. CanBeRead (lines text.now)) }
-    ensures client { IfOk result (λ parts. client_data parts.client ≡ client_of_lines (said (lines text.now))) }
-    ensures server { IfOk result (λ parts. server_data parts.server ≡ server_of_lines (said (lines text.now))) }
-    ensures decisions { IfOk result (λ parts. parts.decisions ≡ rules_of_lines (said (lines text.now))) }
-    ensures steps { IfOk result (λ parts. parts.steps.items ≡ steps_of_lines (said (lines text.now))) }
+    ensures client { IfOk result (λ parts. client_data parts.client ≡ client_of_lines (statements_in (lines text.now))) }
+    ensures server { IfOk result (λ parts. server_data parts.server ≡ server_of_lines (statements_in (lines text.now))) }
+    ensures decisions { IfOk result (λ parts. parts.decisions ≡ rules_of_lines (statements_in (lines text.now))) }
+    ensures steps { IfOk result (λ parts. parts.steps.items ≡ steps_of_lines (statements_in (lines text.now))) }
     ensures refused { IfErr result (λ fault. IsLineCause (lines text.now) fault) }
 {
     let mut draft = Draft::new(alloc)?;
@@ -181,7 +181,7 @@ fn read_lines(draft: &mut Draft, text: &[u8]) -> Result<(), ScenarioFault>
     requires within { length text.now ≤ TEXT_LIMIT }
     requires fresh { draft.old ≡ no_lines }
     ensures read { OnOk result (CanBeRead (lines text.now)) }
-    ensures draft { OnOk result (draft.new ≡ drafted (said (lines text.now))) }
+    ensures draft { OnOk result (draft.new ≡ drafted (statements_in (lines text.now))) }
     ensures refused { IfErr result (λ fault. IsLineCause (lines text.now) fault) }
 {
     let mut number = 0u32;

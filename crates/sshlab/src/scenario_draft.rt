@@ -2,11 +2,11 @@
 
 ghost use Rattle.std.specs.Prelude.{◌≡◌, ◌++◌, ◌∷◌, [], Err, IfOk, OnErr, OnOk, map};
 ghost use Rattle.std.specs.List.{Contains};
-ghost use Rattle.sshcore.specs.ConfigView.{client_data, host_key_of, proving_of, server_data};
+ghost use Rattle.sshcore.specs.ConfigView.{client_data, credential_data, host_key_data, server_data};
 ghost use Rattle.sshlab.specs.ScenarioDrafts.{after, after_line, allowing, no_lines};
 ghost use Rattle.sshlab.specs.ScenarioParts.{can_be_proved, some_or};
 ghost use Rattle.sshlab.specs.ScenarioText.{CanFollow};
-ghost use Rattle.sshlab.specs.ScenarioView.{saying_of, side_value_of};
+ghost use Rattle.sshlab.specs.ScenarioView.{side_setting_data, statement_data};
 ghost use Rattle.sshlab.specs.Scenarios.{OfSide};
 ghost use Rattle.sshlab.specs.declared.scenario_fields.LineFault.TheVariants as fault;
 
@@ -47,15 +47,15 @@ pub(crate) struct ScenarioParts {
 
 impl Model for Draft {
     ghost use Rattle.std.specs.Prelude.{map};
-    ghost use Rattle.sshcore.specs.ConfigView.{client_data, host_key_of, server_data};
-    ghost use Rattle.sshlab.specs.ScenarioDrafts.{Drafted};
+    ghost use Rattle.sshcore.specs.ConfigView.{client_data, host_key_data, server_data};
+    ghost use Rattle.sshlab.specs.ScenarioDrafts.{DraftData};
 
-    ghost Value = { Drafted };
+    ghost Value = { DraftData };
 
     ghost view = { λ d. record {
       client = client_data d.client;
       server = server_data d.server;
-      host_keys = map host_key_of d.host_keys.items;
+      host_keys = map host_key_data d.host_keys.items;
       rules = d.decisions;
       steps = d.steps.items;
       settings = d.settings.items;
@@ -111,7 +111,7 @@ impl Draft {
 
     /// Puts the statement to what was said before. At `Memory` nothing is changed.
     fn accept(&mut self, statement: Statement) -> Result<(), Memory>
-        ensures done { OnOk result (self.new ≡ after self.old (saying_of statement)) }
+        ensures done { OnOk result (self.new ≡ after self.old (statement_data statement)) }
         ensures memory { OnErr result (self.new ≡ self.old) }
     {
         match statement {
@@ -141,7 +141,7 @@ impl Draft {
 
     /// Puts a setting of both sides' kind in the place of what stood there.
     fn set(&mut self, side: Side, setting: SideSetting)
-        ensures { self.new ≡ after self.old (OfSide side (side_value_of setting)) }
+        ensures { self.new ≡ after self.old (OfSide side (side_setting_data setting)) }
     {
         match side {
             Side::Client => set_side(&mut self.client.side, setting),
@@ -175,7 +175,7 @@ impl Draft {
 
 /// The server's parts with these host keys in the place of its own, if there is one.
 fn with_keys(server: ServerParts, host_keys: Vec<HostKey>) -> ServerParts
-    ensures { server_data result ≡ record (server_data server) { host_keys = some_or (server_data server).host_keys (map host_key_of host_keys.items) } }
+    ensures { server_data result ≡ record (server_data server) { host_keys = some_or (server_data server).host_keys (map host_key_data host_keys.items) } }
 {
     if host_keys.is_empty() {
         return server;
@@ -188,7 +188,7 @@ fn with_keys(server: ServerParts, host_keys: Vec<HostKey>) -> ServerParts
 
 /// Lets the user in who proves so to be this one. A key whose algorithm isn't a name is no request's.
 fn allow(decisions: &mut LabDecisions, user: &str, credential: &Credential) -> Result<(), Memory>
-    ensures done { OnOk result (decisions.new ≡ allowing decisions.old user.now (proving_of credential.now)) }
+    ensures done { OnOk result (decisions.new ≡ allowing decisions.old user.now (credential_data credential.now)) }
     ensures memory { OnErr result (decisions.new ≡ decisions.old) }
 {
     if !can_be_proved(credential) {
@@ -199,7 +199,7 @@ fn allow(decisions: &mut LabDecisions, user: &str, credential: &Credential) -> R
 
 /// Whether a request can prove this: the algorithm of a key has to be a name.
 fn can_be_proved(credential: &Credential) -> bool
-    ensures { result ≡ can_be_proved (proving_of credential.now) }
+    ensures { result ≡ can_be_proved (credential_data credential.now) }
 {
     match credential {
         Credential::None | Credential::Password(_) => true,

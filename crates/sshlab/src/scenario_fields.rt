@@ -37,9 +37,9 @@ pub(crate) fn parts_of<'a>(
 {
     let mut found = Vec::new(alloc);
     let mut rest = text;
-    while let Some((part, behind)) = rest.split_once(between) {
+    while let Some((part, after)) = rest.split_once(between) {
         found.push(part)?;
-        rest = behind;
+        rest = after;
     }
     found.push(rest)?;
     Ok(found)

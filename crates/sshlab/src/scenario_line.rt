@@ -2,10 +2,10 @@
 
 ghost use Rattle.std.specs.Prelude.{◌≡◌, ◌==◌, Err, IfOk, None, Some, length, option_map};
 ghost use Rattle.std.specs.List.{list_all, list_any};
-ghost use Rattle.sshcore.specs.ConfigView.{proving_of};
+ghost use Rattle.sshcore.specs.ConfigView.{credential_data};
 ghost use Rattle.sshlab.specs.ScenarioFields.{side_of};
-ghost use Rattle.sshlab.specs.Scenarios.{attempting, client_value, is_line_byte, is_text, proving, said_by, said_in_fields, said_of_client, said_of_server, says_nothing, server_value, side_value, statement, step};
-ghost use Rattle.sshlab.specs.ScenarioView.{saying_of, side_value_of, texts};
+ghost use Rattle.sshlab.specs.Scenarios.{attempting, client_value, is_line_byte, is_text, proving, server_value, side_value, statement, statement_by, statement_in_fields, statement_of_client, statement_of_server, states_nothing, step};
+ghost use Rattle.sshlab.specs.ScenarioView.{side_setting_data, statement_data, texts};
 ghost use Rattle.sshlab.specs.declared.scenario_fields.LineFault.TheVariants as fault;
 
 use crate::scenario_fields::{LineFault, bytes_of, flag_of, list_of, number_of, parts_of, text_of};
@@ -90,17 +90,17 @@ pub(crate) enum ServerSetting {
 ///
 /// A comment begins with `#`. A line has at most 20000 bytes from 32 to 126, also where it is a comment.
 pub(crate) fn statement_of(alloc: Global, line: &[u8]) -> Result<Option<Statement>, LineFault>
-    ensures value { IfOk result (λ said. statement line.now ≡ Some (option_map saying_of said)) }
+    ensures value { IfOk result (λ stated. statement line.now ≡ Some (option_map statement_data stated)) }
     ensures form { result ≡ Err fault.Form → statement line.now ≡ None }
 {
     if !is_text(line) {
         return Err(LineFault::Form);
     }
-    if says_nothing(line) {
+    if states_nothing(line) {
         return Ok(None);
     }
     match str::from_utf8(line) {
-        Ok(line) => Ok(Some(said_in_fields(alloc, line)?)),
+        Ok(line) => Ok(Some(statement_in_fields(alloc, line)?)),
         Err(_) => Err(LineFault::Form),
     }
 }
@@ -126,22 +126,22 @@ fn is_line_byte(byte: u8) -> bool
 }
 
 /// Whether a line is empty or a comment.
-fn says_nothing(line: &[u8]) -> bool
-    ensures { result ≡ says_nothing line.now }
+fn states_nothing(line: &[u8]) -> bool
+    ensures { result ≡ states_nothing line.now }
 {
     line.is_empty() || line[0] == b'#'
 }
 
 /// What is said by the fields between the blanks of a line.
-fn said_in_fields(alloc: Global, line: &str) -> Result<Statement, LineFault>
-    ensures value { IfOk result (λ said. said_in_fields line.now ≡ Some (saying_of said)) }
-    ensures form { result ≡ Err fault.Form → said_in_fields line.now ≡ None }
+fn statement_in_fields(alloc: Global, line: &str) -> Result<Statement, LineFault>
+    ensures value { IfOk result (λ stated. statement_in_fields line.now ≡ Some (statement_data stated)) }
+    ensures form { result ≡ Err fault.Form → statement_in_fields line.now ≡ None }
 {
     let fields = parts_of(alloc, line, ' ')?;
     if has_empty(&fields) {
         return Err(LineFault::Form);
     }
-    said_by(alloc, &fields)
+    statement_by(alloc, &fields)
 }
 
 /// Whether a field is empty.
@@ -152,14 +152,14 @@ fn has_empty(fields: &[&str]) -> bool
 }
 
 /// What the fields of a line say.
-#[tactic(auto, unfolding(crate::specs::Scenarios::said_by))]
-fn said_by(alloc: Global, fields: &[&str]) -> Result<Statement, LineFault>
-    ensures value { IfOk result (λ said. said_by (texts fields.now) ≡ Some (saying_of said)) }
-    ensures form { result ≡ Err fault.Form → said_by (texts fields.now) ≡ None }
+#[tactic(auto, unfolding(crate::specs::Scenarios::statement_by))]
+fn statement_by(alloc: Global, fields: &[&str]) -> Result<Statement, LineFault>
+    ensures value { IfOk result (λ stated. statement_by (texts fields.now) ≡ Some (statement_data stated)) }
+    ensures form { result ≡ Err fault.Form → statement_by (texts fields.now) ≡ None }
 {
     match *fields {
-        ["client", ref rest @ ..] => said_of_client(alloc, rest),
-        ["server", ref rest @ ..] => said_of_server(alloc, rest),
+        ["client", ref rest @ ..] => statement_of_client(alloc, rest),
+        ["server", ref rest @ ..] => statement_of_server(alloc, rest),
         ["distrust", algorithm] => Ok(Statement::Distrust(text_of(alloc, algorithm)?)),
         ["allow", user, ref proof @ ..] => Ok(Statement::Allow {
             user: text_of(alloc, user)?,
@@ -171,10 +171,10 @@ fn said_by(alloc: Global, fields: &[&str]) -> Result<Statement, LineFault>
 }
 
 /// What is said by the fields behind `client`.
-#[tactic(auto, unfolding(crate::specs::Scenarios::said_of_client))]
-fn said_of_client(alloc: Global, fields: &[&str]) -> Result<Statement, LineFault>
-    ensures value { IfOk result (λ said. said_of_client (texts fields.now) ≡ Some (saying_of said)) }
-    ensures form { result ≡ Err fault.Form → said_of_client (texts fields.now) ≡ None }
+#[tactic(auto, unfolding(crate::specs::Scenarios::statement_of_client))]
+fn statement_of_client(alloc: Global, fields: &[&str]) -> Result<Statement, LineFault>
+    ensures value { IfOk result (λ stated. statement_of_client (texts fields.now) ≡ Some (statement_data stated)) }
+    ensures form { result ≡ Err fault.Form → statement_of_client (texts fields.now) ≡ None }
 {
     match *fields {
         ["try", user, service, ref proof @ ..] => Ok(Statement::Try(Attempt {
@@ -188,10 +188,10 @@ fn said_of_client(alloc: Global, fields: &[&str]) -> Result<Statement, LineFault
 }
 
 /// What is said by the fields behind `server`.
-#[tactic(auto, unfolding(crate::specs::Scenarios::said_of_server))]
-fn said_of_server(alloc: Global, fields: &[&str]) -> Result<Statement, LineFault>
-    ensures value { IfOk result (λ said. said_of_server (texts fields.now) ≡ Some (saying_of said)) }
-    ensures form { result ≡ Err fault.Form → said_of_server (texts fields.now) ≡ None }
+#[tactic(auto, unfolding(crate::specs::Scenarios::statement_of_server))]
+fn statement_of_server(alloc: Global, fields: &[&str]) -> Result<Statement, LineFault>
+    ensures value { IfOk result (λ stated. statement_of_server (texts fields.now) ≡ Some (statement_data stated)) }
+    ensures form { result ≡ Err fault.Form → statement_of_server (texts fields.now) ≡ None }
 {
     match *fields {
         ["hostkey", algorithm, private_key] => Ok(Statement::HostKey(HostKey {
@@ -242,7 +242,7 @@ fn side_of(field: &str) -> Result<Side, LineFault>
 /// How a user is proved by these fields: `none`, `password HEX` or `publickey ALG HEX`.
 #[tactic(auto, unfolding(crate::specs::Scenarios::proving))]
 fn credential_of(alloc: Global, fields: &[&str]) -> Result<Credential, LineFault>
-    ensures value { IfOk result (λ credential. proving (texts fields.now) ≡ Some (proving_of credential)) }
+    ensures value { IfOk result (λ credential. proving (texts fields.now) ≡ Some (credential_data credential)) }
     ensures form { result ≡ Err fault.Form → proving (texts fields.now) ≡ None }
 {
     match *fields {
@@ -261,7 +261,7 @@ fn credential_of(alloc: Global, fields: &[&str]) -> Result<Credential, LineFault
 /// server is asked first.
 #[tactic(auto, unfolding(crate::specs::Scenarios::attempting))]
 fn attempted_by(alloc: Global, fields: &[&str]) -> Result<Credential, LineFault>
-    ensures value { IfOk result (λ credential. attempting (texts fields.now) ≡ Some (proving_of credential)) }
+    ensures value { IfOk result (λ credential. attempting (texts fields.now) ≡ Some (credential_data credential)) }
     ensures form { result ≡ Err fault.Form → attempting (texts fields.now) ≡ None }
 {
     match *fields {
@@ -277,7 +277,7 @@ fn attempted_by(alloc: Global, fields: &[&str]) -> Result<Credential, LineFault>
 /// The setting of the client that has this name and value.
 #[tactic(auto, unfolding(crate::specs::Scenarios::client_value))]
 fn client_setting(alloc: Global, name: &str, value: &str) -> Result<Statement, LineFault>
-    ensures value { IfOk result (λ said. client_value name.now value.now ≡ Some (saying_of said)) }
+    ensures value { IfOk result (λ stated. client_value name.now value.now ≡ Some (statement_data stated)) }
     ensures form { result ≡ Err fault.Form → client_value name.now value.now ≡ None }
 {
     match name {
@@ -292,7 +292,7 @@ fn client_setting(alloc: Global, name: &str, value: &str) -> Result<Statement, L
 /// The setting of the server that has this name and value.
 #[tactic(auto, unfolding(crate::specs::Scenarios::server_value))]
 fn server_setting(alloc: Global, name: &str, value: &str) -> Result<Statement, LineFault>
-    ensures value { IfOk result (λ said. server_value name.now value.now ≡ Some (saying_of said)) }
+    ensures value { IfOk result (λ stated. server_value name.now value.now ≡ Some (statement_data stated)) }
     ensures form { result ≡ Err fault.Form → server_value name.now value.now ≡ None }
 {
     match name {
@@ -308,7 +308,7 @@ fn server_setting(alloc: Global, name: &str, value: &str) -> Result<Statement, L
 /// The setting of either side that has this name and value.
 #[tactic(auto, unfolding(crate::specs::Scenarios::side_value))]
 fn side_setting(alloc: Global, name: &str, value: &str) -> Result<SideSetting, LineFault>
-    ensures value { IfOk result (λ set. side_value name.now value.now ≡ Some (side_value_of set)) }
+    ensures value { IfOk result (λ set. side_value name.now value.now ≡ Some (side_setting_data set)) }
     ensures form { result ≡ Err fault.Form → side_value name.now value.now ≡ None }
 {
     match name {

@@ -3,14 +3,14 @@
 ghost use Rattle.std.specs.Prelude.{◌≡◌, ◌+◌, IfOk, OnErr, OnOk};
 ghost use Rattle.sshworld.specs.Offered.{most_requests};
 ghost use Rattle.sshworld.specs.Conversed.{EachReplies};
-ghost use Rattle.sshworld.specs.CourseHeard.{IsCourseHeard};
+ghost use Rattle.sshworld.specs.CourseReceived.{IsCourseReceived};
 ghost use Rattle.sshworld.specs.Headline.{Headline};
 ghost use Rattle.sshworld.specs.Outcome.{outcome};
 ghost use Rattle.sshworld.specs.WorldCourse.{AreUnderstoodIn, KeepsCourse, KeepsHeadline};
 ghost use Rattle.sshworld.specs.Wordings.{wording_of};
 ghost use Rattle.sshworld.specs.Worlds.{Complete, HadMemory, IsSameSetup};
 ghost use Rattle.sshsuites.specs.Lab.{lab};
-ghost use Rattle.sshsuites.specs.LabRules.{lab_policy};
+ghost use Rattle.sshsuites.specs.LabDecisionsData.{lab_policy};
 ghost use Rattle.sshlab.specs.Steps.{EndsSettling, StepDone, StepsLeadTo, StopsInStep, SettlesFor, StepsDone, StopsInSteps};
 
 use crate::owned::once;
@@ -35,7 +35,7 @@ impl Scenario {
         ensures replies { IfOk result (λ w. EachReplies (λ suite. lab) lab_policy w) }
         // The ends of a lab understand each other, and neither wanted memory: so both sides are in the course of their configs, and
         // each that has ended has the end that is predicted.
-        ensures course { IfOk result (λ w. IsCourseHeard lab (lab_policy self.now.decisions) self.now.client self.now.server
+        ensures course { IfOk result (λ w. IsCourseReceived lab (lab_policy self.now.decisions) self.now.client self.now.server
             (wording_of lab (lab_policy self.now.decisions) self.now.client self.now.server) w.client w.server) }
         ensures headline { IfOk result (λ w. Headline (outcome lab (lab_policy self.now.decisions) self.now.client self.now.server) w.client.end w.server.end (Complete w)) }
         // Where nothing waits for either side, both ends are those that are predicted.

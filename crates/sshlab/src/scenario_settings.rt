@@ -3,7 +3,7 @@
 ghost use Rattle.std.specs.Prelude.{◌≡◌};
 ghost use Rattle.sshcore.specs.ConfigView.{client_data, server_data, side_data};
 ghost use Rattle.sshlab.specs.ScenarioSettings.{client_setting, server_setting, setting_in, side_setting, with_client, with_server, with_side};
-ghost use Rattle.sshlab.specs.ScenarioView.{client_value_of, saying_of, server_value_of, side_value_of};
+ghost use Rattle.sshlab.specs.ScenarioView.{client_setting_data, server_setting_data, side_setting_data, statement_data};
 
 use crate::scenario_line::{ClientSetting, ServerSetting, SideSetting, Statement};
 use sshcore::{ClientParts, ServerParts, SideParts};
@@ -33,7 +33,7 @@ pub(crate) enum Setting {
 
 /// The setting that a statement makes, with its side, if it makes one.
 pub(crate) fn setting_of(statement: &Statement) -> Option<(Side, Setting)>
-    ensures { result ≡ setting_in (saying_of statement.now) }
+    ensures { result ≡ setting_in (statement_data statement.now) }
 {
     match statement {
         Statement::Either(side, setting) => Some((*side, side_setting(setting))),
@@ -44,7 +44,7 @@ pub(crate) fn setting_of(statement: &Statement) -> Option<(Side, Setting)>
 }
 
 fn side_setting(setting: &SideSetting) -> Setting
-    ensures { result ≡ side_setting (side_value_of setting.now) }
+    ensures { result ≡ side_setting (side_setting_data setting.now) }
 {
     match setting {
         SideSetting::Version(_) => Setting::Version,
@@ -61,7 +61,7 @@ fn side_setting(setting: &SideSetting) -> Setting
 }
 
 fn client_setting(setting: &ClientSetting) -> Setting
-    ensures { result ≡ client_setting (client_value_of setting.now) }
+    ensures { result ≡ client_setting (client_setting_data setting.now) }
 {
     match setting {
         ClientSetting::HostKeyAlgorithms(_) => Setting::HostKeyAlgorithms,
@@ -70,7 +70,7 @@ fn client_setting(setting: &ClientSetting) -> Setting
 }
 
 fn server_setting(setting: &ServerSetting) -> Setting
-    ensures { result ≡ server_setting (server_value_of setting.now) }
+    ensures { result ≡ server_setting (server_setting_data setting.now) }
 {
     match setting {
         ServerSetting::Services(_) => Setting::Services,
@@ -83,7 +83,7 @@ fn server_setting(setting: &ServerSetting) -> Setting
 
 /// Puts the setting in the place of what stood there.
 pub(crate) fn set_side(parts: &mut SideParts, setting: SideSetting)
-    ensures { side_data parts.new ≡ with_side (side_data parts.old) (side_value_of setting) }
+    ensures { side_data parts.new ≡ with_side (side_data parts.old) (side_setting_data setting) }
 {
     match setting {
         SideSetting::Version(text) => parts.softwareversion = text,
@@ -101,7 +101,7 @@ pub(crate) fn set_side(parts: &mut SideParts, setting: SideSetting)
 
 /// Puts the client's setting in the place of what stood there.
 pub(crate) fn set_client(parts: &mut ClientParts, setting: ClientSetting)
-    ensures { client_data parts.new ≡ with_client (client_data parts.old) (client_value_of setting) }
+    ensures { client_data parts.new ≡ with_client (client_data parts.old) (client_setting_data setting) }
 {
     match setting {
         ClientSetting::HostKeyAlgorithms(names) => parts.server_host_key_algorithms = names,
@@ -111,7 +111,7 @@ pub(crate) fn set_client(parts: &mut ClientParts, setting: ClientSetting)
 
 /// Puts the server's setting in the place of what stood there.
 pub(crate) fn set_server(parts: &mut ServerParts, setting: ServerSetting)
-    ensures { server_data parts.new ≡ with_server (server_data parts.old) (server_value_of setting) }
+    ensures { server_data parts.new ≡ with_server (server_data parts.old) (server_setting_data setting) }
 {
     match setting {
         ServerSetting::Services(names) => parts.services = names,

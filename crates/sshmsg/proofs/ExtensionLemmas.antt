@@ -3,7 +3,7 @@
 use Rattle.std.proofs.Common.{◌≡◌, ℕ, suc, ◌+◌, ◌-◌, ◌<◌, List, [], ◌∷◌, ◌++◌, Ok, Err, refl, arith}
 use Rattle.sshwire.specs.declared.fault.WireFault.{WireFault}
 use Rattle.sshwire.specs.TypeReadings.{◌>>=◌}
-use Rattle.sshmsg.specs.Content.{ExtInfo}
+use Rattle.sshmsg.specs.MessageData.{ExtInfo}
 use Rattle.sshmsg.specs.Form.{form_at}
 use Rattle.sshmsg.specs.Lists.{pair_at}
 use Rattle.sshmsg.specs.Messages.{extensions}
@@ -17,10 +17,10 @@ one_more : (n : ℕ) (found : List (List ℕ × List ℕ)) (bytes : List ℕ) �
 unfolding extensions pair_at
 one_more n found bytes = simp bind_bind
 
-pub one_pair : (count counter : ℕ) (found : List (List ℕ × List ℕ)) (bytes : List ℕ) (pair : List ℕ × List ℕ) (behind : List ℕ) → counter < count
-    → pair_at bytes ≡ Ok (pair, behind)
-    → form_at (extensions (count - counter) found) bytes ≡ form_at (extensions (count - (counter + 1)) (found ++ pair ∷ [])) behind
-one_pair count counter found bytes pair behind h e = rw (step count counter h, one_more (count - (counter + 1)) found bytes, e) refl
+pub one_pair : (count counter : ℕ) (found : List (List ℕ × List ℕ)) (bytes : List ℕ) (pair : List ℕ × List ℕ) (after : List ℕ) → counter < count
+    → pair_at bytes ≡ Ok (pair, after)
+    → form_at (extensions (count - counter) found) bytes ≡ form_at (extensions (count - (counter + 1)) (found ++ pair ∷ [])) after
+one_pair count counter found bytes pair after h e = rw (step count counter h, one_more (count - (counter + 1)) found bytes, e) refl
 
 pub no_pair : (count counter : ℕ) (found : List (List ℕ × List ℕ)) (bytes : List ℕ) (code : WireFault) → counter < count
     → pair_at bytes ≡ Err code → form_at (extensions (count - counter) found) bytes ≡ Err code

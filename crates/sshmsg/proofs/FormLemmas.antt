@@ -11,7 +11,7 @@ use Rattle.sshwire.specs.Types.{BooleanText, IsBytes, MpintText, NameListText, S
 use Rattle.sshwire.specs.TypeReadings.{IsReading, ◌>>=◌, boolean_at, mpint_at, names_at, string_at, uint32_at}
 use Rattle.sshwire.specs.declared.share_form.ShareForm.{ShareForm}
 use Rattle.sshmsg.specs.declared.fault.MsgFault.{MsgFault}
-use Rattle.sshmsg.specs.Content.{Content}
+use Rattle.sshmsg.specs.MessageData.{MessageData}
 use Rattle.sshmsg.specs.Form.{BigNumber, Bytes, Cookie, Done, Field, FieldText, FillsForm, Flag, Form, Names, Number, Of, Reserved, Rest, Then, Utf8, bytes_at, field_at, form_at, utf8_at}
 use Rattle.sshmsg.specs.Messages.{Spells, form_of, in_form, message_in, whole_form}
 
@@ -23,8 +23,8 @@ pub record IsTypesLaw : Type 0 where
   pub mpint : IsReading MpintText mpint_at
   pub name_list : IsReading NameListText names_at
 
-bytes_behind : (text rest : List ℕ) → IsBytes (text ++ rest) → IsBytes rest
-bytes_behind text rest h = λ i. rw (← get_or-append-add text rest i 0) (h (length text + i))
+bytes_after : (text rest : List ℕ) → IsBytes (text ++ rest) → IsBytes rest
+bytes_after text rest h = λ i. rw (← get_or-append-add text rest i 0) (h (length text + i))
 
 pub bind_ok : {A B : Type 0} (r : Result A WireFault) (f : A → Result B WireFault) (y : B) → (r >>= f) ≡ Ok y → (x : A) × (r ≡ Ok x) × (f x ≡ Ok y)
 bind_ok (Ok x) f y e = (x, refl, e)
@@ -112,23 +112,23 @@ fields law Cookie = cookie_reads
 fields law Reserved = reserved_reads
 
 -- A form reads what fills it.
-form_sound : IsTypesLaw → (form : Form) (bytes : List ℕ) (content : Content) (rest : List ℕ) → IsBytes bytes → form_at form bytes ≡ Ok (content, rest)
+form_sound : IsTypesLaw → (form : Form) (bytes : List ℕ) (content : MessageData) (rest : List ℕ) → IsBytes bytes → form_at form bytes ≡ Ok (content, rest)
     → (text : List ℕ) × FillsForm form content text × (bytes ≡ text ++ rest)
 form_sound law (Done c) bytes content rest h e =
-    let same : ◌≡◌ {A = Content × List ℕ} (c, bytes) (content, rest) = cc in
-    ([], (sym (ap (λ (p : Content × List ℕ). p.0) same), refl), ap (λ (p : Content × List ℕ). p.1) same)
+    let same : ◌≡◌ {A = MessageData × List ℕ} (c, bytes) (content, rest) = cc in
+    ([], (sym (ap (λ (p : MessageData × List ℕ). p.0) same), refl), ap (λ (p : MessageData × List ℕ). p.1) same)
 form_sound law (Then f next) bytes content rest h e =
     let b = bind_ok (field_at f bytes) (λ (x : Of f × List ℕ). form_at (next x.0) x.1) (content, rest) e in
     let s = (fields law f).sound bytes b.0.0 b.0.1 h b.1 in
     let all : IsBytes (s.0 ++ b.0.1) = rw s.2 at h in
-    let more = form_sound law (next b.0.0) b.0.1 content rest (bytes_behind s.0 b.0.1 all) b.2 in
+    let more = form_sound law (next b.0.0) b.0.1 content rest (bytes_after s.0 b.0.1 all) b.2 in
     (s.0 ++ more.0, (b.0.0, s.0, more.0, s.1, more.1, refl), s.2 ∙ (ap (λ (xs : List ℕ). s.0 ++ xs) more.2 ∙ sym (append_assoc s.0 more.0 rest)))
 form_sound law (Rest next) bytes content rest h e =
-    let same : ◌≡◌ {A = Content × List ℕ} (next bytes, []) (content, rest) = cc in
-    let back : [] ≡ rest = ap (λ (p : Content × List ℕ). p.1) same in
-    (bytes, sym (ap (λ (p : Content × List ℕ). p.0) same), sym (append-nil bytes) ∙ ap (λ (xs : List ℕ). bytes ++ xs) back)
+    let same : ◌≡◌ {A = MessageData × List ℕ} (next bytes, []) (content, rest) = cc in
+    let back : [] ≡ rest = ap (λ (p : MessageData × List ℕ). p.1) same in
+    (bytes, sym (ap (λ (p : MessageData × List ℕ). p.0) same), sym (append-nil bytes) ∙ ap (λ (xs : List ℕ). bytes ++ xs) back)
 
-form_complete : IsTypesLaw → (form : Form) (content : Content) (text : List ℕ) → FillsForm form content text → form_at form text ≡ Ok (content, [])
+form_complete : IsTypesLaw → (form : Form) (content : MessageData) (text : List ℕ) → FillsForm form content text → form_at form text ≡ Ok (content, [])
 form_complete law (Done c) content text (is, none) = rw (is, none) refl
 form_complete law (Then f next) content text (value, a, b, t, more, is) =
     ap (λ (xs : List ℕ). field_at f xs >>= (λ (x : Of f × List ℕ). form_at (next x.0) x.1)) is
@@ -137,12 +137,12 @@ form_complete law (Then f next) content text (value, a, b, t, more, is) =
 form_complete law (Rest next) content text is = rw is refl
 
 -- A payload reads as the message that it spells.
-pub whole_ok : (n : ℕ) (r : Result (Content × List ℕ) WireFault) (m : Content) → whole_form n r ≡ Ok m → r ≡ Ok (m, [])
-whole_ok n (Ok (content, [])) m e = let same : content ≡ m = cc in ap (λ (c : Content). Ok (c, [])) same
+pub whole_ok : (n : ℕ) (r : Result (MessageData × List ℕ) WireFault) (m : MessageData) → whole_form n r ≡ Ok m → r ≡ Ok (m, [])
+whole_ok n (Ok (content, [])) m e = let same : content ≡ m = cc in ap (λ (c : MessageData). Ok (c, [])) same
 whole_ok n (Ok (content, b ∷ bs)) m e = cc
 whole_ok n (Err d) m e = cc
 
-in_form_ok : IsTypesLaw → (shares : ShareForm) (n : ℕ) (bytes : List ℕ) (form : Option Form) (m : Content) → IsBytes bytes → form_of shares n ≡ form → in_form n bytes form ≡ Ok m
+in_form_ok : IsTypesLaw → (shares : ShareForm) (n : ℕ) (bytes : List ℕ) (form : Option Form) (m : MessageData) → IsBytes bytes → form_of shares n ≡ form → in_form n bytes form ≡ Ok m
     → Spells shares m (n ∷ bytes)
 in_form_ok law shares n bytes None m h known e = cc
 in_form_ok law shares n bytes (Some form) m h known e =
@@ -150,21 +150,21 @@ in_form_ok law shares n bytes (Some form) m h known e =
     let same : bytes ≡ s.0 = s.2 ∙ append-nil s.0 in
     record { number = n; form = form; fields = s.0; known = known; fills = s.1; payload_is = ap (λ (xs : List ℕ). n ∷ xs) same }
 
-pub message_sound : IsTypesLaw → (shares : ShareForm) (payload : List ℕ) (m : Content) → IsBytes payload → message_in shares payload ≡ Ok m → Spells shares m payload
+pub message_sound : IsTypesLaw → (shares : ShareForm) (payload : List ℕ) (m : MessageData) → IsBytes payload → message_in shares payload ≡ Ok m → Spells shares m payload
 unfolding message_in
 message_sound law shares [] m h e = cc
 message_sound law shares (n ∷ bytes) m h e = in_form_ok law shares n bytes (form_of shares n) m (λ i. h (suc i)) refl e
 
-spelled : IsTypesLaw → (shares : ShareForm) (n : ℕ) (bytes : List ℕ) (form : Form) (m : Content) → form_of shares n ≡ Some form → FillsForm form m bytes → message_in shares (n ∷ bytes) ≡ Ok m
+spelled : IsTypesLaw → (shares : ShareForm) (n : ℕ) (bytes : List ℕ) (form : Form) (m : MessageData) → form_of shares n ≡ Some form → FillsForm form m bytes → message_in shares (n ∷ bytes) ≡ Ok m
 unfolding message_in
 spelled law shares n bytes form m known fills =
     ap (λ (o : Option Form). in_form n bytes o) known
-    ∙ ap (λ (r : Result (Content × List ℕ) WireFault). whole_form n r) (form_complete law form m bytes fills)
+    ∙ ap (λ (r : Result (MessageData × List ℕ) WireFault). whole_form n r) (form_complete law form m bytes fills)
 
-pub message_complete : IsTypesLaw → (shares : ShareForm) (payload : List ℕ) (m : Content) → Spells shares m payload → message_in shares payload ≡ Ok m
+pub message_complete : IsTypesLaw → (shares : ShareForm) (payload : List ℕ) (m : MessageData) → Spells shares m payload → message_in shares payload ≡ Ok m
 message_complete law shares payload m s =
     ap (λ (xs : List ℕ). message_in shares xs) s.payload_is ∙ spelled law shares s.number s.fields s.form m s.known s.fills
 
-pub one_message : IsTypesLaw → (shares : ShareForm) (payload : List ℕ) (m n : Content) → Spells shares m payload → Spells shares n payload → m ≡ n
+pub one_message : IsTypesLaw → (shares : ShareForm) (payload : List ℕ) (m n : MessageData) → Spells shares m payload → Spells shares n payload → m ≡ n
 one_message law shares payload m n s t =
-    let same : ◌≡◌ {A = Result Content MsgFault} (Ok m) (Ok n) = sym (message_complete law shares payload m s) ∙ message_complete law shares payload n t in cc
+    let same : ◌≡◌ {A = Result MessageData MsgFault} (Ok m) (Ok n) = sym (message_complete law shares payload m s) ∙ message_complete law shares payload n t in cc

@@ -5,7 +5,7 @@ use Rattle.std.proofs.lemmas.Bool.{lt-leb}
 use Rattle.std.proofs.lemmas.List.{length-append, take_all}
 use Rattle.sshwire.specs.Types.{string}
 use Rattle.sshmsg.specs.declared.message.Extension.{Extension}
-use Rattle.sshmsg.specs.Content.{ExtInfo}
+use Rattle.sshmsg.specs.MessageData.{ExtInfo}
 use Rattle.sshmsg.specs.Lengths.{IsCapped}
 use Rattle.sshmsg.specs.View.{pair_of, pairs_of}
 use Rattle.sshmsg.specs.Written.{pair_written, pairs_written, written_message}
@@ -41,7 +41,7 @@ pub request_length : (user service method : List ℕ) (two more : ℕ) → two �
 request_length user service method two more is of =
     let both : length (user ++ service) ≡ length user + length service = length-append user service in
     let all : length (user ++ (service ++ method)) ≡ length user + length (service ++ method) = length-append user (service ++ method) in
-    let behind : length (service ++ method) ≡ length service + length method = length-append service method in
+    let after : length (service ++ method) ≡ length service + length method = length-append service method in
     omega arith
 
 pub failure_length : (names flag : List ℕ) (n : ℕ) → n ≡ length names → length flag ≡ 1 → 2 + n ≡ length (51 ∷ (names ++ flag))

@@ -9,7 +9,7 @@ use Rattle.sshwire.specs.declared.share_form.ShareForm.{ShareForm}
 use Rattle.sshwire.specs.declared.share_form.ShareForm.TheVariants.{Hybrid, Mpint, OctetString}
 use Rattle.sshmsg.specs.declared.fault.MsgFault.{MsgFault}
 use Rattle.sshmsg.specs.declared.fault.MsgFault.TheVariants.{Malformed, Memory, Unrecognised}
-use Rattle.sshmsg.specs.Content.{Content}
+use Rattle.sshmsg.specs.MessageData.{MessageData}
 use Rattle.sshmsg.specs.Form.{Done, FillsForm, Form, Of, Rest, Then, field_at, form_at}
 use Rattle.sshmsg.specs.Messages.{Spells, debug, disconnect, ext_info, extensions, form_of, ignore, in_form, init_of, kex_ecdh_init, kex_ecdh_reply, kexdh_init, kexdh_reply, kexinit, message_in, method_form, newkeys, password, publickey, reply_of, service_accept, service_request, unimplemented, userauth_banner, userauth_failure, userauth_pk_ok, userauth_request, userauth_success, whole_form}
 use Rattle.sshmsg.specs.Numbers.{IsRefused, kind, number_of}
@@ -22,7 +22,7 @@ Numbered n (Done c) = number_of c ≡ n
 Numbered n (Then f next) = (value : Of f) → Numbered n (next value)
 Numbered n (Rest next) = (bytes : List ℕ) → number_of (next bytes) ≡ n
 
-fills_numbered : (n : ℕ) (form : Form) (m : Content) (fields : List ℕ) → Numbered n form → FillsForm form m fields → number_of m ≡ n
+fills_numbered : (n : ℕ) (form : Form) (m : MessageData) (fields : List ℕ) → Numbered n form → FillsForm form m fields → number_of m ≡ n
 fills_numbered n (Done c) m fields h (same, none) = ap number_of same ∙ h
 fills_numbered n (Then f next) m fields h (value, text, rest, t, fills, parts) = fills_numbered n (next value) m rest (h value) fills
 fills_numbered n (Rest next) m fields h same = ap number_of same ∙ h fields
@@ -152,50 +152,50 @@ numbered shares = each_form shares Numbered (record {
   userauth_pk_ok = pk_ok_numbered;
 })
 
-pub number_tells : (shares : ShareForm) (payload : List ℕ) (m : Content) → Spells shares m payload → (fields : List ℕ) × (payload ≡ number_of m ∷ fields)
+pub number_tells : (shares : ShareForm) (payload : List ℕ) (m : MessageData) → Spells shares m payload → (fields : List ℕ) × (payload ≡ number_of m ∷ fields)
 number_tells shares payload m s =
     let n : number_of m ≡ s.number = fills_numbered s.number s.form m s.fields (numbered shares s.number s.form s.known) s.fills in
     (s.fields, rw n s.payload_is)
 
 -- what a form reads has the form's number
-read_numbered : (n : ℕ) (form : Form) (bytes : List ℕ) (m : Content) (rest : List ℕ) → Numbered n form → form_at form bytes ≡ Ok (m, rest) → number_of m ≡ n
-read_numbered n (Done c) bytes m rest h e = let same : ◌≡◌ {A = Content × List ℕ} (c, bytes) (m, rest) = cc in ap (λ (p : Content × List ℕ). number_of p.0) (sym same) ∙ h
+read_numbered : (n : ℕ) (form : Form) (bytes : List ℕ) (m : MessageData) (rest : List ℕ) → Numbered n form → form_at form bytes ≡ Ok (m, rest) → number_of m ≡ n
+read_numbered n (Done c) bytes m rest h e = let same : ◌≡◌ {A = MessageData × List ℕ} (c, bytes) (m, rest) = cc in ap (λ (p : MessageData × List ℕ). number_of p.0) (sym same) ∙ h
 read_numbered n (Then f next) bytes m rest h e =
     let b = bind_ok (field_at f bytes) (λ (x : Of f × List ℕ). form_at (next x.0) x.1) (m, rest) e in
     read_numbered n (next b.0.0) b.0.1 m rest (h b.0.0) b.2
-read_numbered n (Rest next) bytes m rest h e = let same : ◌≡◌ {A = Content × List ℕ} (next bytes, []) (m, rest) = cc in ap (λ (p : Content × List ℕ). number_of p.0) (sym same) ∙ h bytes
+read_numbered n (Rest next) bytes m rest h e = let same : ◌≡◌ {A = MessageData × List ℕ} (next bytes, []) (m, rest) = cc in ap (λ (p : MessageData × List ℕ). number_of p.0) (sym same) ∙ h bytes
 
-kind_from : (shares : ShareForm) (n : ℕ) (fields : List ℕ) (form : Option Form) (m : Content) → form_of shares n ≡ form → in_form n fields form ≡ Ok m → n ≡ number_of m
+kind_from : (shares : ShareForm) (n : ℕ) (fields : List ℕ) (form : Option Form) (m : MessageData) → form_of shares n ≡ form → in_form n fields form ≡ Ok m → n ≡ number_of m
 kind_from shares n fields None m known e = cc
 kind_from shares n fields (Some form) m known e = sym (read_numbered n form fields m [] (numbered shares n form known) (whole_ok n (form_at form fields) m e))
 
-pub kind_tells : (shares : ShareForm) (payload : List ℕ) (m : Content) → message_in shares payload ≡ Ok m → kind payload ≡ number_of m
+pub kind_tells : (shares : ShareForm) (payload : List ℕ) (m : MessageData) → message_in shares payload ≡ Ok m → kind payload ≡ number_of m
 unfolding message_in
 kind_tells shares [] m e = cc
 kind_tells shares (n ∷ fields) m e = kind_from shares n fields (form_of shares n) m refl e
 
 -- the reading answers what is spelled, and nothing else
 abbrev pub Complete : Type 0
-Complete = (shares : ShareForm) (payload : List ℕ) (m : Content) → Spells shares m payload → message_in shares payload ≡ Ok m
+Complete = (shares : ShareForm) (payload : List ℕ) (m : MessageData) → Spells shares m payload → message_in shares payload ≡ Ok m
 
 abbrev pub Sound : Type 0
-Sound = (shares : ShareForm) (payload : List ℕ) (m : Content) → IsBytes payload → message_in shares payload ≡ Ok m → Spells shares m payload
+Sound = (shares : ShareForm) (payload : List ℕ) (m : MessageData) → IsBytes payload → message_in shares payload ≡ Ok m → Spells shares m payload
 
 -- a refusal in terms of the form
-whole_refused : (n : ℕ) (r : Result (Content × List ℕ) WireFault) (e : MsgFault) → whole_form n r ≡ Err e → e ≡ Malformed n
+whole_refused : (n : ℕ) (r : Result (MessageData × List ℕ) WireFault) (e : MsgFault) → whole_form n r ≡ Err e → e ≡ Malformed n
 whole_refused n (Ok (content, [])) e h = cc
 whole_refused n (Ok (content, b ∷ bs)) e h = cc
 whole_refused n (Err d) e h = cc
 
 refused_from : (shares : ShareForm) (n : ℕ) (fields : List ℕ) (form : Option Form) (e : MsgFault) → form_of shares n ≡ form → in_form n fields form ≡ Err e
-    → ((m : Content) → Spells shares m (n ∷ fields) → ⊥) → IsRefused shares (n ∷ fields) e
+    → ((m : MessageData) → Spells shares m (n ∷ fields) → ⊥) → IsRefused shares (n ∷ fields) e
 refused_from shares n fields None e none h against = let is : e ≡ Unrecognised n = cc in rw is (refl, none)
 refused_from shares n fields (Some form) e some h against =
     let is : e ≡ Malformed n = whole_refused n (form_at form fields) e h in
     rw is (refl, (λ none. (let bad : ◌≡◌ {A = Option Form} (Some form) None = sym some ∙ none in let no : ⊥ = cc in no)), against)
 
-not_both : (shares : ShareForm) (payload : List ℕ) (m : Content) (e : MsgFault) → message_in shares payload ≡ Ok m → message_in shares payload ≡ Err e → ⊥
-not_both shares payload m e h k = let bad : ◌≡◌ {A = Result Content MsgFault} (Ok m) (Err e) = sym h ∙ k in cc
+not_both : (shares : ShareForm) (payload : List ℕ) (m : MessageData) (e : MsgFault) → message_in shares payload ≡ Ok m → message_in shares payload ≡ Err e → ⊥
+not_both shares payload m e h k = let bad : ◌≡◌ {A = Result MessageData MsgFault} (Ok m) (Err e) = sym h ∙ k in cc
 
 pub refused_sound : Complete → (shares : ShareForm) (payload : List ℕ) (e : MsgFault) → message_in shares payload ≡ Err e → IsRefused shares payload e
 unfolding message_in
@@ -204,13 +204,13 @@ refused_sound complete shares (n ∷ fields) e h =
     refused_from shares n fields (form_of shares n) e refl h (λ m s. not_both shares (n ∷ fields) m e (complete shares (n ∷ fields) m s) h)
 
 -- and back
-none_whole : (n k : ℕ) (r : Result (Content × List ℕ) WireFault) → k ≡ n → ((m : Content) → whole_form n r ≡ Ok m → ⊥) → whole_form n r ≡ Err (Malformed k)
+none_whole : (n k : ℕ) (r : Result (MessageData × List ℕ) WireFault) → k ≡ n → ((m : MessageData) → whole_form n r ≡ Ok m → ⊥) → whole_form n r ≡ Err (Malformed k)
 none_whole n k (Ok (content, [])) is none = absurd (none content refl)
 none_whole n k (Ok (content, b ∷ bs)) is none = cc
 none_whole n k (Err d) is none = cc
 
 back_from : (shares : ShareForm) (n : ℕ) (fields : List ℕ) (form : Option Form) (e : MsgFault) → form_of shares n ≡ form
-    → ((m : Content) → in_form n fields form ≡ Ok m → Spells shares m (n ∷ fields)) → IsRefused shares (n ∷ fields) e → in_form n fields form ≡ Err e
+    → ((m : MessageData) → in_form n fields form ≡ Ok m → Spells shares m (n ∷ fields)) → IsRefused shares (n ∷ fields) e → in_form n fields form ≡ Err e
 back_from shares n fields None (Unrecognised k) known sound h = let is : k ≡ n = h.0 in cc
 back_from shares n fields None (Malformed k) known sound h = absurd (h.1 known)
 back_from shares n fields (Some form) (Unrecognised k) known sound h =

@@ -3,7 +3,7 @@
 use Rattle.std.proofs.Common.{◌≡◌, ℕ, Bool, List, Result, Ok, Err, refl, subst}
 use Rattle.sshwire.specs.declared.fault.WireFault.{WireFault}
 use Rattle.sshwire.specs.TypeReadings.{◌>>=◌}
-use Rattle.sshmsg.specs.Content.{KexInit, Offer}
+use Rattle.sshmsg.specs.MessageData.{KexInit, KexInitData}
 use Rattle.sshmsg.specs.Form.{bytes_at, form_at}
 use Rattle.sshmsg.specs.Lists.{Ten, end_at, four_at, offer_with, ten_at, two_at}
 use Rattle.sshmsg.specs.Messages.{kexinit}
@@ -28,7 +28,7 @@ pub no_end : (bytes cookie lists end : List ℕ) (ten : Ten) (fault : WireFault)
     → form_at kexinit bytes ≡ Err fault
 no_end bytes cookie lists end ten fault e f g = rw (kexinit_parts bytes, e, f, g) refl
 
-pub all_parts : (bytes cookie lists end rest : List ℕ) (ten : Ten) (follows : Bool) (offer : Offer) → bytes_at 16 bytes ≡ Ok (cookie, lists) → ten_at lists ≡ Ok (ten, end) → end_at end ≡ Ok (follows, rest)
+pub all_parts : (bytes cookie lists end rest : List ℕ) (ten : Ten) (follows : Bool) (offer : KexInitData) → bytes_at 16 bytes ≡ Ok (cookie, lists) → ten_at lists ≡ Ok (ten, end) → end_at end ≡ Ok (follows, rest)
     → offer ≡ offer_with cookie ten follows → form_at kexinit bytes ≡ Ok (KexInit offer, rest)
 all_parts bytes cookie lists end rest ten follows offer e f g is = rw (kexinit_parts bytes, e, f, g, is) refl
 

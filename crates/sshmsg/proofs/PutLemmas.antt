@@ -5,7 +5,7 @@ use Rattle.std.specs.List.{AllByRecursion}
 use Rattle.std.proofs.lemmas.List.{append_assoc, flat_map_more, length-append, length-map, map_more, take-take, take_at}
 use Rattle.sshwire.specs.Types.{string, uint32}
 use Rattle.sshmsg.specs.declared.message.Extension.{Extension}
-use Rattle.sshmsg.specs.Content.{ExtInfo}
+use Rattle.sshmsg.specs.MessageData.{ExtInfo}
 use Rattle.sshmsg.specs.View.{pair_of, pairs_of}
 use Rattle.sshmsg.specs.Written.{IsPair, IsWellFormed, pair_written, pairs_written, written_message}
 use Rattle.sshwire.specs.declared.limits.TheConstants.{PAYLOAD_LIMIT}

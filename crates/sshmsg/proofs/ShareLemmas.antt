@@ -4,7 +4,7 @@ use Rattle.std.proofs.Common.{ℕ, zero, suc, Bool, true, false, List, [], ◌�
 use Rattle.std.specs.Str.{bytes_eq}
 use Rattle.sshwire.specs.declared.share_form.ShareForm.{ShareForm}
 use Rattle.sshwire.specs.declared.share_form.ShareForm.TheVariants.{Hybrid, Mpint, OctetString}
-use Rattle.sshmsg.specs.Content.{Content}
+use Rattle.sshmsg.specs.MessageData.{MessageData}
 use Rattle.sshmsg.specs.Form.{Done, FillsForm, Form, Of, Rest, Then}
 use Rattle.sshmsg.specs.Messages.{Spells, debug, disconnect, ext_info, extensions, ignore, init_of, kex_ecdh_init, kex_ecdh_reply, kexdh_init, kexdh_reply, kexinit, method_form, newkeys, password, publickey, reply_of, service_accept, service_request, unimplemented, userauth_banner, userauth_failure, userauth_pk_ok, userauth_request, userauth_success}
 use Rattle.sshmsg.specs.Written.{IsMessageOf}
@@ -16,7 +16,7 @@ Within shares (Done c) = IsMessageOf shares c
 Within shares (Then f next) = (value : Of f) → Within shares (next value)
 Within shares (Rest next) = (bytes : List ℕ) → IsMessageOf shares (next bytes)
 
-fills_within : (shares : ShareForm) (form : Form) (m : Content) (fields : List ℕ) → Within shares form → FillsForm form m fields → IsMessageOf shares m
+fills_within : (shares : ShareForm) (form : Form) (m : MessageData) (fields : List ℕ) → Within shares form → FillsForm form m fields → IsMessageOf shares m
 fills_within shares (Done c) m fields h (same, none) = rw same h
 fills_within shares (Then f next) m fields h (value, text, rest, t, fills, parts) = fills_within shares (next value) m rest (h value) fills
 fills_within shares (Rest next) m fields h same = rw same (h fields)
@@ -70,6 +70,6 @@ rows_within shares = record {
   userauth_pk_ok = λ algorithm key. tt;
 }
 
-pub spelled_within : (shares : ShareForm) (payload : List ℕ) (m : Content) → Spells shares m payload → IsMessageOf shares m
+pub spelled_within : (shares : ShareForm) (payload : List ℕ) (m : MessageData) → Spells shares m payload → IsMessageOf shares m
 spelled_within shares payload m s =
     fills_within shares s.form m s.fields (each_form shares (λ n form. Within shares form) (rows_within shares) s.number s.form s.known) s.fills

@@ -7,7 +7,7 @@ use Rattle.std.proofs.lemmas.Slice.Eq.{bytes_eq-Decides}
 use Rattle.sshwire.specs.declared.share_form.ShareForm.{ShareForm}
 use Rattle.sshwire.specs.declared.share_form.ShareForm.TheVariants.{Hybrid, Mpint, OctetString}
 use Rattle.sshwire.specs.Types.{BooleanText, boolean, name_list, names_body, string, uint32}
-use Rattle.sshmsg.specs.Content.{Content, Debug, Disconnect, ExtInfo, Ignore, KexEcdhInit, KexEcdhReply, KexInit, KexdhInit, KexdhReply, Method, NewKeys, NoMethod, Offer, OtherMethod, Password, PasswordChange, PublicKey, PublicKeyQuery, ServiceAccept, ServiceRequest, Unimplemented, UserauthBanner, UserauthFailure, UserauthPkOk, UserauthRequest, UserauthSuccess}
+use Rattle.sshmsg.specs.MessageData.{Debug, Disconnect, ExtInfo, Ignore, KexEcdhInit, KexEcdhReply, KexInit, KexInitData, KexdhInit, KexdhReply, MessageData, MethodData, NewKeys, NoMethod, OtherMethod, Password, PasswordChange, PublicKey, PublicKeyQuery, ServiceAccept, ServiceRequest, Unimplemented, UserauthBanner, UserauthFailure, UserauthPkOk, UserauthRequest, UserauthSuccess}
 use Rattle.sshmsg.specs.Form.{BigNumber, Bytes, Cookie, Done, Field, FieldText, FillsForm, Flag, Form, Names, Number, Of, Reserved, Rest, Then, Utf8}
 use Rattle.sshmsg.specs.Lengths.{method_length, offer_length, pairs_length, payload_length}
 use Rattle.sshmsg.specs.Messages.{Spells, debug, disconnect, ext_info, extensions, ignore, init_of, kex_ecdh_init, kex_ecdh_reply, kexdh_init, kexdh_reply, kexinit, method_form, newkeys, password, publickey, reply_of, service_accept, service_request, unimplemented, userauth_banner, userauth_failure, userauth_pk_ok, userauth_request, userauth_success}
@@ -55,7 +55,7 @@ Sized before (Done c) = before ≡ payload_length c
 Sized before (Then f next) = (value : Of f) → Sized (before + width f value) (next value)
 Sized before (Rest next) = (bytes : List ℕ) → before + length bytes ≡ payload_length (next bytes)
 
-fills_sized : (before : ℕ) (form : Form) (m : Content) (fields : List ℕ) → Sized before form → FillsForm form m fields → before + length fields ≡ payload_length m
+fills_sized : (before : ℕ) (form : Form) (m : MessageData) (fields : List ℕ) → Sized before form → FillsForm form m fields → before + length fields ≡ payload_length m
 fills_sized before (Done c) m fields h (same, none) =
     let a : length fields ≡ 0 = ap (λ (xs : List ℕ). length xs) none in
     let b : payload_length m ≡ payload_length c = ap payload_length same in
@@ -187,7 +187,7 @@ pk_ok_sized : Sized 1 userauth_pk_ok
 unfolding userauth_pk_ok
 pk_ok_sized = λ algorithm key. omega arith
 
-pub spelled_length : (shares : ShareForm) (payload : List ℕ) (m : Content) → Spells shares m payload → length payload ≡ payload_length m
+pub spelled_length : (shares : ShareForm) (payload : List ℕ) (m : MessageData) → Spells shares m payload → length payload ≡ payload_length m
 spelled_length shares payload m s =
     let rows : Rows shares (λ n form. Sized 1 form) = record {
       disconnect = disconnect_sized;
@@ -209,8 +209,8 @@ spelled_length shares payload m s =
     } in
     let sized : Sized 1 s.form = each_form shares (λ n form. Sized 1 form) rows s.number s.form s.known in
     let all : length payload ≡ length (s.number ∷ s.fields) = ap (λ (xs : List ℕ). length xs) s.payload_is in
-    let behind : 1 + length s.fields ≡ payload_length m = fills_sized 1 s.form m s.fields sized s.fills in
-    omega (arith, all, behind)
+    let after : 1 + length s.fields ≡ payload_length m = fills_sized 1 s.form m s.fields sized s.fills in
+    omega (arith, all, after)
 
 -- What is written is as long, whatever the message.
 then_long : (bytes more : List ℕ) → length (string bytes ++ more) ≡ 4 + length bytes + length more
@@ -236,7 +236,7 @@ pairs_long (p ∷ ps) =
     let c : _ = pairs_long ps in
     omega (arith, a, b, c)
 
-fields_long : (m : Method) → length (method_fields m) ≡ method_length m
+fields_long : (m : MethodData) → length (method_fields m) ≡ method_length m
 fields_long NoMethod = refl
 fields_long (Password password) = let a : _ = string_long password in omega (arith, a)
 fields_long (PasswordChange old new) = let a : _ = two_long old new in omega (arith, a)
@@ -247,7 +247,7 @@ fields_long (OtherMethod name fields) = refl
 names_then : (names : List (List ℕ)) (more : List ℕ) → length (name_list names ++ more) ≡ 4 + length (names_body names) + length more
 names_then names more = then_long (names_body names) more
 
-offer_long : (o : Offer) → length (offer_written o) ≡ length o.cookie + offer_length o + 45
+offer_long : (o : KexInitData) → length (offer_written o) ≡ length o.cookie + offer_length o + 45
 offer_long o =
     let end : List ℕ = boolean o.first_kex_packet_follows ++ uint32 0 in
     let last : length end ≡ 5 = refl in
@@ -274,17 +274,17 @@ offer_long o =
     let k : length t9 ≡ 4 + length (names_body o.languages_server_to_client) + length end = names_then o.languages_server_to_client end in
     omega (arith, a, b, c, d, e, f, g, h, i, j, k, last)
 
-request_long : (user service : List ℕ) (m : Method) → length (written_message (UserauthRequest user service m)) ≡ payload_length (UserauthRequest user service m)
+request_long : (user service : List ℕ) (m : MethodData) → length (written_message (UserauthRequest user service m)) ≡ payload_length (UserauthRequest user service m)
 unfolding written_message
 request_long user service m =
-    let behind : List ℕ = method_fields m in
-    let a : _ = then_long user (string service ++ (string (method_name m) ++ behind)) in
-    let b : _ = then_long service (string (method_name m) ++ behind) in
-    let c : _ = then_long (method_name m) behind in
+    let after : List ℕ = method_fields m in
+    let a : _ = then_long user (string service ++ (string (method_name m) ++ after)) in
+    let b : _ = then_long service (string (method_name m) ++ after) in
+    let c : _ = then_long (method_name m) after in
     let d : _ = fields_long m in
     omega (arith, a, b, c, d)
 
-pub written_length : (m : Content) → length (written_message m) ≡ payload_length m
+pub written_length : (m : MessageData) → length (written_message m) ≡ payload_length m
 unfolding written_message
 written_length (Disconnect reason description language) = let a : _ = two_long description language in omega (arith, a)
 written_length (Ignore content) = let a : _ = string_long content in omega (arith, a)

@@ -6,7 +6,7 @@ use Rattle.std.specs.Str.{IsUtf8, bytes_eq}
 use Rattle.std.proofs.lemmas.List.{length-append}
 use Rattle.sshwire.specs.declared.share_form.ShareForm.{ShareForm}
 use Rattle.sshwire.specs.declared.share_form.ShareForm.TheVariants.{Hybrid, Mpint, OctetString}
-use Rattle.sshmsg.specs.Content.{Content}
+use Rattle.sshmsg.specs.MessageData.{MessageData}
 use Rattle.sshmsg.specs.Form.{Done, FieldText, FillsForm, Form, Of, Rest, Then}
 use Rattle.sshmsg.specs.Messages.{Spells, debug, disconnect, ext_info, extensions, ignore, init_of, kex_ecdh_init, kex_ecdh_reply, kexdh_init, kexdh_reply, kexinit, method_form, newkeys, password, publickey, reply_of, service_accept, service_request, unimplemented, userauth_banner, userauth_failure, userauth_pk_ok, userauth_request, userauth_success}
 use Rattle.sshmsg.specs.Written.{IsNumber, IsNameList, IsPair, IsString, IsWellFormed}
@@ -19,7 +19,7 @@ Wells (Done c) = IsWellFormed c
 Wells (Then f next) = (value : Of f) (text : List ℕ) → FieldText f value text → Wells (next value)
 Wells (Rest next) = (bytes : List ℕ) → IsWellFormed (next bytes)
 
-fills_well : (form : Form) (m : Content) (fields : List ℕ) → Wells form → FillsForm form m fields → IsWellFormed m
+fills_well : (form : Form) (m : MessageData) (fields : List ℕ) → Wells form → FillsForm form m fields → IsWellFormed m
 fills_well (Done c) m fields h (same, none) = rw same h
 fills_well (Then f next) m fields h (value, text, rest, t, fills, parts) = fills_well (next value) m rest (h value text t) fills
 fills_well (Rest next) m fields h same = rw same (h fields)
@@ -168,7 +168,7 @@ pk_ok_well : Wells userauth_pk_ok
 unfolding userauth_pk_ok
 pk_ok_well = λ algorithm a g key b k. (g.0, k.0)
 
-pub spelled_well : (shares : ShareForm) (payload : List ℕ) (m : Content) → Spells shares m payload → IsWellFormed m
+pub spelled_well : (shares : ShareForm) (payload : List ℕ) (m : MessageData) → Spells shares m payload → IsWellFormed m
 spelled_well shares payload m s =
     let rows : Rows shares (λ n form. Wells form) = record {
       disconnect = disconnect_well;

@@ -7,7 +7,7 @@ use Rattle.std.specs.Str.{bytes_eq}
 use Rattle.sshwire.specs.declared.share_form.ShareForm.{ShareForm}
 use Rattle.sshwire.specs.declared.share_form.ShareForm.TheVariants.{Hybrid, Mpint, OctetString}
 use Rattle.sshwire.specs.Types.{BooleanText, MpintText, NameListText, boolean, name_list, string, uint32}
-use Rattle.sshmsg.specs.Content.{Content, Debug, Disconnect, ExtInfo, Ignore, KexEcdhInit, KexEcdhReply, KexInit, KexdhInit, KexdhReply, Method, NewKeys, NoMethod, Offer, OtherMethod, Password, PasswordChange, PublicKey, PublicKeyQuery, ServiceAccept, ServiceRequest, Unimplemented, UserauthBanner, UserauthFailure, UserauthPkOk, UserauthRequest, UserauthSuccess}
+use Rattle.sshmsg.specs.MessageData.{Debug, Disconnect, ExtInfo, Ignore, KexEcdhInit, KexEcdhReply, KexInit, KexInitData, KexdhInit, KexdhReply, MessageData, MethodData, NewKeys, NoMethod, OtherMethod, Password, PasswordChange, PublicKey, PublicKeyQuery, ServiceAccept, ServiceRequest, Unimplemented, UserauthBanner, UserauthFailure, UserauthPkOk, UserauthRequest, UserauthSuccess}
 use Rattle.sshmsg.specs.Form.{Bytes, Done, FillsForm, Form, Rest, Then}
 use Rattle.sshmsg.specs.Messages.{Spells, debug, disconnect, ext_info, extensions, form_of, ignore, is_named, kex_ecdh_init, kex_ecdh_reply, kexdh_init, kexdh_reply, kexinit, method_form, newkeys, password, publickey, service_accept, service_request, unimplemented, userauth_banner, userauth_failure, userauth_pk_ok, userauth_request, userauth_success}
 use Rattle.sshmsg.specs.Written.{IsMessageOf, IsMethod, IsNumber, IsNameList, IsOffer, IsPair, IsString, IsWellFormed, method_fields, method_name, offer_written, pairs_written, written_message}
@@ -23,7 +23,7 @@ number_text : (body : List ℕ) → IsNumber body → MpintText body (string bod
 number_text body h = (h.bytes, h.shortest, (h.short, refl))
 
 -- the string at the end of a form
-last_string : (next : List ℕ → Form) (content : Content) (bytes : List ℕ) → IsString bytes → FillsForm (next bytes) content []
+last_string : (next : List ℕ → Form) (content : MessageData) (bytes : List ℕ) → IsString bytes → FillsForm (next bytes) content []
     → FillsForm (Then Bytes next) content (string bytes)
 last_string next content bytes h more = (bytes, string bytes, [], (h, refl), more, sym (append-nil (string bytes)))
 
@@ -85,7 +85,7 @@ ext_info_fills : (pairs : List (List ℕ × List ℕ)) → IsWellFormed (ExtInfo
 unfolding ext_info
 ext_info_fills pairs (n, each) = (length pairs, uint32 (length pairs), pairs_written pairs, (n, refl), pairs_fill pairs [] each, refl)
 
-offer_fills : (offer : Offer) → IsOffer offer → FillsForm kexinit (KexInit offer) (offer_written offer)
+offer_fills : (offer : KexInitData) → IsOffer offer → FillsForm kexinit (KexInit offer) (offer_written offer)
 unfolding kexinit
 offer_fills offer h = (
   offer.cookie,
@@ -267,7 +267,7 @@ other_form user service name h =
 abbrev of_method : List ℕ → List ℕ → Form
 of_method user service = Then Bytes λ method. method_form user service method
 
-method_fills : (user service : List ℕ) (m : Method) → IsString (method_name m) → IsMethod m
+method_fills : (user service : List ℕ) (m : MethodData) → IsString (method_name m) → IsMethod m
     → FillsForm (of_method user service) (UserauthRequest user service m) (string (method_name m) ++ method_fields m)
 unfolding password publickey
 method_fills user service NoMethod n h = (codes "none", string (codes "none"), [], (lit< tt, refl), (refl, refl), refl)
@@ -362,7 +362,7 @@ method_fills user service (PublicKeyQuery algorithm key) n (a, k) = (
 method_fills user service (OtherMethod name fields) n other =
     (name, string name, fields, (n, refl), rw (other_form user service name other) refl, refl)
 
-request_fills : (user service : List ℕ) (m : Method) → IsWellFormed (UserauthRequest user service m)
+request_fills : (user service : List ℕ) (m : MethodData) → IsWellFormed (UserauthRequest user service m)
     → FillsForm userauth_request (UserauthRequest user service m) (string user ++ (string service ++ (string (method_name m) ++ method_fields m)))
 unfolding userauth_request
 request_fills user service m (utf8, u, s, n, h) = (
@@ -392,7 +392,7 @@ ecdh_reply_spells OctetString host_key share signature not_mpint h =
 ecdh_reply_spells Hybrid host_key share signature not_mpint h =
     record { number = 31; form = kex_ecdh_reply; fields = _; known = refl; fills = kex_ecdh_reply_fills host_key share signature h; payload_is = refl }
 
-pub written_spells : (shares : ShareForm) (m : Content) → IsMessageOf shares m → IsWellFormed m → Spells shares m (written_message m)
+pub written_spells : (shares : ShareForm) (m : MessageData) → IsMessageOf shares m → IsWellFormed m → Spells shares m (written_message m)
 unfolding written_message form_of ignore unimplemented service_request service_accept newkeys userauth_success
 written_spells shares (Disconnect reason description language) o h =
     record { number = 1; form = disconnect; fields = _; known = refl; fills = disconnect_fills reason description language h; payload_is = refl }

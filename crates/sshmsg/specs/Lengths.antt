@@ -3,7 +3,7 @@
 use Rattle.std.specs.Prelude.{◌≡◌, ℕ, ◌+◌, ◌≤◌, List, [], ◌∷◌, length, nat_le}
 use Rattle.sshwire.specs.declared.limits.TheConstants.{PAYLOAD_LIMIT}
 use Rattle.sshwire.specs.Types.{names_body}
-use Rattle.sshmsg.specs.Content.{Content, Debug, Disconnect, ExtInfo, Ignore, KexEcdhInit, KexEcdhReply, KexInit, KexdhInit, KexdhReply, Method, NewKeys, NoMethod, Offer, OtherMethod, Password, PasswordChange, PublicKey, PublicKeyQuery, ServiceAccept, ServiceRequest, Unimplemented, UserauthBanner, UserauthFailure, UserauthPkOk, UserauthRequest, UserauthSuccess}
+use Rattle.sshmsg.specs.MessageData.{Debug, Disconnect, ExtInfo, Ignore, KexEcdhInit, KexEcdhReply, KexInit, KexInitData, KexdhInit, KexdhReply, MessageData, MethodData, NewKeys, NoMethod, OtherMethod, Password, PasswordChange, PublicKey, PublicKeyQuery, ServiceAccept, ServiceRequest, Unimplemented, UserauthBanner, UserauthFailure, UserauthPkOk, UserauthRequest, UserauthSuccess}
 use Rattle.sshmsg.specs.Written.{method_name}
 
 -- the pairs of an EXT_INFO: two strings each
@@ -12,7 +12,7 @@ pairs_length [] = 0
 pairs_length (pair ∷ pairs) = length pair.0 + length pair.1 + 8 + pairs_length pairs
 
 -- the fields behind a method's name
-abbrev pub method_length : Method → ℕ
+abbrev pub method_length : MethodData → ℕ
 method_length NoMethod = 0
 method_length (Password password) = length password + 5
 method_length (PasswordChange old new) = length old + length new + 9
@@ -21,7 +21,7 @@ method_length (PublicKeyQuery algorithm key) = length algorithm + length key + 9
 method_length (OtherMethod name fields) = length fields
 
 -- the names of a KEXINIT's ten lists with their commas
-abbrev pub offer_length : Offer → ℕ
+abbrev pub offer_length : KexInitData → ℕ
 offer_length offer =
     length (names_body offer.kex_algorithms) + length (names_body offer.server_host_key_algorithms)
     + length (names_body offer.encryption_client_to_server) + length (names_body offer.encryption_server_to_client)
@@ -29,7 +29,7 @@ offer_length offer =
     + length (names_body offer.compression_client_to_server) + length (names_body offer.compression_server_to_client)
     + length (names_body offer.languages_client_to_server) + length (names_body offer.languages_server_to_client)
 
-abbrev pub payload_length : Content → ℕ
+abbrev pub payload_length : MessageData → ℕ
 payload_length (Disconnect reason description language) = length description + length language + 13
 payload_length (Ignore content) = length content + 5
 payload_length (Unimplemented sequence_number) = 5

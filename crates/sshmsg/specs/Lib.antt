@@ -1,4 +1,4 @@
-pub mod Content
+pub mod MessageData
 pub mod Form
 pub mod Lengths
 pub mod Lists

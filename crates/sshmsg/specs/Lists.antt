@@ -4,7 +4,7 @@ use Rattle.std.specs.Prelude.{ℕ, Bool, List, ◌++◌, Result, Ok}
 use Rattle.sshwire.specs.declared.fault.WireFault.{WireFault}
 use Rattle.sshwire.specs.Types.{name_list}
 use Rattle.sshwire.specs.TypeReadings.{◌>>=◌, boolean_at, names_at, string_at}
-use Rattle.sshmsg.specs.Content.{Offer}
+use Rattle.sshmsg.specs.MessageData.{KexInitData}
 use Rattle.sshmsg.specs.Form.{bytes_at}
 use Rattle.sshmsg.specs.Written.{IsNameList}
 
@@ -49,7 +49,7 @@ end_at bytes = do
   Ok (follows.0, reserved.1)
 
 -- the offer with these lists
-abbrev pub offer_with : List ℕ → Ten → Bool → Offer
+abbrev pub offer_with : List ℕ → Ten → Bool → KexInitData
 offer_with cookie lists follows = record {
   cookie = cookie;
   kex_algorithms = lists.0.0.0;
@@ -72,7 +72,7 @@ two_written two = name_list two.0 ++ name_list two.1
 abbrev pub four_written : Four → List ℕ
 four_written four = two_written four.0 ++ two_written four.1
 
-abbrev pub lists_written : Offer → List ℕ
+abbrev pub lists_written : KexInitData → List ℕ
 lists_written offer =
     two_written (offer.kex_algorithms, offer.server_host_key_algorithms)
     ++ (four_written ((offer.encryption_client_to_server, offer.encryption_server_to_client), (offer.mac_client_to_server, offer.mac_server_to_client))
@@ -85,7 +85,7 @@ AreTwo two = IsNameList two.0 × IsNameList two.1
 abbrev pub AreFour : Four → Type 0
 AreFour four = AreTwo four.0 × AreTwo four.1
 
-abbrev pub AreLists : Offer → Type 0
+abbrev pub AreLists : KexInitData → Type 0
 AreLists offer =
     AreTwo (offer.kex_algorithms, offer.server_host_key_algorithms)
     × AreFour ((offer.encryption_client_to_server, offer.encryption_server_to_client), (offer.mac_client_to_server, offer.mac_server_to_client))

@@ -8,7 +8,7 @@ use Rattle.sshwire.specs.declared.share_form.ShareForm.TheVariants.{Hybrid, Mpin
 use Rattle.sshmsg.specs.declared.fault.MsgFault.{MsgFault}
 use Rattle.sshmsg.specs.declared.fault.MsgFault.TheVariants.{Malformed, Unrecognised}
 use Rattle.sshmsg.specs.declared.numbers.TheConstants.{SSH_MSG_DEBUG, SSH_MSG_DISCONNECT, SSH_MSG_EXT_INFO, SSH_MSG_IGNORE, SSH_MSG_KEXDH_INIT, SSH_MSG_KEXDH_REPLY, SSH_MSG_KEXINIT, SSH_MSG_NEWKEYS, SSH_MSG_SERVICE_ACCEPT, SSH_MSG_SERVICE_REQUEST, SSH_MSG_UNIMPLEMENTED, SSH_MSG_USERAUTH_BANNER, SSH_MSG_USERAUTH_FAILURE, SSH_MSG_USERAUTH_PK_OK, SSH_MSG_USERAUTH_REQUEST, SSH_MSG_USERAUTH_SUCCESS}
-use Rattle.sshmsg.specs.Content.{Content, Debug, Disconnect, ExtInfo, Ignore, KexEcdhInit, KexEcdhReply, KexInit, KexdhInit, KexdhReply, NewKeys, NoMethod, OtherMethod, Password, PasswordChange, PublicKey, PublicKeyQuery, ServiceAccept, ServiceRequest, Unimplemented, UserauthBanner, UserauthFailure, UserauthPkOk, UserauthRequest, UserauthSuccess}
+use Rattle.sshmsg.specs.MessageData.{Debug, Disconnect, ExtInfo, Ignore, KexEcdhInit, KexEcdhReply, KexInit, KexdhInit, KexdhReply, MessageData, NewKeys, NoMethod, OtherMethod, Password, PasswordChange, PublicKey, PublicKeyQuery, ServiceAccept, ServiceRequest, Unimplemented, UserauthBanner, UserauthFailure, UserauthPkOk, UserauthRequest, UserauthSuccess}
 use Rattle.sshmsg.specs.Form.{BigNumber, Bytes, Cookie, Done, FillsForm, Flag, Form, Names, Number, Reserved, Rest, Then, Utf8, form_at}
 
 -- 1, RFC 4253 section 11.1
@@ -161,7 +161,7 @@ form_of shares n =
     else None
 
 -- the payload spells the message: its number, and fields that fill the number's form
-pub record Spells (shares : ShareForm) (content : Content) (payload : List ℕ) : Type 0 where
+pub record Spells (shares : ShareForm) (content : MessageData) (payload : List ℕ) : Type 0 where
   pub number : ℕ
   pub form : Form
   pub fields : List ℕ
@@ -170,16 +170,16 @@ pub record Spells (shares : ShareForm) (content : Content) (payload : List ℕ) 
   pub payload_is : payload ≡ number ∷ fields
 
 -- a form that was read to the end, or the number is malformed
-abbrev pub whole_form : ℕ → Result (Content × List ℕ) WireFault → Result Content MsgFault
+abbrev pub whole_form : ℕ → Result (MessageData × List ℕ) WireFault → Result MessageData MsgFault
 whole_form n (Ok (content, [])) = Ok content
 whole_form n (Ok (content, b ∷ bs)) = Err (Malformed n)
 whole_form n (Err e) = Err (Malformed n)
 
-abbrev pub in_form : ℕ → List ℕ → Option Form → Result Content MsgFault
+abbrev pub in_form : ℕ → List ℕ → Option Form → Result MessageData MsgFault
 in_form n fields None = Err (Unrecognised n)
 in_form n fields (Some form) = whole_form n (form_at form fields)
 
 -- the message that a payload spells, or why there is none: no row of its number, or a row and no message
-unfoldable pub message_in : ShareForm → List ℕ → Result Content MsgFault
+unfoldable pub message_in : ShareForm → List ℕ → Result MessageData MsgFault
 message_in shares [] = Err (Malformed 0)
 message_in shares (n ∷ fields) = in_form n fields (form_of shares n)

@@ -5,10 +5,10 @@ use Rattle.sshwire.specs.declared.share_form.ShareForm.{ShareForm}
 use Rattle.sshmsg.specs.declared.fault.MsgFault.{MsgFault}
 use Rattle.sshmsg.specs.declared.fault.MsgFault.TheVariants.{Malformed, Memory, Unrecognised}
 use Rattle.sshmsg.specs.declared.numbers.TheConstants.{SSH_MSG_DEBUG, SSH_MSG_DISCONNECT, SSH_MSG_EXT_INFO, SSH_MSG_IGNORE, SSH_MSG_KEXDH_INIT, SSH_MSG_KEXDH_REPLY, SSH_MSG_KEX_ECDH_INIT, SSH_MSG_KEX_ECDH_REPLY, SSH_MSG_KEXINIT, SSH_MSG_NEWKEYS, SSH_MSG_SERVICE_ACCEPT, SSH_MSG_SERVICE_REQUEST, SSH_MSG_UNIMPLEMENTED, SSH_MSG_USERAUTH_BANNER, SSH_MSG_USERAUTH_FAILURE, SSH_MSG_USERAUTH_PK_OK, SSH_MSG_USERAUTH_REQUEST, SSH_MSG_USERAUTH_SUCCESS}
-use Rattle.sshmsg.specs.Content.{Content, Debug, Disconnect, ExtInfo, Ignore, KexEcdhInit, KexEcdhReply, KexInit, KexdhInit, KexdhReply, NewKeys, ServiceAccept, ServiceRequest, Unimplemented, UserauthBanner, UserauthFailure, UserauthPkOk, UserauthRequest, UserauthSuccess}
+use Rattle.sshmsg.specs.MessageData.{Debug, Disconnect, ExtInfo, Ignore, KexEcdhInit, KexEcdhReply, KexInit, KexdhInit, KexdhReply, MessageData, NewKeys, ServiceAccept, ServiceRequest, Unimplemented, UserauthBanner, UserauthFailure, UserauthPkOk, UserauthRequest, UserauthSuccess}
 use Rattle.sshmsg.specs.Messages.{Spells, form_of}
 
-abbrev pub number_of : Content → ℕ
+abbrev pub number_of : MessageData → ℕ
 number_of (Disconnect reason description language) = SSH_MSG_DISCONNECT
 number_of (Ignore content) = SSH_MSG_IGNORE
 number_of (Unimplemented sequence_number) = SSH_MSG_UNIMPLEMENTED
@@ -41,5 +41,5 @@ kind (n ∷ fields) = n
 abbrev pub IsRefused : ShareForm → List ℕ → MsgFault → Type 0
 IsRefused shares [] fault = fault ≡ Malformed 0
 IsRefused shares (n ∷ fields) (Unrecognised number) = (number ≡ n) × (form_of shares n ≡ None)
-IsRefused shares (n ∷ fields) (Malformed number) = (number ≡ n) × (form_of shares n ≢ None) × ((m : Content) → Spells shares m (n ∷ fields) → ⊥)
+IsRefused shares (n ∷ fields) (Malformed number) = (number ≡ n) × (form_of shares n ≢ None) × ((m : MessageData) → Spells shares m (n ∷ fields) → ⊥)
 IsRefused shares (n ∷ fields) Memory = ⊥

@@ -12,13 +12,13 @@ use Rattle.sshmsg.specs.declared.message.Method.{Method}
 use Rattle.sshmsg.specs.declared.message.Method.TheVariants as method
 use Rattle.sshmsg.specs.declared.message.Message.{Message}
 use Rattle.sshmsg.specs.declared.message.Message.TheVariants as message
-use Rattle.sshmsg.specs.Content as content
-use Rattle.sshmsg.specs.Content.{Content, Offer}
+use Rattle.sshmsg.specs.MessageData as content
+use Rattle.sshmsg.specs.MessageData.{KexInitData, MessageData}
 use Rattle.sshmsg.specs.Form.{Form, form_at}
 use Rattle.sshmsg.specs.Messages.{ext_info, extensions, form_of}
 
-abbrev pub offer_of : KexInit → Offer
-offer_of k = record {
+abbrev pub kexinit_data : KexInit → KexInitData
+kexinit_data k = record {
   cookie = k.cookie.now;
   kex_algorithms = k.kex_algorithms;
   server_host_key_algorithms = k.server_host_key_algorithms;
@@ -34,8 +34,8 @@ offer_of k = record {
 }
 
 -- the same of a KEXINIT whose lists are lent
-abbrev pub lent_offer : LentKexInit → Offer
-lent_offer k = record {
+abbrev pub lent_kexinit_data : LentKexInit → KexInitData
+lent_kexinit_data k = record {
   cookie = k.cookie.now;
   kex_algorithms = k.kex_algorithms;
   server_host_key_algorithms = k.server_host_key_algorithms;
@@ -56,33 +56,33 @@ pair_of x = (x.name.now, x.value.now)
 abbrev pub pairs_of : List Extension → List (List ℕ × List ℕ)
 pairs_of xs = map pair_of xs
 
-abbrev pub method_of : Method → content.Method
-method_of method.None = content.NoMethod
-method_of (method.Password password) = content.Password password.now
-method_of (method.PasswordChange old new) = content.PasswordChange old.now new.now
-method_of (method.PublicKey algorithm key signature) = content.PublicKey algorithm.now key.now signature.now
-method_of (method.PublicKeyQuery algorithm key) = content.PublicKeyQuery algorithm.now key.now
-method_of (method.Other other) = content.OtherMethod other.0 other.1
+abbrev pub method_data : Method → content.MethodData
+method_data method.None = content.NoMethod
+method_data (method.Password password) = content.Password password.now
+method_data (method.PasswordChange old new) = content.PasswordChange old.now new.now
+method_data (method.PublicKey algorithm key signature) = content.PublicKey algorithm.now key.now signature.now
+method_data (method.PublicKeyQuery algorithm key) = content.PublicKeyQuery algorithm.now key.now
+method_data (method.Other other) = content.OtherMethod other.0 other.1
 
-abbrev pub content_of : Message → Content
-content_of (message.Disconnect reason description language) = content.Disconnect reason description.now language.now
-content_of (message.Ignore bytes) = content.Ignore bytes.now
-content_of (message.Unimplemented sequence_number) = content.Unimplemented sequence_number
-content_of (message.Debug always_display text language) = content.Debug always_display text.now language.now
-content_of (message.ServiceRequest service) = content.ServiceRequest service.now
-content_of (message.ServiceAccept service) = content.ServiceAccept service.now
-content_of (message.ExtInfo extensions) = content.ExtInfo (pairs_of extensions.items)
-content_of (message.KexInit k) = content.KexInit (offer_of k.value)
-content_of message.NewKeys = content.NewKeys
-content_of (message.KexdhInit e) = content.KexdhInit e
-content_of (message.KexdhReply host_key f signature) = content.KexdhReply host_key.now f signature.now
-content_of (message.KexEcdhInit client_share) = content.KexEcdhInit client_share.now
-content_of (message.KexEcdhReply host_key server_share signature) = content.KexEcdhReply host_key.now server_share.now signature.now
-content_of (message.UserauthRequest user service m) = content.UserauthRequest user.now service.now (method_of m)
-content_of (message.UserauthFailure methods partial_success) = content.UserauthFailure methods partial_success
-content_of message.UserauthSuccess = content.UserauthSuccess
-content_of (message.UserauthBanner text language) = content.UserauthBanner text.now language.now
-content_of (message.UserauthPkOk algorithm key) = content.UserauthPkOk algorithm.now key.now
+abbrev pub message_data : Message → MessageData
+message_data (message.Disconnect reason description language) = content.Disconnect reason description.now language.now
+message_data (message.Ignore bytes) = content.Ignore bytes.now
+message_data (message.Unimplemented sequence_number) = content.Unimplemented sequence_number
+message_data (message.Debug always_display text language) = content.Debug always_display text.now language.now
+message_data (message.ServiceRequest service) = content.ServiceRequest service.now
+message_data (message.ServiceAccept service) = content.ServiceAccept service.now
+message_data (message.ExtInfo extensions) = content.ExtInfo (pairs_of extensions.items)
+message_data (message.KexInit k) = content.KexInit (kexinit_data k.value)
+message_data message.NewKeys = content.NewKeys
+message_data (message.KexdhInit e) = content.KexdhInit e
+message_data (message.KexdhReply host_key f signature) = content.KexdhReply host_key.now f signature.now
+message_data (message.KexEcdhInit client_share) = content.KexEcdhInit client_share.now
+message_data (message.KexEcdhReply host_key server_share signature) = content.KexEcdhReply host_key.now server_share.now signature.now
+message_data (message.UserauthRequest user service m) = content.UserauthRequest user.now service.now (method_data m)
+message_data (message.UserauthFailure methods partial_success) = content.UserauthFailure methods partial_success
+message_data message.UserauthSuccess = content.UserauthSuccess
+message_data (message.UserauthBanner text language) = content.UserauthBanner text.now language.now
+message_data (message.UserauthPkOk algorithm key) = content.UserauthPkOk algorithm.now key.now
 
 -- what a function that takes no memory read, seen by view, is what the reading gives
 abbrev pub Goes : {X Y : Type 0} → (X → Y) → Result X WireFault → List ℕ → Result (Y × List ℕ) WireFault → Type 0
@@ -90,7 +90,7 @@ Goes view (Ok x) new read = read ≡ Ok (view x, new)
 Goes view (Err e) new read = read ≡ Err e
 
 -- what was passed over is an EXT_INFO's pairs, or the reading refuses it so
-abbrev pub Passes : Result (Unit {0}) WireFault → List ℕ → Result (Content × List ℕ) WireFault → Type 0
+abbrev pub Passes : Result (Unit {0}) WireFault → List ℕ → Result (MessageData × List ℕ) WireFault → Type 0
 Passes (Ok _) new read = (pairs : List (List ℕ × List ℕ)) × (read ≡ Ok (content.ExtInfo pairs, new))
 Passes (Err e) new read = read ≡ Err e
 
@@ -102,21 +102,21 @@ LendsPairs (Err e) old new = form_at ext_info old ≡ Err e
 -- the same as Goes, of a message of this number, if there is one
 abbrev pub ReadsNumbered : ShareForm → ℕ → List ℕ → List ℕ → Option (Result Message WireFault) → Type 0
 ReadsNumbered shares n old new None = form_of shares n ≡ None
-ReadsNumbered shares n old new (Some result) = (form : Form) × (form_of shares n ≡ Some form) × Goes content_of result new (form_at form old)
+ReadsNumbered shares n old new (Some result) = (form : Form) × (form_of shares n ≡ Some form) × Goes message_data result new (form_at form old)
 
 -- what `read` answered is what the payload reads as, unless memory ran out
-abbrev pub Answers : Result Message MsgFault → Result Content MsgFault → Type 0
-Answers (Ok m) read = read ≡ Ok (content_of m)
-Answers (Err e) read = e ≢ Memory → read ≡ Err e
+abbrev pub MessageAnswer : Result Message MsgFault → Result MessageData MsgFault → Type 0
+MessageAnswer (Ok m) read = read ≡ Ok (message_data m)
+MessageAnswer (Err e) read = e ≢ Memory → read ≡ Err e
 
 -- the messages that hold a list: alone they are read with memory
-abbrev pub HoldsList : Content → Type 0
+abbrev pub HoldsList : MessageData → Type 0
 HoldsList (content.ExtInfo pairs) = Unit {0}
 HoldsList (content.KexInit offer) = Unit {0}
 HoldsList (content.UserauthFailure methods partial_success) = Unit {0}
 HoldsList _ = ⊥
 
 -- want of memory is told of such a message alone, which the payload reads as: never in the place of another refusal
-abbrev pub WantsMemory : Result Message MsgFault → Result Content MsgFault → Type 0
-WantsMemory (Ok m) read = Unit {0}
-WantsMemory (Err e) read = e ≡ Memory → (m : Content) × (read ≡ Ok m) × HoldsList m
+abbrev pub IsOutOfMemory : Result Message MsgFault → Result MessageData MsgFault → Type 0
+IsOutOfMemory (Ok m) read = Unit {0}
+IsOutOfMemory (Err e) read = e ≡ Memory → (m : MessageData) × (read ≡ Ok m) × HoldsList m

@@ -6,7 +6,7 @@ use Rattle.std.specs.Str.{IsUtf8}
 use Rattle.sshwire.specs.Types.{AreNames, IsBytes, IsShortestBody, boolean, name_list, names_body, string, uint32}
 use Rattle.sshwire.specs.declared.share_form.ShareForm.{ShareForm}
 use Rattle.sshwire.specs.declared.share_form.ShareForm.TheVariants.{Mpint}
-use Rattle.sshmsg.specs.Content.{Content, Debug, Disconnect, ExtInfo, Ignore, KexEcdhInit, KexEcdhReply, KexInit, KexdhInit, KexdhReply, Method, NewKeys, NoMethod, Offer, OtherMethod, Password, PasswordChange, PublicKey, PublicKeyQuery, ServiceAccept, ServiceRequest, Unimplemented, UserauthBanner, UserauthFailure, UserauthPkOk, UserauthRequest, UserauthSuccess}
+use Rattle.sshmsg.specs.MessageData.{Debug, Disconnect, ExtInfo, Ignore, KexEcdhInit, KexEcdhReply, KexInit, KexInitData, KexdhInit, KexdhReply, MessageData, MethodData, NewKeys, NoMethod, OtherMethod, Password, PasswordChange, PublicKey, PublicKeyQuery, ServiceAccept, ServiceRequest, Unimplemented, UserauthBanner, UserauthFailure, UserauthPkOk, UserauthRequest, UserauthSuccess}
 use Rattle.sshmsg.specs.Messages.{is_named}
 
 -- the pairs of an EXT_INFO
@@ -17,7 +17,7 @@ abbrev pub pairs_written : List (List ℕ × List ℕ) → List ℕ
 pairs_written pairs = flat_map pair_written pairs
 
 -- the fields of a KEXINIT; the reserved word is 0
-abbrev pub offer_written : Offer → List ℕ
+abbrev pub offer_written : KexInitData → List ℕ
 offer_written offer =
     offer.cookie
     ++ (name_list offer.kex_algorithms
@@ -34,7 +34,7 @@ offer_written offer =
     ++ uint32 0)))))))))))
 
 -- a method: its name, and the fields behind it
-abbrev pub method_name : Method → List ℕ
+abbrev pub method_name : MethodData → List ℕ
 method_name NoMethod = codes "none"
 method_name (Password password) = codes "password"
 method_name (PasswordChange old new) = codes "password"
@@ -42,7 +42,7 @@ method_name (PublicKey algorithm key signature) = codes "publickey"
 method_name (PublicKeyQuery algorithm key) = codes "publickey"
 method_name (OtherMethod name fields) = name
 
-abbrev pub method_fields : Method → List ℕ
+abbrev pub method_fields : MethodData → List ℕ
 method_fields NoMethod = []
 method_fields (Password password) = boolean false ++ string password
 method_fields (PasswordChange old new) = boolean true ++ (string old ++ string new)
@@ -51,7 +51,7 @@ method_fields (PublicKeyQuery algorithm key) = boolean false ++ (string algorith
 method_fields (OtherMethod name fields) = fields
 
 -- the payload that is written for a message; its number stands here as digits, apart from the constants of the code
-unfoldable pub written_message : Content → List ℕ
+unfoldable pub written_message : MessageData → List ℕ
 written_message (Disconnect reason description language) = 1 ∷ (uint32 reason ++ (string description ++ string language))
 written_message (Ignore content) = 2 ∷ string content
 written_message (Unimplemented sequence_number) = 3 ∷ uint32 sequence_number
@@ -87,7 +87,7 @@ pub record IsNameList (names : List (List ℕ)) : Type 0 where
   pub each : AreNames names
   pub short : length (names_body names) < 2 ^ 32
 
-pub record IsOffer (offer : Offer) : Type 0 where
+pub record IsOffer (offer : KexInitData) : Type 0 where
   pub cookie : length offer.cookie ≡ 16
   pub kex_algorithms : IsNameList offer.kex_algorithms
   pub server_host_key_algorithms : IsNameList offer.server_host_key_algorithms
@@ -103,7 +103,7 @@ pub record IsOffer (offer : Offer) : Type 0 where
 abbrev pub IsPair : List ℕ × List ℕ → Type 0
 IsPair pair = IsString pair.0 × IsString pair.1
 
-abbrev pub IsMethod : Method → Type 0
+abbrev pub IsMethod : MethodData → Type 0
 IsMethod NoMethod = Unit {0}
 IsMethod (Password password) = IsString password
 IsMethod (PasswordChange old new) = IsString old × IsString new
@@ -111,7 +111,7 @@ IsMethod (PublicKey algorithm key signature) = IsString algorithm × IsString ke
 IsMethod (PublicKeyQuery algorithm key) = IsString algorithm × IsString key
 IsMethod (OtherMethod name fields) = is_named name ≡ false
 
-abbrev pub IsWellFormed : Content → Type 0
+abbrev pub IsWellFormed : MessageData → Type 0
 IsWellFormed (Disconnect reason description language) = (reason < 2 ^ 32) × IsString description × IsString language
 IsWellFormed (Ignore content) = IsString content
 IsWellFormed (Unimplemented sequence_number) = sequence_number < 2 ^ 32
@@ -134,7 +134,7 @@ IsWellFormed (UserauthPkOk algorithm key) = IsString algorithm × IsString key
 
 -- a message that an exchange with shares of this form has: where shares are mpints 30 and 31 are those of RFC 4253 section 8,
 -- else those of RFC 5656 section 4; every other message is in each
-abbrev pub IsMessageOf : ShareForm → Content → Type 0
+abbrev pub IsMessageOf : ShareForm → MessageData → Type 0
 IsMessageOf shares (KexdhInit e) = shares ≡ Mpint
 IsMessageOf shares (KexdhReply host_key f signature) = shares ≡ Mpint
 IsMessageOf shares (KexEcdhInit client_share) = shares ≢ Mpint

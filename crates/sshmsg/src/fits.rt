@@ -3,9 +3,9 @@
 ghost use Rattle.sshwire.specs.declared.limits.TheConstants.{PAYLOAD_LIMIT};
 ghost use Rattle.std.specs.Prelude.{◌≡◌, ◌≤◌, ◌<◌, ◌+◌, ◌^◌, ◌++◌, length, nat_le};
 ghost use Rattle.sshwire.specs.Types.{string};
-ghost use Rattle.sshmsg.specs.Content as content;
+ghost use Rattle.sshmsg.specs.MessageData as content;
 ghost use Rattle.sshmsg.specs.Lengths.{IsCapped};
-ghost use Rattle.sshmsg.specs.View.{content_of, method_of, offer_of, pair_of, pairs_of};
+ghost use Rattle.sshmsg.specs.View.{kexinit_data, message_data, method_data, pair_of, pairs_of};
 ghost use Rattle.sshmsg.specs.Written.{method_fields, method_name, pair_written, pairs_written, written_message};
 
 use crate::message::{Extension, KexInit, Message, Method};
@@ -16,7 +16,7 @@ impl<'a> Message<'a> {
     /// memory.
     #[tactic(auto, using(crate::proofs::LengthLemmas::capped_limit))]
     pub fn fits(&self) -> bool
-        ensures { result ≡ nat_le (length (written_message (content_of self.now))) PAYLOAD_LIMIT }
+        ensures { result ≡ nat_le (length (written_message (message_data self.now))) PAYLOAD_LIMIT }
     {
         self.len() <= PAYLOAD_LIMIT as u128
     }
@@ -24,8 +24,8 @@ impl<'a> Message<'a> {
     /// How much room to ask for before the message is written: that of its payload.
     #[tactic(auto, using(crate::proofs::LengthLemmas::capped_exact))]
     pub(crate) fn room(&self) -> usize
-        requires { length (written_message (content_of self.now)) ≤ PAYLOAD_LIMIT }
-        ensures { result ≡ length (written_message (content_of self.now)) }
+        requires { length (written_message (message_data self.now)) ≤ PAYLOAD_LIMIT }
+        ensures { result ≡ length (written_message (message_data self.now)) }
     {
         self.len() as usize
     }
@@ -33,7 +33,7 @@ impl<'a> Message<'a> {
     /// The length of the payload, or some length above the limit where its own is.
     #[tactic(auto, unfolding(crate::specs::Written::written_message), using(crate::proofs::LengthLemmas::exactly, crate::proofs::LengthLemmas::failure_length))]
     fn len(&self) -> u128
-        ensures { IsCapped result (length (written_message (content_of self.now))) }
+        ensures { IsCapped result (length (written_message (message_data self.now))) }
     {
         match self {
             Message::Disconnect {
@@ -100,7 +100,7 @@ fn three_len(before: u8, first: &[u8], second: &[u8], third: &[u8]) -> u128
 
 #[tactic(auto, unfolding(crate::specs::Written::written_message))]
 fn kexinit_len(kexinit: &KexInit<'_>) -> u128
-    ensures { result ≡ length (written_message (content.KexInit (offer_of kexinit.now))) }
+    ensures { result ≡ length (written_message (content.KexInit (kexinit_data kexinit.now))) }
 {
     let cookie = kexinit.cookie;
     let cookie_len = cookie.as_slice().len() as u128;
@@ -119,14 +119,14 @@ fn kexinit_len(kexinit: &KexInit<'_>) -> u128
 
 /// The length of a USERAUTH_REQUEST.
 fn request_len(user: &[u8], service: &[u8], method: &Method<'_>) -> u128
-    ensures { result ≡ length (written_message (content.UserauthRequest user.now service.now (method_of method.now))) }
+    ensures { result ≡ length (written_message (content.UserauthRequest user.now service.now (method_data method.now))) }
 {
     two_len(1, user, service) + method_len(method)
 }
 
 /// The name of a method and its fields.
 fn method_len(method: &Method<'_>) -> u128
-    ensures len { result ≡ length (string (method_name (method_of method.now)) ++ method_fields (method_of method.now)) }
+    ensures len { result ≡ length (string (method_name (method_data method.now)) ++ method_fields (method_data method.now)) }
     ensures bounded { result < 2 ^ 68 }
 {
     match method {

@@ -4,10 +4,10 @@
 
 ghost use Rattle.std.specs.Prelude.{◌≡◌, IfErr, IfOk, [], vec_capacity};
 ghost use Rattle.sshwire.specs.TypeReadings.{Gives};
-ghost use Rattle.sshmsg.specs.Content as content;
+ghost use Rattle.sshmsg.specs.MessageData as content;
 ghost use Rattle.sshmsg.specs.Form.{Reserved, bytes_at, field_at, form_at};
 ghost use Rattle.sshmsg.specs.Messages.{ext_info, extensions, kexinit, userauth_failure, whole_form};
-ghost use Rattle.sshmsg.specs.View.{Answers, Goes, LendsPairs, Passes, WantsMemory, lent_offer, offer_of, pair_of, pairs_of};
+ghost use Rattle.sshmsg.specs.View.{Goes, IsOutOfMemory, LendsPairs, MessageAnswer, Passes, kexinit_data, lent_kexinit_data, pair_of, pairs_of};
 ghost use Rattle.sshmsg.specs.Lists.{end_at, four_at, offer_with, pair_at, ten_at, two_at};
 
 use crate::fault::MsgFault;
@@ -36,8 +36,8 @@ struct LentKexInit<'a> {
 
 /// Reads the fields of a KEXINIT.
 pub(crate) fn read_kexinit<'a>(alloc: Global, fields: &'a [u8]) -> Result<Message<'a>, MsgFault>
-    ensures exact { Answers result (whole_form SSH_MSG_KEXINIT (form_at kexinit fields.now)) }
-    ensures memory { WantsMemory result (whole_form SSH_MSG_KEXINIT (form_at kexinit fields.now)) }
+    ensures exact { MessageAnswer result (whole_form SSH_MSG_KEXINIT (form_at kexinit fields.now)) }
+    ensures memory { IsOutOfMemory result (whole_form SSH_MSG_KEXINIT (form_at kexinit fields.now)) }
 {
     let mut reader = Reader::new(fields);
     let Ok(lent) = lend_kexinit(&mut reader) else {
@@ -54,7 +54,7 @@ pub(crate) fn read_kexinit<'a>(alloc: Global, fields: &'a [u8]) -> Result<Messag
 
 /// Reads what a KEXINIT says, with nothing owned.
 fn lend_kexinit<'a>(reader: &mut Reader<'a>) -> Result<LentKexInit<'a>, WireFault>
-    ensures { Goes (λ k. content.KexInit (lent_offer k)) result reader.new (form_at kexinit reader.old) }
+    ensures { Goes (λ k. content.KexInit (lent_kexinit_data k)) result reader.new (form_at kexinit reader.old) }
 {
     let cookie = read_cookie(reader)?;
     let lists = lend_ten(reader)?;
@@ -74,7 +74,7 @@ type LentTen<'a> = ((LentTwo<'a>, LentFour<'a>), LentFour<'a>);
 
 /// The KEXINIT that says this, all of it lent.
 fn lent_kexinit<'a>(cookie: &'a [u8; 16], lists: LentTen<'a>, follows: bool) -> LentKexInit<'a>
-    ensures { lent_offer result ≡ offer_with cookie.now lists.entry follows }
+    ensures { lent_kexinit_data result ≡ offer_with cookie.now lists.entry follows }
 {
     let ((algorithms, (encryption, mac)), (compression, languages)) = lists;
     LentKexInit {
@@ -136,7 +136,7 @@ fn read_end(reader: &mut Reader<'_>) -> Result<bool, WireFault>
 
 /// The KEXINIT with lists of its own, in a box.
 fn own_kexinit<'a>(alloc: Global, lent: &LentKexInit<'a>) -> Result<Box<KexInit<'a>>, Memory>
-    ensures { IfOk result (λ k. offer_of k.value ≡ lent_offer lent.now) }
+    ensures { IfOk result (λ k. kexinit_data k.value ≡ lent_kexinit_data lent.now) }
 {
     let lists = own_lists(alloc, lent)?;
     Ok(Box::new(alloc, owned_kexinit(lent, lists))?)
@@ -153,7 +153,7 @@ type Ten = ((Two, Four), Four);
 
 /// The KEXINIT with these lists.
 fn owned_kexinit<'a>(lent: &LentKexInit<'a>, lists: Ten) -> KexInit<'a>
-    ensures { offer_of result ≡ offer_with lent.now.cookie.now lists lent.now.first_kex_packet_follows }
+    ensures { kexinit_data result ≡ offer_with lent.now.cookie.now lists lent.now.first_kex_packet_follows }
 {
     let ((algorithms, (encryption, mac)), (compression, languages)) = lists;
     KexInit {
@@ -174,7 +174,7 @@ fn owned_kexinit<'a>(lent: &LentKexInit<'a>, lists: Ten) -> KexInit<'a>
 
 /// The lists of a KEXINIT, owned.
 fn own_lists(alloc: Global, lent: &LentKexInit<'_>) -> Result<Ten, Memory>
-    ensures { IfOk result (λ lists. offer_with lent.now.cookie.now lists lent.now.first_kex_packet_follows ≡ lent_offer lent.now) }
+    ensures { IfOk result (λ lists. offer_with lent.now.cookie.now lists lent.now.first_kex_packet_follows ≡ lent_kexinit_data lent.now) }
 {
     let two = own_two(
         alloc,
@@ -258,8 +258,8 @@ pub(crate) fn read_userauth_failure<'a>(
     alloc: Global,
     fields: &'a [u8],
 ) -> Result<Message<'a>, MsgFault>
-    ensures exact { Answers result (whole_form SSH_MSG_USERAUTH_FAILURE (form_at userauth_failure fields.now)) }
-    ensures memory { WantsMemory result (whole_form SSH_MSG_USERAUTH_FAILURE (form_at userauth_failure fields.now)) }
+    ensures exact { MessageAnswer result (whole_form SSH_MSG_USERAUTH_FAILURE (form_at userauth_failure fields.now)) }
+    ensures memory { IsOutOfMemory result (whole_form SSH_MSG_USERAUTH_FAILURE (form_at userauth_failure fields.now)) }
 {
     let mut reader = Reader::new(fields);
     let Ok((methods, partial_success)) = lend_userauth_failure(&mut reader) else {
@@ -290,8 +290,8 @@ fn lend_userauth_failure<'a>(
 
 /// Reads the fields of an EXT_INFO.
 pub(crate) fn read_ext_info<'a>(alloc: Global, fields: &'a [u8]) -> Result<Message<'a>, MsgFault>
-    ensures exact { Answers result (whole_form SSH_MSG_EXT_INFO (form_at ext_info fields.now)) }
-    ensures memory { WantsMemory result (whole_form SSH_MSG_EXT_INFO (form_at ext_info fields.now)) }
+    ensures exact { MessageAnswer result (whole_form SSH_MSG_EXT_INFO (form_at ext_info fields.now)) }
+    ensures memory { IsOutOfMemory result (whole_form SSH_MSG_EXT_INFO (form_at ext_info fields.now)) }
 {
     let mut reader = Reader::new(fields);
     let Ok((count, mut pairs)) = lend_ext_info(&mut reader) else {

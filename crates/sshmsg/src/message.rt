@@ -148,12 +148,12 @@ pub enum Method<'a> {
 
 impl<'a> Method<'a> {
     ghost use Rattle.std.specs.Prelude.{length};
-    ghost use Rattle.sshmsg.specs.View.{method_of};
+    ghost use Rattle.sshmsg.specs.View.{method_data};
     ghost use Rattle.sshmsg.specs.Written.{method_name};
 
     /// The name of the method. Takes no memory.
     pub fn name(&self) -> &'a [u8]
-        ensures { result.now ≡ method_name (method_of self.now) }
+        ensures { result.now ≡ method_name (method_data self.now) }
     {
         match self {
             Method::None => b"none",

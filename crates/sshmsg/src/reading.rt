@@ -2,11 +2,11 @@
 
 ghost use Rattle.std.specs.Prelude.{◌≡◌, ◌≢◌, ℕ, IfErr, IfOk, List, Ok, []};
 ghost use Rattle.sshwire.specs.declared.share_form.ShareForm.TheVariants.{Mpint};
-ghost use Rattle.sshmsg.specs.Content.{Content, UserauthRequest};
+ghost use Rattle.sshmsg.specs.MessageData.{MessageData, UserauthRequest};
 ghost use Rattle.sshmsg.specs.Form.{Reserved, bytes_at, field_at, form_at, utf8_at};
 ghost use Rattle.sshmsg.specs.Messages.{Spells, debug, disconnect, form_of, ignore, in_form, init_of, kex_ecdh_init, kex_ecdh_reply, kexdh_init, kexdh_reply, message_in, method_form, password, publickey, reply_of, service_accept, service_request, unimplemented, userauth_banner, userauth_pk_ok, userauth_request, userauth_success};
 ghost use Rattle.sshmsg.specs.Numbers.{HasNoList};
-ghost use Rattle.sshmsg.specs.View.{Answers, Goes, ReadsNumbered, WantsMemory, content_of, method_of};
+ghost use Rattle.sshmsg.specs.View.{Goes, IsOutOfMemory, MessageAnswer, ReadsNumbered, message_data, method_data};
 
 use crate::fault::MsgFault;
 use crate::lists::{read_ext_info, read_kexinit, read_userauth_failure};
@@ -30,10 +30,10 @@ use std::str;
 /// bytes. It takes memory for EXT_INFO, KEXINIT and USERAUTH_FAILURE alone, whose lists are owned:
 /// `Memory` comes where the payload spells one of them and a growth was refused.
 pub fn read<'a>(alloc: Global, payload: &'a [u8]) -> Result<Message<'a>, MsgFault>
-    ensures found { IfOk result (λ m. Spells Mpint (content_of m) payload.now) }
-    ensures only { (m : Content) → Spells Mpint m payload.now → Answers result (Ok m) }
-    ensures exact { Answers result (message_in Mpint payload.now) }
-    ensures memory { WantsMemory result (message_in Mpint payload.now) }
+    ensures found { IfOk result (λ m. Spells Mpint (message_data m) payload.now) }
+    ensures only { (m : MessageData) → Spells Mpint m payload.now → MessageAnswer result (Ok m) }
+    ensures exact { MessageAnswer result (message_in Mpint payload.now) }
+    ensures memory { IsOutOfMemory result (message_in Mpint payload.now) }
 {
     read_exchange(alloc, payload, ShareForm::Mpint)
 }
@@ -46,10 +46,10 @@ pub fn read_exchange<'a>(
     payload: &'a [u8],
     form: ShareForm,
 ) -> Result<Message<'a>, MsgFault>
-    ensures found { IfOk result (λ m. Spells form (content_of m) payload.now) }
-    ensures only { (m : Content) → Spells form m payload.now → Answers result (Ok m) }
-    ensures exact { Answers result (message_in form payload.now) }
-    ensures memory { WantsMemory result (message_in form payload.now) }
+    ensures found { IfOk result (λ m. Spells form (message_data m) payload.now) }
+    ensures only { (m : MessageData) → Spells form m payload.now → MessageAnswer result (Ok m) }
+    ensures exact { MessageAnswer result (message_in form payload.now) }
+    ensures memory { IsOutOfMemory result (message_in form payload.now) }
 {
     crate::law::messages_law();
     read_payload(alloc, payload, form)
@@ -61,8 +61,8 @@ fn read_payload<'a>(
     payload: &'a [u8],
     form: ShareForm,
 ) -> Result<Message<'a>, MsgFault>
-    ensures exact { Answers result (message_in form payload.now) }
-    ensures memory { WantsMemory result (message_in form payload.now) }
+    ensures exact { MessageAnswer result (message_in form payload.now) }
+    ensures memory { IsOutOfMemory result (message_in form payload.now) }
 {
     let Some((number, fields)) = payload.split_first() else {
         return Err(MsgFault::Malformed(0));
@@ -78,7 +78,7 @@ fn read_payload<'a>(
 /// Reads the fields of a message that holds no list.
 fn read_lent<'a>(number: u8, fields: &'a [u8], form: ShareForm) -> Result<Message<'a>, MsgFault>
     requires { HasNoList number }
-    ensures exact { Answers result (in_form number fields.now (form_of form number)) }
+    ensures exact { MessageAnswer result (in_form number fields.now (form_of form number)) }
     ensures no_memory { IfErr result (λ e. e ≢ MsgFault.Memory) }
 {
     let mut reader = Reader::new(fields);
@@ -126,7 +126,7 @@ fn read_numbered<'a>(
 
 #[tactic(auto, unfolding(crate::specs::Messages::disconnect))]
 fn read_disconnect<'a>(reader: &mut Reader<'a>) -> Result<Message<'a>, WireFault>
-    ensures { Goes content_of result reader.new (form_at disconnect reader.old) }
+    ensures { Goes message_data result reader.new (form_at disconnect reader.old) }
 {
     let reason = reader.u32()?;
     let description = reader.string()?;
@@ -140,7 +140,7 @@ fn read_disconnect<'a>(reader: &mut Reader<'a>) -> Result<Message<'a>, WireFault
 
 #[tactic(auto, unfolding(crate::specs::Messages::ignore))]
 fn read_ignore<'a>(reader: &mut Reader<'a>) -> Result<Message<'a>, WireFault>
-    ensures { Goes content_of result reader.new (form_at ignore reader.old) }
+    ensures { Goes message_data result reader.new (form_at ignore reader.old) }
 {
     let content = reader.string()?;
     Ok(Message::Ignore { content })
@@ -148,7 +148,7 @@ fn read_ignore<'a>(reader: &mut Reader<'a>) -> Result<Message<'a>, WireFault>
 
 #[tactic(auto, unfolding(crate::specs::Messages::unimplemented))]
 fn read_unimplemented<'a>(reader: &mut Reader<'a>) -> Result<Message<'a>, WireFault>
-    ensures { Goes content_of result reader.new (form_at unimplemented reader.old) }
+    ensures { Goes message_data result reader.new (form_at unimplemented reader.old) }
 {
     let sequence_number = reader.u32()?;
     Ok(Message::Unimplemented { sequence_number })
@@ -156,7 +156,7 @@ fn read_unimplemented<'a>(reader: &mut Reader<'a>) -> Result<Message<'a>, WireFa
 
 #[tactic(auto, unfolding(crate::specs::Messages::debug))]
 fn read_debug<'a>(reader: &mut Reader<'a>) -> Result<Message<'a>, WireFault>
-    ensures { Goes content_of result reader.new (form_at debug reader.old) }
+    ensures { Goes message_data result reader.new (form_at debug reader.old) }
 {
     let always_display = reader.boolean()?;
     let text = reader.string()?;
@@ -170,7 +170,7 @@ fn read_debug<'a>(reader: &mut Reader<'a>) -> Result<Message<'a>, WireFault>
 
 #[tactic(auto, unfolding(crate::specs::Messages::service_request))]
 fn read_service_request<'a>(reader: &mut Reader<'a>) -> Result<Message<'a>, WireFault>
-    ensures { Goes content_of result reader.new (form_at service_request reader.old) }
+    ensures { Goes message_data result reader.new (form_at service_request reader.old) }
 {
     let service = reader.string()?;
     Ok(Message::ServiceRequest { service })
@@ -178,7 +178,7 @@ fn read_service_request<'a>(reader: &mut Reader<'a>) -> Result<Message<'a>, Wire
 
 #[tactic(auto, unfolding(crate::specs::Messages::service_accept))]
 fn read_service_accept<'a>(reader: &mut Reader<'a>) -> Result<Message<'a>, WireFault>
-    ensures { Goes content_of result reader.new (form_at service_accept reader.old) }
+    ensures { Goes message_data result reader.new (form_at service_accept reader.old) }
 {
     let service = reader.string()?;
     Ok(Message::ServiceAccept { service })
@@ -186,7 +186,7 @@ fn read_service_accept<'a>(reader: &mut Reader<'a>) -> Result<Message<'a>, WireF
 
 /// The client's share.
 fn read_init<'a>(form: ShareForm, reader: &mut Reader<'a>) -> Result<Message<'a>, WireFault>
-    ensures { Goes content_of result reader.new (form_at (init_of form) reader.old) }
+    ensures { Goes message_data result reader.new (form_at (init_of form) reader.old) }
 {
     match form {
         ShareForm::Mpint => read_kexdh_init(reader),
@@ -197,7 +197,7 @@ fn read_init<'a>(form: ShareForm, reader: &mut Reader<'a>) -> Result<Message<'a>
 
 /// The server's host key, share and signature.
 fn read_reply<'a>(form: ShareForm, reader: &mut Reader<'a>) -> Result<Message<'a>, WireFault>
-    ensures { Goes content_of result reader.new (form_at (reply_of form) reader.old) }
+    ensures { Goes message_data result reader.new (form_at (reply_of form) reader.old) }
 {
     match form {
         ShareForm::Mpint => read_kexdh_reply(reader),
@@ -208,7 +208,7 @@ fn read_reply<'a>(form: ShareForm, reader: &mut Reader<'a>) -> Result<Message<'a
 
 #[tactic(auto, unfolding(crate::specs::Messages::kexdh_init))]
 fn read_kexdh_init<'a>(reader: &mut Reader<'a>) -> Result<Message<'a>, WireFault>
-    ensures { Goes content_of result reader.new (form_at kexdh_init reader.old) }
+    ensures { Goes message_data result reader.new (form_at kexdh_init reader.old) }
 {
     let e = reader.mpint()?;
     Ok(Message::KexdhInit { e })
@@ -216,7 +216,7 @@ fn read_kexdh_init<'a>(reader: &mut Reader<'a>) -> Result<Message<'a>, WireFault
 
 #[tactic(auto, unfolding(crate::specs::Messages::kexdh_reply))]
 fn read_kexdh_reply<'a>(reader: &mut Reader<'a>) -> Result<Message<'a>, WireFault>
-    ensures { Goes content_of result reader.new (form_at kexdh_reply reader.old) }
+    ensures { Goes message_data result reader.new (form_at kexdh_reply reader.old) }
 {
     let host_key = reader.string()?;
     let f = reader.mpint()?;
@@ -230,7 +230,7 @@ fn read_kexdh_reply<'a>(reader: &mut Reader<'a>) -> Result<Message<'a>, WireFaul
 
 #[tactic(auto, unfolding(crate::specs::Messages::kex_ecdh_init))]
 fn read_kex_ecdh_init<'a>(reader: &mut Reader<'a>) -> Result<Message<'a>, WireFault>
-    ensures { Goes content_of result reader.new (form_at kex_ecdh_init reader.old) }
+    ensures { Goes message_data result reader.new (form_at kex_ecdh_init reader.old) }
 {
     let client_share = reader.string()?;
     Ok(Message::KexEcdhInit { client_share })
@@ -238,7 +238,7 @@ fn read_kex_ecdh_init<'a>(reader: &mut Reader<'a>) -> Result<Message<'a>, WireFa
 
 #[tactic(auto, unfolding(crate::specs::Messages::kex_ecdh_reply))]
 fn read_kex_ecdh_reply<'a>(reader: &mut Reader<'a>) -> Result<Message<'a>, WireFault>
-    ensures { Goes content_of result reader.new (form_at kex_ecdh_reply reader.old) }
+    ensures { Goes message_data result reader.new (form_at kex_ecdh_reply reader.old) }
 {
     let host_key = reader.string()?;
     let server_share = reader.string()?;
@@ -252,7 +252,7 @@ fn read_kex_ecdh_reply<'a>(reader: &mut Reader<'a>) -> Result<Message<'a>, WireF
 
 #[tactic(auto, unfolding(crate::specs::Messages::userauth_banner))]
 fn read_userauth_banner<'a>(reader: &mut Reader<'a>) -> Result<Message<'a>, WireFault>
-    ensures { Goes content_of result reader.new (form_at userauth_banner reader.old) }
+    ensures { Goes message_data result reader.new (form_at userauth_banner reader.old) }
 {
     let text = reader.string()?;
     let language = reader.string()?;
@@ -261,7 +261,7 @@ fn read_userauth_banner<'a>(reader: &mut Reader<'a>) -> Result<Message<'a>, Wire
 
 #[tactic(auto, unfolding(crate::specs::Messages::userauth_pk_ok))]
 fn read_userauth_pk_ok<'a>(reader: &mut Reader<'a>) -> Result<Message<'a>, WireFault>
-    ensures { Goes content_of result reader.new (form_at userauth_pk_ok reader.old) }
+    ensures { Goes message_data result reader.new (form_at userauth_pk_ok reader.old) }
 {
     let algorithm = reader.string()?;
     let key = reader.string()?;
@@ -270,7 +270,7 @@ fn read_userauth_pk_ok<'a>(reader: &mut Reader<'a>) -> Result<Message<'a>, WireF
 
 #[tactic(auto, unfolding(crate::specs::Messages::userauth_request))]
 fn read_userauth_request<'a>(reader: &mut Reader<'a>) -> Result<Message<'a>, WireFault>
-    ensures { Goes content_of result reader.new (form_at userauth_request reader.old) }
+    ensures { Goes message_data result reader.new (form_at userauth_request reader.old) }
 {
     let user = read_user(reader)?;
     let service = reader.string()?;
@@ -285,7 +285,7 @@ fn read_userauth_request<'a>(reader: &mut Reader<'a>) -> Result<Message<'a>, Wir
 
 /// Reads the fields of the method with this name.
 fn read_method<'a>(name: &'a [u8], reader: &mut Reader<'a>) -> Result<Method<'a>, WireFault>
-    ensures { (user service : List ℕ) → Goes (λ m. UserauthRequest user service (method_of m)) result reader.new
+    ensures { (user service : List ℕ) → Goes (λ m. UserauthRequest user service (method_data m)) result reader.new
         (form_at (method_form user service name.now) reader.old) }
 {
     if name == b"none".as_slice() {
@@ -304,7 +304,7 @@ fn read_method<'a>(name: &'a [u8], reader: &mut Reader<'a>) -> Result<Method<'a>
 
 #[tactic(auto, unfolding(crate::specs::Messages::password))]
 fn read_password<'a>(reader: &mut Reader<'a>) -> Result<Method<'a>, WireFault>
-    ensures { (user service : List ℕ) → Goes (λ m. UserauthRequest user service (method_of m)) result reader.new
+    ensures { (user service : List ℕ) → Goes (λ m. UserauthRequest user service (method_data m)) result reader.new
         (form_at (password user service) reader.old) }
 {
     if reader.boolean()? {
@@ -318,7 +318,7 @@ fn read_password<'a>(reader: &mut Reader<'a>) -> Result<Method<'a>, WireFault>
 
 #[tactic(auto, unfolding(crate::specs::Messages::publickey))]
 fn read_publickey<'a>(reader: &mut Reader<'a>) -> Result<Method<'a>, WireFault>
-    ensures { (user service : List ℕ) → Goes (λ m. UserauthRequest user service (method_of m)) result reader.new
+    ensures { (user service : List ℕ) → Goes (λ m. UserauthRequest user service (method_data m)) result reader.new
         (form_at (publickey user service) reader.old) }
 {
     let signed = reader.boolean()?;

@@ -4,10 +4,10 @@ ghost use Rattle.sshwire.specs.declared.limits.TheConstants.{PAYLOAD_LIMIT};
 ghost use Rattle.std.specs.Prelude.{◌≡◌, ◌≤◌, ◌++◌, ◌∷◌, [], OnErr, OnOk, if◌then◌else◌, is_ok, length, string_bytes, take};
 ghost use Rattle.sshwire.specs.Types.{string};
 ghost use Rattle.sshwire.specs.declared.share_form.ShareForm.{ShareForm};
-ghost use Rattle.sshmsg.specs.Content as content;
+ghost use Rattle.sshmsg.specs.MessageData as content;
 ghost use Rattle.sshmsg.specs.Lists.{AreFour, AreLists, AreTwo, four_written, lists_written, two_written};
 ghost use Rattle.sshmsg.specs.Messages.{Spells};
-ghost use Rattle.sshmsg.specs.View.{content_of, method_of, offer_of, pair_of, pairs_of};
+ghost use Rattle.sshmsg.specs.View.{kexinit_data, message_data, method_data, pair_of, pairs_of};
 ghost use Rattle.sshmsg.specs.Written.{IsMessageOf, IsMethod, IsWellFormed, method_fields, pair_written, pairs_written, written_message};
 
 use crate::message::{Extension, KexInit, Message, Method};
@@ -26,11 +26,11 @@ use sshwire::{Memory, Mpint, NameList, put_boolean, put_string, put_u32};
 /// The caller's condition is that the message [`fits`](Message::fits). For want of memory the vector
 /// is unchanged; room is asked for once.
 pub fn write(message: &Message<'_>, out: &mut Vec<u8>) -> Result<(), Memory>
-    requires { length (written_message (content_of message.now)) ≤ PAYLOAD_LIMIT }
-    ensures appends { out.new.items ≡ (if is_ok result then out.old.items ++ written_message (content_of message.now) else out.old.items) }
+    requires { length (written_message (message_data message.now)) ≤ PAYLOAD_LIMIT }
+    ensures appends { out.new.items ≡ (if is_ok result then out.old.items ++ written_message (message_data message.now) else out.old.items) }
     // What is appended spells the message under each form that has it, and so is read again as it.
-    ensures spells { OnOk result ((form : ShareForm) → IsMessageOf form (content_of message.now)
-        → Spells form (content_of message.now) (written_message (content_of message.now))) }
+    ensures spells { OnOk result ((form : ShareForm) → IsMessageOf form (message_data message.now)
+        → Spells form (message_data message.now) (written_message (message_data message.now))) }
 {
     crate::law::written_law();
     let start = out.len();
@@ -45,9 +45,9 @@ pub fn write(message: &Message<'_>, out: &mut Vec<u8>) -> Result<(), Memory>
 /// Appends a message; for want of memory a prefix of it may stand there, as with every function below.
 #[tactic(auto, unfolding(crate::specs::Written::written_message))]
 fn put_message(out: &mut Vec<u8>, message: &Message<'_>) -> Result<(), Memory>
-    requires { length (written_message (content_of message.now)) ≤ PAYLOAD_LIMIT }
-    ensures ok { OnOk result (out.new.items ≡ out.old.items ++ written_message (content_of message.now)) }
-    ensures well { OnOk result (IsWellFormed (content_of message.now)) }
+    requires { length (written_message (message_data message.now)) ≤ PAYLOAD_LIMIT }
+    ensures ok { OnOk result (out.new.items ≡ out.old.items ++ written_message (message_data message.now)) }
+    ensures well { OnOk result (IsWellFormed (message_data message.now)) }
     ensures err { OnErr result (take (length out.old.items) out.new.items ≡ out.old.items) }
 {
     match message {
@@ -221,8 +221,8 @@ fn put_debug(
 
 #[tactic(auto, unfolding(crate::specs::Written::written_message))]
 fn put_kexinit(out: &mut Vec<u8>, kexinit: &KexInit<'_>) -> Result<(), Memory>
-    ensures ok { OnOk result (out.new.items ≡ out.old.items ++ written_message (content.KexInit (offer_of kexinit.now))) }
-    ensures well { OnOk result (IsWellFormed (content.KexInit (offer_of kexinit.now))) }
+    ensures ok { OnOk result (out.new.items ≡ out.old.items ++ written_message (content.KexInit (kexinit_data kexinit.now))) }
+    ensures well { OnOk result (IsWellFormed (content.KexInit (kexinit_data kexinit.now))) }
     ensures err { OnErr result (take (length out.old.items) out.new.items ≡ out.old.items) }
 {
     let cookie = kexinit.cookie;
@@ -236,8 +236,8 @@ fn put_kexinit(out: &mut Vec<u8>, kexinit: &KexInit<'_>) -> Result<(), Memory>
 
 /// The ten lists of a KEXINIT.
 fn put_lists(out: &mut Vec<u8>, kexinit: &KexInit<'_>) -> Result<(), Memory>
-    ensures ok { OnOk result (out.new.items ≡ out.old.items ++ lists_written (offer_of kexinit.now)) }
-    ensures well { OnOk result (AreLists (offer_of kexinit.now)) }
+    ensures ok { OnOk result (out.new.items ≡ out.old.items ++ lists_written (kexinit_data kexinit.now)) }
+    ensures well { OnOk result (AreLists (kexinit_data kexinit.now)) }
     ensures err { OnErr result (take (length out.old.items) out.new.items ≡ out.old.items) }
 {
     put_two_lists(
@@ -309,9 +309,9 @@ fn put_userauth_request(
     service: &[u8],
     method: &Method<'_>,
 ) -> Result<(), Memory>
-    requires { length (written_message (content.UserauthRequest user.now service.now (method_of method.now))) ≤ PAYLOAD_LIMIT }
-    ensures ok { OnOk result (out.new.items ≡ out.old.items ++ written_message (content.UserauthRequest user.now service.now (method_of method.now))) }
-    ensures well { OnOk result (IsWellFormed (content.UserauthRequest user.now service.now (method_of method.now))) }
+    requires { length (written_message (content.UserauthRequest user.now service.now (method_data method.now))) ≤ PAYLOAD_LIMIT }
+    ensures ok { OnOk result (out.new.items ≡ out.old.items ++ written_message (content.UserauthRequest user.now service.now (method_data method.now))) }
+    ensures well { OnOk result (IsWellFormed (content.UserauthRequest user.now service.now (method_data method.now))) }
     ensures err { OnErr result (take (length out.old.items) out.new.items ≡ out.old.items) }
 {
     put_three_strings(
@@ -326,9 +326,9 @@ fn put_userauth_request(
 
 /// Appends the fields of a method, which stand behind its name.
 fn put_method_fields(out: &mut Vec<u8>, method: &Method<'_>) -> Result<(), Memory>
-    requires { length (method_fields (method_of method.now)) ≤ PAYLOAD_LIMIT }
-    ensures ok { OnOk result (out.new.items ≡ out.old.items ++ method_fields (method_of method.now)) }
-    ensures well { IsMethod (method_of method.now) }
+    requires { length (method_fields (method_data method.now)) ≤ PAYLOAD_LIMIT }
+    ensures ok { OnOk result (out.new.items ≡ out.old.items ++ method_fields (method_data method.now)) }
+    ensures well { IsMethod (method_data method.now) }
     ensures err { OnErr result (take (length out.old.items) out.new.items ≡ out.old.items) }
 {
     match method {

@@ -2,13 +2,13 @@
 
 use Rattle.std.proofs.Common.{◌≡◌, ℕ, zero, suc, ◌<◌, ◌≤◌, ◌⊎◌, inl, inr, List, Option, None, Some, Result, Ok, Err, refl, sym, ap, ◌∙◌, arith, ltb}
 use Rattle.std.proofs.lemmas.Bool.{cases_Bool, ltb-false, ltb-true}
-use Rattle.sshmsg.specs.Content.{Offer}
-use Rattle.sshpacket.specs.Suite.{Meaning}
+use Rattle.sshmsg.specs.MessageData.{KexInitData}
+use Rattle.sshpacket.specs.Suite.{SuiteData}
 use Rattle.sshneg.specs.declared.choice.NoCommon.{NoCommon}
 use Rattle.sshneg.specs.declared.choice.NoCommon.TheVariants as field
 use Rattle.sshneg.specs.Choice.{HasChoice, IsChoice, IsFirstWithout, IsHostKeyFor, IsKex, IsOnBoth}
 use Rattle.sshneg.specs.ChoiceReadings.{choice, choice_of_directions, first_common, host_key_choice, kex_choice, with_name}
-use Rattle.sshneg.specs.Fields.{Algorithms, order_of}
+use Rattle.sshneg.specs.Fields.{AlgorithmsData, order_of}
 use Rattle.sshneg.proofs.ChoiceLemmas.{common_both, common_complete, common_found, common_sound, host_key_complete, host_key_found, host_key_sound, kex_complete, kex_sound, some_same}
 use Rattle.sshneg.proofs.FirstLemmas.{first_contained}
 
@@ -26,15 +26,15 @@ by_field P p₀ p₁ p₂ p₃ p₄ p₅ p₆ p₇ field.CompressionClientToServ
 by_field P p₀ p₁ p₂ p₃ p₄ p₅ p₆ p₇ field.CompressionServerToClient = p₇
 
 -- a name was found in each field
-with_ok : (f : NoCommon) (o : Option (List ℕ)) (next : List ℕ → Result Algorithms NoCommon) (a : Algorithms) → with_name f o next ≡ Ok a
+with_ok : (f : NoCommon) (o : Option (List ℕ)) (next : List ℕ → Result AlgorithmsData NoCommon) (a : AlgorithmsData) → with_name f o next ≡ Ok a
     → (n : List ℕ) × (o ≡ Some n) × (next n ≡ Ok a)
 with_ok f (Some n) next a e = (n, refl, e)
 with_ok f None next a e = cc
 
-ok_same : (x a : Algorithms) → ◌≡◌ {A = Result Algorithms NoCommon} (Ok x) (Ok a) → x ≡ a
+ok_same : (x a : AlgorithmsData) → ◌≡◌ {A = Result AlgorithmsData NoCommon} (Ok x) (Ok a) → x ≡ a
 ok_same x a e = cc
 
-pub choice_sound : (m : Meaning) (client server : Offer) (a : Algorithms) → choice m client server ≡ Ok a → IsChoice m client server a
+pub choice_sound : (m : SuiteData) (client server : KexInitData) (a : AlgorithmsData) → choice m client server ≡ Ok a → IsChoice m client server a
 unfolding choice choice_of_directions
 choice_sound m client server a e =
     let s₀ = with_ok field.Kex (kex_choice m client server) _ a e in
@@ -55,7 +55,7 @@ choice_sound m client server a e =
     (common_sound client.compression_client_to_server server.compression_client_to_server s₆.0 s₆.1)
     (common_sound client.compression_server_to_client server.compression_server_to_client s₇.0 s₇.1))
 
-pub choice_complete : (m : Meaning) (client server : Offer) (a : Algorithms) → IsChoice m client server a → choice m client server ≡ Ok a
+pub choice_complete : (m : SuiteData) (client server : KexInitData) (a : AlgorithmsData) → IsChoice m client server a → choice m client server ≡ Ok a
 unfolding choice choice_of_directions
 choice_complete m client server a is = rw (
   kex_complete m client server a.kex (is field.Kex),
@@ -68,7 +68,7 @@ choice_complete m client server a is = rw (
   common_complete client.compression_server_to_client server.compression_server_to_client a.compression_server_to_client (is field.CompressionServerToClient),
 ) refl
 
-err_same : (f g : NoCommon) → ◌≡◌ {A = Result Algorithms NoCommon} (Err f) (Err g) → f ≡ g
+err_same : (f g : NoCommon) → ◌≡◌ {A = Result AlgorithmsData NoCommon} (Err f) (Err g) → f ≡ g
 err_same f g e = cc
 
 -- a field is known by its place
@@ -89,7 +89,7 @@ at_order f = by_field (λ g. field_at (order_of g) ≡ g) refl refl refl refl re
 pub one_order : (f g : NoCommon) → order_of f ≡ order_of g → f ≡ g
 one_order f g e = sym (at_order f) ∙ (ap (λ (n : ℕ). field_at n) e ∙ at_order g)
 
-one_more : (m : Meaning) (client server : Offer) (g : NoCommon) → ((f : NoCommon) → order_of f < order_of g → HasChoice m client server f)
+one_more : (m : SuiteData) (client server : KexInitData) (g : NoCommon) → ((f : NoCommon) → order_of f < order_of g → HasChoice m client server f)
     → HasChoice m client server g → (f : NoCommon) → order_of f < suc (order_of g) → HasChoice m client server f
 one_more m client server g before here f less = elim (cases_Bool (ltb (order_of f) (order_of g))) [
   | inl t ↦ before f (ltb-true _ _ t)
@@ -100,7 +100,7 @@ one_more m client server g before here f less = elim (cases_Bool (ltb (order_of 
 ]
 
 -- no field before this one is without a choice, or it is the first without one
-with_err : (m : Meaning) (client server : Offer) (g : NoCommon) (o : Option (List ℕ)) (next : List ℕ → Result Algorithms NoCommon) (r : NoCommon)
+with_err : (m : SuiteData) (client server : KexInitData) (g : NoCommon) (o : Option (List ℕ)) (next : List ℕ → Result AlgorithmsData NoCommon) (r : NoCommon)
     → ((f : NoCommon) → order_of f < order_of g → HasChoice m client server f)
     → ((n : List ℕ) → o ≡ Some n → HasChoice m client server g)
     → (o ≡ None → HasChoice m client server g → ⊥)
@@ -113,20 +113,20 @@ with_err m client server g (Some n) next r before has hasnt e =
     inr (n, refl, e, λ f less. one_more m client server g before (has n refl) f less)
 
 -- one method at most
-pub one_kex : (m : Meaning) (client server : Offer) (kex other : List ℕ) → IsKex m client server kex → IsKex m client server other → kex ≡ other
+pub one_kex : (m : SuiteData) (client server : KexInitData) (kex other : List ℕ) → IsKex m client server kex → IsKex m client server other → kex ≡ other
 one_kex m client server kex other a b = some_same kex other (sym (kex_complete m client server kex a) ∙ kex_complete m client server other b)
 
 none_some : (o : Option (List ℕ)) (n : List ℕ) → o ≡ None → o ≡ Some n → ⊥
 none_some o n e f = let bad : None ≡ Some n = sym e ∙ f in cc
 
 -- what each field has
-kex_has : (m : Meaning) (client server : Offer) (n : List ℕ) → kex_choice m client server ≡ Some n → HasChoice m client server field.Kex
+kex_has : (m : SuiteData) (client server : KexInitData) (n : List ℕ) → kex_choice m client server ≡ Some n → HasChoice m client server field.Kex
 kex_has m client server n e = (n, kex_sound m client server n e)
 
-kex_hasnt : (m : Meaning) (client server : Offer) → kex_choice m client server ≡ None → HasChoice m client server field.Kex → ⊥
+kex_hasnt : (m : SuiteData) (client server : KexInitData) → kex_choice m client server ≡ None → HasChoice m client server field.Kex → ⊥
 kex_hasnt m client server e has = none_some _ has.0 e (kex_complete m client server has.0 has.1)
 
-host_key_has : (m : Meaning) (client server : Offer) (kex n : List ℕ) → IsKex m client server kex → host_key_choice m client server kex ≡ Some n
+host_key_has : (m : SuiteData) (client server : KexInitData) (kex n : List ℕ) → IsKex m client server kex → host_key_choice m client server kex ≡ Some n
     → HasChoice m client server field.HostKey
 host_key_has m client server kex n is e =
     let first = host_key_sound m client server kex n e in
@@ -138,7 +138,7 @@ host_key_has m client server kex n is e =
       is_host_key = first.is_allowed;
     }
 
-host_key_hasnt : (m : Meaning) (client server : Offer) (kex : List ℕ) → IsKex m client server kex → host_key_choice m client server kex ≡ None
+host_key_hasnt : (m : SuiteData) (client server : KexInitData) (kex : List ℕ) → IsKex m client server kex → host_key_choice m client server kex ≡ None
     → HasChoice m client server field.HostKey → ⊥
 host_key_hasnt m client server kex is e has =
     let same : has.kex ≡ kex = one_kex m client server has.kex kex has.is_kex is in
@@ -153,7 +153,7 @@ common_hasnt : (client server : List (List ℕ)) → first_common client server 
 common_hasnt client server e has = let found = common_found client server has in none_some _ found.0 e found.1
 
 -- one of the six fields whose lists are searched for a common name
-common_err : (m : Meaning) (client server : Offer) (g : NoCommon) (own other : List (List ℕ)) (next : List ℕ → Result Algorithms NoCommon) (r : NoCommon)
+common_err : (m : SuiteData) (client server : KexInitData) (g : NoCommon) (own other : List (List ℕ)) (next : List ℕ → Result AlgorithmsData NoCommon) (r : NoCommon)
     → HasChoice m client server g ≡ ((k : List ℕ) × IsOnBoth own other k)
     → ((f : NoCommon) → order_of f < order_of g → HasChoice m client server f)
     → with_name g (first_common own other) next ≡ Err r
@@ -166,7 +166,7 @@ common_err m client server g own other next r is before e =
       | inr (n, found, rest, more) ↦ inr (n, rest, more)
     ]
 
-pub without_sound : (m : Meaning) (client server : Offer) (r : NoCommon) → choice m client server ≡ Err r → IsFirstWithout m client server r
+pub without_sound : (m : SuiteData) (client server : KexInitData) (r : NoCommon) → choice m client server ≡ Err r → IsFirstWithout m client server r
 unfolding choice choice_of_directions
 without_sound m client server r e =
     elim (with_err m client server field.Kex (kex_choice m client server) _ r (λ f less. absurd (omega (arith, less)))
@@ -199,7 +199,7 @@ without_sound m client server r e =
           ]
     ]
 
-pub choice_steps : (m : Meaning) (client server : Offer) (n h : List ℕ) → kex_choice m client server ≡ Some n → host_key_choice m client server n ≡ Some h
+pub choice_steps : (m : SuiteData) (client server : KexInitData) (n h : List ℕ) → kex_choice m client server ≡ Some n → host_key_choice m client server n ≡ Some h
     → choice m client server ≡ choice_of_directions client server n h
 unfolding choice
 choice_steps m client server n h e f = rw (e, f) refl

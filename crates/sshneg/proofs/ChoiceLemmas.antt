@@ -4,12 +4,12 @@ use Rattle.std.proofs.Common.{◌≡◌, ℕ, inl, inr, Bool, true, false, not, 
 use Rattle.std.specs.List.{Contains, list_any}
 use Rattle.std.proofs.lemmas.Bool.{and_from, and_parts, cases_Bool, or_cases, or_left, or_right}
 use Rattle.std.proofs.lemmas.Slice.Eq.{bytes_eq-Decides}
-use Rattle.sshmsg.specs.Content.{Offer}
-use Rattle.sshpacket.specs.Suite.{Meaning}
+use Rattle.sshmsg.specs.MessageData.{KexInitData}
+use Rattle.sshpacket.specs.Suite.{SuiteData}
 use Rattle.sshneg.specs.Choice.{AreFirstMethods, IsFirst, IsHostKeyFor, IsKex, IsOnBoth, IsUsable, SameFirst, FirstUsable, serves}
 use Rattle.sshneg.specs.ChoiceReadings.{first_common, host_key_choice, is_in, is_served, kex_choice, same_first}
 use Rattle.sshneg.specs.Markers.{first_name, is_marker, methods, same_name}
-use Rattle.sshneg.proofs.FirstLemmas.{Tests, contains_behind, contains_cases, contains_here, contains_in, contains_none, first_contained, first_found, found_first, in_both, in_contains, none_found}
+use Rattle.sshneg.proofs.FirstLemmas.{Tests, contains_after, contains_cases, contains_here, contains_in, contains_none, first_contained, first_found, found_first, in_both, in_contains, none_found}
 
 -- a name is a method or a marker
 method_here : (x : List ℕ) (xs : List (List ℕ)) → is_marker x ≡ false → methods (x ∷ xs) ≡ x ∷ methods xs
@@ -21,12 +21,12 @@ marker_here x xs t = rw t refl
 pub method_listed : (names : List (List ℕ)) (n : List ℕ) → Contains (methods names) n → Contains names n × (is_marker n ≡ false)
 method_listed [] n c = contains_none n c
 method_listed (x ∷ xs) n c = elim (cases_Bool (is_marker x)) [
-  | inl t ↦ let d : Contains (methods xs) n = rw (marker_here x xs t) at c in let rest = method_listed xs n d in (contains_behind x xs n rest.0, rest.1)
+  | inl t ↦ let d : Contains (methods xs) n = rw (marker_here x xs t) at c in let rest = method_listed xs n d in (contains_after x xs n rest.0, rest.1)
   | inr f ↦
       let here : Contains (x ∷ methods xs) n = rw (method_here x xs f) at c in
       elim (contains_cases x (methods xs) n here) [
         | inl same ↦ (rw (← same) (contains_here x xs), rw (← same) f)
-        | inr d ↦ let rest = method_listed xs n d in (contains_behind x xs n rest.0, rest.1)
+        | inr d ↦ let rest = method_listed xs n d in (contains_after x xs n rest.0, rest.1)
       ]
 ]
 
@@ -39,7 +39,7 @@ listed_method (x ∷ xs) n c f = elim (cases_Bool (is_marker x)) [
   ])
   | inr g ↦ rw (method_here x xs g) (elim (contains_cases x xs n c) [
     | inl same ↦ rw (← same) (contains_here x (methods xs))
-    | inr d ↦ contains_behind x (methods xs) n (listed_method xs n d f)
+    | inr d ↦ contains_after x (methods xs) n (listed_method xs n d f)
   ])
 ]
 
@@ -97,7 +97,7 @@ any_some : (test : List ℕ → Bool) (names : List (List ℕ)) → list_any tes
 any_some test [] e = cc
 any_some test (x ∷ xs) e = elim (or_cases (test x) (list_any test xs) e) [
   | inl t ↦ (x, contains_here x xs, t)
-  | inr t ↦ let rest = any_some test xs t in (rest.0, contains_behind x xs rest.0 rest.1, rest.2)
+  | inr t ↦ let rest = any_some test xs t in (rest.0, contains_after x xs rest.0 rest.1, rest.2)
 ]
 
 some_any : (test : List ℕ → Bool) (names : List (List ℕ)) (n : List ℕ) → Contains names n → test n ≡ true → list_any test names ≡ true
@@ -108,7 +108,7 @@ some_any test (x ∷ xs) n c t = elim (contains_cases x xs n c) [
 ]
 
 -- some host key algorithm of both sides has what the method needs
-pub able_tested : (m : Meaning) (server : Offer) (kex : List ℕ)
+pub able_tested : (m : SuiteData) (server : KexInitData) (kex : List ℕ)
     → Tests (λ n. is_in server.server_host_key_algorithms n && serves (m.need kex) (m.can n)) (IsHostKeyFor m server kex)
 able_tested m server kex n = (
   λ e.
@@ -117,20 +117,20 @@ able_tested m server kex n = (
   λ is. and_from _ _ (in_contains server.server_host_key_algorithms n is.of_server) is.able,
 )
 
-served_by : (m : Meaning) (client server : Offer) (kex : List ℕ) → is_served m client server kex ≡ true
+served_by : (m : SuiteData) (client server : KexInitData) (kex : List ℕ) → is_served m client server kex ≡ true
     → (n : List ℕ) × Contains client.server_host_key_algorithms n × IsHostKeyFor m server kex n
 served_by m client server kex e =
     let some = any_some (λ n. is_in server.server_host_key_algorithms n && serves (m.need kex) (m.can n)) client.server_host_key_algorithms e in
     (some.0, some.1, (able_tested m server kex some.0).0 some.2)
 
-by_served : (m : Meaning) (client server : Offer) (kex n : List ℕ) → Contains client.server_host_key_algorithms n → IsHostKeyFor m server kex n
+by_served : (m : SuiteData) (client server : KexInitData) (kex n : List ℕ) → Contains client.server_host_key_algorithms n → IsHostKeyFor m server kex n
     → is_served m client server kex ≡ true
 by_served m client server kex n c is =
     some_any (λ k. is_in server.server_host_key_algorithms k && serves (m.need kex) (m.can k)) client.server_host_key_algorithms n c
     ((able_tested m server kex n).1 is)
 
 -- the test of methods
-pub usable_tested : (m : Meaning) (client server : Offer)
+pub usable_tested : (m : SuiteData) (client server : KexInitData)
     → Tests (λ n. is_in (methods server.kex_algorithms) n && is_served m client server n) (IsUsable m client server)
 usable_tested m client server n = (
   λ e.
@@ -163,17 +163,17 @@ pub first_contains : (names : List (List ℕ)) (n : List ℕ) → first_name nam
 first_contains [] n e = cc
 first_contains (x ∷ xs) n e = let same : x ≡ n = some_same x n e in rw (← same) (contains_here x xs)
 
-pub first_same : (client server : Offer) → same_first client server ≡ true → (n : List ℕ) × AreFirstMethods client server n
+pub first_same : (client server : KexInitData) → same_first client server ≡ true → (n : List ℕ) × AreFirstMethods client server n
 first_same client server e =
     let both = same_by (first_name (methods client.kex_algorithms)) (first_name (methods server.kex_algorithms)) e in
     (both.0, record { of_client = both.1; of_server = both.2 })
 
-pub same_firsts : (client server : Offer) (n : List ℕ) → AreFirstMethods client server n → same_first client server ≡ true
+pub same_firsts : (client server : KexInitData) (n : List ℕ) → AreFirstMethods client server n → same_first client server ≡ true
 same_firsts client server n are =
     by_same (first_name (methods client.kex_algorithms)) (first_name (methods server.kex_algorithms)) n are.of_client are.of_server
 
 -- the key exchange method
-pub kex_sound : (m : Meaning) (client server : Offer) (n : List ℕ) → kex_choice m client server ≡ Some n → IsKex m client server n
+pub kex_sound : (m : SuiteData) (client server : KexInitData) (n : List ℕ) → kex_choice m client server ≡ Some n → IsKex m client server n
 kex_sound m client server n e = elim (cases_Bool (same_first client server)) [
   | inl t ↦
       let first : first_name (methods client.kex_algorithms) ≡ Some n = rw t at e in
@@ -188,7 +188,7 @@ kex_sound m client server n e = elim (cases_Bool (same_first client server)) [
       (usable_tested m client server) (methods client.kex_algorithms) n found)
 ]
 
-pub kex_complete : (m : Meaning) (client server : Offer) (n : List ℕ) → IsKex m client server n → kex_choice m client server ≡ Some n
+pub kex_complete : (m : SuiteData) (client server : KexInitData) (n : List ℕ) → IsKex m client server n → kex_choice m client server ≡ Some n
 kex_complete m client server n (SameFirst are) = rw (same_firsts client server n are) are.of_client
 kex_complete m client server n (FirstUsable none first) = elim (cases_Bool (same_first client server)) [
   | inl t ↦ let are = first_same client server t in absurd (none are.0 are.1)
@@ -199,7 +199,7 @@ kex_complete m client server n (FirstUsable none first) = elim (cases_Bool (same
 ]
 
 -- the method is among the client's methods and the server's
-pub kex_both : (m : Meaning) (client server : Offer) (n : List ℕ) → IsKex m client server n
+pub kex_both : (m : SuiteData) (client server : KexInitData) (n : List ℕ) → IsKex m client server n
     → IsOnBoth (methods client.kex_algorithms) (methods server.kex_algorithms) n
 kex_both m client server n (SameFirst are) = record {
   of_client = first_contains (methods client.kex_algorithms) n are.of_client;
@@ -211,19 +211,19 @@ kex_both m client server n (FirstUsable none first) = record {
 }
 
 -- the host key algorithm
-pub host_key_sound : (m : Meaning) (client server : Offer) (kex n : List ℕ) → host_key_choice m client server kex ≡ Some n
+pub host_key_sound : (m : SuiteData) (client server : KexInitData) (kex n : List ℕ) → host_key_choice m client server kex ≡ Some n
     → IsFirst (IsHostKeyFor m server kex) client.server_host_key_algorithms n
 host_key_sound m client server kex n e =
     found_first (λ k. is_in server.server_host_key_algorithms k && serves (m.need kex) (m.can k)) (IsHostKeyFor m server kex)
     (able_tested m server kex) client.server_host_key_algorithms n e
 
-pub host_key_complete : (m : Meaning) (client server : Offer) (kex n : List ℕ)
+pub host_key_complete : (m : SuiteData) (client server : KexInitData) (kex n : List ℕ)
     → IsFirst (IsHostKeyFor m server kex) client.server_host_key_algorithms n → host_key_choice m client server kex ≡ Some n
 host_key_complete m client server kex n first =
     first_found (λ k. is_in server.server_host_key_algorithms k && serves (m.need kex) (m.can k)) (IsHostKeyFor m server kex)
     (able_tested m server kex) client.server_host_key_algorithms n first
 
-pub host_key_found : (m : Meaning) (client server : Offer) (kex n : List ℕ) → Contains client.server_host_key_algorithms n
+pub host_key_found : (m : SuiteData) (client server : KexInitData) (kex n : List ℕ) → Contains client.server_host_key_algorithms n
     → IsHostKeyFor m server kex n → (k : List ℕ) × (host_key_choice m client server kex ≡ Some k)
 host_key_found m client server kex n c is =
     finds_one (λ k. is_in server.server_host_key_algorithms k && serves (m.need kex) (m.can k)) client.server_host_key_algorithms n c

@@ -3,8 +3,8 @@
 use Rattle.std.proofs.Common.{◌≡◌, ℕ, inl, inr, true, false, List, [], ◌∷◌, ◌++◌, Result, Ok, Err, refl, sym, ap, ◌∙◌, ◌↔◌}
 use Rattle.std.specs.List.{Contains}
 use Rattle.std.proofs.lemmas.Bool.{cases_Bool}
-use Rattle.sshmsg.specs.Content.{Offer}
-use Rattle.sshpacket.specs.Suite.{Meaning}
+use Rattle.sshmsg.specs.MessageData.{KexInitData}
+use Rattle.sshpacket.specs.Suite.{SuiteData}
 use Rattle.sshneg.specs.declared.choice.NoCommon.{NoCommon}
 use Rattle.sshneg.specs.declared.choice.NoCommon.TheVariants as field
 use Rattle.sshneg.specs.declared.role.Role.{Role}
@@ -12,13 +12,13 @@ use Rattle.sshneg.specs.declared.role.Role.TheVariants.{Client, Server}
 use Rattle.sshneg.specs.Choice.{AreFirstMethods, FirstUsable, HasChoice, IsAlgorithm, IsChoice, IsFirst, IsFirstWithout, IsHostKeyFor, IsKex, IsOnBoth, IsUsable, SameFirst}
 use Rattle.sshneg.specs.ChoiceLaw.{OfferAlike, OfferSame}
 use Rattle.sshneg.specs.ChoiceReadings.{choice, choice_of_directions}
-use Rattle.sshneg.specs.Fields.{Algorithms, name_of}
+use Rattle.sshneg.specs.Fields.{AlgorithmsData, name_of}
 use Rattle.sshneg.specs.Markers.{is_marker, methods, strict_marker}
 use Rattle.sshneg.proofs.ChoiceFacts.{without_complete}
 use Rattle.sshneg.proofs.ChoiceLaws.{by_field, choice_complete, choice_sound, without_sound}
-use Rattle.sshneg.proofs.FirstLemmas.{contains_behind, contains_here}
+use Rattle.sshneg.proofs.FirstLemmas.{contains_after, contains_here}
 
-other_way : (server other : Offer) → OfferAlike server other → OfferAlike other server
+other_way : (server other : KexInitData) → OfferAlike server other → OfferAlike other server
 other_way server other alike = record {
   first = sym alike.first;
   same = λ f n. ((alike.same f n).1, (alike.same f n).0);
@@ -29,16 +29,16 @@ first_alike : (allowed other : List ℕ → Type 0) → ((n : List ℕ) → allo
     → (names : List (List ℕ)) (n : List ℕ) → IsFirst allowed names n → IsFirst other names n
 first_alike allowed other there back names n first = record {
   before = first.before;
-  behind = first.behind;
+  after = first.after;
   parts = first.parts;
   is_allowed = there n first.is_allowed;
   none_before = λ k c a. first.none_before k c (back k a);
 }
 
-host_key_alike : (m : Meaning) (server other : Offer) → OfferAlike server other → (kex n : List ℕ) → IsHostKeyFor m server kex n → IsHostKeyFor m other kex n
+host_key_alike : (m : SuiteData) (server other : KexInitData) → OfferAlike server other → (kex n : List ℕ) → IsHostKeyFor m server kex n → IsHostKeyFor m other kex n
 host_key_alike m server other alike kex n is = record { of_server = (alike.same field.HostKey n).0 is.of_server; able = is.able }
 
-usable_alike : (m : Meaning) (client server other : Offer) → OfferAlike server other → (n : List ℕ) → IsUsable m client server n → IsUsable m client other n
+usable_alike : (m : SuiteData) (client server other : KexInitData) → OfferAlike server other → (n : List ℕ) → IsUsable m client server n → IsUsable m client other n
 usable_alike m client server other alike n is = record {
   of_server = (alike.same field.Kex n).0 is.of_server;
   host_key = is.host_key;
@@ -46,10 +46,10 @@ usable_alike m client server other alike n is = record {
   is_host_key = host_key_alike m server other alike n is.host_key is.is_host_key;
 }
 
-firsts_alike : (client server other : Offer) → OfferAlike server other → (n : List ℕ) → AreFirstMethods client server n → AreFirstMethods client other n
+firsts_alike : (client server other : KexInitData) → OfferAlike server other → (n : List ℕ) → AreFirstMethods client server n → AreFirstMethods client other n
 firsts_alike client server other alike n are = record { of_client = are.of_client; of_server = sym alike.first ∙ are.of_server }
 
-kex_alike : (m : Meaning) (client server other : Offer) → OfferAlike server other → (n : List ℕ) → IsKex m client server n → IsKex m client other n
+kex_alike : (m : SuiteData) (client server other : KexInitData) → OfferAlike server other → (n : List ℕ) → IsKex m client server n → IsKex m client other n
 kex_alike m client server other alike n (SameFirst are) = SameFirst (firsts_alike client server other alike n are)
 kex_alike m client server other alike n (FirstUsable none first) =
     let back = other_way server other alike in
@@ -62,7 +62,7 @@ common_alike : (client own other : List (List ℕ)) → ((n : List ℕ) → Cont
     → IsFirst (Contains own) client n → IsFirst (Contains other) client n
 common_alike client own other same n first = first_alike (Contains own) (Contains other) (λ k. (same k).0) (λ k. (same k).1) client n first
 
-choice_alike : (m : Meaning) (client server other : Offer) → OfferAlike server other → (a : Algorithms) → IsChoice m client server a → IsChoice m client other a
+choice_alike : (m : SuiteData) (client server other : KexInitData) → OfferAlike server other → (a : AlgorithmsData) → IsChoice m client server a → IsChoice m client other a
 choice_alike m client server other alike a is = by_field (λ f. IsAlgorithm m client other a.kex f (name_of f a))
     (kex_alike m client server other alike a.kex (is field.Kex))
     (first_alike (IsHostKeyFor m server a.kex) (IsHostKeyFor m other a.kex) (host_key_alike m server other alike a.kex)
@@ -78,7 +78,7 @@ both_alike : (client own other : List (List ℕ)) → ((n : List ℕ) → Contai
     → ((n : List ℕ) × IsOnBoth client own n) → (n : List ℕ) × IsOnBoth client other n
 both_alike client own other same (n, both) = (n, record { of_client = both.of_client; of_server = (same n).0 both.of_server })
 
-has_alike : (m : Meaning) (client server other : Offer) → OfferAlike server other → (f : NoCommon) → HasChoice m client server f → HasChoice m client other f
+has_alike : (m : SuiteData) (client server other : KexInitData) → OfferAlike server other → (f : NoCommon) → HasChoice m client server f → HasChoice m client other f
 has_alike m client server other alike = by_field (λ f. HasChoice m client server f → HasChoice m client other f)
     (λ has. (has.0, kex_alike m client server other alike has.0 has.1))
     (λ has. record {
@@ -95,23 +95,23 @@ has_alike m client server other alike = by_field (λ f. HasChoice m client serve
     (both_alike _ _ _ (alike.same field.CompressionClientToServer))
     (both_alike _ _ _ (alike.same field.CompressionServerToClient))
 
-without_alike : (m : Meaning) (client server other : Offer) → OfferAlike server other → (f : NoCommon) → IsFirstWithout m client server f
+without_alike : (m : SuiteData) (client server other : KexInitData) → OfferAlike server other → (f : NoCommon) → IsFirstWithout m client server f
     → IsFirstWithout m client other f
 without_alike m client server other alike f first = record {
   before = λ g less. has_alike m client server other alike g (first.before g less);
   without = λ has. first.without (has_alike m client other server (other_way server other alike) f has);
 }
 
-order_by : (m : Meaning) (client server other : Offer) → OfferAlike server other → (r : Result Algorithms NoCommon) → choice m client server ≡ r
+order_by : (m : SuiteData) (client server other : KexInitData) → OfferAlike server other → (r : Result AlgorithmsData NoCommon) → choice m client server ≡ r
     → choice m client other ≡ r
 order_by m client server other alike (Ok a) e = choice_complete m client other a (choice_alike m client server other alike a (choice_sound m client server a e))
 order_by m client server other alike (Err f) e = without_complete m client other f (without_alike m client server other alike f (without_sound m client server f e))
 
-pub order : (m : Meaning) (client server other : Offer) → OfferAlike server other → choice m client server ≡ choice m client other
+pub order : (m : SuiteData) (client server other : KexInitData) → OfferAlike server other → choice m client server ≡ choice m client other
 order m client server other alike = sym (order_by m client server other alike (choice m client server) refl)
 
 -- what the client offers matters by its algorithms alone
-pub offered : (m : Meaning) (client other server : Offer) → OfferSame client other → choice m client server ≡ choice m other server
+pub offered : (m : SuiteData) (client other server : KexInitData) → OfferSame client other → choice m client server ≡ choice m other server
 unfolding choice choice_of_directions
 offered m client other server same = rw (
   same field.Kex,
@@ -129,15 +129,15 @@ pub marker : (role : Role) → is_marker (strict_marker role) ≡ true
 marker Client = refl
 marker Server = refl
 
-pub added : (name : List ℕ) (before behind : List (List ℕ)) → is_marker name ≡ true → methods (before ++ name ∷ behind) ≡ methods (before ++ behind)
-added name [] behind t = rw t refl
-added name (x ∷ xs) behind t = elim (cases_Bool (is_marker x)) [
-  | inl m ↦ rw m (added name xs behind t)
-  | inr f ↦ rw f (ap (λ (names : List (List ℕ)). x ∷ names) (added name xs behind t))
+pub added : (name : List ℕ) (before after : List (List ℕ)) → is_marker name ≡ true → methods (before ++ name ∷ after) ≡ methods (before ++ after)
+added name [] after t = rw t refl
+added name (x ∷ xs) after t = elim (cases_Bool (is_marker x)) [
+  | inl m ↦ rw m (added name xs after t)
+  | inr f ↦ rw f (ap (λ (names : List (List ℕ)). x ∷ names) (added name xs after t))
 ]
 
 pub unmarked : (names : List (List ℕ)) → ((name : List ℕ) → Contains names name → is_marker name ≡ false) → methods names ≡ names
 unmarked [] none = refl
 unmarked (x ∷ xs) none =
     let here : is_marker x ≡ false = none x (contains_here x xs) in
-    rw here (ap (λ (names : List (List ℕ)). x ∷ names) (unmarked xs (λ n c. none n (contains_behind x xs n c))))
+    rw here (ap (λ (names : List (List ℕ)). x ∷ names) (unmarked xs (λ n c. none n (contains_after x xs n c))))

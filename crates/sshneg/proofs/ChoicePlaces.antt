@@ -5,15 +5,15 @@ use Rattle.std.specs.List.{Contains, slice_get}
 use Rattle.std.proofs.lemmas.Bool.{and_from}
 use Rattle.std.proofs.lemmas.List.Elements.{Contains-append_right}
 use Rattle.sshwire.specs.Types.{AreNames, IsName}
-use Rattle.sshmsg.specs.Content.{Offer}
-use Rattle.sshpacket.specs.Suite.{Meaning}
+use Rattle.sshmsg.specs.MessageData.{KexInitData}
+use Rattle.sshpacket.specs.Suite.{SuiteData}
 use Rattle.sshneg.specs.declared.choice.Chosen.{Chosen}
 use Rattle.sshneg.specs.declared.choice.NoCommon.{NoCommon}
 use Rattle.sshneg.specs.declared.choice.NoCommon.TheVariants as field
 use Rattle.sshneg.specs.Choice.{ArePositions, FirstUsable, IsChoice, IsFirst, IsHostKeyFor, IsKex, IsPosition, IsUsable, SameFirst, ChoiceAnswer, serves}
 use Rattle.sshneg.specs.ChoiceLaw.{AreEarliest, IsAllowed, StandsAt}
 use Rattle.sshneg.specs.ChoiceReadings.{answer, answered, choice, is_in, is_served, kex_choice, position_in, positions}
-use Rattle.sshneg.specs.Fields.{Algorithms, list_of, name_of, position_of}
+use Rattle.sshneg.specs.Fields.{AlgorithmsData, list_of, name_of, position_of}
 use Rattle.sshneg.specs.Markers.{is_marker, methods}
 use Rattle.sshneg.proofs.ChoiceFacts.{listed, without_complete}
 use Rattle.sshneg.proofs.ChoiceLaws.{by_field, choice_complete, choice_sound, without_sound}
@@ -21,7 +21,7 @@ use Rattle.sshneg.proofs.ChoiceLemmas.{able_tested, common_complete, find_method
 use Rattle.sshneg.proofs.FirstLemmas.{before_place, contains_cases, contains_here, contains_none, first_found, found_first, has_position, in_contains, one_position, position_gets}
 
 -- the names stand in the client's lists as sent
-pub sent : (m : Meaning) (client server : Offer) (a : Algorithms) → IsChoice m client server a → (f : NoCommon) → Contains (list_of f client) (name_of f a)
+pub sent : (m : SuiteData) (client server : KexInitData) (a : AlgorithmsData) → IsChoice m client server a → (f : NoCommon) → Contains (list_of f client) (name_of f a)
 sent m client server a is =
     let each = listed m client server a is in
     by_field (λ f. Contains (list_of f client) (name_of f a))
@@ -41,7 +41,7 @@ name_among (x ∷ xs) n are c = elim (contains_cases x xs n c) [
   | inr d ↦ name_among xs n are.1 d
 ]
 
-pub well : (m : Meaning) (client server : Offer) (a : Algorithms) → IsChoice m client server a
+pub well : (m : SuiteData) (client server : KexInitData) (a : AlgorithmsData) → IsChoice m client server a
     → (f : NoCommon) → AreNames (list_of f client) → IsName (name_of f a)
 well m client server a is f are = name_among (list_of f client) (name_of f a) are (sent m client server a is f)
 
@@ -52,9 +52,9 @@ earliest_found test names n e p at i k less gets t =
     let first = found_first test (λ x. test x ≡ true) (λ x. (λ y. y, λ y. y)) names n e in
     let here : p ≡ position_in names n = one_position names n p at in
     let less₁ : i < position_in names n = rw (← here) less in
-    first.none_before k (before_place names n i k less₁ gets first.before first.behind first.parts) t
+    first.none_before k (before_place names n i k less₁ gets first.before first.after first.parts) t
 
-kex_earliest : (m : Meaning) (client server : Offer) (n : List ℕ) (p : ℕ) → IsKex m client server n → IsPosition client.kex_algorithms n p
+kex_earliest : (m : SuiteData) (client server : KexInitData) (n : List ℕ) (p : ℕ) → IsKex m client server n → IsPosition client.kex_algorithms n p
     → (i : ℕ) (k : List ℕ) → i < p → slice_get client.kex_algorithms i ≡ Some k → IsUsable m client server k → ⊥
 kex_earliest m client server n p (SameFirst are) at i k less gets usable =
     let unmarked : not (is_marker k) ≡ true = rw ((method_listed server.kex_algorithms k usable.of_server).1) refl in
@@ -66,7 +66,7 @@ kex_earliest m client server n p (FirstUsable none first) at i k less gets usabl
     earliest_found (λ x. not (is_marker x) && test x) client.kex_algorithms n (sym (find_methods test client.kex_algorithms) ∙ found) p at i k less gets
     (and_from _ _ unmarked ((usable_tested m client server k).1 usable))
 
-host_key_earliest : (m : Meaning) (client server : Offer) (kex n : List ℕ) (p : ℕ)
+host_key_earliest : (m : SuiteData) (client server : KexInitData) (kex n : List ℕ) (p : ℕ)
     → IsFirst (IsHostKeyFor m server kex) client.server_host_key_algorithms n → IsPosition client.server_host_key_algorithms n p
     → (i : ℕ) (k : List ℕ) → i < p → slice_get client.server_host_key_algorithms i ≡ Some k → IsHostKeyFor m server kex k → ⊥
 host_key_earliest m client server kex n p first at i k less gets is =
@@ -78,7 +78,7 @@ common_earliest : (client server : List (List ℕ)) (n : List ℕ) (p : ℕ) →
 common_earliest client server n p first at i k less gets is =
     earliest_found (λ x. is_in server x) client n (common_complete client server n first) p at i k less gets (in_contains server k is)
 
-pub earliest : (m : Meaning) (client server : Offer) (a : Algorithms) (chosen : Chosen) → IsChoice m client server a → ArePositions client a chosen
+pub earliest : (m : SuiteData) (client server : KexInitData) (a : AlgorithmsData) (chosen : Chosen) → IsChoice m client server a → ArePositions client a chosen
     → AreEarliest m client server a chosen
 earliest m client server a chosen is at = by_field
     (λ f. (i : ℕ) (name : List ℕ) → i < position_of f chosen → slice_get (list_of f client) i ≡ Some name → IsAllowed m client server a.kex f name → ⊥)
@@ -99,17 +99,17 @@ got_within (x ∷ xs) (suc i) n e = let rec : i < length xs = got_within xs i n 
 
 position_stands : (names : List (List ℕ)) (n : List ℕ) (p : ℕ) → IsPosition names n p → StandsAt names n p
 position_stands names n p at =
-    let c : Contains names n = rw at.parts (Contains-append_right at.before (n ∷ at.behind) n (contains_here n at.behind)) in
+    let c : Contains names n = rw at.parts (Contains-append_right at.before (n ∷ at.after) n (contains_here n at.after)) in
     let here : p ≡ position_in names n = one_position names n p at in
     let gets : slice_get names p ≡ Some n = rw here (position_gets names n c) in
     record { within = got_within names p n gets; gets = gets }
 
-pub stands : (client : Offer) (a : Algorithms) (chosen : Chosen) → ArePositions client a chosen
+pub stands : (client : KexInitData) (a : AlgorithmsData) (chosen : Chosen) → ArePositions client a chosen
     → (f : NoCommon) → StandsAt (list_of f client) (name_of f a) (position_of f chosen)
 stands client a chosen at f = position_stands (list_of f client) (name_of f a) (position_of f chosen) (at f)
 
 -- the method that is found stands at its position
-pub kex_stands : (m : Meaning) (client server : Offer) (n : List ℕ) (k : ℕ) → kex_choice m client server ≡ Some n
+pub kex_stands : (m : SuiteData) (client server : KexInitData) (n : List ℕ) (k : ℕ) → kex_choice m client server ≡ Some n
     → k ≡ position_in client.kex_algorithms n → StandsAt client.kex_algorithms n k
 kex_stands m client server n k e at =
     let both = kex_both m client server n (kex_sound m client server n e) in
@@ -117,7 +117,7 @@ kex_stands m client server n k e at =
     rw at (position_stands client.kex_algorithms n (position_in client.kex_algorithms n) (has_position client.kex_algorithms n c))
 
 -- positions are those of the first places
-pub are_positions : (m : Meaning) (client server : Offer) (a : Algorithms) → IsChoice m client server a → ArePositions client a (positions client a)
+pub are_positions : (m : SuiteData) (client server : KexInitData) (a : AlgorithmsData) → IsChoice m client server a → ArePositions client a (positions client a)
 are_positions m client server a is =
     let c = sent m client server a is in
     by_field (λ f. IsPosition (list_of f client) (name_of f a) (position_of f (positions client a)))
@@ -130,7 +130,7 @@ are_positions m client server a is =
     (has_position _ _ (c field.CompressionClientToServer))
     (has_position _ _ (c field.CompressionServerToClient))
 
-pub are_those : (client : Offer) (a : Algorithms) (chosen : Chosen) → ArePositions client a chosen → chosen ≡ positions client a
+pub are_those : (client : KexInitData) (a : AlgorithmsData) (chosen : Chosen) → ArePositions client a chosen → chosen ≡ positions client a
 are_those client a chosen at = rw (
   ← one_position _ _ _ (at field.Kex),
   ← one_position _ _ _ (at field.HostKey),
@@ -142,27 +142,27 @@ are_those client a chosen at = rw (
   ← one_position _ _ _ (at field.CompressionServerToClient),
 ) refl
 
-pub placed : (m : Meaning) (client server : Offer) (a : Algorithms) (chosen : Chosen) → IsChoice m client server a
+pub placed : (m : SuiteData) (client server : KexInitData) (a : AlgorithmsData) (chosen : Chosen) → IsChoice m client server a
     → ArePositions client a chosen ↔ (chosen ≡ positions client a)
 placed m client server a chosen is = (are_those client a chosen, λ e. rw e (are_positions m client server a is))
 
 -- an answer tells the truth exactly where it is the function's
-pub tells : (m : Meaning) (client server : Offer) (r : Result Chosen NoCommon) → ChoiceAnswer m client server r → r ≡ answer m client server
+pub tells : (m : SuiteData) (client server : KexInitData) (r : Result Chosen NoCommon) → ChoiceAnswer m client server r → r ≡ answer m client server
 unfolding answer
 tells m client server (Ok chosen) (a, is, at) =
-    ap (λ (c : Chosen). Ok c) (are_those client a chosen at) ∙ sym (ap (λ (x : Result Algorithms NoCommon). answered client x) (choice_complete m client server a is))
-tells m client server (Err f) first = sym (ap (λ (x : Result Algorithms NoCommon). answered client x) (without_complete m client server f first))
+    ap (λ (c : Chosen). Ok c) (are_those client a chosen at) ∙ sym (ap (λ (x : Result AlgorithmsData NoCommon). answered client x) (choice_complete m client server a is))
+tells m client server (Err f) first = sym (ap (λ (x : Result AlgorithmsData NoCommon). answered client x) (without_complete m client server f first))
 
-told_by : (m : Meaning) (client server : Offer) (r : Result Algorithms NoCommon) → choice m client server ≡ r → ChoiceAnswer m client server (answered client r)
+told_by : (m : SuiteData) (client server : KexInitData) (r : Result AlgorithmsData NoCommon) → choice m client server ≡ r → ChoiceAnswer m client server (answered client r)
 told_by m client server (Ok a) e =
     let is = choice_sound m client server a e in (a, is, are_positions m client server a is)
 told_by m client server (Err f) e = without_sound m client server f e
 
-pub told : (m : Meaning) (client server : Offer) → ChoiceAnswer m client server (answer m client server)
+pub told : (m : SuiteData) (client server : KexInitData) → ChoiceAnswer m client server (answer m client server)
 unfolding answer
 told m client server = told_by m client server (choice m client server) refl
 
-pub told_when : (m : Meaning) (client server : Offer) (r : Result Chosen NoCommon) → r ≡ answer m client server → ChoiceAnswer m client server r
+pub told_when : (m : SuiteData) (client server : KexInitData) (r : Result Chosen NoCommon) → r ≡ answer m client server → ChoiceAnswer m client server r
 told_when m client server r e = rw e (told m client server)
 
 same_chosen : (x y : Chosen) → ◌≡◌ {A = Result Chosen NoCommon} (Ok x) (Ok y) → x ≡ y
@@ -172,23 +172,23 @@ same_field : (f g : NoCommon) → ◌≡◌ {A = Result Chosen NoCommon} (Err f)
 same_field f g e = cc
 
 -- the answer has the positions of the names that are chosen, or the field
-answered_ok : (client : Offer) (r : Result Algorithms NoCommon) (chosen : Chosen) → answered client r ≡ Ok chosen
-    → (a : Algorithms) × (r ≡ Ok a) × (chosen ≡ positions client a)
+answered_ok : (client : KexInitData) (r : Result AlgorithmsData NoCommon) (chosen : Chosen) → answered client r ≡ Ok chosen
+    → (a : AlgorithmsData) × (r ≡ Ok a) × (chosen ≡ positions client a)
 answered_ok client (Ok a) chosen e = let same : positions client a ≡ chosen = same_chosen _ _ e in (a, refl, sym same)
 answered_ok client (Err f) chosen e = cc
 
-answered_err : (client : Offer) (r : Result Algorithms NoCommon) (f : NoCommon) → answered client r ≡ Err f → r ≡ Err f
+answered_err : (client : KexInitData) (r : Result AlgorithmsData NoCommon) (f : NoCommon) → answered client r ≡ Err f → r ≡ Err f
 answered_err client (Ok a) f e = cc
 answered_err client (Err g) f e = let same : g ≡ f = same_field _ _ e in ap (λ (h : NoCommon). Err h) same
 
-pub answers : (m : Meaning) (client server : Offer) (chosen : Chosen)
-    → (answer m client server ≡ Ok chosen) ↔ ((a : Algorithms) × (choice m client server ≡ Ok a) × (chosen ≡ positions client a))
+pub answers : (m : SuiteData) (client server : KexInitData) (chosen : Chosen)
+    → (answer m client server ≡ Ok chosen) ↔ ((a : AlgorithmsData) × (choice m client server ≡ Ok a) × (chosen ≡ positions client a))
 unfolding answer
 answers m client server chosen = (
   answered_ok client (choice m client server) chosen,
   λ some. rw (some.1, some.2) refl,
 )
 
-pub refuses : (m : Meaning) (client server : Offer) (f : NoCommon) → (answer m client server ≡ Err f) ↔ (choice m client server ≡ Err f)
+pub refuses : (m : SuiteData) (client server : KexInitData) (f : NoCommon) → (answer m client server ≡ Err f) ↔ (choice m client server ≡ Err f)
 unfolding answer
 refuses m client server f = (answered_err client (choice m client server) f, λ e. rw e refl)

@@ -17,8 +17,8 @@ contains_cases x xs n (suc k, within, e) = inr (k, omega (arith, within), e)
 pub contains_here : (x : List ℕ) (xs : List (List ℕ)) → Contains (x ∷ xs) x
 contains_here x xs = (0, omega arith, refl)
 
-pub contains_behind : (x : List ℕ) (xs : List (List ℕ)) (n : List ℕ) → Contains xs n → Contains (x ∷ xs) n
-contains_behind x xs n c = let within : c.0 < length xs = c.1 in (suc c.0, omega arith, c.2)
+pub contains_after : (x : List ℕ) (xs : List (List ℕ)) (n : List ℕ) → Contains xs n → Contains (x ∷ xs) n
+contains_after x xs n c = let within : c.0 < length xs = c.1 in (suc c.0, omega arith, c.2)
 
 pub contains_none : {A : Type 0} → (n : List ℕ) → Contains [] n → A
 contains_none n c = let within : c.0 < 0 = c.1 in absurd (omega arith)
@@ -28,7 +28,7 @@ pub contains_in : (names : List (List ℕ)) (n : List ℕ) → is_in names n ≡
 contains_in [] n e = cc
 contains_in (x ∷ xs) n e = elim (or_cases (bytes_eq n x) (is_in xs n) e) [
   | inl t ↦ rw ((bytes_eq-Decides n x).0 t) (contains_here x xs)
-  | inr t ↦ contains_behind x xs n (contains_in xs n t)
+  | inr t ↦ contains_after x xs n (contains_in xs n t)
 ]
 
 pub in_contains : (names : List (List ℕ)) (n : List ℕ) → Contains names n → is_in names n ≡ true
@@ -68,12 +68,12 @@ none_found test (x ∷ xs) e n c = elim (cases_Bool (test x)) [
 ]
 
 -- the first that passes is found behind those that don't
-pub finds_behind : (test : List ℕ → Bool) (before behind : List (List ℕ)) (n : List ℕ) → ((k : List ℕ) → Contains before k → test k ≡ false)
-    → test n ≡ true → find test (before ++ n ∷ behind) ≡ Some n
-finds_behind test [] behind n none t = rw t refl
-finds_behind test (x ∷ before) behind n none t =
+pub finds_after : (test : List ℕ → Bool) (before after : List (List ℕ)) (n : List ℕ) → ((k : List ℕ) → Contains before k → test k ≡ false)
+    → test n ≡ true → find test (before ++ n ∷ after) ≡ Some n
+finds_after test [] after n none t = rw t refl
+finds_after test (x ∷ before) after n none t =
     let here : test x ≡ false = none x (contains_here x before) in
-    rw here (finds_behind test before behind n (λ k c. none k (contains_behind x before k c)) t)
+    rw here (finds_after test before after n (λ k c. none k (contains_after x before k c)) t)
 
 -- the test says what is allowed
 abbrev pub Tests : (List ℕ → Bool) → (List ℕ → Type 0) → Type 0
@@ -93,7 +93,7 @@ first_push : (test : List ℕ → Bool) (allowed : List ℕ → Type 0) → Test
     → test x ≡ false → IsFirst allowed xs n → IsFirst allowed (x ∷ xs) n
 first_push test allowed is x xs n f first = record {
   before = x ∷ first.before;
-  behind = first.behind;
+  after = first.after;
   parts = ap (λ (names : List (List ℕ)). x ∷ names) first.parts;
   is_allowed = first.is_allowed;
   none_before = λ k c a. elim (contains_cases x first.before k c) [
@@ -108,7 +108,7 @@ found_first test allowed is [] n e = cc
 found_first test allowed is (x ∷ xs) n e = elim (found_by test x xs n (test x) refl e) [
   | inl p ↦ record {
     before = [];
-    behind = xs;
+    after = xs;
     parts = ap (λ (y : List ℕ). y ∷ xs) p.0;
     is_allowed = (is n).0 p.1;
     none_before = λ k c a. contains_none k c;
@@ -119,7 +119,7 @@ found_first test allowed is (x ∷ xs) n e = elim (found_by test x xs n (test x)
 pub first_found : (test : List ℕ → Bool) (allowed : List ℕ → Type 0) → Tests test allowed → (names : List (List ℕ)) (n : List ℕ)
     → IsFirst allowed names n → find test names ≡ Some n
 first_found test allowed is names n first = rw first.parts (
-    finds_behind test first.before first.behind n
+    finds_after test first.before first.after n
     (λ k c. fails test allowed is k (first.none_before k c))
     (passes test allowed is n first.is_allowed)
     )
@@ -127,7 +127,7 @@ first_found test allowed is names n first = rw first.parts (
 -- the first stands in the list
 pub first_contained : (allowed : List ℕ → Type 0) (names : List (List ℕ)) (n : List ℕ) → IsFirst allowed names n → Contains names n
 first_contained allowed names n first =
-    rw first.parts (Contains-append_right first.before (n ∷ first.behind) n (contains_here n first.behind))
+    rw first.parts (Contains-append_right first.before (n ∷ first.after) n (contains_here n first.after))
 
 -- a name that passes isn't one that doesn't
 pub other_name : (test : List ℕ → Bool) (n x : List ℕ) → test n ≡ true → test x ≡ false → bytes_eq n x ≡ false
@@ -140,7 +140,7 @@ other_name test n x t f = elim (cases_Bool (bytes_eq n x)) [
 position_push : (x : List ℕ) (xs : List (List ℕ)) (n : List ℕ) (i : ℕ) → bytes_eq n x ≡ false → IsPosition xs n i → IsPosition (x ∷ xs) n (suc i)
 position_push x xs n i differs at = record {
   before = x ∷ at.before;
-  behind = at.behind;
+  after = at.after;
   parts = ap (λ (names : List (List ℕ)). x ∷ names) at.parts;
   counted = ap (λ (k : ℕ). suc k) at.counted;
   none_before = λ c. elim (contains_cases x at.before n c) [
@@ -154,7 +154,7 @@ has_position [] n c = contains_none n c
 has_position (x ∷ xs) n c = elim (cases_Bool (bytes_eq n x)) [
   | inl t ↦ rw t record {
     before = [];
-    behind = xs;
+    after = xs;
     parts = ap (λ (y : List ℕ). y ∷ xs) (sym ((bytes_eq-Decides n x).0 t));
     counted = refl;
     none_before = λ c. contains_none n c;
@@ -167,15 +167,15 @@ has_position (x ∷ xs) n c = elim (cases_Bool (bytes_eq n x)) [
       rw f (position_push x xs n (position_in xs n) f (has_position xs n rest))
 ]
 
-counted_behind : (before behind : List (List ℕ)) (n : List ℕ) → (Contains before n → ⊥) → position_in (before ++ n ∷ behind) n ≡ length before
-counted_behind [] behind n none = rw ((bytes_eq-Decides n n).1 refl) refl
-counted_behind (x ∷ before) behind n none = elim (cases_Bool (bytes_eq n x)) [
+counted_after : (before after : List (List ℕ)) (n : List ℕ) → (Contains before n → ⊥) → position_in (before ++ n ∷ after) n ≡ length before
+counted_after [] after n none = rw ((bytes_eq-Decides n n).1 refl) refl
+counted_after (x ∷ before) after n none = elim (cases_Bool (bytes_eq n x)) [
   | inl t ↦ let c : Contains (x ∷ before) n = rw ((bytes_eq-Decides n x).0 t) (contains_here x before) in absurd (none c)
-  | inr f ↦ rw f (ap (λ (k : ℕ). suc k) (counted_behind before behind n (λ c. none (contains_behind x before n c))))
+  | inr f ↦ rw f (ap (λ (k : ℕ). suc k) (counted_after before after n (λ c. none (contains_after x before n c))))
 ]
 
 pub one_position : (names : List (List ℕ)) (n : List ℕ) (i : ℕ) → IsPosition names n i → i ≡ position_in names n
-one_position names n i at = at.counted ∙ sym (rw at.parts (counted_behind at.before at.behind n at.none_before))
+one_position names n i at = at.counted ∙ sym (rw at.parts (counted_after at.before at.after n at.none_before))
 
 pub position_gets : (names : List (List ℕ)) (n : List ℕ) → Contains names n → slice_get names (position_in names n) ≡ Some n
 position_gets [] n c = contains_none n c
@@ -187,27 +187,27 @@ position_gets (x ∷ xs) n c = elim (cases_Bool (bytes_eq n x)) [
   ]
 ]
 
-early_by : (x : List ℕ) (before behind : List (List ℕ)) (n : List ℕ) (i : ℕ) (k : List ℕ) → i < suc (position_in (before ++ n ∷ behind) n)
-    → slice_get (x ∷ (before ++ n ∷ behind)) i ≡ Some k
-    → ((j : ℕ) → j < position_in (before ++ n ∷ behind) n → slice_get (before ++ n ∷ behind) j ≡ Some k → Contains before k)
+early_by : (x : List ℕ) (before after : List (List ℕ)) (n : List ℕ) (i : ℕ) (k : List ℕ) → i < suc (position_in (before ++ n ∷ after) n)
+    → slice_get (x ∷ (before ++ n ∷ after)) i ≡ Some k
+    → ((j : ℕ) → j < position_in (before ++ n ∷ after) n → slice_get (before ++ n ∷ after) j ≡ Some k → Contains before k)
     → Contains (x ∷ before) k
-early_by x before behind n zero k less at rec = let same : x ≡ k = cc in rw (← same) (contains_here x before)
-early_by x before behind n (suc i) k less at rec = contains_behind x before k (rec i (omega (arith, less)) at)
+early_by x before after n zero k less at rec = let same : x ≡ k = cc in rw (← same) (contains_here x before)
+early_by x before after n (suc i) k less at rec = contains_after x before k (rec i (omega (arith, less)) at)
 
-early : (before behind : List (List ℕ)) (n : List ℕ) (i : ℕ) (k : List ℕ) → i < position_in (before ++ n ∷ behind) n
-    → slice_get (before ++ n ∷ behind) i ≡ Some k → Contains before k
-early [] behind n i k less at = let none : i < 0 = rw ((bytes_eq-Decides n n).1 refl) at less in absurd (omega arith)
-early (x ∷ before) behind n i k less at = elim (cases_Bool (bytes_eq n x)) [
+early : (before after : List (List ℕ)) (n : List ℕ) (i : ℕ) (k : List ℕ) → i < position_in (before ++ n ∷ after) n
+    → slice_get (before ++ n ∷ after) i ≡ Some k → Contains before k
+early [] after n i k less at = let none : i < 0 = rw ((bytes_eq-Decides n n).1 refl) at less in absurd (omega arith)
+early (x ∷ before) after n i k less at = elim (cases_Bool (bytes_eq n x)) [
   | inl t ↦ let none : i < 0 = rw t at less in absurd (omega arith)
   | inr f ↦
-      let more : i < suc (position_in (before ++ n ∷ behind) n) = rw f at less in
-      early_by x before behind n i k more at (λ j l e. early before behind n j k l e)
+      let more : i < suc (position_in (before ++ n ∷ after) n) = rw f at less in
+      early_by x before after n i k more at (λ j l e. early before after n j k l e)
 ]
 
 -- a name before the first place where another stands stands before that place's name
 pub before_place : (names : List (List ℕ)) (n : List ℕ) (i : ℕ) (k : List ℕ) → i < position_in names n → slice_get names i ≡ Some k
-    → (before behind : List (List ℕ)) → names ≡ before ++ n ∷ behind → Contains before k
-before_place names n i k less at before behind parts = early before behind n i k (rw (← parts) less) (rw (← parts) at)
+    → (before after : List (List ℕ)) → names ≡ before ++ n ∷ after → Contains before k
+before_place names n i k less at before after parts = early before after n i k (rw (← parts) less) (rw (← parts) at)
 
 pub is_in_by : (names : List (List ℕ)) (n : List ℕ) (b : Bool) → ((b ≡ true) ↔ Contains names n) → b ≡ is_in names n
 is_in_by names n true is = sym (in_contains names n (is.0 refl))

@@ -2,18 +2,18 @@
 
 use Rattle.std.proofs.Common.{◌≡◌, ℕ, zero, suc, ◌+◌, ◌<◌, ◌≤◌, ◌-◌, List, ◌∷◌, ◌++◌, length, min, take, refl, sym, ap, ◌∙◌, arith}
 use Rattle.std.proofs.lemmas.List.{length-append, length-take-le, length-take, take-append-le}
-use Rattle.sshneg.specs.Derivations.{KeySource, grown, hash_with, key}
+use Rattle.sshneg.specs.Derivations.{KeyMaterialData, grown, hash_with, key}
 use Rattle.sshneg.specs.Growing.{Grows}
-use Rattle.sshpacket.specs.Suite.{IsLawful, Meaning}
+use Rattle.sshpacket.specs.Suite.{IsLawful, SuiteData}
 use Rattle.sshpacket.specs.declared.limits.TheConstants.{DIGEST_LIMIT}
 
-one_more : (m : Meaning) (x : KeySource) (first : List ℕ) (n : ℕ) → grown m x first (n + 1) ≡ grown m x first n ++ hash_with m x (grown m x first n)
+one_more : (m : SuiteData) (x : KeyMaterialData) (first : List ℕ) (n : ℕ) → grown m x first (n + 1) ≡ grown m x first n ++ hash_with m x (grown m x first n)
 one_more m x first n = let on : n + 1 ≡ suc n = omega arith in ap (λ (k : ℕ). grown m x first k) on
 
-pub grows_start : (m : Meaning) (x : KeySource) (first : List ℕ) (len : ℕ) → length first ≤ DIGEST_LIMIT → Grows m x first len 0 first
+pub grows_start : (m : SuiteData) (x : KeyMaterialData) (first : List ℕ) (len : ℕ) → length first ≤ DIGEST_LIMIT → Grows m x first len 0 first
 grows_start m x first len h = record { same_prefix = refl; same = λ less. refl; short = omega arith }
 
-pub grows_on : (m : Meaning) (x : KeySource) (first : List ℕ) (len count : ℕ) (bytes more : List ℕ) → len ≤ 255 → length bytes < len → length more ≤ DIGEST_LIMIT
+pub grows_on : (m : SuiteData) (x : KeyMaterialData) (first : List ℕ) (len count : ℕ) (bytes more : List ℕ) → len ≤ 255 → length bytes < len → length more ≤ DIGEST_LIMIT
     → more ≡ hash_with m x bytes → Grows m x first len count bytes → Grows m x first len (count + 1) (bytes ++ more)
 grows_on m x first len count bytes more low less few is g =
     let e : bytes ≡ grown m x first count = g.same less in
@@ -33,7 +33,7 @@ front_stays len bytes all more enough e =
     let c : length (take len all) ≤ length all = take_short len all in
     e ∙ sym (take-append-le len all more (omega arith))
 
-pub grows_stays : (m : Meaning) (x : KeySource) (first : List ℕ) (len count : ℕ) (bytes : List ℕ) → len ≤ length bytes → Grows m x first len count bytes
+pub grows_stays : (m : SuiteData) (x : KeyMaterialData) (first : List ℕ) (len count : ℕ) (bytes : List ℕ) → len ≤ length bytes → Grows m x first len count bytes
     → Grows m x first len (count + 1) bytes
 grows_stays m x first len count bytes enough g = record {
   same_prefix = front_stays len bytes (grown m x first count) (hash_with m x (grown m x first count)) enough g.same_prefix
@@ -43,7 +43,7 @@ grows_stays m x first len count bytes enough g = record {
 }
 
 -- a key has the length that is asked for
-grown_long : (m : Meaning) → IsLawful m → (x : KeySource) (first : List ℕ) (n : ℕ) → n ≤ length (grown m x first n)
+grown_long : (m : SuiteData) → IsLawful m → (x : KeyMaterialData) (first : List ℕ) (n : ℕ) → n ≤ length (grown m x first n)
 grown_long m law x first zero = omega arith
 grown_long m law x first (suc n) =
     let rec : n ≤ length (grown m x first n) = grown_long m law x first n in
@@ -52,13 +52,13 @@ grown_long m law x first (suc n) =
     = length-append (grown m x first n) (hash_with m x (grown m x first n)) in
     omega arith
 
-pub key_length : (m : Meaning) → IsLawful m → (x : KeySource) (letter len : ℕ) → length (key m x letter len) ≡ len
+pub key_length : (m : SuiteData) → IsLawful m → (x : KeyMaterialData) (letter len : ℕ) → length (key m x letter len) ≡ len
 unfolding key
 key_length m law x letter len =
     length-take-le len (grown m x (hash_with m x (letter ∷ x.session)) len) (grown_long m law x (hash_with m x (letter ∷ x.session)) len)
 
 -- as many hashes as one likes give the same key, once there are enough bytes
-more_hashes : (m : Meaning) (x : KeySource) (first : List ℕ) (len n k : ℕ) → len ≤ length (grown m x first n)
+more_hashes : (m : SuiteData) (x : KeyMaterialData) (first : List ℕ) (len n k : ℕ) → len ≤ length (grown m x first n)
     → (take len (grown m x first (n + k)) ≡ take len (grown m x first n)) × (len ≤ length (grown m x first (n + k)))
 more_hashes m x first len n zero h =
     let same : n + 0 ≡ n = omega arith in
@@ -76,7 +76,7 @@ more_hashes m x first len n (suc k) h =
       omega arith,
     )
 
-pub key_by : (m : Meaning) → IsLawful m → (x : KeySource) (letter len n : ℕ) → n ≤ len → len ≤ length (grown m x (hash_with m x (letter ∷ x.session)) n)
+pub key_by : (m : SuiteData) → IsLawful m → (x : KeyMaterialData) (letter len n : ℕ) → n ≤ len → len ≤ length (grown m x (hash_with m x (letter ∷ x.session)) n)
     → key m x letter len ≡ take len (grown m x (hash_with m x (letter ∷ x.session)) n)
 unfolding key
 key_by m law x letter len n few enough =

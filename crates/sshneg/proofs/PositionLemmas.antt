@@ -10,10 +10,10 @@ use Rattle.std.proofs.lemmas.List.Folds.{list_any-append}
 use Rattle.std.proofs.lemmas.Option.{get_or_from_slice_get, slice_get_within}
 use Rattle.std.proofs.lemmas.Slice.Eq.{bytes_eq-Decides}
 use Rattle.std.specs.Option.{ok_or}
-use Rattle.sshmsg.specs.Content.{Offer}
+use Rattle.sshmsg.specs.MessageData.{KexInitData}
 use Rattle.sshneg.specs.declared.choice.Chosen.{Chosen}
 use Rattle.sshneg.specs.declared.choice.NoCommon.{NoCommon}
-use Rattle.sshneg.specs.Fields.{Algorithms}
+use Rattle.sshneg.specs.Fields.{AlgorithmsData}
 use Rattle.sshneg.specs.ChoiceReadings.{position_in, positioned, positions}
 use Rattle.sshneg.proofs.FirstLemmas.{found_passes, other_name}
 
@@ -134,7 +134,7 @@ found_err f g names (Some n) e = cc
 found_err f g names None e = (refl, cc)
 
 -- positions are known field by field
-pub all_positions : (client : Offer) (a : Algorithms) (chosen : Chosen) → chosen.kex ≡ position_in client.kex_algorithms a.kex
+pub all_positions : (client : KexInitData) (a : AlgorithmsData) (chosen : Chosen) → chosen.kex ≡ position_in client.kex_algorithms a.kex
     → chosen.host_key ≡ position_in client.server_host_key_algorithms a.host_key
     → chosen.encryption_client_to_server ≡ position_in client.encryption_client_to_server a.encryption_client_to_server
     → chosen.encryption_server_to_client ≡ position_in client.encryption_server_to_client a.encryption_server_to_client

@@ -4,13 +4,13 @@ use Rattle.std.proofs.Common.{◌≡◌, ◌↔◌, ℕ, Bool, true, false, List
 use Rattle.std.specs.List.{Contains}
 use Rattle.std.proofs.lemmas.List.{append-nil}
 use Rattle.std.proofs.lemmas.List.Elements.{Contains-append_right}
-use Rattle.sshmsg.specs.Content.{Offer}
+use Rattle.sshmsg.specs.MessageData.{KexInitData}
 use Rattle.sshneg.specs.declared.role.Role.{Role}
 use Rattle.sshneg.specs.Markers.{IsStrict, is_marker, methods, other, strict_marker}
 use Rattle.sshneg.proofs.FirstLemmas.{contains_here, contains_in, in_contains}
 use Rattle.sshneg.specs.Strictness.{is_strict, marked_list}
 
-pub strict_test : (flag : Bool) (role : Role) (peer : Offer) → (is_strict flag role peer ≡ true) ↔ IsStrict flag role peer
+pub strict_test : (flag : Bool) (role : Role) (peer : KexInitData) → (is_strict flag role peer ≡ true) ↔ IsStrict flag role peer
 strict_test true role peer = (
   λ e. record { willing = refl; marked = contains_in peer.kex_algorithms (strict_marker (other role)) e },
   λ s. in_contains peer.kex_algorithms (strict_marker (other role)) s.marked,
@@ -23,7 +23,7 @@ IsMarked = (role : Role) → is_marker (strict_marker role) ≡ true
 clean : IsMarked → (role : Role) (names : List (List ℕ)) → ((name : List ℕ) → Contains names name → is_marker name ≡ false) → Contains names (strict_marker role) → ⊥
 clean marks role names none has = let a : is_marker (strict_marker role) ≡ true = marks role in let b : is_marker (strict_marker role) ≡ false = none (strict_marker role) has in cc
 
-pub config_strict : IsMarked → (flag other_flag : Bool) (role : Role) (names : List (List ℕ)) (peer : Offer)
+pub config_strict : IsMarked → (flag other_flag : Bool) (role : Role) (names : List (List ℕ)) (peer : KexInitData)
     → ((name : List ℕ) → Contains names name → is_marker name ≡ false) → peer.kex_algorithms ≡ marked_list (other role) other_flag names
     → IsStrict flag role peer ↔ ((flag ≡ true) × (other_flag ≡ true))
 config_strict marks flag true role names peer none is = (
@@ -36,7 +36,7 @@ config_strict marks flag false role names peer none is = (
 )
 
 pub config_methods : IsMarked
-    → ((marker : List ℕ) (before behind : List (List ℕ)) → is_marker marker ≡ true → methods (before ++ marker ∷ behind) ≡ methods (before ++ behind))
+    → ((marker : List ℕ) (before after : List (List ℕ)) → is_marker marker ≡ true → methods (before ++ marker ∷ after) ≡ methods (before ++ after))
     → ((names : List (List ℕ)) → ((name : List ℕ) → Contains names name → is_marker name ≡ false) → methods names ≡ names)
     → (flag : Bool) (role : Role) (names : List (List ℕ)) → ((name : List ℕ) → Contains names name → is_marker name ≡ false) → methods (marked_list role flag names) ≡ names
 config_methods marks added unmarked true role names none =

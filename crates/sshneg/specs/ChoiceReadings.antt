@@ -3,13 +3,13 @@
 use Rattle.std.specs.Prelude.{◌&&◌, if◌then◌else◌, ℕ, zero, suc, Bool, List, [], ◌∷◌, find, Option, None, Some, Result, Ok, Err}
 use Rattle.std.specs.List.{list_any}
 use Rattle.std.specs.Str.{bytes_eq}
-use Rattle.sshmsg.specs.Content.{Offer}
-use Rattle.sshpacket.specs.Suite.{Meaning}
+use Rattle.sshmsg.specs.MessageData.{KexInitData}
+use Rattle.sshpacket.specs.Suite.{SuiteData}
 use Rattle.sshneg.specs.declared.choice.Chosen.{Chosen}
 use Rattle.sshneg.specs.declared.choice.NoCommon.{NoCommon}
 use Rattle.sshneg.specs.declared.choice.NoCommon.TheVariants as field
 use Rattle.sshneg.specs.Choice.{serves}
-use Rattle.sshneg.specs.Fields.{Algorithms}
+use Rattle.sshneg.specs.Fields.{AlgorithmsData}
 use Rattle.sshneg.specs.Markers.{first_name, methods, same_name}
 
 -- whether the name stands in the list
@@ -21,32 +21,32 @@ abbrev pub first_common : List (List ℕ) → List (List ℕ) → Option (List �
 first_common client server = find (λ name. is_in server name) client
 
 -- some host key algorithm of both sides has what the method needs
-abbrev pub is_served : Meaning → Offer → Offer → List ℕ → Bool
+abbrev pub is_served : SuiteData → KexInitData → KexInitData → List ℕ → Bool
 is_served m client server kex =
     list_any (λ name. is_in server.server_host_key_algorithms name && serves (m.need kex) (m.can name)) client.server_host_key_algorithms
 
 -- the first methods of both sides are the same one
-abbrev pub same_first : Offer → Offer → Bool
+abbrev pub same_first : KexInitData → KexInitData → Bool
 same_first client server = same_name (first_name (methods client.kex_algorithms)) (first_name (methods server.kex_algorithms))
 
 -- the key exchange method
-abbrev pub kex_choice : Meaning → Offer → Offer → Option (List ℕ)
+abbrev pub kex_choice : SuiteData → KexInitData → KexInitData → Option (List ℕ)
 kex_choice m client server =
     if same_first client server then first_name (methods client.kex_algorithms)
     else find (λ name. is_in (methods server.kex_algorithms) name && is_served m client server name) (methods client.kex_algorithms)
 
 -- the host key algorithm, where this method is used
-abbrev pub host_key_choice : Meaning → Offer → Offer → List ℕ → Option (List ℕ)
+abbrev pub host_key_choice : SuiteData → KexInitData → KexInitData → List ℕ → Option (List ℕ)
 host_key_choice m client server kex =
     find (λ name. is_in server.server_host_key_algorithms name && serves (m.need kex) (m.can name)) client.server_host_key_algorithms
 
 -- what comes of a field's name, or the field where there is none
-abbrev pub with_name : NoCommon → Option (List ℕ) → (List ℕ → Result Algorithms NoCommon) → Result Algorithms NoCommon
+abbrev pub with_name : NoCommon → Option (List ℕ) → (List ℕ → Result AlgorithmsData NoCommon) → Result AlgorithmsData NoCommon
 with_name f (Some name) next = next name
 with_name f None next = Err f
 
 -- the names of the six fields behind the method and the host key algorithm, or the first field without one
-unfoldable pub choice_of_directions : Offer → Offer → List ℕ → List ℕ → Result Algorithms NoCommon
+unfoldable pub choice_of_directions : KexInitData → KexInitData → List ℕ → List ℕ → Result AlgorithmsData NoCommon
 choice_of_directions client server kex host_key =
     with_name field.EncryptionClientToServer (first_common client.encryption_client_to_server server.encryption_client_to_server) (λ encryption_client_to_server.
     with_name field.EncryptionServerToClient (first_common client.encryption_server_to_client server.encryption_server_to_client) (λ encryption_server_to_client.
@@ -66,7 +66,7 @@ choice_of_directions client server kex host_key =
     })))))))
 
 -- the names of all eight fields, or the first field without one
-unfoldable pub choice : Meaning → Offer → Offer → Result Algorithms NoCommon
+unfoldable pub choice : SuiteData → KexInitData → KexInitData → Result AlgorithmsData NoCommon
 choice m client server =
     with_name field.Kex (kex_choice m client server) (λ kex.
     with_name field.HostKey (host_key_choice m client server kex) (λ host_key.
@@ -83,7 +83,7 @@ positioned f names (Some name) = Ok (position_in names name)
 positioned f names None = Err f
 
 -- the positions in the client's lists as sent
-abbrev pub positions : Offer → Algorithms → Chosen
+abbrev pub positions : KexInitData → AlgorithmsData → Chosen
 positions client a = record {
   kex = position_in client.kex_algorithms a.kex;
   host_key = position_in client.server_host_key_algorithms a.host_key;
@@ -96,10 +96,10 @@ positions client a = record {
 }
 
 -- names as positions
-abbrev pub answered : Offer → Result Algorithms NoCommon → Result Chosen NoCommon
+abbrev pub answered : KexInitData → Result AlgorithmsData NoCommon → Result Chosen NoCommon
 answered client (Ok a) = Ok (positions client a)
 answered client (Err f) = Err f
 
 -- the answer as a function
-unfoldable pub answer : Meaning → Offer → Offer → Result Chosen NoCommon
+unfoldable pub answer : SuiteData → KexInitData → KexInitData → Result Chosen NoCommon
 answer m client server = answered client (choice m client server)

@@ -5,8 +5,8 @@ use Rattle.sshwire.specs.Types.{boolean, string}
 use Rattle.sshneg.specs.declared.role.Role.{Role}
 use Rattle.sshneg.specs.declared.role.Role.TheVariants.{Client, Server}
 use Rattle.sshneg.specs.Markers.{other}
-use Rattle.sshpacket.specs.KeyData.{KeyData}
-use Rattle.sshpacket.specs.Suite.{Meaning}
+use Rattle.sshpacket.specs.KeysData.{KeysData}
+use Rattle.sshpacket.specs.Suite.{SuiteData}
 use Rattle.sshmsg.specs.declared.numbers.TheConstants.{SSH_MSG_USERAUTH_REQUEST}
 
 -- what both sides know of an exchange: the version lines without CR LF, the payloads of both KEXINITs, the server's host
@@ -46,28 +46,28 @@ signed_text session user service algorithm key =
     ++ (SSH_MSG_USERAUTH_REQUEST ∷ (string user ++ (string service ++ (string (codes "publickey") ++ (boolean true ++ (string algorithm ++ string key))))))
 
 -- what keys are made of: the method, K as the body of an mpint or as bytes, H, and the session identifier
-pub record KeySource : Type 0 where
+pub record KeyMaterialData : Type 0 where
   pub kex : List ℕ
   pub shared : List ℕ
   pub hash : List ℕ
   pub session : List ℕ
 
 -- how many bytes that is
-abbrev pub source_size : KeySource → ℕ
+abbrev pub source_size : KeyMaterialData → ℕ
 source_size x = length x.kex + length x.shared + length x.hash + length x.session
 
 -- HASH(K || H || what stands behind)
-abbrev pub hash_with : Meaning → KeySource → List ℕ → List ℕ
-hash_with m x behind = m.digest x.kex (string x.shared ++ (x.hash ++ behind))
+abbrev pub hash_with : SuiteData → KeyMaterialData → List ℕ → List ℕ
+hash_with m x after = m.digest x.kex (string x.shared ++ (x.hash ++ after))
 
 -- behind the first hash, so many times more HASH(K || H || all so far) (RFC 4253 section 7.2)
-abbrev pub grown : Meaning → KeySource → List ℕ → ℕ → List ℕ
+abbrev pub grown : SuiteData → KeyMaterialData → List ℕ → ℕ → List ℕ
 grown m x first zero = first
 grown m x first (suc n) = grown m x first n ++ hash_with m x (grown m x first n)
 
 -- a key of so many bytes: the prefix of HASH(K || H || letter || session_id) and as many hashes more as are needed, each of
 -- which has at least one byte
-unfoldable pub key : Meaning → KeySource → ℕ → ℕ → List ℕ
+unfoldable pub key : SuiteData → KeyMaterialData → ℕ → ℕ → List ℕ
 key m x letter len = take len (grown m x (hash_with m x (letter ∷ x.session)) len)
 
 -- the letters of the initialisation vector, the encryption key and the integrity key, by who sends
@@ -84,7 +84,7 @@ mac_letter Client = 69
 mac_letter Server = 70
 
 -- the keys of the direction in which this role sends
-unfoldable pub derived : Meaning → KeySource → Role → List ℕ → List ℕ → KeyData
+unfoldable pub derived : SuiteData → KeyMaterialData → Role → List ℕ → List ℕ → KeysData
 derived m x sender cipher mac = record {
   cipher = cipher;
   mac = mac;
@@ -94,8 +94,8 @@ derived m x sender cipher mac = record {
 }
 
 -- the keys with which this role seals, and those with which it unseals: the keys by which the other side sends
-abbrev pub sealing : Meaning → KeySource → Role → List ℕ → List ℕ → KeyData
+abbrev pub sealing : SuiteData → KeyMaterialData → Role → List ℕ → List ℕ → KeysData
 sealing m x role cipher mac = derived m x role cipher mac
 
-abbrev pub unsealing : Meaning → KeySource → Role → List ℕ → List ℕ → KeyData
+abbrev pub unsealing : SuiteData → KeyMaterialData → Role → List ℕ → List ℕ → KeysData
 unsealing m x role cipher mac = derived m x (other role) cipher mac

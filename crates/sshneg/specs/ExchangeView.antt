@@ -2,10 +2,10 @@
 
 use Rattle.sshneg.specs.declared.derivations.Exchange.{Exchange}
 use Rattle.sshneg.specs.declared.derivations.KeyMaterial.{KeyMaterial}
-use Rattle.sshneg.specs.Derivations.{ExchangeData, KeySource}
+use Rattle.sshneg.specs.Derivations.{ExchangeData, KeyMaterialData}
 
-abbrev pub exchange_of : Exchange → ExchangeData
-exchange_of x = record {
+abbrev pub exchange_data : Exchange → ExchangeData
+exchange_data x = record {
   client_version = x.client_version.now;
   server_version = x.server_version.now;
   client_kexinit = x.client_kexinit.now;
@@ -16,5 +16,5 @@ exchange_of x = record {
   shared = x.shared.now;
 }
 
-abbrev pub source_of : KeyMaterial → KeySource
-source_of x = record { kex = x.kex.now; shared = x.shared.now; hash = x.hash.now; session = x.session.now }
+abbrev pub key_material_data : KeyMaterial → KeyMaterialData
+key_material_data x = record { kex = x.kex.now; shared = x.shared.now; hash = x.hash.now; session = x.session.now }

@@ -1,14 +1,14 @@
 -- The name-lists of a KEXINIT from which algorithms are chosen, field by field (RFC 4253 section 7.1).
 
 use Rattle.std.specs.Prelude.{ℕ, List}
-use Rattle.sshmsg.specs.Content.{Offer}
+use Rattle.sshmsg.specs.MessageData.{KexInitData}
 use Rattle.sshneg.specs.declared.choice.Chosen.{Chosen}
 use Rattle.sshneg.specs.declared.choice.NoCommon.{NoCommon}
 use Rattle.sshneg.specs.declared.choice.NoCommon.TheVariants.{Kex, HostKey, EncryptionClientToServer, EncryptionServerToClient, MacClientToServer, MacServerToClient, CompressionClientToServer, CompressionServerToClient}
 use Rattle.sshneg.specs.Markers.{methods}
 
 -- the names of the algorithms that are used
-pub record Algorithms : Type 0 where
+pub record AlgorithmsData : Type 0 where
   pub kex : List ℕ
   pub host_key : List ℕ
   pub encryption_client_to_server : List ℕ
@@ -30,7 +30,7 @@ order_of CompressionClientToServer = 6
 order_of CompressionServerToClient = 7
 
 -- the list of a field, as sent
-abbrev pub list_of : NoCommon → Offer → List (List ℕ)
+abbrev pub list_of : NoCommon → KexInitData → List (List ℕ)
 list_of Kex offer = offer.kex_algorithms
 list_of HostKey offer = offer.server_host_key_algorithms
 list_of EncryptionClientToServer offer = offer.encryption_client_to_server
@@ -41,12 +41,12 @@ list_of CompressionClientToServer offer = offer.compression_client_to_server
 list_of CompressionServerToClient offer = offer.compression_server_to_client
 
 -- the algorithms of a field: its list without the markers
-abbrev pub algorithms_of : NoCommon → Offer → List (List ℕ)
+abbrev pub algorithms_of : NoCommon → KexInitData → List (List ℕ)
 algorithms_of Kex offer = methods offer.kex_algorithms
 algorithms_of f offer = list_of f offer
 
 -- the name that is used in a field
-abbrev pub name_of : NoCommon → Algorithms → List ℕ
+abbrev pub name_of : NoCommon → AlgorithmsData → List ℕ
 name_of Kex a = a.kex
 name_of HostKey a = a.host_key
 name_of EncryptionClientToServer a = a.encryption_client_to_server

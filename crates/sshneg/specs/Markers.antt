@@ -2,7 +2,7 @@
 
 use Rattle.std.specs.Prelude.{◌≡◌, ◌||◌, ℕ, Bool, false, true, not, List, [], ◌∷◌, codes, filter, Contains, Option, None, Some}
 use Rattle.std.specs.Str.{bytes_eq}
-use Rattle.sshmsg.specs.Content.{Offer}
+use Rattle.sshmsg.specs.MessageData.{KexInitData}
 use Rattle.sshneg.specs.declared.role.Role.{Role}
 use Rattle.sshneg.specs.declared.role.Role.TheVariants.{Client, Server}
 
@@ -23,7 +23,7 @@ other Client = Server
 other Server = Client
 
 -- An endpoint is strict: it is willing to be, and the peer's KEXINIT has the peer's marker, wherever it stands in the kex list.
-pub record IsStrict (flag : Bool) (role : Role) (peer : Offer) : Type 0 where
+pub record IsStrict (flag : Bool) (role : Role) (peer : KexInitData) : Type 0 where
   pub willing : flag ≡ true
   pub marked : Contains peer.kex_algorithms (strict_marker (other role))
 
@@ -44,7 +44,7 @@ methods names = filter (λ name. not (is_marker name)) names
 
 -- A guess is right: both sides' first methods are one name, and so are their first host key algorithms (RFC 4253 section 7;
 -- that no other list is looked at is profile).
-pub record IsRightGuess (client server : Offer) : Type 0 where
+pub record IsRightGuess (client server : KexInitData) : Type 0 where
   pub kex : List ℕ
   pub client_kex : first_name (methods client.kex_algorithms) ≡ Some kex
   pub server_kex : first_name (methods server.kex_algorithms) ≡ Some kex

@@ -3,7 +3,7 @@
 ghost use Rattle.std.specs.Prelude.{◌≡◌, ◌&&◌, ◌<◌, ℕ, List, Some, find, length, not, option_map};
 ghost use Rattle.std.specs.List.{list_any, position, slice_get};
 ghost use Rattle.sshwire.specs.Types.{IsName};
-ghost use Rattle.sshmsg.specs.View.{offer_of};
+ghost use Rattle.sshmsg.specs.View.{kexinit_data};
 ghost use Rattle.sshneg.specs.declared.choice.NoCommon.TheVariants as field;
 ghost use Rattle.sshneg.specs.Choice.{ChoiceAnswer, serves};
 ghost use Rattle.sshneg.specs.Markers.{is_marker};
@@ -96,8 +96,8 @@ pub fn choose<S: Suite>(
     server: &KexInit<'_>,
     suite: &S,
 ) -> Result<Chosen, NoCommon>
-    ensures tells { ChoiceAnswer (S.meaning suite.now) (offer_of client.now) (offer_of server.now) result }
-    ensures exact { result ≡ answer (S.meaning suite.now) (offer_of client.now) (offer_of server.now) }
+    ensures tells { ChoiceAnswer (S.meaning suite.now) (kexinit_data client.now) (kexinit_data server.now) result }
+    ensures exact { result ≡ answer (S.meaning suite.now) (kexinit_data client.now) (kexinit_data server.now) }
 {
     let kex = choose_kex(client, server, suite)?;
     let host_key = choose_host_key(client, server, kex, suite)?;
@@ -111,7 +111,7 @@ fn choose_kex<S: Suite>(
     server: &KexInit<'_>,
     suite: &S,
 ) -> Result<usize, NoCommon>
-    ensures { result ≡ positioned field.Kex client.now.kex_algorithms (kex_choice (S.meaning suite.now) (offer_of client.now) (offer_of server.now)) }
+    ensures { result ≡ positioned field.Kex client.now.kex_algorithms (kex_choice (S.meaning suite.now) (kexinit_data client.now) (kexinit_data server.now)) }
 {
     find_kex(client, server, suite).ok_or(NoCommon::Kex)
 }
@@ -127,7 +127,7 @@ fn choose_host_key<S: Suite>(
 ) -> Result<usize, NoCommon>
     requires { kex < length client.now.kex_algorithms }
     ensures { (name : List ℕ) → slice_get client.now.kex_algorithms kex ≡ Some name
-        → result ≡ positioned field.HostKey client.now.server_host_key_algorithms (host_key_choice (S.meaning suite.now) (offer_of client.now) (offer_of server.now) name) }
+        → result ≡ positioned field.HostKey client.now.server_host_key_algorithms (host_key_choice (S.meaning suite.now) (kexinit_data client.now) (kexinit_data server.now) name) }
 {
     let need = need_at(&client.kex_algorithms, kex, suite);
     find_host_key(client, server, need, suite).ok_or(NoCommon::HostKey)
@@ -143,7 +143,7 @@ fn choose_directions(
 ) -> Result<Chosen, NoCommon>
     ensures { (method algorithm : List ℕ) → kex ≡ position_in client.now.kex_algorithms method
         → host_key ≡ position_in client.now.server_host_key_algorithms algorithm
-        → result ≡ answered (offer_of client.now) (choice_of_directions (offer_of client.now) (offer_of server.now) method algorithm) }
+        → result ≡ answered (kexinit_data client.now) (choice_of_directions (kexinit_data client.now) (kexinit_data server.now) method algorithm) }
 {
     Ok(Chosen {
         kex,
@@ -193,7 +193,7 @@ fn choose_common(field: NoCommon, client: &NameList, server: &NameList) -> Resul
 /// the first of the client's that is usable.
 fn find_kex<S: Suite>(client: &KexInit<'_>, server: &KexInit<'_>, suite: &S) -> Option<usize>
     ensures { result ≡ option_map (λ name. position_in client.now.kex_algorithms name)
-        (kex_choice (S.meaning suite.now) (offer_of client.now) (offer_of server.now)) }
+        (kex_choice (S.meaning suite.now) (kexinit_data client.now) (kexinit_data server.now)) }
 {
     let names = &client.kex_algorithms;
     if same_name(

@@ -4,7 +4,7 @@ ghost use Rattle.std.specs.Prelude.{◌≡◌, ◌+◌, ◌<◌, ◌≤◌, ◌-
 ghost use Rattle.sshwire.specs.Types.{IsName};
 ghost use Rattle.sshpacket.specs.declared.limits.TheConstants.{DIGEST_LIMIT};
 ghost use Rattle.sshneg.specs.Derivations.{derived, enc_letter, exchange_size, exchange_text, grown, hash_with, iv_letter, key, mac_letter, signed_text, source_size};
-ghost use Rattle.sshneg.specs.ExchangeView.{exchange_of, source_of};
+ghost use Rattle.sshneg.specs.ExchangeView.{exchange_data, key_material_data};
 
 use crate::role::Role;
 use sshmsg::SSH_MSG_USERAUTH_REQUEST;
@@ -52,8 +52,8 @@ pub struct KeyMaterial<'a> {
 /// The caller's condition is that the parts have fewer than 2^31 bytes together.
 #[tactic(auto, unfolding(crate::specs::Derivations::exchange_text))]
 pub fn exchange_input(alloc: Global, exchange: &Exchange<'_>) -> Result<Vec<u8>, Memory>
-    requires { exchange_size (exchange_of exchange.now) < 2 ^ 31 }
-    ensures { IfOk result (λ v. v.items ≡ exchange_text (exchange_of exchange.now)) }
+    requires { exchange_size (exchange_data exchange.now) < 2 ^ 31 }
+    ensures { IfOk result (λ v. v.items ≡ exchange_text (exchange_data exchange.now)) }
 {
     let mut out = Vec::new(alloc);
     put_string(&mut out, exchange.client_version)?;
@@ -111,8 +111,8 @@ pub fn keys_of<S: Suite>(
     requires kex { IsName material.now.kex.now }
     requires cipher { IsName cipher.now }
     requires mac { IsName mac.now }
-    requires short { source_size (source_of material.now) < 2 ^ 31 }
-    ensures { IfOk result (λ keys. keys ≡ derived (S.meaning suite.now) (source_of material.now) sender cipher.now mac.now) }
+    requires short { source_size (key_material_data material.now) < 2 ^ 31 }
+    ensures { IfOk result (λ keys. keys ≡ derived (S.meaning suite.now) (key_material_data material.now) sender cipher.now mac.now) }
 {
     let lens = suite.key_lens(cipher, mac);
     let iv = key_of(alloc, suite, material, iv_letter(sender), lens.iv)?;
@@ -169,13 +169,13 @@ fn key_of<S: Suite>(
     len: u8,
 ) -> Result<Vec<u8>, Memory>
     requires kex { IsName material.now.kex.now }
-    requires short { source_size (source_of material.now) < 2 ^ 31 }
-    ensures { IfOk result (λ v. v.items ≡ key (S.meaning suite.now) (source_of material.now) letter len) }
+    requires short { source_size (key_material_data material.now) < 2 ^ 31 }
+    ensures { IfOk result (λ v. v.items ≡ key (S.meaning suite.now) (key_material_data material.now) letter len) }
 {
-    let mut behind = Vec::new(alloc);
-    behind.push(letter)?;
-    behind.extend_from_slice(material.session)?;
-    let first = hash_of(alloc, suite, material, &behind)?;
+    let mut after = Vec::new(alloc);
+    after.push(letter)?;
+    after.extend_from_slice(material.session)?;
+    let first = hash_of(alloc, suite, material, &after)?;
     let mut bytes = grow(alloc, suite, material, first, len)?;
     bytes.truncate(usize::from(len));
     Ok(bytes)
@@ -191,9 +191,9 @@ fn grow<S: Suite>(
     len: u8,
 ) -> Result<Vec<u8>, Memory>
     requires kex { IsName material.now.kex.now }
-    requires short { source_size (source_of material.now) < 2 ^ 31 }
+    requires short { source_size (key_material_data material.now) < 2 ^ 31 }
     requires first { length first.items ≤ DIGEST_LIMIT }
-    ensures { IfOk result (λ v. take len v.items ≡ take len (grown (S.meaning suite.now) (source_of material.now) first.items len)) }
+    ensures { IfOk result (λ v. take len v.items ≡ take len (grown (S.meaning suite.now) (key_material_data material.now) first.items len)) }
 {
     let mut bytes = first;
     for _ in 0..len {
@@ -210,16 +210,16 @@ fn hash_of<S: Suite>(
     alloc: Global,
     suite: &S,
     material: &KeyMaterial<'_>,
-    behind: &[u8],
+    after: &[u8],
 ) -> Result<Vec<u8>, Memory>
     requires kex { IsName material.now.kex.now }
-    requires short { length material.now.shared.now + length material.now.hash.now + length behind.now < 2 ^ 32 - 4 }
-    ensures hash { IfOk result (λ v. v.items ≡ hash_with (S.meaning suite.now) (source_of material.now) behind.now) }
+    requires short { length material.now.shared.now + length material.now.hash.now + length after.now < 2 ^ 32 - 4 }
+    ensures hash { IfOk result (λ v. v.items ≡ hash_with (S.meaning suite.now) (key_material_data material.now) after.now) }
     ensures short { IfOk result (λ v. length v.items ≤ DIGEST_LIMIT) }
 {
     let mut input = Vec::new(alloc);
     put_string(&mut input, material.shared)?;
     input.extend_from_slice(material.hash)?;
-    input.extend_from_slice(behind)?;
+    input.extend_from_slice(after)?;
     suite.digest(alloc, material.kex, &input)
 }

@@ -1,7 +1,7 @@
 //! Guessed key exchange packets (RFC 4253 section 7).
 
 ghost use Rattle.std.specs.Prelude.{◌≡◌, ◌↔◌, IsTrue, find, not, option_map};
-ghost use Rattle.sshmsg.specs.View.{offer_of};
+ghost use Rattle.sshmsg.specs.View.{kexinit_data};
 ghost use Rattle.sshneg.specs.Markers.{IsRightGuess, first_name, is_marker, methods, same_name};
 
 use crate::markers::is_marker;
@@ -13,7 +13,7 @@ use sshwire::NameList;
 /// it looks at no other list (profile): where another algorithm can't be agreed on, `choose` has
 /// said so. Takes no memory.
 pub fn guess_right(client: &KexInit<'_>, server: &KexInit<'_>) -> bool
-    ensures { IsTrue result ↔ IsRightGuess (offer_of client.now) (offer_of server.now) }
+    ensures { IsTrue result ↔ IsRightGuess (kexinit_data client.now) (kexinit_data server.now) }
 {
     let kex = same_name(
         first_method(&client.kex_algorithms),

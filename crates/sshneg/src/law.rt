@@ -3,9 +3,9 @@
 
 ghost use Rattle.std.specs.Prelude.{◌≡◌, ◌+◌, ◌≤◌, ◌∷◌, ◌++◌, ◌↔◌, ℕ, Bool, Contains, Err, List, Ok, Result, Some, [], codes, false, length, take, true};
 ghost use Rattle.sshwire.specs.Types.{AreNames, IsName};
-ghost use Rattle.sshmsg.specs.Content.{KexInit, Offer};
+ghost use Rattle.sshmsg.specs.MessageData.{KexInit, KexInitData};
 ghost use Rattle.sshmsg.specs.Written.{IsWellFormed, written_message};
-ghost use Rattle.sshpacket.specs.Suite.{Agrees, IsLawful, Meaning, ResponseData, Signs};
+ghost use Rattle.sshpacket.specs.Suite.{Agrees, IsLawful, ResponseData, Signs, SuiteData};
 ghost use Rattle.sshneg.specs.declared.role.Role.TheVariants.{Client, Server};
 ghost use Rattle.sshneg.specs.declared.choice.Chosen.{Chosen};
 ghost use Rattle.sshneg.specs.declared.choice.NoCommon.{NoCommon};
@@ -13,9 +13,9 @@ ghost use Rattle.sshneg.specs.declared.role.Role.{Role};
 ghost use Rattle.sshneg.specs.Choice.{AreFirstMethods, ArePositions, HasChoice, IsChoice, IsFirstWithout, IsKex, ChoiceAnswer, serves};
 ghost use Rattle.sshneg.specs.ChoiceLaw.{AreEarliest, AreListed, OfferAlike, OfferSame, StandsAt};
 ghost use Rattle.sshneg.specs.ChoiceReadings.{answer, choice, positions};
-ghost use Rattle.sshneg.specs.Derivations.{ExchangeData, KeySource, derived, exchange_size, exchange_text, grown, hash_with, key, signed_text};
+ghost use Rattle.sshneg.specs.Derivations.{ExchangeData, KeyMaterialData, derived, exchange_size, exchange_text, grown, hash_with, key, signed_text};
 ghost use Rattle.sshneg.specs.ExchangeEnd.{HaveOneSource, IsOneExchange, KexEnd, answer_by, choice_at, choice_in, exchange_by, offer_in, source_of_end, source_with};
-ghost use Rattle.sshneg.specs.Fields.{Algorithms, list_of, name_of, position_of};
+ghost use Rattle.sshneg.specs.Fields.{AlgorithmsData, list_of, name_of, position_of};
 ghost use Rattle.sshneg.specs.Strictness.{is_right_guess, is_strict, marked_list};
 ghost use Rattle.sshneg.specs.Markers.{IsRightGuess, IsStrict, first_name, is_marker, methods, other, strict_marker};
 
@@ -25,39 +25,39 @@ use sshpacket::AgreeingSuite;
 /// and any suite. `choice` is the choice as a function of what both sides offer, by names.
 pub fn choice_law()
     // An answer tells the choice exactly where it is `answer`, which has the positions of the names that `choice` has.
-    ensures tells { (m : Meaning) (client server : Offer) (r : Result Chosen NoCommon) → ChoiceAnswer m client server r ↔ (r ≡ answer m client server) }
-    ensures answers { (m : Meaning) (client server : Offer) (chosen : Chosen) → (answer m client server ≡ Ok chosen)
-        ↔ ((a : Algorithms) × (choice m client server ≡ Ok a) × (chosen ≡ positions client a)) }
-    ensures refuses { (m : Meaning) (client server : Offer) (f : NoCommon) → (answer m client server ≡ Err f) ↔ (choice m client server ≡ Err f) }
+    ensures tells { (m : SuiteData) (client server : KexInitData) (r : Result Chosen NoCommon) → ChoiceAnswer m client server r ↔ (r ≡ answer m client server) }
+    ensures answers { (m : SuiteData) (client server : KexInitData) (chosen : Chosen) → (answer m client server ≡ Ok chosen)
+        ↔ ((a : AlgorithmsData) × (choice m client server ≡ Ok a) × (chosen ≡ positions client a)) }
+    ensures refuses { (m : SuiteData) (client server : KexInitData) (f : NoCommon) → (answer m client server ≡ Err f) ↔ (choice m client server ≡ Err f) }
     // The function answers names exactly where they are a choice in all fields, and a field exactly where it is the first
     // without one.
-    ensures names { (m : Meaning) (client server : Offer) (a : Algorithms) → (choice m client server ≡ Ok a) ↔ IsChoice m client server a }
-    ensures without { (m : Meaning) (client server : Offer) (f : NoCommon) → (choice m client server ≡ Err f) ↔ IsFirstWithout m client server f }
+    ensures names { (m : SuiteData) (client server : KexInitData) (a : AlgorithmsData) → (choice m client server ≡ Ok a) ↔ IsChoice m client server a }
+    ensures without { (m : SuiteData) (client server : KexInitData) (f : NoCommon) → (choice m client server ≡ Err f) ↔ IsFirstWithout m client server f }
     // There is at most one method. There is a choice in all fields exactly where each field has one.
-    ensures one_kex { (m : Meaning) (client server : Offer) (kex other : List ℕ) → IsKex m client server kex → IsKex m client server other → kex ≡ other }
-    ensures exists { (m : Meaning) (client server : Offer) → ((f : NoCommon) → HasChoice m client server f) ↔ ((a : Algorithms) × IsChoice m client server a) }
+    ensures one_kex { (m : SuiteData) (client server : KexInitData) (kex other : List ℕ) → IsKex m client server kex → IsKex m client server other → kex ≡ other }
+    ensures exists { (m : SuiteData) (client server : KexInitData) → ((f : NoCommon) → HasChoice m client server f) ↔ ((a : AlgorithmsData) × IsChoice m client server a) }
     // The names stand on both lists. The method is no marker, and the host key algorithm has what it needs.
-    ensures listed { (m : Meaning) (client server : Offer) (a : Algorithms) → IsChoice m client server a → AreListed client server a }
-    ensures method { (m : Meaning) (client server : Offer) (a : Algorithms) → IsChoice m client server a → is_marker a.kex ≡ false }
-    ensures able { (m : Meaning) (client server : Offer) (a : Algorithms) → IsChoice m client server a → serves (m.need a.kex) (m.can a.host_key) ≡ true }
+    ensures listed { (m : SuiteData) (client server : KexInitData) (a : AlgorithmsData) → IsChoice m client server a → AreListed client server a }
+    ensures method { (m : SuiteData) (client server : KexInitData) (a : AlgorithmsData) → IsChoice m client server a → is_marker a.kex ≡ false }
+    ensures able { (m : SuiteData) (client server : KexInitData) (a : AlgorithmsData) → IsChoice m client server a → serves (m.need a.kex) (m.can a.host_key) ≡ true }
     // No earlier name of the client's could have been used.
-    ensures earliest { (m : Meaning) (client server : Offer) (a : Algorithms) (chosen : Chosen) → IsChoice m client server a
+    ensures earliest { (m : SuiteData) (client server : KexInitData) (a : AlgorithmsData) (chosen : Chosen) → IsChoice m client server a
         → ArePositions client a chosen → AreEarliest m client server a chosen }
     // The order of the server's names never matters, but for which of its methods is first.
-    ensures order { (m : Meaning) (client server other : Offer) → OfferAlike server other → choice m client server ≡ choice m client other }
+    ensures order { (m : SuiteData) (client server other : KexInitData) → OfferAlike server other → choice m client server ≡ choice m client other }
     // Only the client's algorithms and their order matter of what it offers, no marker and nothing else.
-    ensures offered { (m : Meaning) (client other server : Offer) → OfferSame client other → choice m client server ≡ choice m other server }
+    ensures offered { (m : SuiteData) (client other server : KexInitData) → OfferSame client other → choice m client server ≡ choice m other server }
     // Where both sides' first methods are the same, a choice uses it; so a right guess guesses the method that is used.
-    ensures guessed { (m : Meaning) (client server : Offer) (a : Algorithms) → IsRightGuess client server → IsChoice m client server a
+    ensures guessed { (m : SuiteData) (client server : KexInitData) (a : AlgorithmsData) → IsRightGuess client server → IsChoice m client server a
         → first_name (methods client.kex_algorithms) ≡ Some a.kex }
-    ensures same_first { (m : Meaning) (client server : Offer) (a : Algorithms) (kex : List ℕ) → AreFirstMethods client server kex
+    ensures same_first { (m : SuiteData) (client server : KexInitData) (a : AlgorithmsData) (kex : List ℕ) → AreFirstMethods client server kex
         → IsChoice m client server a → a.kex ≡ kex }
     // The positions are those of the first places, and the names stand there.
-    ensures placed { (m : Meaning) (client server : Offer) (a : Algorithms) (chosen : Chosen) → IsChoice m client server a
+    ensures placed { (m : SuiteData) (client server : KexInitData) (a : AlgorithmsData) (chosen : Chosen) → IsChoice m client server a
         → ArePositions client a chosen ↔ (chosen ≡ positions client a) }
-    ensures stands { (client : Offer) (a : Algorithms) (chosen : Chosen) → ArePositions client a chosen
+    ensures stands { (client : KexInitData) (a : AlgorithmsData) (chosen : Chosen) → ArePositions client a chosen
         → (f : NoCommon) → StandsAt (list_of f client) (name_of f a) (position_of f chosen) }
-    ensures well { (m : Meaning) (client server : Offer) (a : Algorithms) → IsChoice m client server a
+    ensures well { (m : SuiteData) (client server : KexInitData) (a : AlgorithmsData) → IsChoice m client server a
         → (f : NoCommon) → AreNames (list_of f client) → IsName (name_of f a) }
 {}
 
@@ -69,15 +69,15 @@ pub fn markers_law()
     // The methods of a list are its names that are no markers.
     ensures method { (names : List (List ℕ)) (name : List ℕ) → Contains (methods names) name ↔ (Contains names name × (is_marker name ≡ false)) }
     // A marker changes no method, wherever it is added. Where there is none every name is a method.
-    ensures added { (marker : List ℕ) (before behind : List (List ℕ)) → is_marker marker ≡ true → methods (before ++ marker ∷ behind) ≡ methods (before ++ behind) }
+    ensures added { (marker : List ℕ) (before after : List (List ℕ)) → is_marker marker ≡ true → methods (before ++ marker ∷ after) ≡ methods (before ++ after) }
     ensures unmarked { (names : List (List ℕ)) → ((name : List ℕ) → Contains names name → is_marker name ≡ false) → methods names ≡ names }
     // Strictness and a right guess are decided by a test of flag, role and offers.
-    ensures strictness { (flag : Bool) (role : Role) (peer : Offer) → (is_strict flag role peer ≡ true) ↔ IsStrict flag role peer }
-    ensures right { (client server : Offer) → (is_right_guess client server ≡ true) ↔ IsRightGuess client server }
+    ensures strictness { (flag : Bool) (role : Role) (peer : KexInitData) → (is_strict flag role peer ≡ true) ↔ IsStrict flag role peer }
+    ensures right { (client server : KexInitData) → (is_right_guess client server ≡ true) ↔ IsRightGuess client server }
     // Of two endpoints that put their own marker behind methods: the methods are the same, and strictness is both flags.
     ensures own_methods { (flag : Bool) (role : Role) (names : List (List ℕ)) → ((name : List ℕ) → Contains names name → is_marker name ≡ false)
         → methods (marked_list role flag names) ≡ names }
-    ensures both_flags { (flag other_flag : Bool) (role : Role) (names : List (List ℕ)) (peer : Offer)
+    ensures both_flags { (flag other_flag : Bool) (role : Role) (names : List (List ℕ)) (peer : KexInitData)
         → ((name : List ℕ) → Contains names name → is_marker name ≡ false) → peer.kex_algorithms ≡ marked_list (other role) other_flag names
         → IsStrict flag role peer ↔ ((flag ≡ true) × (other_flag ≡ true)) }
 {}
@@ -87,23 +87,23 @@ pub fn markers_law()
 pub fn derivation_law()
     // The initialisation vector, the encryption key and the integrity key of either direction have the lengths that the suite
     // asks for.
-    ensures iv { (m : Meaning) → IsLawful m → (x : KeySource) (sender : Role) (cipher mac : List ℕ)
+    ensures iv { (m : SuiteData) → IsLawful m → (x : KeyMaterialData) (sender : Role) (cipher mac : List ℕ)
         → length (derived m x sender cipher mac).iv ≡ (m.key_lens cipher mac).iv }
-    ensures enc { (m : Meaning) → IsLawful m → (x : KeySource) (sender : Role) (cipher mac : List ℕ)
+    ensures enc { (m : SuiteData) → IsLawful m → (x : KeyMaterialData) (sender : Role) (cipher mac : List ℕ)
         → length (derived m x sender cipher mac).enc ≡ (m.key_lens cipher mac).enc }
-    ensures mac { (m : Meaning) → IsLawful m → (x : KeySource) (sender : Role) (cipher mac : List ℕ)
+    ensures mac { (m : SuiteData) → IsLawful m → (x : KeyMaterialData) (sender : Role) (cipher mac : List ℕ)
         → length (derived m x sender cipher mac).mac_key ≡ (m.key_lens cipher mac).mac }
     // As few hashes as reach the length give the key.
-    ensures hashes { (m : Meaning) → IsLawful m → (x : KeySource) (letter len n : ℕ) → n ≤ len
+    ensures hashes { (m : SuiteData) → IsLawful m → (x : KeyMaterialData) (letter len n : ℕ) → n ≤ len
         → len ≤ length (grown m x (hash_with m x (letter ∷ x.session)) n)
         → key m x letter len ≡ take len (grown m x (hash_with m x (letter ∷ x.session)) n) }
     // The two ends of one exchange by a method, whose random bytes agree under it, each make their keys of one and the same
     // source: the client of what it has itself, the server of what it has itself. So what either seals with, by its own source,
     // is what the other unseals with, by its own, in both directions and under every cipher and mac.
-    ensures both { (m : Meaning) (kex : List ℕ) (client server : KexEnd) → Agrees m kex client.random server.random
+    ensures both { (m : SuiteData) (kex : List ℕ) (client server : KexEnd) → Agrees m kex client.random server.random
         → IsOneExchange m kex client server → HaveOneSource m (source_with m Client kex client) (source_with m Server kex server) }
     // The same where each end finds the method itself, in the KEXINIT that it sent and the one that it received.
-    ensures ends { (m : Meaning) (kex : List ℕ) (client server : KexEnd) (a : Algorithms)
+    ensures ends { (m : SuiteData) (kex : List ℕ) (client server : KexEnd) (a : AlgorithmsData)
         → choice_in m client.kexinit server.kexinit ≡ Ok a → a.kex ≡ kex
         → Agrees m kex client.random server.random → IsOneExchange m kex client server
         → HaveOneSource m (source_of_end m Client client) (source_of_end m Server server) }
@@ -113,21 +113,21 @@ pub fn derivation_law()
 /// what they hash and sign (RFC 4253 section 8, RFC 4252 section 7).
 pub fn exchange_law()
     // A written KEXINIT offers what it was written for.
-    ensures offered { (offer : Offer) → IsWellFormed (KexInit offer) → offer_in (written_message (KexInit offer)) ≡ Some offer }
+    ensures offered { (offer : KexInitData) → IsWellFormed (KexInit offer) → offer_in (written_message (KexInit offer)) ≡ Some offer }
     // So two written KEXINITs have the choice of what they were written for.
-    ensures chosen { (m : Meaning) (client server : Offer) → IsWellFormed (KexInit client) → IsWellFormed (KexInit server)
+    ensures chosen { (m : SuiteData) (client server : KexInitData) → IsWellFormed (KexInit client) → IsWellFormed (KexInit server)
         → choice_in m (written_message (KexInit client)) (written_message (KexInit server)) ≡ choice m client server }
     // Both ends of one exchange make one choice, that of the two KEXINITs as sent.
-    ensures choices { (m : Meaning) (kex : List ℕ) (client server : KexEnd) → IsOneExchange m kex client server
+    ensures choices { (m : SuiteData) (kex : List ℕ) (client server : KexEnd) → IsOneExchange m kex client server
         → (choice_at m Client client ≡ choice_in m client.kexinit server.kexinit)
         × (choice_at m Server server ≡ choice_in m client.kexinit server.kexinit) }
     // Where their random bytes agree under the method, both come to one answer, which is the server's share and the shared
     // number: the client from the share that it has received, the server from the client's.
-    ensures answers { (m : Meaning) (kex : List ℕ) (client server : KexEnd) → Agrees m kex client.random server.random
+    ensures answers { (m : SuiteData) (kex : List ℕ) (client server : KexEnd) → Agrees m kex client.random server.random
         → IsOneExchange m kex client server → (r : ResponseData) × (answer_by Client m kex client.random client.peer_share ≡ Some r)
         × (answer_by Server m kex server.random server.peer_share ≡ Some r) }
     // And both hash the same, whatever the answer is.
-    ensures hashed { (m : Meaning) (kex : List ℕ) (client server : KexEnd) → IsOneExchange m kex client server
+    ensures hashed { (m : SuiteData) (kex : List ℕ) (client server : KexEnd) → IsOneExchange m kex client server
         → (r : ResponseData) → exchange_by m Client kex client r ≡ exchange_by m Server kex server r }
     // The input of the exchange hash is as long as its eight parts and the four bytes of each one's length.
     ensures text_length { (x : ExchangeData) → length (exchange_text x) ≡ exchange_size x + 32 }

@@ -10,8 +10,8 @@ use Rattle.sshpacket.specs.declared.reader.PacketStep.TheVariants.{More, Payload
 use Rattle.sshpacket.specs.declared.room.TheConstants.{ROOM_KEPT}
 use Rattle.sshpacket.specs.Parse.{Parse, OfPacket, refused, unfinished, whole}
 use Rattle.sshpacket.specs.declared.reader.PacketReader.{PacketReader}
-use Rattle.sshpacket.specs.ReaderState.{HoldsNothingBehind, IsPayload, IsStep, KeepsLittle, ReaderLeaves, ReaderWaits, Uses, last_used, spare_room, state, OnlyPacketAnswer, ParseAnswer, PacketAnswer, ReaderState, ahead, protection_at}
-use Rattle.sshpacket.specs.Suite.{Meaning}
+use Rattle.sshpacket.specs.PacketReaderData.{HoldsNothingAfter, IsPayload, IsStep, KeepsLittle, ReaderLeaves, ReaderWaits, Uses, last_used, spare_room, packet_reader_data, OnlyPacketAnswer, ParseAnswer, PacketAnswer, PacketReaderData, ahead, protection_at}
+use Rattle.sshpacket.specs.Suite.{SuiteData}
 use Rattle.sshpacket.specs.ProtectedPacket.{IsProtectedPacket, PacketMeans}
 
 is_memory : (f : PacketFault) → (f ≡ Memory) ⊎ (f ≢ Memory)
@@ -27,7 +27,7 @@ same_whole p q i j e = (cc, cc)
 same_fault : (e f : PacketFault) (i j : ℕ) → refused (OfPacket e) i ≡ refused (OfPacket f) j → e ≡ f
 same_fault e f i j is = cc
 
-module _ (m : Meaning) (s : ReaderState) (piece : List ℕ) where
+module _ (m : SuiteData) (s : PacketReaderData) (piece : List ℕ) where
   bytes_used : (used : ℕ) → take (length s.held + used) (s.held ++ piece) ≡ s.held ++ take used piece
   bytes_used used = take-append-add s.held piece used
 
@@ -103,7 +103,7 @@ module _ (m : Meaning) (s : ReaderState) (piece : List ℕ) where
     step_answer (Payload lent seq taken) is low e =
         (omega (arith, is.2, low), e ∙ (ap (λ (xs : List ℕ). whole xs (length s.held + used)) (sym is.0) ∙ ap (λ (n : ℕ). whole lent.now (length s.held + n)) (sym is.2)), is.1)
 
-    pub step_leaves : (step : PacketStep) (new : PacketReader) → IsStep payload s.seq used step → state new ≡ record s { held = []; seq = (s.seq + 1) % 2 ^ 32 }
+    pub step_leaves : (step : PacketStep) (new : PacketReader) → IsStep payload s.seq used step → packet_reader_data new ≡ record s { held = []; seq = (s.seq + 1) % 2 ^ 32 }
         → last_used new ≡ used → ReaderWaits m new → ReaderLeaves m s piece (Ok step) new
     step_leaves More new is same taken waits = absurd is
     step_leaves (Payload lent seq number) new is same taken waits = (same, taken ∙ sym is.2, waits)
@@ -112,7 +112,7 @@ module _ (m : Meaning) (s : ReaderState) (piece : List ℕ) where
     step_uses More is some low = tt
     step_uses (Payload lent seq taken) is some low = (omega (arith, is.2, some), omega (arith, is.2, low))
 
-pub step_holds : (step : PacketStep) (new : ReaderState) → new.held ≡ [] → HoldsNothingBehind (Ok step) new
+pub step_holds : (step : PacketStep) (new : PacketReaderData) → new.held ≡ [] → HoldsNothingAfter (Ok step) new
 step_holds More new none = tt
 step_holds (Payload lent seq taken) new none = none
 

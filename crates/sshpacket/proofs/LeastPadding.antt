@@ -7,8 +7,8 @@ use Rattle.std.proofs.lemmas.Nat.{mod_below}
 use Rattle.sshpacket.specs.Packet.{IsLeastPadding, IsPadding, counted, least_padding, to_multiple, alignment, with_four}
 
 -- what lies a little behind a multiple isn't one
-behind_multiple : (u n j : ℕ) → n % u + j < u → (n + j) % u ≡ n % u + j
-behind_multiple u n j h = sym (mod-add-mod n u j) ∙ mod-eq_of_lt h
+after_multiple : (u n j : ℕ) → n % u + j < u → (n + j) % u ≡ n % u + j
+after_multiple u n j h = sym (mod-add-mod n u j) ∙ mod-eq_of_lt h
 
 -- with what is missing it is a multiple
 pub to_multiple_is : (u n : ℕ) (b : Bool) → 0 < u → eqb (n % u) 0 ≡ b → (n + to_multiple u n) % u ≡ 0
@@ -35,7 +35,7 @@ missing_of u n some more =
 too_few : (u n j : ℕ) (b : Bool) → 0 < u → n % u ≢ 0 → (n + j) % u ≡ 0 → ltb (n % u + j) u ≡ b → to_multiple u n ≤ j
 too_few u n j true some more e t =
     let short : n % u + j < u = ltb-true (n % u + j) u t in
-    let same : 0 ≡ n % u + j = sym e ∙ behind_multiple u n j short in
+    let same : 0 ≡ n % u + j = sym e ∙ after_multiple u n j short in
     absurd (more (omega (arith, same)))
 too_few u n j false some more e t =
     let long : u ≤ n % u + j = ltb-false (n % u + j) u t in
@@ -55,7 +55,7 @@ pub next_multiple : (u n j : ℕ) (b : Bool) → n % u ≡ 0 → (n + j) % u ≡
 next_multiple u n j true e f some t =
     let short : j < u = ltb-true j u t in
     let low : n % u + j < u = omega (arith, e, short) in
-    let same : 0 ≡ n % u + j = sym f ∙ behind_multiple u n j low in
+    let same : 0 ≡ n % u + j = sym f ∙ after_multiple u n j low in
     omega (arith, same, some)
 next_multiple u n j false e f some t = ltb-false j u t
 

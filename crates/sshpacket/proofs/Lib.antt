@@ -1,5 +1,5 @@
 pub mod AnswerLemmas
-pub mod HearingLemmas
+pub mod ReceivingLemmas
 pub mod JoinedLemmas
 pub mod LeastPadding
 pub mod Opening

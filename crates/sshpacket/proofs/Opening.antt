@@ -114,14 +114,14 @@ module _ (r : IsReading Uint32Text uint32_at) (counts : Bool) (block tag n : ℕ
   abbrev p : ℕ
   p = slice_index clear 4
 
-  abbrev behind : List ℕ
-  behind = drop 5 clear
+  abbrev after : List ℕ
+  after = drop 5 clear
 
   abbrev payload : List ℕ
-  payload = take (length clear - 4 - p - 1) behind
+  payload = take (length clear - 4 - p - 1) after
 
   abbrev padding : List ℕ
-  padding = drop (length clear - 4 - p - 1) behind
+  padding = drop (length clear - 4 - p - 1) after
 
   pub packet_of_parts : IsLength counts block tag n → 4 ≤ p → p + 1 < n → IsPacket counts block tag payload clear
   packet_of_parts fits low some =
@@ -130,14 +130,14 @@ module _ (r : IsReading Uint32Text uint32_at) (counts : Bool) (block tag n : ℕ
       let least : 8 + counted counts ≤ n = fits.least in
       let h = headed r clear k.bytes_are (omega arith) in
       let rest : length (drop 4 clear) ≡ length clear - 4 = length-drop 4 clear in
-      let left : length behind ≡ length clear - 5 = length-drop 5 clear in
-      let size : length payload ≡ length clear - 4 - p - 1 = length-take-le (length clear - 4 - p - 1) behind (omega arith) in
-      let pads : length padding ≡ length behind - (length clear - 4 - p - 1) = length-drop (length clear - 4 - p - 1) behind in
+      let left : length after ≡ length clear - 5 = length-drop 5 clear in
+      let size : length payload ≡ length clear - 4 - p - 1 = length-take-le (length clear - 4 - p - 1) after (omega arith) in
+      let pads : length padding ≡ length after - (length clear - 4 - p - 1) = length-drop (length clear - 4 - p - 1) after in
       let pad : length padding ≡ p = omega arith in
       let whole_is : 1 + length payload + length padding ≡ n = omega arith in
       let byte : p < 256 = k.bytes_are 4 in
       let head : slice_index (drop 4 clear) 0 ≡ length padding = get_or-drop 4 clear 0 0 ∙ sym pad in
-      let more : drop 1 (drop 4 clear) ≡ payload ++ padding = drop-drop 1 4 clear ∙ sym (take-append-drop (length clear - 4 - p - 1) behind) in
+      let more : drop 1 (drop 4 clear) ≡ payload ++ padding = drop-drop 1 4 clear ∙ sym (take-append-drop (length clear - 4 - p - 1) after) in
       let tail : drop 4 clear ≡ length padding ∷ (payload ++ padding) = first_and_more (drop 4 clear) (omega arith)
       ∙ (ap (λ (x : ℕ). x ∷ drop 1 (drop 4 clear)) head ∙ ap (λ (xs : List ℕ). length padding ∷ xs) more) in
       record {

@@ -3,7 +3,7 @@
 use Rattle.std.proofs.Common.{◌≡◌, ℕ, ◌+◌, ◌%◌, ◌<◌, ◌≤◌, Bool, true, false, List, length, take, refl, sym, ◌∙◌, leb, eqb, ◌&&◌}
 use Rattle.std.proofs.lemmas.Bool.{and_parts, eq-eqb, eqb-true, le-leb, le-ltb, leb-true, lt-ltb}
 use Rattle.sshpacket.specs.declared.fault.PacketFault.TheVariants.{Length}
-use Rattle.sshpacket.specs.Parse.{OfPacket, Protection, parse_packet, is_length, refused, total, unfinished, unsealed}
+use Rattle.sshpacket.specs.Parse.{OfPacket, ProtectionData, parse_packet, is_length, refused, total, unfinished, unsealed}
 use Rattle.sshpacket.specs.Packet.{IsLength, counted, alignment}
 use Rattle.sshpacket.specs.declared.limits.TheConstants.{PACKET_LIMIT}
 
@@ -29,7 +29,7 @@ false_where false never = refl
 pub length_not : (counts : Bool) (block tag n : ℕ) → (IsLength counts block tag n → ⊥) → is_length counts block tag n ≡ false
 length_not counts block tag n never = false_where (is_length counts block tag n) (λ t. never (length_of counts block tag n t))
 
-module _ (w : Protection) (bytes : List ℕ) where
+module _ (w : ProtectionData) (bytes : List ℕ) where
   pub parse_short : length bytes < 4 → parse_packet w bytes ≡ unfinished
   unfolding parse_packet
   parse_short h = rw (lt-ltb (length bytes) 4 h) refl

@@ -9,29 +9,29 @@ use Rattle.sshwire.specs.declared.fault.WireFault.{WireFault}
 use Rattle.sshwire.specs.Lines.{LineRefused, Preamble}
 use Rattle.sshwire.specs.Meaning.{EndsPreamble, EndsRefused, ReadingMeans}
 use Rattle.sshwire.specs.Reading.{Reading, Got, More, Stop, reading, then_on}
-use Rattle.sshpacket.specs.Parse.{Parse, Protection, OfLine, OfPacket, parse_packet, is_length, opened, refused, total, unfinished, unsealed, whole}
+use Rattle.sshpacket.specs.Parse.{Parse, ProtectionData, OfLine, OfPacket, parse_packet, is_length, opened, refused, total, unfinished, unsealed, whole}
 use Rattle.sshpacket.specs.declared.fault.PacketFault.TheVariants.{Empty, Length, Padding}
 use Rattle.sshpacket.specs.PreambleParser.{PreambleMeans, parse_preamble, preamble_parser}
 use Rattle.sshpacket.specs.Stream.{IsIncremental, Parser}
 use Rattle.sshpacket.proofs.ParseLemmas.{parse_bad, parse_full, parse_part, parse_short}
 
 -- nothing stands in no bytes
-parse_none : (w : Protection) → parse_packet w [] ≡ unfinished
+parse_none : (w : ProtectionData) → parse_packet w [] ≡ unfinished
 unfolding parse_packet
 parse_none w = refl
 
 take_more : (n : ℕ) (bytes more : List ℕ) → n ≤ length bytes → take n (bytes ++ more) ≡ take n bytes
 take_more n bytes more h = take-append-le n bytes more h
 
-total_more : (w : Protection) (bytes more : List ℕ) → 4 ≤ length bytes → total w (bytes ++ more) ≡ total w bytes
+total_more : (w : ProtectionData) (bytes more : List ℕ) → 4 ≤ length bytes → total w (bytes ++ more) ≡ total w bytes
 total_more w bytes more h = ap (λ (head : List ℕ). 4 + w.head head + w.tag) (take_more 4 bytes more h)
 
-length_more : (w : Protection) (bytes more : List ℕ) (b : Bool) → 4 ≤ length bytes → is_length w.counts w.block w.tag (w.head (take 4 bytes)) ≡ b
+length_more : (w : ProtectionData) (bytes more : List ℕ) (b : Bool) → 4 ≤ length bytes → is_length w.counts w.block w.tag (w.head (take 4 bytes)) ≡ b
     → is_length w.counts w.block w.tag (w.head (take 4 (bytes ++ more))) ≡ b
 length_more w bytes more b h e = ap (λ (head : List ℕ). is_length w.counts w.block w.tag (w.head head)) (take_more 4 bytes more h) ∙ e
 
 -- more bytes behind change no answer
-parse_more_by : (w : Protection) (bytes more : List ℕ) (s t u : Bool) → ltb (length bytes) 4 ≡ s → is_length w.counts w.block w.tag (w.head (take 4 bytes)) ≡ t → ltb (length bytes) (total w bytes) ≡ u
+parse_more_by : (w : ProtectionData) (bytes more : List ℕ) (s t u : Bool) → ltb (length bytes) 4 ≡ s → is_length w.counts w.block w.tag (w.head (take 4 bytes)) ≡ t → ltb (length bytes) (total w bytes) ≡ u
     → (parse_packet w bytes ≡ unfinished → ⊥) → parse_packet w (bytes ++ more) ≡ parse_packet w bytes
 parse_more_by w bytes more true t u a b c some = absurd (some (parse_short w bytes (ltb-true (length bytes) 4 a)))
 parse_more_by w bytes more false false u a b c some =
@@ -50,7 +50,7 @@ parse_more_by w bytes more false true false a b c some =
     ∙ (ap (λ (head : List ℕ). unsealed (w.unseal head) (total w (bytes ++ more))) all
     ∙ (ap (λ (n : ℕ). unsealed (w.unseal (take (total w bytes) bytes)) n) size ∙ sym (parse_full w bytes headed b full)))
 
-parse_more : (w : Protection) (bytes more : List ℕ) → (parse_packet w bytes ≡ unfinished → ⊥) → parse_packet w (bytes ++ more) ≡ parse_packet w bytes
+parse_more : (w : ProtectionData) (bytes more : List ℕ) → (parse_packet w bytes ≡ unfinished → ⊥) → parse_packet w (bytes ++ more) ≡ parse_packet w bytes
 parse_more w bytes more = parse_more_by w bytes more _ _ _ refl refl refl
 
 -- where an answer ends
@@ -93,7 +93,7 @@ unsealed_place None all = refl
 unsealed_place (Some clear) all = opened_place clear all
 
 -- the bytes of a packet are enough to answer it, and four bytes to refuse its length
-parse_again_by : (w : Protection) (bytes : List ℕ) (answer : Parse) (s t u : Bool) → ltb (length bytes) 4 ≡ s → is_length w.counts w.block w.tag (w.head (take 4 bytes)) ≡ t → ltb (length bytes) (total w bytes) ≡ u
+parse_again_by : (w : ProtectionData) (bytes : List ℕ) (answer : Parse) (s t u : Bool) → ltb (length bytes) 4 ≡ s → is_length w.counts w.block w.tag (w.head (take 4 bytes)) ≡ t → ltb (length bytes) (total w bytes) ≡ u
     → parse_packet w bytes ≡ answer → (answer ≡ unfinished → ⊥) → IsAgain (parse_packet w) bytes answer
 parse_again_by w bytes answer true t u a b c e some = absurd (some (sym e ∙ parse_short w bytes (ltb-true (length bytes) 4 a)))
 parse_again_by w bytes answer false false u a b c e some =
@@ -120,7 +120,7 @@ parse_again_by w bytes answer false true false a b c e some =
     ∙ (ap (λ (xs : List ℕ). unsealed (w.unseal xs) (total w (take all bytes))) own
     ∙ (ap (λ (n : ℕ). unsealed (w.unseal (take all bytes)) n) same ∙ sym is)))
 
-pub packets_parser : (w : Protection) → IsIncremental (parse_packet w)
+pub packets_parser : (w : ProtectionData) → IsIncremental (parse_packet w)
 packets_parser w = parser_of_again (parse_packet w) (parse_none w) (parse_more w) (λ bytes answer. parse_again_by w bytes answer _ _ _ refl refl refl)
 
 -- the laws of the reading of lines that are used here
@@ -192,16 +192,16 @@ module _ (law : IsLinesLaw) (k : ℕ) where
   unfolding preamble_parser
   lines_again bytes answer = lines_again_by bytes answer (reading k [] bytes) refl (law.sound k bytes)
 
-  lines_more_behind : (bytes more : List ℕ) → (preamble_parser k bytes ≡ unfinished → ⊥) → preamble_parser k (bytes ++ more) ≡ preamble_parser k bytes
+  lines_more_after : (bytes more : List ℕ) → (preamble_parser k bytes ≡ unfinished → ⊥) → preamble_parser k (bytes ++ more) ≡ preamble_parser k bytes
   unfolding preamble_parser
-  lines_more_behind bytes more some = ap (λ (r : Reading). parse_preamble (length (bytes ++ more)) r) (law.cut k bytes more) ∙ lines_more bytes more (reading k [] bytes) some
+  lines_more_after bytes more some = ap (λ (r : Reading). parse_preamble (length (bytes ++ more)) r) (law.cut k bytes more) ∙ lines_more bytes more (reading k [] bytes) some
 
   lines_none : preamble_parser k [] ≡ unfinished
   unfolding preamble_parser
   lines_none = refl
 
   pub lines_parser : IsIncremental (preamble_parser k)
-  lines_parser = parser_of_again (preamble_parser k) lines_none lines_more_behind lines_again
+  lines_parser = parser_of_again (preamble_parser k) lines_none lines_more_after lines_again
 
 -- a preamble is read as its version, whatever follows
 pub preamble_seen : IsLinesLaw → (k : ℕ) (text bytes more : List ℕ) → Preamble k text bytes → preamble_parser k (bytes ++ more) ≡ whole text (length bytes)

@@ -18,15 +18,15 @@ module _ {A : Type 0} where
   each-prefix Q before [] ys p = tt
   each-prefix Q before (x ∷ xs) ys p = (p.0, each-prefix Q (before ++ x ∷ []) xs ys p.1)
 
-  pub each-behind : (Q : List A → A → Type 0) (before xs ys : List A) → EachPlace Q before (xs ++ ys) → EachPlace Q (before ++ xs) ys
-  each-behind Q before [] ys p = subst (λ (b : List A). EachPlace Q b ys) (sym (append-nil before)) p
-  each-behind Q before (x ∷ xs) ys p = subst (λ (b : List A). EachPlace Q b ys) (passed before x xs) (each-behind Q (before ++ x ∷ []) xs ys p.1)
+  pub each-after : (Q : List A → A → Type 0) (before xs ys : List A) → EachPlace Q before (xs ++ ys) → EachPlace Q (before ++ xs) ys
+  each-after Q before [] ys p = subst (λ (b : List A). EachPlace Q b ys) (sym (append-nil before)) p
+  each-after Q before (x ∷ xs) ys p = subst (λ (b : List A). EachPlace Q b ys) (passed before x xs) (each-after Q (before ++ x ∷ []) xs ys p.1)
 
   pub each-push : (Q : List A → A → Type 0) (before xs : List A) (x : A) → EachPlace Q before xs → Q (before ++ xs) x → EachPlace Q before (xs ++ x ∷ [])
   each-push Q before xs x p q = each-append Q before xs (x ∷ []) p (q, tt)
 
   pub each-last : (Q : List A → A → Type 0) (before xs : List A) (x : A) → EachPlace Q before (xs ++ x ∷ []) → Q (before ++ xs) x
-  each-last Q before xs x p = (each-behind Q before xs (x ∷ []) p).0
+  each-last Q before xs x p = (each-after Q before xs (x ∷ []) p).0
 
   -- what holds at each place implies what follows from it
   pub each-weaker : (P Q : List A → A → Type 0) → ((before : List A) (x : A) → P before x → Q before x) → (before xs : List A) → EachPlace P before xs → EachPlace Q before xs
@@ -137,12 +137,12 @@ module _ {A : Type 0} where
 
   -- what holds of every element by what stands before it holds at each place
   pub each-from : (Q : List A → A → Type 0) (before xs : List A)
-      → ((front : List A) (x : A) (behind : List A) → xs ≡ front ++ x ∷ behind → Q (before ++ front) x) → EachPlace Q before xs
+      → ((front : List A) (x : A) (after : List A) → xs ≡ front ++ x ∷ after → Q (before ++ front) x) → EachPlace Q before xs
   each-from Q before [] f = tt
   each-from Q before (x ∷ xs) f = (
     subst (λ (b : List A). Q b x) (append-nil before) (f [] x xs refl),
     each-from Q (before ++ x ∷ []) xs
-        (λ front y behind e. subst (λ (b : List A). Q b y) (sym (append_assoc before (x ∷ []) front)) (f (x ∷ front) y behind (ap (λ (l : List A). x ∷ l) e))),
+        (λ front y after e. subst (λ (b : List A). Q b y) (sym (append_assoc before (x ∷ []) front)) (f (x ∷ front) y after (ap (λ (l : List A). x ∷ l) e))),
   )
 
   -- no list but the empty one is a prefix of the empty one, and a prefix begins with the same element

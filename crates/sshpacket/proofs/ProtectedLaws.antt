@@ -8,17 +8,17 @@ use Rattle.sshwire.specs.TypeReadings.{IsReading, uint32_at}
 use Rattle.sshwire.specs.Types.{IsBytes, Uint32Text}
 use Rattle.sshpacket.specs.declared.fault.PacketFault.{PacketFault}
 use Rattle.sshpacket.specs.declared.fault.PacketFault.TheVariants.{Empty, Length, Mac, Memory, Padding}
-use Rattle.sshpacket.specs.Parse.{Parse, OfLine, OfPacket, Protection, parse_packet, is_length, opened, refused, total, unfinished, unsealed, protection, whole}
-use Rattle.sshpacket.specs.KeyData.{KeyData}
+use Rattle.sshpacket.specs.Parse.{Parse, OfLine, OfPacket, ProtectionData, parse_packet, is_length, opened, refused, total, unfinished, unsealed, protection, whole}
+use Rattle.sshpacket.specs.KeysData.{KeysData}
 use Rattle.sshpacket.specs.Packet.{IsPacket, number}
-use Rattle.sshpacket.specs.Suite.{IsLawful, Keeps, Meaning}
+use Rattle.sshpacket.specs.Suite.{IsLawful, Keeps, SuiteData}
 use Rattle.sshpacket.specs.ProtectedPacket.{IsFaithful, IsProtectedPacket, IsWhole, PacketMeans, Refuses}
 use Rattle.sshpacket.proofs.ParseLemmas.{parse_bad, parse_full, parse_part, parse_short, length_from, length_never, length_not, length_of}
 use Rattle.sshpacket.proofs.Opening.{opened_empty, opened_packet, opened_padding, opened_whole, packet_length_is, packet_number, packet_of_parts, number_first}
 use Rattle.sshpacket.specs.declared.limits.TheConstants.{PACKET_LIMIT}
 
 -- the first four bytes of what stands there are the first four
-module _ (w : Protection) (bytes : List ℕ) where
+module _ (w : ProtectionData) (bytes : List ℕ) where
   first_four : (len : ℕ) → 4 ≤ len → take 4 (take len bytes) ≡ take 4 bytes
   first_four len h = take-take 4 len bytes h
 
@@ -30,7 +30,7 @@ abbrev pub TakesBytes : Type 0
 TakesBytes = (n : ℕ) (bytes : List ℕ) → IsBytes bytes → IsBytes (take n bytes)
 
 -- what is unsealed at the front has the length read
-kept : TakesBytes → (w : Protection) (bytes : List ℕ) → IsFaithful w → IsBytes bytes → (clear : List ℕ) → total w bytes ≤ length bytes
+kept : TakesBytes → (w : ProtectionData) (bytes : List ℕ) → IsFaithful w → IsBytes bytes → (clear : List ℕ) → total w bytes ≤ length bytes
     → w.unseal (take (total w bytes) bytes) ≡ Some clear → Keeps (w.head (take 4 bytes)) clear
 kept taken w bytes f h clear all e =
     let wide : 4 ≤ total w bytes = omega arith in
@@ -38,7 +38,7 @@ kept taken w bytes f h clear all e =
     = length-take-le (total w bytes) bytes all ∙ sym (same_total w bytes (total w bytes) wide) in
     rw (first_four w bytes (total w bytes) wide) at (f.keeps (take (total w bytes) bytes) clear (taken (total w bytes) bytes h) size e)
 
-module _ (taken : TakesBytes) (r : IsReading Uint32Text uint32_at) (w : Protection) (bytes : List ℕ) (f : IsFaithful w) (h : IsBytes bytes) where
+module _ (taken : TakesBytes) (r : IsReading Uint32Text uint32_at) (w : ProtectionData) (bytes : List ℕ) (f : IsFaithful w) (h : IsBytes bytes) where
   abbrev n : ℕ
   n = w.head (take 4 bytes)
 
@@ -99,7 +99,7 @@ module _ (taken : TakesBytes) (r : IsReading Uint32Text uint32_at) (w : Protecti
   means = means_by (ltb (length bytes) 4) (is_length w.counts w.block w.tag n) (ltb (length bytes) (total w bytes)) refl refl refl
 
 -- what the first four bytes and the whole packet decide
-parse_whole : (w : Protection) (bytes : List ℕ) (len : ℕ) → IsWhole w bytes len → parse_packet w bytes ≡ unsealed (w.unseal (take len bytes)) len
+parse_whole : (w : ProtectionData) (bytes : List ℕ) (len : ℕ) → IsWhole w bytes len → parse_packet w bytes ≡ unsealed (w.unseal (take len bytes)) len
 parse_whole w bytes len k =
     let size : len ≡ total w bytes = k.size in
     let all : total w bytes ≤ length bytes = (let there : len ≤ length bytes = k.there in omega arith) in
@@ -107,7 +107,7 @@ parse_whole w bytes len k =
     ∙ ap (λ (m : ℕ). unsealed (w.unseal (take m bytes)) m) (sym size)
 
 -- a unit at the front is read as its payload; no law is needed
-pub parse_unit : (w : Protection) (payload clear bytes : List ℕ) (len : ℕ) → len ≤ length bytes → len ≡ total w bytes → w.unseal (take len bytes) ≡ Some clear
+pub parse_unit : (w : ProtectionData) (payload clear bytes : List ℕ) (len : ℕ) → len ≤ length bytes → len ≡ total w bytes → w.unseal (take len bytes) ≡ Some clear
     → IsPacket w.counts w.block w.tag payload clear → length clear ≡ 4 + w.head (take 4 bytes) → 4 ≤ len → parse_packet w bytes ≡ whole payload len
 parse_unit w payload clear bytes len there size opens packet long wide =
     let parts : length clear ≡ 5 + length payload + length packet.padding
@@ -117,11 +117,11 @@ parse_unit w payload clear bytes len there size opens packet long wide =
     ∙ (ap (λ (o : Option (List ℕ)). unsealed o len) opens ∙ opened_packet w.counts w.block w.tag payload clear len packet)
 
 -- a whole packet that was unsealed
-opened_at : (w : Protection) (bytes : List ℕ) (place : ℕ) (clear : List ℕ) → IsWhole w bytes place → w.unseal (take place bytes) ≡ Some clear
+opened_at : (w : ProtectionData) (bytes : List ℕ) (place : ℕ) (clear : List ℕ) → IsWhole w bytes place → w.unseal (take place bytes) ≡ Some clear
     → parse_packet w bytes ≡ opened clear place
 opened_at w bytes place clear k e = parse_whole w bytes place k ∙ ap (λ (o : Option (List ℕ)). unsealed o place) e
 
-rest_of : TakesBytes → (w : Protection) (bytes : List ℕ) → IsFaithful w → IsBytes bytes → (place : ℕ) (clear : List ℕ) → IsWhole w bytes place
+rest_of : TakesBytes → (w : ProtectionData) (bytes : List ℕ) → IsFaithful w → IsBytes bytes → (place : ℕ) (clear : List ℕ) → IsWhole w bytes place
     → w.unseal (take place bytes) ≡ Some clear → length clear - 4 ≡ w.head (take 4 bytes)
 rest_of taken w bytes f h place clear k e =
     let size : place ≡ total w bytes = k.size in
@@ -130,7 +130,7 @@ rest_of taken w bytes f h place clear k e =
     let long : length clear ≡ 4 + w.head (take 4 bytes) = keeps.length_is in
     omega arith
 
-read_unit : TakesBytes → (w : Protection) (bytes payload : List ℕ) (len : ℕ) → IsFaithful w → IsBytes bytes → len ≤ length bytes → IsProtectedPacket w payload (take len bytes)
+read_unit : TakesBytes → (w : ProtectionData) (bytes payload : List ℕ) (len : ℕ) → IsFaithful w → IsBytes bytes → len ≤ length bytes → IsProtectedPacket w payload (take len bytes)
     → parse_packet w bytes ≡ whole payload len
 read_unit taken w bytes payload len f h there u =
     let size : length (take len bytes) ≡ len = length-take-le len bytes there in
@@ -140,7 +140,7 @@ read_unit taken w bytes payload len f h there u =
     let keeps : Keeps (w.head (take 4 bytes)) u.clear = rw (first_four w bytes len wide) at (f.keeps (take len bytes) u.clear (taken len bytes h) u.size u.opens) in
     parse_unit w payload u.clear bytes len there is u.opens u.spells keeps.length_is wide
 
-reads_packet : TakesBytes → (w : Protection) (bytes : List ℕ) → IsFaithful w → IsBytes bytes → (fault : PacketFault) (place : ℕ) → Refuses w bytes fault place
+reads_packet : TakesBytes → (w : ProtectionData) (bytes : List ℕ) → IsFaithful w → IsBytes bytes → (fault : PacketFault) (place : ℕ) → Refuses w bytes fault place
     → parse_packet w bytes ≡ refused (OfPacket fault) place
 reads_packet taken w bytes f h Length place (headed, at_four, never) =
     parse_bad w bytes headed (length_not w.counts w.block w.tag (w.head (take 4 bytes)) never) ∙ ap (λ (k : ℕ). refused (OfPacket Length) k) (sym at_four)
@@ -153,7 +153,7 @@ reads_packet taken w bytes f h Empty place (k, clear, e, low, empty) =
     ∙ opened_empty clear (slice_index clear 4) (w.head (take 4 bytes)) place refl (rest_of taken w bytes f h place clear k e) low empty
 reads_packet taken w bytes f h Memory place bad = absurd bad
 
-pub reads : TakesBytes → (w : Protection) (bytes : List ℕ) → IsFaithful w → IsBytes bytes → (answer : Parse) → PacketMeans w bytes answer → parse_packet w bytes ≡ answer
+pub reads : TakesBytes → (w : ProtectionData) (bytes : List ℕ) → IsFaithful w → IsBytes bytes → (answer : Parse) → PacketMeans w bytes answer → parse_packet w bytes ≡ answer
 reads taken w bytes f h unfinished (inl short) = parse_short w bytes short
 reads taken w bytes f h unfinished (inr part) =
     parse_part w bytes part.headed (length_from w.counts w.block w.tag (w.head (take 4 bytes)) part.fits) part.lacks
@@ -177,7 +177,7 @@ keeps_clear bytes clear each size e =
     }
 
 -- in clear and with a suite's keys the length is kept
-pub faithful : (m : Meaning) → IsLawful m → (keys : Option KeyData) (seq : ℕ) → seq < 2 ^ 32 → IsFaithful (protection m keys seq)
+pub faithful : (m : SuiteData) → IsLawful m → (keys : Option KeysData) (seq : ℕ) → seq < 2 ^ 32 → IsFaithful (protection m keys seq)
 faithful m law None seq h = record { keeps = keeps_clear }
 faithful m law (Some keys) seq h = record { keeps = λ bytes clear each size e. law.unsealed keys seq bytes clear h each size e }
 
@@ -192,9 +192,9 @@ packet_size r payload bytes packet =
     let first : number (take 4 bytes) ≡ number bytes = number_first bytes in
     omega arith
 
-pub unit_of_packet : IsReading Uint32Text uint32_at → (m : Meaning) (seq : ℕ) (payload bytes : List ℕ) → IsPacket true 8 0 payload bytes → IsProtectedPacket (protection m None seq) payload bytes
+pub unit_of_packet : IsReading Uint32Text uint32_at → (m : SuiteData) (seq : ℕ) (payload bytes : List ℕ) → IsPacket true 8 0 payload bytes → IsProtectedPacket (protection m None seq) payload bytes
 unit_of_packet r m seq payload bytes packet =
     record { clear = bytes; size = packet_size r payload bytes packet; opens = refl; spells = packet }
 
-pub packet_of_unit : (m : Meaning) (seq : ℕ) (payload bytes : List ℕ) → IsProtectedPacket (protection m None seq) payload bytes → IsPacket true 8 0 payload bytes
+pub packet_of_unit : (m : SuiteData) (seq : ℕ) (payload bytes : List ℕ) → IsProtectedPacket (protection m None seq) payload bytes → IsPacket true 8 0 payload bytes
 packet_of_unit m seq payload bytes u = let same : u.clear ≡ bytes = sym (some_one bytes u.clear u.opens) in rw same at u.spells

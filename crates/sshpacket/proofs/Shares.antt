@@ -7,7 +7,7 @@ use Rattle.sshwire.specs.declared.share_form.ShareForm.{ShareForm}
 use Rattle.sshwire.specs.declared.share_form.ShareForm.TheVariants.{Hybrid, Mpint, OctetString}
 use Rattle.sshwire.specs.Types.{IsBytes, IsShortestBody}
 use Rattle.sshwire.specs.TypeReadings.{is_canonical}
-use Rattle.sshpacket.specs.Suite.{FitsShare, FitsShared, IsLawful, IsNumberBody, IsPositiveBody, Meaning, ResponseData, has_number_shares, shares_number}
+use Rattle.sshpacket.specs.Suite.{FitsShare, FitsShared, IsLawful, IsNumberBody, IsPositiveBody, ResponseData, SuiteData, has_number_shares, shares_number}
 use Rattle.sshpacket.specs.Shares.{IsShare}
 use Rattle.sshpacket.specs.declared.limits.TheConstants.{SHARE_LIMIT}
 
@@ -44,15 +44,15 @@ module _ (law : (body : List ℕ) → IsBytes body → (is_canonical body ≡ tr
   shared_of OctetString body each h = record { bytes = each; short = number_short body h; shortest = λ e. (law body each).0 (number_canonical body h) }
   shared_of Hybrid body each h = record { bytes = each; short = h; shortest = λ e. cc }
 
-  pub share : (m : Meaning) → IsLawful m → (kex a : List ℕ) → length a ≡ 32 → IsBytes a → IsShare (has_number_shares (m.share_form kex)) (m.share kex a)
+  pub share : (m : SuiteData) → IsLawful m → (kex a : List ℕ) → length a ≡ 32 → IsBytes a → IsShare (has_number_shares (m.share_form kex)) (m.share kex a)
   share m lawful kex a long each = share_of (m.share_form kex) (m.share kex a) (lawful.share_bytes kex a each) (lawful.share_fits kex a long)
 
-  pub shared : (m : Meaning) → IsLawful m → (kex a peer body : List ℕ) → length a ≡ 32 → IsBytes a → IsBytes peer → m.shared kex a peer ≡ Some body
+  pub shared : (m : SuiteData) → IsLawful m → (kex a peer body : List ℕ) → length a ≡ 32 → IsBytes a → IsBytes peer → m.shared kex a peer ≡ Some body
       → IsShare (shares_number (m.share_form kex)) body
   shared m lawful kex a peer body long each more e =
       shared_of (m.share_form kex) body (lawful.shared_bytes kex a peer body each more e) (lawful.shared_fits kex a peer body long e)
 
-  pub response : (m : Meaning) → IsLawful m → (kex a peer : List ℕ) (r : ResponseData) → length a ≡ 32 → IsBytes a → IsBytes peer → m.respond kex a peer ≡ Some r
+  pub response : (m : SuiteData) → IsLawful m → (kex a peer : List ℕ) (r : ResponseData) → length a ≡ 32 → IsBytes a → IsBytes peer → m.respond kex a peer ≡ Some r
       → IsShare (has_number_shares (m.share_form kex)) r.share × IsShare (shares_number (m.share_form kex)) r.shared
   response m lawful kex a peer r long each more e =
       let bytes = lawful.response_bytes kex a peer r each more e in

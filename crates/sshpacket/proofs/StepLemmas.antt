@@ -10,7 +10,7 @@ use Rattle.sshpacket.specs.declared.reader.Filled.{Filled}
 use Rattle.sshpacket.specs.declared.reader.Filled.TheVariants as filled
 use Rattle.sshpacket.specs.declared.reader.Gathered.{Gathered}
 use Rattle.sshpacket.specs.declared.reader.Gathered.TheVariants as gathered
-use Rattle.sshpacket.specs.Parse.{Parse, OfPacket, Protection, parse_packet, is_length, refused, total, unfinished, unsealed}
+use Rattle.sshpacket.specs.Parse.{Parse, OfPacket, ProtectionData, parse_packet, is_length, refused, total, unfinished, unsealed}
 use Rattle.sshpacket.specs.ReaderSteps.{Counts, Fills, FillsBody, FillsPacket, FilledSome, HasRoom, OpensFilled, GatheredRoom, ReadsOn, needed}
 use Rattle.sshpacket.proofs.ParseLemmas.{parse_bad, parse_full, parse_part, parse_short}
 
@@ -48,27 +48,27 @@ module _ (target : ℕ) (piece held new : List ℕ) (used : ℕ) (f : Fills targ
   pub body_whole : target ≤ length new → (length new ≡ target) × (k : ℕ) × (k ≤ length piece) × (new ≡ held ++ take k piece)
   body_whole full = (filled_up full, used, f.within, f.appended)
 
-pub needed_long : (w : Protection) (held : List ℕ) → 4 ≤ length held → needed w held ≡ total w held
+pub needed_long : (w : ProtectionData) (held : List ℕ) → 4 ≤ length held → needed w held ≡ total w held
 needed_long w held h = rw (le-ltb (length held) 4 h) refl
 
-pub needed_short : (w : Protection) (held : List ℕ) → length held < 4 → needed w held ≡ 4
+pub needed_short : (w : ProtectionData) (held : List ℕ) → length held < 4 → needed w held ≡ 4
 needed_short w held h = rw (lt-ltb (length held) 4 h) refl
 
 -- the first four bytes stay the same
-counts_on : (w : Protection) (old new more : List ℕ) (len : ℕ) → new ≡ old ++ more → 4 ≤ length old → Counts w (take 4 old) len → Counts w (take 4 new) len
+counts_on : (w : ProtectionData) (old new more : List ℕ) (len : ℕ) → new ≡ old ++ more → 4 ≤ length old → Counts w (take 4 old) len → Counts w (take 4 new) len
 counts_on w old new more len is headed k =
     let first : take 4 new ≡ take 4 old = ap (λ (xs : List ℕ). take 4 xs) is ∙ take-append-le 4 old more headed in
     rw first k
 
 -- the packet isn't there yet
-part_parse : (w : Protection) (bytes : List ℕ) (len : ℕ) → Counts w (take 4 bytes) len → 4 ≤ length bytes → length bytes < len
+part_parse : (w : ProtectionData) (bytes : List ℕ) (len : ℕ) → Counts w (take 4 bytes) len → 4 ≤ length bytes → length bytes < len
     → (parse_packet w bytes ≡ unfinished) × (len ≡ needed w bytes)
 part_parse w bytes len k headed less =
     let size : len ≡ 4 + w.head (take 4 bytes) + w.tag = k.len_is in
     (parse_part w bytes headed k.taken (omega arith), size ∙ sym (needed_long w bytes headed))
 
 -- all of it is there, and something behind it
-whole_parse : (w : Protection) (new rest : List ℕ) (len : ℕ) → 4 ≤ length new → length new ≡ len → Counts w (take 4 new) len
+whole_parse : (w : ProtectionData) (new rest : List ℕ) (len : ℕ) → 4 ≤ length new → length new ≡ len → Counts w (take 4 new) len
     → parse_packet w (new ++ rest) ≡ unsealed (w.unseal new) (length new)
 whole_parse w new rest len headed full k =
     let long : length (new ++ rest) ≡ length new + length rest = length-append new rest in
@@ -81,7 +81,7 @@ whole_parse w new rest len headed full k =
     ∙ ap (λ (xs : List ℕ). unsealed (w.unseal xs) (length new)) (take_at new rest (length new) refl))
 
 -- What was filled up to the length of the packet, behind bytes with its length field.
-pub packet_of_body : (w : Protection) (len : ℕ) (held piece own more new : List ℕ) (result : Result Filled PacketFault) → held ++ piece ≡ own ++ more → 4 ≤ length own
+pub packet_of_body : (w : ProtectionData) (len : ℕ) (held piece own more new : List ℕ) (result : Result Filled PacketFault) → held ++ piece ≡ own ++ more → 4 ≤ length own
     → Counts w (take 4 own) len → FillsBody len more own new result → FillsPacket w held piece new result
 packet_of_body w len held piece own more new (Err e) same headed k memory = λ other. absurd (other memory)
 packet_of_body w len held piece own more new (Ok (filled.Part target)) same headed k part =
@@ -102,26 +102,26 @@ packet_of_body w len held piece own more new (Ok filled.Whole) same headed k who
     ∙ whole_parse w new (drop used more) len (omega arith) full (counts_on w own new (take used more) len is headed k)
 
 -- the same where the length field was filled first
-pub packet_of_head : (w : Protection) (len : ℕ) (piece held mid first more new : List ℕ) (used : ℕ) (result : Result Filled PacketFault) → Fills 4 piece held mid used
+pub packet_of_head : (w : ProtectionData) (len : ℕ) (piece held mid first more new : List ℕ) (used : ℕ) (result : Result Filled PacketFault) → Fills 4 piece held mid used
     → first ≡ take 4 mid → 4 ≤ length mid → more ≡ drop used piece → Counts w first len → FillsBody len more mid new result → FillsPacket w held piece new result
-packet_of_head w len piece held mid first more new used result f is headed behind k body =
-    packet_of_body w len held piece mid more new result (filled_rest 4 piece held mid used f ∙ ap (λ (xs : List ℕ). mid ++ xs) (sym behind)) headed (rw (← is) k) body
+packet_of_head w len piece held mid first more new used result f is headed after k body =
+    packet_of_body w len held piece mid more new result (filled_rest 4 piece held mid used f ∙ ap (λ (xs : List ℕ). mid ++ xs) (sym after)) headed (rw (← is) k) body
 
 -- where the length was judged and more is wanted, the target is the packet's length
-counts_by : (w : Protection) (held : List ℕ) (b : Bool) → 4 ≤ length held → parse_packet w held ≡ unfinished → is_length w.counts w.block w.tag (w.head (take 4 held)) ≡ b
+counts_by : (w : ProtectionData) (held : List ℕ) (b : Bool) → 4 ≤ length held → parse_packet w held ≡ unfinished → is_length w.counts w.block w.tag (w.head (take 4 held)) ≡ b
     → is_length w.counts w.block w.tag (w.head (take 4 held)) ≡ true
 counts_by w held true headed e t = t
 counts_by w held false headed e t =
     let bad : ◌≡◌ {A = Parse} unfinished (refused (OfPacket Length) 4) = sym e ∙ parse_bad w held headed t in cc
 
-pub waits_counts : (w : Protection) (held : List ℕ) (target : ℕ) → 4 ≤ length held → parse_packet w held ≡ unfinished → target ≡ needed w held → Counts w (take 4 held) target
+pub waits_counts : (w : ProtectionData) (held : List ℕ) (target : ℕ) → 4 ≤ length held → parse_packet w held ≡ unfinished → target ≡ needed w held → Counts w (take 4 held) target
 waits_counts w held target headed e is = record {
   taken = counts_by w held (is_length w.counts w.block w.tag (w.head (take 4 held))) headed e refl;
   len_is = is ∙ needed_long w held headed;
 }
 
 -- behind fewer than four bytes: the first four are not taken, or there are fewer
-pub head_refused : (w : Protection) (piece held new : List ℕ) (used : ℕ) → Fills 4 piece held new used → 4 ≤ length new
+pub head_refused : (w : ProtectionData) (piece held new : List ℕ) (used : ℕ) → Fills 4 piece held new used → 4 ≤ length new
     → is_length w.counts w.block w.tag (w.head (take 4 new)) ≡ false → parse_packet w (held ++ piece) ≡ refused (OfPacket Length) (length new)
 head_refused w piece held new used f headed bad =
     let four : length new ≡ 4 = filled_up 4 piece held new used f headed in
@@ -132,7 +132,7 @@ head_refused w piece held new used f headed bad =
     ∙ (parse_bad w (new ++ rest) (omega arith) (ap (λ (xs : List ℕ). is_length w.counts w.block w.tag (w.head xs)) first ∙ bad)
     ∙ ap (λ (n : ℕ). refused (OfPacket Length) n) (sym four))
 
-pub head_part : (w : Protection) (piece held new : List ℕ) (used : ℕ) → Fills 4 piece held new used → length new < 4
+pub head_part : (w : ProtectionData) (piece held new : List ℕ) (used : ℕ) → Fills 4 piece held new used → length new < 4
     → (new ≡ held ++ piece) × (parse_packet w (held ++ piece) ≡ unfinished) × (4 ≡ needed w new)
 head_part w piece held new used f few =
     let is : new ≡ held ++ piece = filled_all 4 piece held new used f few in
@@ -140,7 +140,7 @@ head_part w piece held new used f few =
     (is, parse_short w (held ++ piece) (omega arith), sym (needed_short w new few))
 
 -- What was filled, and then opened.
-pub reads_on : (w : Protection) (held piece mid new : List ℕ) (used : ℕ) (f : Result Filled PacketFault) (result : Result Gathered PacketFault)
+pub reads_on : (w : ProtectionData) (held piece mid new : List ℕ) (used : ℕ) (f : Result Filled PacketFault) (result : Result Gathered PacketFault)
     → FillsPacket w held piece mid f → OpensFilled w mid new f result → length held ≤ length mid → used ≡ length mid - length held
     → ReadsOn w held piece new used result
 reads_on w held piece mid new used (Err e) result fills opens grows is =
@@ -160,7 +160,7 @@ reads_on w held piece mid new used (Ok filled.Whole) (Err e) fills opens grows i
     let size : length mid ≡ length held + used = omega arith in
     λ other. (fills ∙ opens other) ∙ ap (λ (n : ℕ). refused (OfPacket e) n) size
 
-pub read_room : (w : Protection) (held mid new : List ℕ) (used : ℕ) (f : Result Filled PacketFault) (result : Result Gathered PacketFault)
+pub read_room : (w : ProtectionData) (held mid new : List ℕ) (used : ℕ) (f : Result Filled PacketFault) (result : Result Gathered PacketFault)
     → IfOk f (λ x. HasRoom (length mid) x) → IfOk f (λ x. FilledSome (length held) (length mid) x) → OpensFilled w mid new f result → used ≡ length mid - length held
     → IfOk result (λ x. GatheredRoom new used x)
 read_room w held mid new used (Err e) result room grows opens is = rw opens.0 tt

@@ -5,8 +5,8 @@ use Rattle.std.proofs.lemmas.List.{append-nil, drop-append-le, length-append, le
 use Rattle.std.proofs.Math.Seq.{drop-append_seam, take-append_seam}
 use Rattle.sshpacket.specs.Parse.{Refusal, refused, unfinished, whole}
 use Rattle.sshpacket.specs.Places.{IsPrefix, EachPlace, flat_places}
-use Rattle.sshpacket.specs.Stream.{Units, Parser, IsIncremental, Read, IsRest, Heard, Said, Spelled, Same, Linked, HeardAll}
-use Rattle.sshpacket.proofs.Places.{each-behind, each-prefix, flat-append, flat-push, flat-same, prefix-cons}
+use Rattle.sshpacket.specs.Stream.{Units, Parser, IsIncremental, Read, IsRest, Received, Sent, Spelled, Same, Linked, ReceivedAll}
+use Rattle.sshpacket.proofs.Places.{each-after, each-prefix, flat-append, flat-push, flat-same, prefix-cons}
 
 -- a rest has no unit at its front
 no_unit : (parser : Parser) (rest u : List ℕ) (len : ℕ) (r : Option Refusal) → IsRest parser rest r → parser rest ≡ whole u len → ⊥
@@ -65,7 +65,7 @@ module _ (parsers : Units → Parser) where
       let same : Same us vs x y r q = read_one (before ++ u ∷ []) (drop len bytes) us vs x y r q a (further before u us x r h) b₁ (further before u vs y q k₁) in
       record { same_units = (let rest : us ≡ vs = same.same_units in cc); same_rest = same.same_rest; same_refusal = same.same_refusal }
 
-  pub one_reading : (stream : List ℕ) (us vs : Units) (x y : List ℕ) (r q : Option Refusal) → Heard parsers stream us x r → Heard parsers stream vs y q → Same us vs x y r q
+  pub one_reading : (stream : List ℕ) (us vs : Units) (x y : List ℕ) (r q : Option Refusal) → Received parsers stream us x r → Received parsers stream vs y q → Same us vs x y r q
   one_reading stream us vs x y r q a b = read_one [] stream us vs x y r q a.read a.then_rest b.read b.then_rest
 
   -- behind the same units stands the same rest
@@ -97,39 +97,39 @@ module _ (parsers : Units → Parser) where
         (len, more_whole before bytes more u len e, rw cut (read_more (before ++ u ∷ []) (drop len bytes) more us rest a))
 
     -- the rest with more bytes behind
-    pub heard_more : (stream more : List ℕ) (us : Units) (rest : List ℕ) (r q : Option Refusal)
-        → Heard parsers stream us rest r → IsRest (parsers us) (rest ++ more) q → Heard parsers (stream ++ more) us (rest ++ more) q
-    heard_more stream more us rest r q h k = record { read = read_more [] stream more us rest h.read; then_rest = k }
+    pub received_more : (stream more : List ℕ) (us : Units) (rest : List ℕ) (r q : Option Refusal)
+        → Received parsers stream us rest r → IsRest (parsers us) (rest ++ more) q → Received parsers (stream ++ more) us (rest ++ more) q
+    received_more stream more us rest r q h k = record { read = read_more [] stream more us rest h.read; then_rest = k }
 
     -- more bytes behind, which end a unit
-    pub heard_push : (stream more : List ℕ) (us : Units) (rest u : List ℕ) (r : Option Refusal)
-        → Heard parsers stream us rest r → parsers us (rest ++ more) ≡ whole u (length (rest ++ more)) → Heard parsers (stream ++ more) (us ++ u ∷ []) [] None
-    heard_push stream more us rest u r h e =
+    pub received_push : (stream more : List ℕ) (us : Units) (rest u : List ℕ) (r : Option Refusal)
+        → Received parsers stream us rest r → parsers us (rest ++ more) ≡ whole u (length (rest ++ more)) → Received parsers (stream ++ more) (us ++ u ∷ []) [] None
+    received_push stream more us rest u r h e =
         let all : Read parsers [] (stream ++ more) (us ++ u ∷ []) (drop (length (rest ++ more)) (rest ++ more))
         = read_push [] (stream ++ more) us (rest ++ more) u (length (rest ++ more)) (read_more [] stream more us rest h.read) e in
         let none : drop (length (rest ++ more)) (rest ++ more) ≡ [] = ap (λ (z : List ℕ). drop (length (rest ++ more)) z) (sym (append-nil (rest ++ more))) ∙ drop-append_seam (rest ++ more) [] in
         record { read = subst (λ (z : List ℕ). Read parsers [] (stream ++ more) (us ++ u ∷ []) z) none all; then_rest = (each (us ++ u ∷ [])).none }
 
     -- of more bytes behind, those that end a unit or decide a refusal
-    pub heard_unit : (stream piece : List ℕ) (us : Units) (rest u : List ℕ) (used : ℕ) → Heard parsers stream us rest None → used ≤ length piece
-        → parsers us (rest ++ piece) ≡ whole u (length rest + used) → Heard parsers (stream ++ take used piece) (us ++ u ∷ []) [] None
-    heard_unit stream piece us rest u used h low e =
+    pub received_unit : (stream piece : List ℕ) (us : Units) (rest u : List ℕ) (used : ℕ) → Received parsers stream us rest None → used ≤ length piece
+        → parsers us (rest ++ piece) ≡ whole u (length rest + used) → Received parsers (stream ++ take used piece) (us ++ u ∷ []) [] None
+    received_unit stream piece us rest u used h low e =
         let cut : IsUsed rest piece used = used_of rest piece used low in
         let own : parsers us (rest ++ take used piece) ≡ whole u (length rest + used)
         = rw cut.taken at ((each us).whole_again (rest ++ piece) u (length rest + used) e) in
-        heard_push stream (take used piece) us rest u None h (own ∙ ap (λ (n : ℕ). whole u n) (sym cut.size))
+        received_push stream (take used piece) us rest u None h (own ∙ ap (λ (n : ℕ). whole u n) (sym cut.size))
 
-    pub heard_refusal : (stream piece : List ℕ) (us : Units) (rest : List ℕ) (r : Refusal) (used : ℕ) → Heard parsers stream us rest None → used ≤ length piece
-        → parsers us (rest ++ piece) ≡ refused r (length rest + used) → Heard parsers (stream ++ take used piece) us (rest ++ take used piece) (Some r)
-    heard_refusal stream piece us rest r used h low e =
+    pub received_refusal : (stream piece : List ℕ) (us : Units) (rest : List ℕ) (r : Refusal) (used : ℕ) → Received parsers stream us rest None → used ≤ length piece
+        → parsers us (rest ++ piece) ≡ refused r (length rest + used) → Received parsers (stream ++ take used piece) us (rest ++ take used piece) (Some r)
+    received_refusal stream piece us rest r used h low e =
         let cut : IsUsed rest piece used = used_of rest piece used low in
         let again : parsers us (take (length rest + used) (rest ++ piece)) ≡ refused r (length rest + used)
         = ((each us).refused_again (rest ++ piece) r (length rest + used) e).1 in
-        heard_more stream (take used piece) us rest None (Some r) h (rw cut.taken at again ∙ ap (λ (n : ℕ). refused r n) (sym cut.size))
+        received_more stream (take used piece) us rest None (Some r) h (rw cut.taken at again ∙ ap (λ (n : ℕ). refused r n) (sym cut.size))
 
-    pub heard_part : (stream piece : List ℕ) (us : Units) (rest : List ℕ) → Heard parsers stream us rest None
-        → parsers us (rest ++ piece) ≡ unfinished → Heard parsers (stream ++ piece) us (rest ++ piece) None
-    heard_part stream piece us rest h e = heard_more stream piece us rest None None h e
+    pub received_part : (stream piece : List ℕ) (us : Units) (rest : List ℕ) → Received parsers stream us rest None
+        → parsers us (rest ++ piece) ≡ unfinished → Received parsers (stream ++ piece) us (rest ++ piece) None
+    received_part stream piece us rest h e = received_more stream piece us rest None None h e
 
     -- of two readings of which the second ends, the first is a prefix
     read_front : (before : Units) (bytes : List ℕ) (us vs : Units) (x y : List ℕ) (q : Option Refusal)
@@ -145,27 +145,27 @@ module _ (parsers : Units → Parser) where
         let k₁ : IsRest (parsers (before ++ u ∷ vs)) y q = subst (λ (w : List ℕ). IsRest (parsers (before ++ w ∷ vs)) y q) unit k in
         subst (λ (w : List ℕ). IsPrefix (u ∷ us) (w ∷ vs)) (sym unit) (prefix-cons u us vs (read_front (before ++ u ∷ []) (drop len bytes) us vs x y q a b₁ (further before u vs y q k₁)))
 
-    pub heard_front : (stream more : List ℕ) (us vs : Units) (x y : List ℕ) (r q : Option Refusal)
-        → Heard parsers stream us x r → Heard parsers (stream ++ more) vs y q → IsPrefix us vs
-    heard_front stream more us vs x y r q a b = read_front [] (stream ++ more) us vs (x ++ more) y q (read_more [] stream more us x a.read) b.read b.then_rest
+    pub received_front : (stream more : List ℕ) (us vs : Units) (x y : List ℕ) (r q : Option Refusal)
+        → Received parsers stream us x r → Received parsers (stream ++ more) vs y q → IsPrefix us vs
+    received_front stream more us vs x y r q a b = read_front [] (stream ++ more) us vs (x ++ more) y q (read_more [] stream more us x a.read) b.read b.then_rest
 
-    pub heard_none : Heard parsers [] [] [] None
-    heard_none = record { read = refl; then_rest = (each []).none }
+    pub received_none : Received parsers [] [] [] None
+    received_none = record { read = refl; then_rest = (each []).none }
 
     module _ (spells : Units → List ℕ → List ℕ) where
       -- what is spelled at each place is read there, and what follows is left
-      said_read : (before us : Units) (more : List ℕ) → EachPlace (Spelled parsers spells) before us → Read parsers before (flat_places spells before us ++ more) us more
-      said_read before [] more e = refl
-      said_read before (u ∷ us) more e =
+      sent_read : (before us : Units) (more : List ℕ) → EachPlace (Spelled parsers spells) before us → Read parsers before (flat_places spells before us ++ more) us more
+      sent_read before [] more e = refl
+      sent_read before (u ∷ us) more e =
           let one : List ℕ = spells before u in
           let later : List ℕ = flat_places spells (before ++ u ∷ []) us in
           let grouped : (one ++ later) ++ more ≡ one ++ (later ++ more) = append_assoc one later more in
-          let behind : drop (length one) ((one ++ later) ++ more) ≡ later ++ more = ap (λ (z : List ℕ). drop (length one) z) grouped ∙ drop-append_seam one (later ++ more) in
-          (length one, ap (λ (z : List ℕ). parsers before z) grouped ∙ e.0 (later ++ more), rw behind (said_read (before ++ u ∷ []) us more e.1))
+          let after : drop (length one) ((one ++ later) ++ more) ≡ later ++ more = ap (λ (z : List ℕ). drop (length one) z) grouped ∙ drop-append_seam one (later ++ more) in
+          (length one, ap (λ (z : List ℕ). parsers before z) grouped ∙ e.0 (later ++ more), rw after (sent_read (before ++ u ∷ []) us more e.1))
 
-      pub said_heard : (stream : List ℕ) (us : Units) → Said spells stream us → EachPlace (Spelled parsers spells) [] us → Heard parsers stream us [] None
-      said_heard stream us s e = record {
-        read = rw s.spelled (subst (λ (z : List ℕ). Read parsers [] z us []) (append-nil (flat_places spells [] us)) (said_read [] us [] e));
+      pub sent_received : (stream : List ℕ) (us : Units) → Sent spells stream us → EachPlace (Spelled parsers spells) [] us → Received parsers stream us [] None
+      sent_received stream us s e = record {
+        read = rw s.spelled (subst (λ (z : List ℕ). Read parsers [] z us []) (append-nil (flat_places spells [] us)) (sent_read [] us [] e));
         then_rest = (each us).none;
       }
 
@@ -182,32 +182,32 @@ module _ (parsers : Units → Parser) where
           let some : parsers before (rest ++ more) ≡ parsers before rest = (each before).more rest more (λ none. cc) in
           cc
 
-      pub link : (stream parse_packet more : List ℕ) (said us : Units) (rest : List ℕ) (r : Option Refusal)
-          → Said spells stream said → EachPlace (Spelled parsers spells) [] said → stream ≡ parse_packet ++ more → Heard parsers parse_packet us rest r → Linked us said r
-      link stream parse_packet more said us rest r s e cut h =
-          let whole_heard : Heard parsers (parse_packet ++ more) said [] None = subst (λ (z : List ℕ). Heard parsers z said [] None) cut (said_heard stream said s e) in
-          let is_front : IsPrefix us said = heard_front parse_packet more us said rest [] r None h whole_heard in
+      pub link : (stream parse_packet more : List ℕ) (sent us : Units) (rest : List ℕ) (r : Option Refusal)
+          → Sent spells stream sent → EachPlace (Spelled parsers spells) [] sent → stream ≡ parse_packet ++ more → Received parsers parse_packet us rest r → Linked us sent r
+      link stream parse_packet more sent us rest r s e cut h =
+          let whole_received : Received parsers (parse_packet ++ more) sent [] None = subst (λ (z : List ℕ). Received parsers z sent [] None) cut (sent_received stream sent s e) in
+          let is_front : IsPrefix us sent = received_front parse_packet more us sent rest [] r None h whole_received in
           let others : Units = is_front.rest in
           let places : EachPlace (Spelled parsers spells) [] (us ++ others) = subst (λ (z : Units). EachPlace (Spelled parsers spells) [] z) is_front.whole_is e in
           let bytes : parse_packet ++ more ≡ flat_places spells [] us ++ flat_places spells us others
           = sym cut ∙ (s.spelled ∙ (ap (λ (z : Units). flat_places spells [] z) is_front.whole_is ∙ flat-append spells [] us others)) in
           let again : Read parsers [] (parse_packet ++ more) us (flat_places spells us others)
-          = rw bytes (said_read [] us (flat_places spells us others) (each-prefix (Spelled parsers spells) [] us others places)) in
+          = rw bytes (sent_read [] us (flat_places spells us others) (each-prefix (Spelled parsers spells) [] us others places)) in
           let left : rest ++ more ≡ flat_places spells us others = read_rest [] (parse_packet ++ more) us (rest ++ more) (flat_places spells us others) (read_more [] parse_packet more us rest h.read) again in
-          record { prefix = is_front; no_refusal = none_refused us rest more others r left (each-behind (Spelled parsers spells) [] us others places) h.then_rest }
+          record { prefix = is_front; no_refusal = none_refused us rest more others r left (each-after (Spelled parsers spells) [] us others places) h.then_rest }
 
-      pub link_all : (stream : List ℕ) (said us : Units) (rest : List ℕ) (r : Option Refusal)
-          → Said spells stream said → EachPlace (Spelled parsers spells) [] said → Heard parsers stream us rest r → HeardAll us said rest r
-      link_all stream said us rest r s e h =
-          let same : Same us said rest [] r None = one_reading stream us said rest [] r None h (said_heard stream said s e) in
+      pub link_all : (stream : List ℕ) (sent us : Units) (rest : List ℕ) (r : Option Refusal)
+          → Sent spells stream sent → EachPlace (Spelled parsers spells) [] sent → Received parsers stream us rest r → ReceivedAll us sent rest r
+      link_all stream sent us rest r s e h =
+          let same : Same us sent rest [] r None = one_reading stream us sent rest [] r None h (sent_received stream sent s e) in
           record { all_units = same.same_units; none_left = same.same_rest; no_refusal = same.same_refusal }
 
 -- what was said, with more
-pub said_append : (spells : Units → List ℕ → List ℕ) (stream : List ℕ) (us more : Units) → Said spells stream us → Said spells (stream ++ flat_places spells us more) (us ++ more)
-said_append spells stream us more s = record { spelled = ap (λ (z : List ℕ). z ++ flat_places spells us more) s.spelled ∙ sym (flat-append spells [] us more) }
+pub sent_append : (spells : Units → List ℕ → List ℕ) (stream : List ℕ) (us more : Units) → Sent spells stream us → Sent spells (stream ++ flat_places spells us more) (us ++ more)
+sent_append spells stream us more s = record { spelled = ap (λ (z : List ℕ). z ++ flat_places spells us more) s.spelled ∙ sym (flat-append spells [] us more) }
 
-pub said_push : (spells : Units → List ℕ → List ℕ) (stream : List ℕ) (us : Units) (u : List ℕ) → Said spells stream us → Said spells (stream ++ spells us u) (us ++ u ∷ [])
-said_push spells stream us u s = record { spelled = ap (λ (z : List ℕ). z ++ spells us u) s.spelled ∙ sym (flat-push spells [] us u) }
+pub sent_push : (spells : Units → List ℕ → List ℕ) (stream : List ℕ) (us : Units) (u : List ℕ) → Sent spells stream us → Sent spells (stream ++ spells us u) (us ++ u ∷ [])
+sent_push spells stream us u s = record { spelled = ap (λ (z : List ℕ). z ++ spells us u) s.spelled ∙ sym (flat-push spells [] us u) }
 
-pub said_same : (spells other : Units → List ℕ → List ℕ) (stream : List ℕ) (us : Units) → EachPlace (λ before u. spells before u ≡ other before u) [] us → Said spells stream us → Said other stream us
-said_same spells other stream us e s = record { spelled = s.spelled ∙ flat-same spells other [] us e }
+pub sent_same : (spells other : Units → List ℕ → List ℕ) (stream : List ℕ) (us : Units) → EachPlace (λ before u. spells before u ≡ other before u) [] us → Sent spells stream us → Sent other stream us
+sent_same spells other stream us e s = record { spelled = s.spelled ∙ flat-same spells other [] us e }

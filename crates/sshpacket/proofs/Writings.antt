@@ -7,9 +7,9 @@ use Rattle.std.proofs.lemmas.Nat.{mod_below}
 use Rattle.sshwire.specs.TypeReadings.{IsReading, uint32_at}
 use Rattle.sshwire.specs.Types.{IsBytes, Uint32Text, uint32}
 use Rattle.sshpacket.specs.Parse.{parse_packet, protection, whole}
-use Rattle.sshpacket.specs.KeyData.{KeyData}
+use Rattle.sshpacket.specs.KeysData.{KeysData}
 use Rattle.sshpacket.specs.Packet.{IsLeastPadding, IsLength, IsPacket, counted, least_padding, length_field, number, packet, to_multiple, alignment, with_four}
-use Rattle.sshpacket.specs.Suite.{IsLawful, Meaning}
+use Rattle.sshpacket.specs.Suite.{IsLawful, SuiteData}
 use Rattle.sshpacket.specs.Written.{IsWritten, written}
 use Rattle.sshpacket.proofs.LeastPadding.{least_is}
 use Rattle.sshpacket.proofs.Opening.{packet_length_is, packet_number, number_first}
@@ -36,7 +36,7 @@ fits_packet : (counts : Bool) (block tag len padding : ℕ) → IsLeastPadding c
 fits_packet counts block tag len padding k high low short =
     record { multiple = k.allowed.multiple; least = k.allowed.enough; limit = omega arith }
 
-pub written_is : (m : Meaning) → IsLawful m → (counts : Bool) (block tag : ℕ) (seed : List ℕ) (seq : ℕ) (payload : List ℕ) → block ≤ BLOCK_LIMIT → tag ≤ TAG_LIMIT
+pub written_is : (m : SuiteData) → IsLawful m → (counts : Bool) (block tag : ℕ) (seed : List ℕ) (seq : ℕ) (payload : List ℕ) → block ≤ BLOCK_LIMIT → tag ≤ TAG_LIMIT
     → 0 < length payload → length payload ≤ PAYLOAD_LIMIT → IsWritten counts block tag payload (written m counts block seed seq payload)
 unfolding written
 written_is m law counts block tag seed seq payload low few some short =
@@ -75,7 +75,7 @@ packet_bytes bytes payload padding short each more =
     (field_bytes bytes (1 + length payload + length padding))
     (bytes.cons (length padding) (payload ++ padding) short (bytes.append payload padding each more))
 
-pub written_bytes : IsBytesLaw → (m : Meaning) → IsLawful m → (counts : Bool) (block : ℕ) (seed : List ℕ) (seq : ℕ) (payload : List ℕ) → block ≤ BLOCK_LIMIT → IsBytes payload
+pub written_bytes : IsBytesLaw → (m : SuiteData) → IsLawful m → (counts : Bool) (block : ℕ) (seed : List ℕ) (seq : ℕ) (payload : List ℕ) → block ≤ BLOCK_LIMIT → IsBytes payload
     → IsBytes (written m counts block seed seq payload)
 unfolding written
 written_bytes bytes m law counts block seed seq payload low each =
@@ -103,7 +103,7 @@ packet_long counts block tag payload clear k =
     let parts : length clear ≡ 5 + length payload + length k.padding = ap (λ (xs : List ℕ). length xs) k.bytes_are ∙ packet_length_is payload k.padding in
     omega arith
 
-pub clear_again : IsReading Uint32Text uint32_at → (m : Meaning) (seq : ℕ) (payload clear rest : List ℕ) → IsPacket true 8 0 payload clear
+pub clear_again : IsReading Uint32Text uint32_at → (m : SuiteData) (seq : ℕ) (payload clear rest : List ℕ) → IsPacket true 8 0 payload clear
     → parse_packet (protection m None seq) (clear ++ rest) ≡ whole payload (length clear)
 clear_again r m seq payload clear rest k =
     let wide : 12 ≤ length clear = packet_long true 8 0 payload clear k in
@@ -113,7 +113,7 @@ clear_again r m seq payload clear rest k =
     parse_unit (protection m None seq) payload clear (clear ++ rest) (length clear) (omega arith) (omega arith)
     (ap (λ (xs : List ℕ). Some xs) (take_at clear rest (length clear) refl)) k (omega arith) (omega arith)
 
-pub sealed_again : IsReading Uint32Text uint32_at → (m : Meaning) → IsLawful m → (keys : KeyData) (seq : ℕ) (payload clear rest : List ℕ) → seq < 2 ^ 32 → IsBytes clear
+pub sealed_again : IsReading Uint32Text uint32_at → (m : SuiteData) → IsLawful m → (keys : KeysData) (seq : ℕ) (payload clear rest : List ℕ) → seq < 2 ^ 32 → IsBytes clear
     → IsPacket (m.counts_length keys.cipher keys.mac) (m.block keys.cipher) (m.tag_len keys.cipher keys.mac) payload clear
     → parse_packet (protection m (Some keys) seq) (m.seal keys seq clear ++ rest) ≡ whole payload (length (m.seal keys seq clear))
 sealed_again r m law keys seq payload clear rest low each k =

@@ -1,13 +1,13 @@
-pub mod Hearing
+pub mod Receiving
 pub mod Joined
-pub mod KeyData
+pub mod KeysData
 pub mod KeyNames
 pub mod Packet
 pub mod Parse
 pub mod Places
 pub mod PreambleParser
 pub mod ProtectedPacket
-pub mod ReaderState
+pub mod PacketReaderData
 pub mod ReaderSteps
 pub mod Shares
 pub mod Stream

@@ -5,9 +5,9 @@ use Rattle.std.specs.Prelude.{Bool, true, ◌==◌, ◌&&◌, ◌||◌, ℕ, ◌
 use Rattle.sshwire.specs.declared.fault.WireFault.{WireFault}
 use Rattle.sshpacket.specs.declared.fault.PacketFault.{PacketFault}
 use Rattle.sshpacket.specs.declared.fault.PacketFault.TheVariants.{Empty, Length, Mac, Padding}
-use Rattle.sshpacket.specs.KeyData.{KeyData}
+use Rattle.sshpacket.specs.KeysData.{KeysData}
 use Rattle.sshpacket.specs.Packet.{counted, number, alignment}
-use Rattle.sshpacket.specs.Suite.{Meaning}
+use Rattle.sshpacket.specs.Suite.{SuiteData}
 use Rattle.sshpacket.specs.declared.limits.TheConstants.{PACKET_LIMIT}
 
 -- why a stream is refused: as lines, or as packets
@@ -24,7 +24,7 @@ pub data Parse : Type 0 where
 
 -- how packets are read, in clear or sealed: whether packet_length counts towards the multiple, the block, the length of the tag,
 -- packet_length from the first four bytes, and the clear packet from all bytes of it
-pub record Protection : Type 0 where
+pub record ProtectionData : Type 0 where
   pub counts : Bool
   pub block : ℕ
   pub tag : ℕ
@@ -32,7 +32,7 @@ pub record Protection : Type 0 where
   pub unseal : List ℕ → Option (List ℕ)
 
 -- in clear packet_length counts, the block is 8 and there is no tag
-abbrev pub protection : Meaning → Option KeyData → ℕ → Protection
+abbrev pub protection : SuiteData → Option KeysData → ℕ → ProtectionData
 protection m None seq = record { counts = true; block = 8; tag = 0; head = number; unseal = Some }
 protection m (Some keys) seq = record { counts = m.counts_length keys.cipher keys.mac; block = m.block keys.cipher; tag = m.tag_len keys.cipher keys.mac; head = m.head keys seq; unseal = m.unseal keys seq }
 
@@ -52,11 +52,11 @@ unsealed None len = refused (OfPacket Mac) len
 unsealed (Some clear) len = opened clear len
 
 -- how many bytes the packet has with its tag
-abbrev pub total : Protection → List ℕ → ℕ
+abbrev pub total : ProtectionData → List ℕ → ℕ
 total w bytes = 4 + w.head (take 4 bytes) + w.tag
 
 -- The length is judged by the first four bytes alone; the tag, the padding and the payload, in this order, once all is there.
-unfoldable pub parse_packet : Protection → List ℕ → Parse
+unfoldable pub parse_packet : ProtectionData → List ℕ → Parse
 parse_packet w bytes =
     if nat_lt (length bytes) 4 then unfinished
     else if is_length w.counts w.block w.tag (w.head (take 4 bytes)) then

@@ -4,36 +4,36 @@ use Rattle.std.specs.Prelude.{◌≡◌, ◌⊎◌, ℕ, ◌+◌, ◌<◌, ◌�
 use Rattle.sshwire.specs.Types.{IsBytes}
 use Rattle.sshpacket.specs.declared.fault.PacketFault.{PacketFault}
 use Rattle.sshpacket.specs.declared.fault.PacketFault.TheVariants.{Empty, Length, Mac, Memory, Padding}
-use Rattle.sshpacket.specs.Parse.{Parse, OfLine, OfPacket, Protection, refused, total, unfinished, whole}
+use Rattle.sshpacket.specs.Parse.{Parse, OfLine, OfPacket, ProtectionData, refused, total, unfinished, whole}
 use Rattle.sshpacket.specs.Packet.{IsLength, IsPacket}
 use Rattle.sshpacket.specs.Suite.{Keeps}
 
 -- what is unsealed has the length that was read before, and is bytes
-pub record IsFaithful (w : Protection) : Type 0 where
+pub record IsFaithful (w : ProtectionData) : Type 0 where
   pub keeps : (bytes clear : List ℕ) → IsBytes bytes → length bytes ≡ total w bytes → w.unseal bytes ≡ Some clear → Keeps (w.head (take 4 bytes)) clear
 
 -- the bytes are one packet of this payload, protected in this way
-pub record IsProtectedPacket (w : Protection) (payload bytes : List ℕ) : Type 0 where
+pub record IsProtectedPacket (w : ProtectionData) (payload bytes : List ℕ) : Type 0 where
   pub clear : List ℕ
   pub size : length bytes ≡ total w bytes
   pub opens : w.unseal bytes ≡ Some clear
   pub spells : IsPacket w.counts w.block w.tag payload clear
 
 -- packet_length is taken, and the first len bytes are all that it counts
-pub record IsWhole (w : Protection) (bytes : List ℕ) (len : ℕ) : Type 0 where
+pub record IsWhole (w : ProtectionData) (bytes : List ℕ) (len : ℕ) : Type 0 where
   pub headed : 4 ≤ length bytes
   pub fits : IsLength w.counts w.block w.tag (w.head (take 4 bytes))
   pub size : len ≡ total w bytes
   pub there : len ≤ length bytes
 
 -- packet_length is taken, and not all that it counts is there
-pub record IsPart (w : Protection) (bytes : List ℕ) : Type 0 where
+pub record IsPart (w : ProtectionData) (bytes : List ℕ) : Type 0 where
   pub headed : 4 ≤ length bytes
   pub fits : IsLength w.counts w.block w.tag (w.head (take 4 bytes))
   pub lacks : length bytes < total w bytes
 
 -- the packet at the front is refused for this cause, once so many bytes are there
-abbrev pub Refuses : Protection → List ℕ → PacketFault → ℕ → Type 0
+abbrev pub Refuses : ProtectionData → List ℕ → PacketFault → ℕ → Type 0
 Refuses w bytes Length place = (4 ≤ length bytes) × (place ≡ 4) × (IsLength w.counts w.block w.tag (w.head (take 4 bytes)) → ⊥)
 Refuses w bytes Mac place = IsWhole w bytes place × (w.unseal (take place bytes) ≡ None)
 Refuses w bytes Padding place =
@@ -45,7 +45,7 @@ Refuses w bytes Empty place =
 Refuses w bytes Memory place = ⊥
 
 -- what an answer says of the bytes: fewer than four or a part of a packet; a packet of the payload; or a refused one
-abbrev pub PacketMeans : Protection → List ℕ → Parse → Type 0
+abbrev pub PacketMeans : ProtectionData → List ℕ → Parse → Type 0
 PacketMeans w bytes unfinished = (length bytes < 4) ⊎ IsPart w bytes
 PacketMeans w bytes (whole payload len) = (len ≤ length bytes) × IsProtectedPacket w payload (take len bytes)
 PacketMeans w bytes (refused (OfPacket fault) place) = Refuses w bytes fault place

@@ -9,22 +9,22 @@ use Rattle.sshpacket.specs.declared.reader.Filled.{Filled}
 use Rattle.sshpacket.specs.declared.reader.Filled.TheVariants as filled
 use Rattle.sshpacket.specs.declared.reader.Gathered.{Gathered}
 use Rattle.sshpacket.specs.declared.reader.Gathered.TheVariants as gathered
-use Rattle.sshpacket.specs.Parse.{OfPacket, Protection, parse_packet, is_length, refused, total, unfinished, unsealed, whole}
+use Rattle.sshpacket.specs.Parse.{OfPacket, ProtectionData, parse_packet, is_length, refused, total, unfinished, unsealed, whole}
 use Rattle.sshpacket.specs.declared.limits.TheConstants.{PACKET_LIMIT}
 use Rattle.sshpacket.specs.declared.room.TheConstants.{ROOM_KEPT}
 
 -- the length of the packet by its first four bytes
-pub record Counts (w : Protection) (first : List ℕ) (len : ℕ) : Type 0 where
+pub record Counts (w : ProtectionData) (first : List ℕ) (len : ℕ) : Type 0 where
   pub taken : is_length w.counts w.block w.tag (w.head first) ≡ true
   pub len_is : len ≡ 4 + w.head first + w.tag
 
 -- the packet was unsealed, or has a wrong tag
-abbrev pub Unseals : Protection → List ℕ → Result buffer.Filled PacketFault → Type 0
+abbrev pub Unseals : ProtectionData → List ℕ → Result buffer.Filled PacketFault → Type 0
 Unseals w sealed (Ok clear) = w.unseal sealed ≡ Some clear.items
 Unseals w sealed (Err f) = f ≢ fault.Memory → (f ≡ fault.Mac) × (w.unseal sealed ≡ None)
 
 -- a packet of which all is there was opened
-abbrev pub Opens : Protection → List ℕ → Result Opened PacketFault → Type 0
+abbrev pub Opens : ProtectionData → List ℕ → Result Opened PacketFault → Type 0
 Opens w sealed (Err f) = f ≢ fault.Memory → unsealed (w.unseal sealed) (length sealed) ≡ refused (OfPacket f) (length sealed)
 Opens w sealed (Ok opened) = unsealed (w.unseal sealed) (length sealed) ≡ whole (take opened.payload_len (drop 5 opened.packet.items)) (length sealed)
 
@@ -36,11 +36,11 @@ pub record Fills (target : ℕ) (piece held new : List ℕ) (used : ℕ) : Type 
   pub all : length held + used < target → used ≡ length piece
 
 -- how many bytes there must be before more is judged
-abbrev pub needed : Protection → List ℕ → ℕ
+abbrev pub needed : ProtectionData → List ℕ → ℕ
 needed w held = if nat_lt (length held) 4 then 4 else total w held
 
 -- what is held and a piece: a part of a packet, or all of it, or a length that isn't taken
-abbrev pub FillsPacket : Protection → List ℕ → List ℕ → List ℕ → Result Filled PacketFault → Type 0
+abbrev pub FillsPacket : ProtectionData → List ℕ → List ℕ → List ℕ → Result Filled PacketFault → Type 0
 FillsPacket w held piece new (Err f) = f ≢ fault.Memory → parse_packet w (held ++ piece) ≡ refused (OfPacket f) (length new)
 FillsPacket w held piece new (Ok (filled.Part target)) =
     (new ≡ held ++ piece) × (parse_packet w (held ++ piece) ≡ unfinished) × (target ≡ needed w new)
@@ -63,7 +63,7 @@ FillsBody len piece held new (Ok (filled.Part target)) = (new ≡ held ++ piece)
 FillsBody len piece held new (Ok filled.Whole) = (length new ≡ len) × (used : ℕ) × (used ≤ length piece) × (new ≡ held ++ take used piece)
 
 -- what was filled is opened, where it is whole, and is held no longer; else nothing changes
-abbrev pub OpensFilled : Protection → List ℕ → List ℕ → Result Filled PacketFault → Result Gathered PacketFault → Type 0
+abbrev pub OpensFilled : ProtectionData → List ℕ → List ℕ → Result Filled PacketFault → Result Gathered PacketFault → Type 0
 OpensFilled w old new (Err f) result = (result ≡ Err f) × (new ≡ old)
 OpensFilled w old new (Ok (filled.Part target)) result = (result ≡ Ok (gathered.Part target)) × (new ≡ old)
 OpensFilled w old new (Ok filled.Whole) (Ok (gathered.Part target)) = ⊥
@@ -71,7 +71,7 @@ OpensFilled w old new (Ok filled.Whole) (Ok (gathered.Whole opened)) = (new ≡ 
 OpensFilled w old new (Ok filled.Whole) (Err f) = Opens w old (Err f)
 
 -- what is held and a piece, of which so many bytes were used
-abbrev pub ReadsOn : Protection → List ℕ → List ℕ → List ℕ → ℕ → Result Gathered PacketFault → Type 0
+abbrev pub ReadsOn : ProtectionData → List ℕ → List ℕ → List ℕ → ℕ → Result Gathered PacketFault → Type 0
 ReadsOn w held piece new used (Err f) = f ≢ fault.Memory → parse_packet w (held ++ piece) ≡ refused (OfPacket f) (length held + used)
 ReadsOn w held piece new used (Ok (gathered.Part target)) =
     (new ≡ held ++ piece) × (used ≡ length piece) × (parse_packet w (held ++ piece) ≡ unfinished) × (target ≡ needed w new)

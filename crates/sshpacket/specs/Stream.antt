@@ -35,12 +35,12 @@ IsRest parser rest None = parser rest ≡ unfinished
 IsRest parser rest (Some f) = parser rest ≡ refused f (length rest)
 
 -- what a stream reads as: its units, the rest behind them, and the refusal, if it is refused there
-pub record Heard (parsers : Units → Parser) (stream : List ℕ) (units : Units) (rest : List ℕ) (refusal : Option Refusal) : Type 0 where
+pub record Received (parsers : Units → Parser) (stream : List ℕ) (units : Units) (rest : List ℕ) (refusal : Option Refusal) : Type 0 where
   pub read : Read parsers [] stream units rest
   pub then_rest : IsRest (parsers units) rest refusal
 
 -- what a stream was written as: each unit as it is spelled behind those before it
-pub record Said (spells : Units → List ℕ → List ℕ) (stream : List ℕ) (units : Units) : Type 0 where
+pub record Sent (spells : Units → List ℕ → List ℕ) (stream : List ℕ) (units : Units) : Type 0 where
   pub spelled : stream ≡ flat_places spells [] units
 
 -- what is spelled at this place is read there, whatever follows
@@ -54,12 +54,12 @@ pub record Same (units other_units : Units) (rest other_rest : List ℕ) (refusa
   pub same_refusal : refusal ≡ other_refusal
 
 -- what is heard of a prefix of what was said: a prefix of the units said, and no refusal
-pub record Linked (units said : Units) (refusal : Option Refusal) : Type 0 where
-  pub prefix : IsPrefix units said
+pub record Linked (units sent : Units) (refusal : Option Refusal) : Type 0 where
+  pub prefix : IsPrefix units sent
   pub no_refusal : refusal ≡ None
 
 -- what is heard of all that was said: all the units said, with nothing behind them, and no refusal
-pub record HeardAll (units said : Units) (rest : List ℕ) (refusal : Option Refusal) : Type 0 where
-  pub all_units : units ≡ said
+pub record ReceivedAll (units sent : Units) (rest : List ℕ) (refusal : Option Refusal) : Type 0 where
+  pub all_units : units ≡ sent
   pub none_left : rest ≡ []
   pub no_refusal : refusal ≡ None

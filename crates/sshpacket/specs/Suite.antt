@@ -8,7 +8,7 @@ use Rattle.sshpacket.specs.declared.suite.Need.{Need}
 use Rattle.sshpacket.specs.declared.suite.Response.{Response}
 use Rattle.sshwire.specs.declared.share_form.ShareForm.{ShareForm}
 use Rattle.sshwire.specs.declared.share_form.ShareForm.TheVariants.{Hybrid, Mpint, OctetString}
-use Rattle.sshpacket.specs.KeyData.{KeyData}
+use Rattle.sshpacket.specs.KeysData.{KeysData}
 use Rattle.sshpacket.specs.Packet.{IsPacket, number}
 use Rattle.sshpacket.specs.declared.limits.TheConstants.{BLOB_LIMIT, BLOCK_LIMIT, DIGEST_LIMIT, KEY_LIMIT, SHARE_LIMIT, SIGNATURE_LIMIT, TAG_LIMIT}
 
@@ -21,16 +21,16 @@ abbrev pub response_data : Response → ResponseData
 response_data r = record { share = r.share.items; shared = r.shared.items }
 
 -- the answers of a suite, one function for each call; `share` is that of the call `public`
-pub record Meaning : Type 0 where
+pub record SuiteData : Type 0 where
   pub need : List ℕ → Need
   pub can : List ℕ → Capability
   pub block : List ℕ → ℕ
   pub tag_len : List ℕ → List ℕ → ℕ
   pub counts_length : List ℕ → List ℕ → Bool
   pub key_lens : List ℕ → List ℕ → KeyLens
-  pub seal : KeyData → ℕ → List ℕ → List ℕ
-  pub head : KeyData → ℕ → List ℕ → ℕ
-  pub unseal : KeyData → ℕ → List ℕ → Option (List ℕ)
+  pub seal : KeysData → ℕ → List ℕ → List ℕ
+  pub head : KeysData → ℕ → List ℕ → ℕ
+  pub unseal : KeysData → ℕ → List ℕ → Option (List ℕ)
   pub padding : List ℕ → ℕ → ℕ → List ℕ
   pub share_form : List ℕ → ShareForm
   pub share : List ℕ → List ℕ → List ℕ
@@ -82,21 +82,21 @@ pub record Keeps (n : ℕ) (clear : List ℕ) : Type 0 where
   pub bytes_are : IsBytes clear
 
 -- the packet is one that is sealed with these keys
-abbrev pub IsSealable : Meaning → KeyData → List ℕ → List ℕ → Type 0
+abbrev pub IsSealable : SuiteData → KeysData → List ℕ → List ℕ → Type 0
 IsSealable m keys payload clear = IsBytes clear × IsPacket (m.counts_length keys.cipher keys.mac) (m.block keys.cipher) (m.tag_len keys.cipher keys.mac) payload clear
 
 -- The laws of one end. Outside the conditions of a call its function may be chosen as one likes, so the laws ask for no names
 -- where they don't need them.
-pub record IsLawful (m : Meaning) : Type 0 where
+pub record IsLawful (m : SuiteData) : Type 0 where
   -- sealing adds the tag, keeps the length field readable from the first four bytes alone, and is undone by unsealing
-  pub seal_length : (keys : KeyData) (seq : ℕ) (payload clear : List ℕ) → seq < 2 ^ 32 → IsSealable m keys payload clear
+  pub seal_length : (keys : KeysData) (seq : ℕ) (payload clear : List ℕ) → seq < 2 ^ 32 → IsSealable m keys payload clear
       → length (m.seal keys seq clear) ≡ length clear + m.tag_len keys.cipher keys.mac
-  pub head_of_seal : (keys : KeyData) (seq : ℕ) (payload clear : List ℕ) → seq < 2 ^ 32 → IsSealable m keys payload clear
+  pub head_of_seal : (keys : KeysData) (seq : ℕ) (payload clear : List ℕ) → seq < 2 ^ 32 → IsSealable m keys payload clear
       → m.head keys seq (take 4 (m.seal keys seq clear)) ≡ number clear
-  pub unseal_of_seal : (keys : KeyData) (seq : ℕ) (payload clear : List ℕ) → seq < 2 ^ 32 → IsSealable m keys payload clear
+  pub unseal_of_seal : (keys : KeysData) (seq : ℕ) (payload clear : List ℕ) → seq < 2 ^ 32 → IsSealable m keys payload clear
       → m.unseal keys seq (m.seal keys seq clear) ≡ Some clear
   -- what is unsealed has the length that was read before, whatever came in
-  pub unsealed : (keys : KeyData) (seq : ℕ) (sealed clear : List ℕ) → seq < 2 ^ 32 → IsBytes sealed
+  pub unsealed : (keys : KeysData) (seq : ℕ) (sealed clear : List ℕ) → seq < 2 ^ 32 → IsBytes sealed
       → length sealed ≡ 4 + m.head keys seq (take 4 sealed) + m.tag_len keys.cipher keys.mac
       → m.unseal keys seq sealed ≡ Some clear → Keeps (m.head keys seq (take 4 sealed)) clear
   -- shares and shared numbers have the method's form
@@ -118,7 +118,7 @@ pub record IsLawful (m : Meaning) : Type 0 where
   pub blob_high : (alg secret : List ℕ) → IsName alg → length (m.blob alg secret) ≤ BLOB_LIMIT
   pub sign_high : (alg secret input : List ℕ) → IsName alg → length (m.sign alg secret input) ≤ SIGNATURE_LIMIT
   -- what is sent is bytes
-  pub seal_bytes : (keys : KeyData) (seq : ℕ) (clear : List ℕ) → IsBytes clear → IsBytes (m.seal keys seq clear)
+  pub seal_bytes : (keys : KeysData) (seq : ℕ) (clear : List ℕ) → IsBytes clear → IsBytes (m.seal keys seq clear)
   pub padding_bytes : (seed : List ℕ) (seq len : ℕ) → IsBytes (m.padding seed seq len)
   pub share_bytes : (kex a : List ℕ) → IsBytes a → IsBytes (m.share kex a)
   pub shared_bytes : (kex a peer body : List ℕ) → IsBytes a → IsBytes peer → m.shared kex a peer ≡ Some body → IsBytes body
@@ -126,22 +126,22 @@ pub record IsLawful (m : Meaning) : Type 0 where
       → IsBytes r.share × IsBytes r.shared
 
 -- to the client's share of the one random the other is answered, and the client has the same shared number from that answer
-pub record Agrees (m : Meaning) (kex client server : List ℕ) : Type 0 where
+pub record Agrees (m : SuiteData) (kex client server : List ℕ) : Type 0 where
   pub answer : ResponseData
   pub responds : m.respond kex server (m.share kex client) ≡ Some answer
   pub same : m.shared kex client answer.share ≡ Some answer.shared
 
 -- what is signed with this secret is verified by its blob
-abbrev pub Signs : Meaning → List ℕ → List ℕ → Type 0
+abbrev pub Signs : SuiteData → List ℕ → List ℕ → Type 0
 Signs m alg secret = (input : List ℕ) → m.verify alg (m.blob alg secret) input (m.sign alg secret input) ≡ true
 
 -- the method answers as a Diffie-Hellman does: with the share of the own random, and the shared number from the peer's share
-abbrev pub AnswersAsDiffieHellman : Meaning → List ℕ → Type 0
+abbrev pub AnswersAsDiffieHellman : SuiteData → List ℕ → Type 0
 AnswersAsDiffieHellman m kex =
     (a peer : List ℕ) → m.respond kex a peer ≡ option_map (λ body. record { share = m.share kex a; shared = body }) (m.shared kex a peer)
 
 -- The laws of two ends.
-pub record IsAgreeing (m : Meaning) : Type 0 where
+pub record IsAgreeing (m : SuiteData) : Type 0 where
   -- both come to one shared number
   pub agreed : (kex client server : List ℕ) → length client ≡ 32 → length server ≡ 32 → IsBytes client → IsBytes server → Agrees m kex client server
   -- every key signs

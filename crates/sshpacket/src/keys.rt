@@ -36,10 +36,10 @@ pub struct Keys {
 
 impl Model for Keys {
     ghost use Rattle.std.specs.Prelude.{string_bytes};
-    ghost use Rattle.sshpacket.specs.KeyData.{KeyData};
+    ghost use Rattle.sshpacket.specs.KeysData.{KeysData};
     ghost use Rattle.sshpacket.specs.KeyNames.{HasNames};
 
-    ghost Value = { KeyData };
+    ghost Value = { KeysData };
 
     ghost view = { λ k. record { cipher = string_bytes k.cipher; mac = string_bytes k.mac; iv = k.iv.items; enc = k.enc.items; mac_key = k.mac_key.items } };
 

@@ -30,6 +30,6 @@ pub use protection::leading_uint32;
 pub use reader::{PacketReader, PacketStep};
 pub use room::ROOM_KEPT;
 pub use sshwire::ShareForm;
-pub use stream_laws::{hearing_law, joined_law, parser_law, places_law, stream_law};
+pub use stream_laws::{joined_law, parser_law, places_law, receiving_law, stream_law};
 pub use suite::{AgreeingSuite, Capability, KeyLens, Need, Response, Suite};
 pub use write::{write_clear, write_sealed};

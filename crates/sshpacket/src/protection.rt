@@ -123,9 +123,9 @@ fn packet_len(counts: bool, block: u8, tag: u8, packet_length: u32) -> Option<us
 {
     let unit = usize::from(block.max(8));
     let counted = counted(counts);
-    let behind = packet_length as usize;
-    let len = 4 + behind + usize::from(tag);
-    if behind >= 8 + counted && len <= PACKET_LIMIT && (counted + behind) % unit == 0 {
+    let after = packet_length as usize;
+    let len = 4 + after + usize::from(tag);
+    if after >= 8 + counted && len <= PACKET_LIMIT && (counted + after) % unit == 0 {
         Some(len)
     } else {
         None

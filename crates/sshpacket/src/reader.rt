@@ -63,16 +63,16 @@ impl PacketReader {
     ghost use Rattle.std.specs.Prelude.{[], ◌%◌, ◌↔◌, IsTrue, if◌then◌else◌};
     ghost use Rattle.std.specs.Borrow.{sem};
     ghost use Rattle.std.specs.Io.BufRead.{Rests};
-    ghost use Rattle.sshpacket.specs.KeyData.{KeyData};
-    ghost use Rattle.sshpacket.specs.Suite.{Meaning};
-    ghost use Rattle.sshpacket.specs.ReaderState.{Advances, HoldsNothingBehind, IsStep, KeepsLittle, OnlyPacketAnswer, ParseAnswer, PacketAnswer, ReaderLeaves, ReaderState, ReaderWaits, Uses, ahead, kept, last_used, spare_room, state};
+    ghost use Rattle.sshpacket.specs.KeysData.{KeysData};
+    ghost use Rattle.sshpacket.specs.Suite.{SuiteData};
+    ghost use Rattle.sshpacket.specs.PacketReaderData.{Advances, HoldsNothingAfter, IsStep, KeepsLittle, OnlyPacketAnswer, ParseAnswer, PacketAnswer, ReaderLeaves, PacketReaderData, ReaderWaits, Uses, ahead, kept, last_used, spare_room, packet_reader_data};
     ghost use Rattle.sshpacket.specs.contracts.reader.PacketReader.{the_row};
 
     /// A reader at the beginning of the stream: no keys, number 0, nothing held. It takes no memory.
     pub fn new(alloc: Global) -> PacketReader
-        ensures state { state result ≡ record { keys = None; seq = 0; held = []; fault = None } }
+        ensures state { packet_reader_data result ≡ record { keys = None; seq = 0; held = []; fault = None } }
         ensures taken { last_used result ≡ 0 }
-        ensures waits { (m : Meaning) → ReaderWaits m result }
+        ensures waits { (m : SuiteData) → ReaderWaits m result }
     {
         PacketReader::from_here(alloc, None, 0)
     }
@@ -80,19 +80,19 @@ impl PacketReader {
     /// A reader of what goes on with these keys, the next packet having this number: for a stream
     /// whose beginning another reader has read. It takes no memory.
     pub fn with_keys(alloc: Global, keys: Keys, seq: u32) -> PacketReader
-        ensures state { state result ≡ record { keys = Some keys; seq = seq; held = []; fault = None } }
+        ensures state { packet_reader_data result ≡ record { keys = Some keys; seq = seq; held = []; fault = None } }
         ensures taken { last_used result ≡ 0 }
-        ensures waits { (m : Meaning) → ReaderWaits m result }
+        ensures waits { (m : SuiteData) → ReaderWaits m result }
     {
         PacketReader::from_here(alloc, Some(keys), seq)
     }
 
     /// A reader with nothing held.
-    #[tactic(auto, unfolding(crate::specs::ReaderState::state, crate::specs::ReaderState::last_used, crate::specs::ReaderState::wanted), using(crate::proofs::WaitLemmas::waits_empty))]
+    #[tactic(auto, unfolding(crate::specs::PacketReaderData::packet_reader_data, crate::specs::PacketReaderData::last_used, crate::specs::PacketReaderData::target_len), using(crate::proofs::WaitLemmas::waits_empty))]
     fn from_here(alloc: Global, keys: Option<Keys>, seq: u32) -> PacketReader
-        ensures state { state result ≡ record { keys = keys; seq = seq; held = []; fault = None } }
+        ensures state { packet_reader_data result ≡ record { keys = keys; seq = seq; held = []; fault = None } }
         ensures taken { last_used result ≡ 0 }
-        ensures waits { (m : Meaning) → ReaderWaits m result }
+        ensures waits { (m : SuiteData) → ReaderWaits m result }
     {
         PacketReader {
             alloc,
@@ -117,22 +117,22 @@ impl PacketReader {
     pub fn next<S: Suite>(&mut self, suite: &S, piece: &[u8]) -> Result<PacketStep<'_>, PacketFault>
         // A payload exactly where a packet of it stands at the front, a fault exactly where the packet
         // there is refused, want of memory apart.
-        ensures tells { ReaderWaits (S.meaning suite.now) self.old → PacketAnswer (S.meaning suite.now) (state self.old) piece.now result }
-        ensures only { ReaderWaits (S.meaning suite.now) self.old → OnlyPacketAnswer (S.meaning suite.now) (state self.old) piece.now result }
-        ensures again { IfSome (state self.old).fault (λ f. result ≡ Err f) }
+        ensures tells { ReaderWaits (S.meaning suite.now) self.old → PacketAnswer (S.meaning suite.now) (packet_reader_data self.old) piece.now result }
+        ensures only { ReaderWaits (S.meaning suite.now) self.old → OnlyPacketAnswer (S.meaning suite.now) (packet_reader_data self.old) piece.now result }
+        ensures again { IfSome (packet_reader_data self.old).fault (λ f. result ≡ Err f) }
         // In every state: a packet uses some bytes of the piece, and no more than it has.
         ensures uses { IfOk result (λ step. Uses (length piece.now) step) }
         // The same as a function of what the reader holds, and what stands at the front by the standard.
-        ensures answers { ReaderWaits (S.meaning suite.now) self.old → ParseAnswer (S.meaning suite.now) (state self.old) piece.now result }
-        ensures means { PacketMeans (protection (S.meaning suite.now) (state self.old).keys (state self.old).seq) ((state self.old).held ++ piece.now) (ahead (S.meaning suite.now) (state self.old) piece.now) }
+        ensures answers { ReaderWaits (S.meaning suite.now) self.old → ParseAnswer (S.meaning suite.now) (packet_reader_data self.old) piece.now result }
+        ensures means { PacketMeans (protection (S.meaning suite.now) (packet_reader_data self.old).keys (packet_reader_data self.old).seq) ((packet_reader_data self.old).held ++ piece.now) (ahead (S.meaning suite.now) (packet_reader_data self.old) piece.now) }
         // How the reader is left. In every state: nothing is held behind a payload; a refusal is kept, with
         // the keys and the number; what was read is given up where no other packet comes, and large room.
         ensures* after { sem 𝓛 (Rests the_row self.entry (λ new.
-            (ReaderWaits (S.meaning suite.now) self.old → ReaderLeaves (S.meaning suite.now) (state self.old) piece.now result new)
-            × IfSome (state self.old).fault (λ f. (state new ≡ state self.old) × (last_used new ≡ 0))
+            (ReaderWaits (S.meaning suite.now) self.old → ReaderLeaves (S.meaning suite.now) (packet_reader_data self.old) piece.now result new)
+            × IfSome (packet_reader_data self.old).fault (λ f. (packet_reader_data new ≡ packet_reader_data self.old) × (last_used new ≡ 0))
             × (last_used new ≤ length piece.now)
-            × HoldsNothingBehind result (state new)
-            × IfErr result (λ f. state new ≡ record (state self.old) { held = []; fault = Some f })
+            × HoldsNothingAfter result (packet_reader_data new)
+            × IfErr result (λ f. packet_reader_data new ≡ record (packet_reader_data self.old) { held = []; fault = Some f })
             × KeepsLittle result new)) }
     {
         front_means(
@@ -151,16 +151,16 @@ impl PacketReader {
     }
 
     /// Reads on, and answers the length of the payload of a packet that was read.
-    #[tactic(auto, unfolding(crate::specs::ReaderState::state, crate::specs::ReaderState::last_used, crate::specs::ReaderState::wanted, crate::specs::ReaderState::kept, crate::specs::ReaderState::spare_room))]
+    #[tactic(auto, unfolding(crate::specs::PacketReaderData::packet_reader_data, crate::specs::PacketReaderData::last_used, crate::specs::PacketReaderData::target_len, crate::specs::PacketReaderData::kept, crate::specs::PacketReaderData::spare_room))]
     fn advance<S: Suite>(&mut self, suite: &S, piece: &[u8]) -> Result<Option<usize>, PacketFault>
-        ensures advances { ReaderWaits (S.meaning suite.now) self.old → Advances (S.meaning suite.now) (state self.old) piece.now result self.new }
+        ensures advances { ReaderWaits (S.meaning suite.now) self.old → Advances (S.meaning suite.now) (packet_reader_data self.old) piece.now result self.new }
         ensures taken { last_used self.new ≤ length piece.now }
-        ensures some { IfOk result (λ len. IfSome len (λ _. (0 < last_used self.new) × ((state self.new).held ≡ []) × (spare_room self.new ≤ ROOM_KEPT))) }
+        ensures some { IfOk result (λ len. IfSome len (λ _. (0 < last_used self.new) × ((packet_reader_data self.new).held ≡ []) × (spare_room self.new ≤ ROOM_KEPT))) }
         ensures room { IfOk result (λ len. IfSome len (λ n. n + 5 ≤ length self.new.packet.items)) }
-        ensures again { IfSome (state self.old).fault (λ f. (result ≡ Err f) × (state self.new ≡ state self.old) × (last_used self.new ≡ 0)) }
+        ensures again { IfSome (packet_reader_data self.old).fault (λ f. (result ≡ Err f) × (packet_reader_data self.new ≡ packet_reader_data self.old) × (last_used self.new ≡ 0)) }
         // In every state: without a packet none is kept, and a refusal is kept with the keys and the number.
         ensures given_up { result ≡ Ok None → kept self.new ≡ 0 }
-        ensures kept { IfErr result (λ f. (state self.new ≡ record (state self.old) { held = []; fault = Some f }) × (kept self.new ≡ 0) × (spare_room self.new ≤ ROOM_KEPT)) }
+        ensures kept { IfErr result (λ f. (packet_reader_data self.new ≡ record (packet_reader_data self.old) { held = []; fault = Some f }) × (kept self.new ≡ 0) × (spare_room self.new ≤ ROOM_KEPT)) }
     {
         // The packet that was read last is given up.
         self.packet = BytesMut::new(self.alloc);
@@ -209,17 +209,17 @@ impl PacketReader {
 
     /// The keys and the number of the next packet, with which another reader goes on; what is held of an
     /// unfinished packet is dropped. It takes no memory.
-    #[tactic(auto, unfolding(crate::specs::ReaderState::state))]
+    #[tactic(auto, unfolding(crate::specs::PacketReaderData::packet_reader_data))]
     pub fn into_keys(self) -> (Option<Keys>, u32)
-        ensures keys { result.0 ≡ (state self).keys }
-        ensures number { result.1 ≡ (state self).seq }
+        ensures keys { result.0 ≡ (packet_reader_data self).keys }
+        ensures number { result.1 ≡ (packet_reader_data self).seq }
     {
         (self.keys, self.seq)
     }
 
     /// How many bytes of the piece the last call of `next` used; at a refusal up to the byte that
     /// decided it, 0 where a fault was found before. It takes no memory.
-    #[tactic(auto, unfolding(crate::specs::ReaderState::last_used))]
+    #[tactic(auto, unfolding(crate::specs::PacketReaderData::last_used))]
     pub fn taken(&self) -> usize
         ensures { result ≡ last_used self.now }
     {
@@ -228,19 +228,19 @@ impl PacketReader {
 
     /// How many bytes of the unfinished packet are held: at most `PACKET_LIMIT`, 0 once a fault was
     /// found. It takes no memory.
-    #[tactic(auto, unfolding(crate::specs::ReaderState::state))]
+    #[tactic(auto, unfolding(crate::specs::PacketReaderData::packet_reader_data))]
     pub fn buffered(&self) -> usize
-        ensures held { result ≡ length (state self.now).held }
+        ensures held { result ≡ length (packet_reader_data self.now).held }
         ensures bound { result ≤ PACKET_LIMIT }
-        ensures faulted { IfSome (state self.now).fault (λ _. result ≡ 0) }
+        ensures faulted { IfSome (packet_reader_data self.now).fault (λ _. result ≡ 0) }
     {
         self.unfinished.len()
     }
 
     /// Whether no byte of an unfinished packet is held, so that keys may be set. It takes no memory.
-    #[tactic(auto, unfolding(crate::specs::ReaderState::state))]
+    #[tactic(auto, unfolding(crate::specs::PacketReaderData::packet_reader_data))]
     pub fn is_idle(&self) -> bool
-        ensures { IsTrue result ↔ ((state self.now).held ≡ []) }
+        ensures { IsTrue result ↔ ((packet_reader_data self.now).held ≡ []) }
     {
         self.unfinished.as_slice().is_empty()
     }
@@ -249,12 +249,12 @@ impl PacketReader {
     /// under strict key exchange; else numbers go on. It takes no memory.
     ///
     /// The caller's condition is that no byte of an unfinished packet is held, as behind each payload.
-    #[tactic(auto, unfolding(crate::specs::ReaderState::state, crate::specs::ReaderState::last_used, crate::specs::ReaderState::wanted), using(crate::proofs::WaitLemmas::waits_empty, crate::proofs::WaitLemmas::none_held))]
+    #[tactic(auto, unfolding(crate::specs::PacketReaderData::packet_reader_data, crate::specs::PacketReaderData::last_used, crate::specs::PacketReaderData::target_len), using(crate::proofs::WaitLemmas::waits_empty, crate::proofs::WaitLemmas::none_held))]
     pub fn use_keys(&mut self, keys: Keys, reset: bool)
-        requires { (state self.old).held ≡ [] }
-        ensures state { state self.new ≡ record (state self.old) { keys = Some keys; seq = if reset then 0 else (state self.old).seq } }
+        requires { (packet_reader_data self.old).held ≡ [] }
+        ensures state { packet_reader_data self.new ≡ record (packet_reader_data self.old) { keys = Some keys; seq = if reset then 0 else (packet_reader_data self.old).seq } }
         ensures taken { last_used self.new ≡ last_used self.old }
-        ensures waits { (state self.old).fault ≡ None → (m : Meaning) → ReaderWaits m self.new }
+        ensures waits { (packet_reader_data self.old).fault ≡ None → (m : SuiteData) → ReaderWaits m self.new }
     {
         self.keys = Some(keys);
         self.target = 4;
@@ -341,7 +341,7 @@ fn fill_packet<S: Suite>(
         return Ok(Filled::Part { target: 4 });
     };
     match guard.packet_len(first) {
-        Some(len) => fill_body(held, len, behind(piece, used)),
+        Some(len) => fill_body(held, len, after(piece, used)),
         None => Err(PacketFault::Length),
     }
 }
@@ -387,7 +387,7 @@ fn first_four(bytes: &[u8]) -> Option<[u8; 4]>
 }
 
 /// The bytes from a place on.
-fn behind(bytes: &[u8], start: usize) -> &[u8]
+fn after(bytes: &[u8], start: usize) -> &[u8]
     requires { start ≤ length bytes.now }
     ensures { result.now ≡ drop start bytes.now }
 {

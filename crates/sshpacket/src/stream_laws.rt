@@ -4,20 +4,20 @@ ghost use Rattle.std.specs.Prelude.{◌≡◌, ◌≤◌, ◌+◌, ℕ, Bool, tr
 ghost use Rattle.sshwire.specs.declared.fault.WireFault.{WireFault};
 ghost use Rattle.sshwire.specs.declared.line_reader.LineStep.{LineStep};
 ghost use Rattle.sshwire.specs.Feeding.{PreambleAnswer, StandsOpen};
-ghost use Rattle.sshwire.specs.LineState.{LineState, Progress};
+ghost use Rattle.sshwire.specs.LineReaderData.{LineReaderData, Progress};
 ghost use Rattle.sshwire.specs.Lines.{Preamble};
 ghost use Rattle.sshwire.specs.Types.{IsBytes};
 ghost use Rattle.sshpacket.specs.declared.fault.PacketFault.{PacketFault};
 ghost use Rattle.sshpacket.specs.declared.reader.PacketReader.{PacketReader};
 ghost use Rattle.sshpacket.specs.declared.reader.PacketStep.{PacketStep};
-ghost use Rattle.sshpacket.specs.Parse.{Parse, Refusal, Protection, parse_packet, refused, unfinished, whole};
-ghost use Rattle.sshpacket.specs.Hearing.{HearsLinesOn, HearsOn};
+ghost use Rattle.sshpacket.specs.Parse.{Parse, Refusal, ProtectionData, parse_packet, refused, unfinished, whole};
+ghost use Rattle.sshpacket.specs.Receiving.{ReceivesLinesOn, ReceivesOn};
 ghost use Rattle.sshpacket.specs.Joined.{Joined};
 ghost use Rattle.sshpacket.specs.PreambleParser.{PreambleMeans, preamble_parser};
 ghost use Rattle.sshpacket.specs.Places.{EachPlace, IsPrefix, after_first, count_places, first_where, flat_places, stands};
-ghost use Rattle.sshpacket.specs.ReaderState.{ParseAnswer, ReaderLeaves, ReaderState, protection_at};
-ghost use Rattle.sshpacket.specs.Stream.{Heard, HeardAll, IsIncremental, IsRest, Linked, Parser, Read, Said, Same, Spelled, Units};
-ghost use Rattle.sshpacket.specs.Suite.{Meaning};
+ghost use Rattle.sshpacket.specs.PacketReaderData.{PacketReaderData, ParseAnswer, ReaderLeaves, protection_at};
+ghost use Rattle.sshpacket.specs.Stream.{IsIncremental, IsRest, Linked, Parser, Read, Received, ReceivedAll, Same, Sent, Spelled, Units};
+ghost use Rattle.sshpacket.specs.Suite.{SuiteData};
 ghost use Rattle.sshpacket.specs.ProtectedPacket.{IsFaithful};
 
 /// The law of places: what one more unit at the end of a list changes, and more units. The same
@@ -64,7 +64,7 @@ pub fn places_law()
 /// The law of readers of one unit: however the bytes are cut, packets (RFC 4253 section 6) and the
 /// lines before them (section 4.2) are read as one unit, or refused, at one place.
 pub fn parser_law()
-    ensures packets { (w : Protection) → IsIncremental (parse_packet w) }
+    ensures packets { (w : ProtectionData) → IsIncremental (parse_packet w) }
     ensures lines { (k : ℕ) → IsIncremental (preamble_parser k) }
 
     // What is read of lines stands there, and what stands there is read: a preamble as its version, whatever follows.
@@ -79,51 +79,51 @@ pub fn parser_law()
 /// a prefix of what was said is a prefix of the units said.
 pub fn stream_law()
     ensures one { (parsers : Units → Parser) (stream : List ℕ) (us vs : Units) (x y : List ℕ) (r q : Option Refusal)
-        → Heard parsers stream us x r → Heard parsers stream vs y q → Same us vs x y r q }
+        → Received parsers stream us x r → Received parsers stream vs y q → Same us vs x y r q }
 
     // More bytes behind, and one unit more.
-    ensures nothing { (parsers : Units → Parser) → ((us : Units) → IsIncremental (parsers us)) → Heard parsers [] [] [] None }
+    ensures nothing { (parsers : Units → Parser) → ((us : Units) → IsIncremental (parsers us)) → Received parsers [] [] [] None }
     ensures read_more { (parsers : Units → Parser) → ((us : Units) → IsIncremental (parsers us)) → (before : Units) (bytes more : List ℕ) (us : Units) (rest : List ℕ)
         → Read parsers before bytes us rest → Read parsers before (bytes ++ more) us (rest ++ more) }
     ensures read_push { (parsers : Units → Parser) (before : Units) (bytes : List ℕ) (us : Units) (rest u : List ℕ) (len : ℕ)
         → Read parsers before bytes us rest → parsers (before ++ us) rest ≡ whole u len → Read parsers before bytes (us ++ u ∷ []) (drop len rest) }
-    ensures heard_more { (parsers : Units → Parser) → ((us : Units) → IsIncremental (parsers us)) → (stream more : List ℕ) (us : Units) (rest : List ℕ) (r q : Option Refusal)
-        → Heard parsers stream us rest r → IsRest (parsers us) (rest ++ more) q → Heard parsers (stream ++ more) us (rest ++ more) q }
-    ensures heard_push { (parsers : Units → Parser) → ((us : Units) → IsIncremental (parsers us)) → (stream more : List ℕ) (us : Units) (rest u : List ℕ) (r : Option Refusal)
-        → Heard parsers stream us rest r → parsers us (rest ++ more) ≡ whole u (length (rest ++ more)) → Heard parsers (stream ++ more) (us ++ u ∷ []) [] None }
+    ensures received_more { (parsers : Units → Parser) → ((us : Units) → IsIncremental (parsers us)) → (stream more : List ℕ) (us : Units) (rest : List ℕ) (r q : Option Refusal)
+        → Received parsers stream us rest r → IsRest (parsers us) (rest ++ more) q → Received parsers (stream ++ more) us (rest ++ more) q }
+    ensures received_push { (parsers : Units → Parser) → ((us : Units) → IsIncremental (parsers us)) → (stream more : List ℕ) (us : Units) (rest u : List ℕ) (r : Option Refusal)
+        → Received parsers stream us rest r → parsers us (rest ++ more) ≡ whole u (length (rest ++ more)) → Received parsers (stream ++ more) (us ++ u ∷ []) [] None }
 
     // A piece behind the rest, which may go on behind what was used of it: it ends a unit, or it
     // is refused, or more bytes are wanted.
-    ensures heard_unit { (parsers : Units → Parser) → ((us : Units) → IsIncremental (parsers us)) → (stream piece : List ℕ) (us : Units) (rest u : List ℕ) (used : ℕ)
-        → Heard parsers stream us rest None → used ≤ length piece → parsers us (rest ++ piece) ≡ whole u (length rest + used)
-        → Heard parsers (stream ++ take used piece) (us ++ u ∷ []) [] None }
-    ensures heard_refusal { (parsers : Units → Parser) → ((us : Units) → IsIncremental (parsers us)) → (stream piece : List ℕ) (us : Units) (rest : List ℕ) (r : Refusal) (used : ℕ)
-        → Heard parsers stream us rest None → used ≤ length piece → parsers us (rest ++ piece) ≡ refused r (length rest + used)
-        → Heard parsers (stream ++ take used piece) us (rest ++ take used piece) (Some r) }
-    ensures heard_part { (parsers : Units → Parser) → ((us : Units) → IsIncremental (parsers us)) → (stream piece : List ℕ) (us : Units) (rest : List ℕ)
-        → Heard parsers stream us rest None → parsers us (rest ++ piece) ≡ unfinished → Heard parsers (stream ++ piece) us (rest ++ piece) None }
+    ensures received_unit { (parsers : Units → Parser) → ((us : Units) → IsIncremental (parsers us)) → (stream piece : List ℕ) (us : Units) (rest u : List ℕ) (used : ℕ)
+        → Received parsers stream us rest None → used ≤ length piece → parsers us (rest ++ piece) ≡ whole u (length rest + used)
+        → Received parsers (stream ++ take used piece) (us ++ u ∷ []) [] None }
+    ensures received_refusal { (parsers : Units → Parser) → ((us : Units) → IsIncremental (parsers us)) → (stream piece : List ℕ) (us : Units) (rest : List ℕ) (r : Refusal) (used : ℕ)
+        → Received parsers stream us rest None → used ≤ length piece → parsers us (rest ++ piece) ≡ refused r (length rest + used)
+        → Received parsers (stream ++ take used piece) us (rest ++ take used piece) (Some r) }
+    ensures received_part { (parsers : Units → Parser) → ((us : Units) → IsIncremental (parsers us)) → (stream piece : List ℕ) (us : Units) (rest : List ℕ)
+        → Received parsers stream us rest None → parsers us (rest ++ piece) ≡ unfinished → Received parsers (stream ++ piece) us (rest ++ piece) None }
 
     // What is heard of a prefix of a stream is a prefix of what is heard of it.
     ensures prefix { (parsers : Units → Parser) → ((us : Units) → IsIncremental (parsers us)) → (stream more : List ℕ) (us vs : Units) (x y : List ℕ) (r q : Option Refusal)
-        → Heard parsers stream us x r → Heard parsers (stream ++ more) vs y q → IsPrefix us vs }
+        → Received parsers stream us x r → Received parsers (stream ++ more) vs y q → IsPrefix us vs }
 
     // The link: what was said is heard, a prefix of it as a prefix of its units, and nothing of it is refused.
     ensures again { (parsers : Units → Parser) (spells : Units → List ℕ → List ℕ) → ((us : Units) → IsIncremental (parsers us))
-        → (stream : List ℕ) (said : Units) → Said spells stream said → EachPlace (Spelled parsers spells) [] said → Heard parsers stream said [] None }
+        → (stream : List ℕ) (sent : Units) → Sent spells stream sent → EachPlace (Spelled parsers spells) [] sent → Received parsers stream sent [] None }
     ensures link { (parsers : Units → Parser) (spells : Units → List ℕ → List ℕ) → ((us : Units) → IsIncremental (parsers us))
-        → (stream heard more : List ℕ) (said us : Units) (rest : List ℕ) (r : Option Refusal)
-        → Said spells stream said → EachPlace (Spelled parsers spells) [] said → stream ≡ heard ++ more → Heard parsers heard us rest r → Linked us said r }
+        → (stream received more : List ℕ) (sent us : Units) (rest : List ℕ) (r : Option Refusal)
+        → Sent spells stream sent → EachPlace (Spelled parsers spells) [] sent → stream ≡ received ++ more → Received parsers received us rest r → Linked us sent r }
     ensures all { (parsers : Units → Parser) (spells : Units → List ℕ → List ℕ) → ((us : Units) → IsIncremental (parsers us))
-        → (stream : List ℕ) (said us : Units) (rest : List ℕ) (r : Option Refusal)
-        → Said spells stream said → EachPlace (Spelled parsers spells) [] said → Heard parsers stream us rest r → HeardAll us said rest r }
+        → (stream : List ℕ) (sent us : Units) (rest : List ℕ) (r : Option Refusal)
+        → Sent spells stream sent → EachPlace (Spelled parsers spells) [] sent → Received parsers stream us rest r → ReceivedAll us sent rest r }
 
     // What is said further is spelled behind.
-    ensures said_push { (spells : Units → List ℕ → List ℕ) (stream : List ℕ) (us : Units) (u : List ℕ)
-        → Said spells stream us → Said spells (stream ++ spells us u) (us ++ u ∷ []) }
-    ensures said_append { (spells : Units → List ℕ → List ℕ) (stream : List ℕ) (us more : Units)
-        → Said spells stream us → Said spells (stream ++ flat_places spells us more) (us ++ more) }
-    ensures said_same { (spells others : Units → List ℕ → List ℕ) (stream : List ℕ) (us : Units)
-        → EachPlace (λ before u. spells before u ≡ others before u) [] us → Said spells stream us → Said others stream us }
+    ensures sent_push { (spells : Units → List ℕ → List ℕ) (stream : List ℕ) (us : Units) (u : List ℕ)
+        → Sent spells stream us → Sent spells (stream ++ spells us u) (us ++ u ∷ []) }
+    ensures sent_append { (spells : Units → List ℕ → List ℕ) (stream : List ℕ) (us more : Units)
+        → Sent spells stream us → Sent spells (stream ++ flat_places spells us more) (us ++ more) }
+    ensures sent_same { (spells others : Units → List ℕ → List ℕ) (stream : List ℕ) (us : Units)
+        → EachPlace (λ before u. spells before u ≡ others before u) [] us → Sent spells stream us → Sent others stream us }
 {}
 
 /// The law of hearing: a packet reader that stands at the rest of a stream goes on standing there, for
@@ -132,18 +132,18 @@ pub fn stream_law()
 ///
 /// Its premises are what `next` and `feed` ensure of the reader before and after, and that the next unit
 /// of the stream is read as the reader reads.
-pub fn hearing_law()
-    ensures hears { (m : Meaning) (parsers : Units → Parser) → ((us : Units) → IsIncremental (parsers us)) → (stream : List ℕ) (us : Units)
-        (old : ReaderState) (new : PacketReader) (piece : List ℕ) (result : Result PacketStep PacketFault)
-        → Heard parsers stream us old.held None → parsers us ≡ parse_packet (protection_at m old)
-        → ParseAnswer m old piece result → ReaderLeaves m old piece result new → HearsOn parsers stream us old piece result new }
+pub fn receiving_law()
+    ensures receives { (m : SuiteData) (parsers : Units → Parser) → ((us : Units) → IsIncremental (parsers us)) → (stream : List ℕ) (us : Units)
+        (old : PacketReaderData) (new : PacketReader) (piece : List ℕ) (result : Result PacketStep PacketFault)
+        → Received parsers stream us old.held None → parsers us ≡ parse_packet (protection_at m old)
+        → ParseAnswer m old piece result → ReaderLeaves m old piece result new → ReceivesOn parsers stream us old piece result new }
 
     // A line reader that stands open at the stream has heard no unit of it, and all of it is rest.
     ensures stands { (parsers : Units → Parser) (k : ℕ) (stream : List ℕ) (progress : Progress)
-        → parsers [] ≡ preamble_parser k → StandsOpen k stream progress → Heard parsers stream [] stream None }
-    ensures hears_lines { (parsers : Units → Parser) → ((us : Units) → IsIncremental (parsers us)) → (k : ℕ) (stream piece : List ℕ)
-        (old : Progress) (new : LineState) (result : Result LineStep WireFault)
-        → parsers [] ≡ preamble_parser k → StandsOpen k stream old → PreambleAnswer k stream piece result new → HearsLinesOn parsers stream piece result new }
+        → parsers [] ≡ preamble_parser k → StandsOpen k stream progress → Received parsers stream [] stream None }
+    ensures receives_lines { (parsers : Units → Parser) → ((us : Units) → IsIncremental (parsers us)) → (k : ℕ) (stream piece : List ℕ)
+        (old : Progress) (new : LineReaderData) (result : Result LineStep WireFault)
+        → parsers [] ≡ preamble_parser k → StandsOpen k stream old → PreambleAnswer k stream piece result new → ReceivesLinesOn parsers stream piece result new }
 {
     parser_law();
 }
@@ -151,9 +151,9 @@ pub fn hearing_law()
 /// The law of joined packets: what is read of a stream behind its version line is packets one after
 /// another by the standard's own definition of a packet (RFC 4253 section 6), and nothing else is read.
 pub fn joined_law()
-    ensures found { (parsers : Units → Parser) (at : Units → Protection) (version : List ℕ) → ((us : Units) → parsers (version ∷ us) ≡ parse_packet (at us)) → ((us : Units) → IsFaithful (at us))
+    ensures found { (parsers : Units → Parser) (at : Units → ProtectionData) (version : List ℕ) → ((us : Units) → parsers (version ∷ us) ≡ parse_packet (at us)) → ((us : Units) → IsFaithful (at us))
         → (before : Units) (bytes : List ℕ) (ps : Units) (rest : List ℕ) → IsBytes bytes → Read parsers (version ∷ before) bytes ps rest → Joined at before bytes ps rest }
-    ensures only { (parsers : Units → Parser) (at : Units → Protection) (version : List ℕ) → ((us : Units) → parsers (version ∷ us) ≡ parse_packet (at us)) → ((us : Units) → IsFaithful (at us))
+    ensures only { (parsers : Units → Parser) (at : Units → ProtectionData) (version : List ℕ) → ((us : Units) → parsers (version ∷ us) ≡ parse_packet (at us)) → ((us : Units) → IsFaithful (at us))
         → (before : Units) (bytes : List ℕ) (ps : Units) (rest : List ℕ) → IsBytes bytes → Joined at before bytes ps rest → Read parsers (version ∷ before) bytes ps rest }
 {
     crate::packet_laws::packet_law();

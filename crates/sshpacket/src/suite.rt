@@ -2,7 +2,7 @@
 
 ghost use Rattle.std.specs.Prelude.{◌≡◌, ◌<◌, ◌^◌, IfOk, length, option_map};
 ghost use Rattle.sshwire.specs.Types.{IsName};
-ghost use Rattle.sshpacket.specs.Suite.{IsAgreeing, IsLawful, Meaning, response_data};
+ghost use Rattle.sshpacket.specs.Suite.{IsAgreeing, IsLawful, SuiteData, response_data};
 
 use crate::keys::Keys;
 use sshwire::{Memory, ShareForm};
@@ -105,7 +105,7 @@ pub struct Response {
 /// | ssh-ed25519, ssh-ed448, ecdsa-sha2-nistp256 and its like, rsa-sha2-256, rsa-sha2-512 | yes |
 /// | keys on a token (sk-ssh-ed25519@openssh.com) | `verify` does; `sign` doesn't, since each signature has a counter in it |
 pub trait Suite {
-    ghost meaning: { Self → Meaning };
+    ghost meaning: { Self → SuiteData };
 
     /// What a key exchange method needs of the host key.
     fn need(&self, kex: &str) -> Need

@@ -5,7 +5,7 @@ ghost use Rattle.sshpacket.specs.declared.limits.TheConstants.{BLOCK_LIMIT};
 ghost use Rattle.std.specs.Prelude.{◌≡◌, true, ◌+◌, ◌<◌, ◌≤◌, ◌^◌, ◌++◌, IfOk, OnOk, if◌then◌else◌, is_ok, length};
 ghost use Rattle.sshwire.specs.Types.{IsBytes};
 ghost use Rattle.sshpacket.specs.Packet.{packet};
-ghost use Rattle.sshpacket.specs.Suite.{Meaning};
+ghost use Rattle.sshpacket.specs.Suite.{SuiteData};
 ghost use Rattle.sshpacket.specs.Written.{IsWritten, written, written_clear, written_sealed};
 
 use crate::keys::Keys;

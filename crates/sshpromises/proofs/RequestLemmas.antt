@@ -1,11 +1,11 @@
 -- How many requests a plan has at the most.
 
 use Rattle.std.proofs.Common.{◌+◌, ◌*◌, ◌≤◌, Bool, true, false, cond, List, [], ◌∷◌, length, arith}
-use Rattle.sshcore.specs.ConfigData.{Attempt}
+use Rattle.sshcore.specs.ConfigParts.{AttemptData}
 use Rattle.sshcore.specs.Plan.{asks}
 use Rattle.sshworld.specs.Offered.{most_requests}
 
-pub few_requests : (plan : List Attempt) → most_requests plan ≤ 2 * length plan
+pub few_requests : (plan : List AttemptData) → most_requests plan ≤ 2 * length plan
 few_requests [] = omega arith
 few_requests (a ∷ later) = by (asks a.proving) (few_requests later)
   where

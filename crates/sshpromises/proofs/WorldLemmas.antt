@@ -3,11 +3,11 @@
 use Rattle.std.proofs.Common.{◌≡◌, ◌≢◌, ◌∙◌, Result, refl, sym}
 use Rattle.std.proofs.lemmas.Result.{IfOk-weaker}
 use Rattle.std.specs.Result.{IfOk}
-use Rattle.sshpacket.specs.Suite.{Meaning}
-use Rattle.sshcore.specs.ConfigData.{ClientData, ServerData}
+use Rattle.sshpacket.specs.Suite.{SuiteData}
+use Rattle.sshcore.specs.ConfigParts.{ClientData, ServerData}
 use Rattle.sshcore.specs.declared.end.Fault.TheVariants as fault
-use Rattle.sshcore.specs.Ending.{Ending, Failed, Open}
-use Rattle.sshcore.specs.Party.{Policy}
+use Rattle.sshcore.specs.EndData.{EndData, Failed, Open}
+use Rattle.sshcore.specs.EndpointParts.{DecisionsData}
 use Rattle.sshworld.specs.Conversed.{IsNew}
 use Rattle.sshworld.specs.Headline.{Headline}
 use Rattle.sshworld.specs.Outcome.{BothEnds, outcome}
@@ -17,13 +17,13 @@ use Rattle.sshworld.specs.Worlds.{Complete, HadMemory, IsSameSetup, WorldData}
 use Rattle.sshpromises.specs.Claims.{EndsWell, EndsWellOnce, PairIs}
 
 -- where nothing waits, both ends are those of the headline
-pub both_given : (ends : BothEnds) (client server : Ending) (complete : Type 0) → Headline ends client server complete → complete
+pub both_given : (ends : BothEnds) (client server : EndData) (complete : Type 0) → Headline ends client server complete → complete
     → (client ≡ ends.client) × (server ≡ ends.server)
 both_given ends client server complete h done =
     let both = h.both_ended done in
     (h.as_given.client_as both.0, h.as_given.server_as both.1)
 
-module _ {S D : Type 0} (meaning : S → Meaning) (policy : D → Policy) (client : ClientData) (server : ServerData) (suite : S) (decisions : D) (w : WorldData S D)
+module _ {S D : Type 0} (meaning : S → SuiteData) (policy : D → DecisionsData) (client : ClientData) (server : ServerData) (suite : S) (decisions : D) (w : WorldData S D)
     (of_client : w.client_config ≡ client) (of_server : w.server_config ≡ server) (of_suite : w.suite ≡ suite) (of_decisions : w.decisions ≡ decisions) where
   pub understood_in : AreUnderstood (meaning suite) (policy decisions) client server → AreUnderstoodIn meaning policy w
   understood_in u = rw (of_client, of_server, of_suite, of_decisions) u
@@ -60,13 +60,13 @@ module _ {S D E : Type 0} (r : Result (WorldData S D) E) (ends : BothEnds) (well
   pub pair_with : (one : WorldData S D) → EndsWell ends one → IfOk r (λ w. PairIs one w)
   pair_with one is = IfOk-weaker r (λ w. EndsWell ends w) (λ w. PairIs one w) (λ w b. pair_of ends one w is b) well
 
-  pub told_client : (told : Ending) → told ≡ ends.client → IfOk r (λ w. Complete w → w.client.end ≡ told)
+  pub told_client : (told : EndData) → told ≡ ends.client → IfOk r (λ w. Complete w → w.client.end ≡ told)
   told_client told is = IfOk-weaker r (λ w. EndsWell ends w) (λ w. Complete w → w.client.end ≡ told) (λ w b done. b.client_end done ∙ sym is) well
 
-  pub told_server : (told : Ending) → told ≡ ends.server → IfOk r (λ w. Complete w → w.server.end ≡ told)
+  pub told_server : (told : EndData) → told ≡ ends.server → IfOk r (λ w. Complete w → w.server.end ≡ told)
   told_server told is = IfOk-weaker r (λ w. EndsWell ends w) (λ w. Complete w → w.server.end ≡ told) (λ w b done. b.server_end done ∙ sym is) well
 
-module _ {S D : Type 0} (meaning : S → Meaning) (policy : D → Policy) (one other : WorldData S D)
+module _ {S D : Type 0} (meaning : S → SuiteData) (policy : D → DecisionsData) (one other : WorldData S D)
     (client : other.client_config ≡ one.client_config) (server : other.server_config ≡ one.server_config) (suite : other.suite ≡ one.suite) (decisions : other.decisions ≡ one.decisions)
     (understood : AreUnderstoodIn meaning policy one) (one_had : HadMemory one) (other_had : HadMemory other)
     (one_keeps : KeepsHeadline meaning policy one) (other_keeps : KeepsHeadline meaning policy other) (one_complete : Complete one) (other_complete : Complete other) where
@@ -83,11 +83,11 @@ module _ {S D : Type 0} (meaning : S → Meaning) (policy : D → Policy) (one o
   server_same = of_other.server_end other_complete ∙ sym (of_one.server_end one_complete)
 
 -- a side that is open hasn't failed
-open_had : (end : Ending) → end ≡ Open → end ≢ Failed fault.Memory
+open_had : (end : EndData) → end ≡ Open → end ≢ Failed fault.Memory
 open_had end is_open failed = cc
 
 -- neither side of a new world has failed
-pub new_had : {S D : Type 0} (meaning : S → Meaning) (policy : D → Policy) (w : WorldData S D) → IsNew meaning policy w → HadMemory w
+pub new_had : {S D : Type 0} (meaning : S → SuiteData) (policy : D → DecisionsData) (w : WorldData S D) → IsNew meaning policy w → HadMemory w
 new_had meaning policy w new = record { client_had = open_had w.client.end new.client.is_open; server_had = open_had w.server.end new.server.is_open }
 
 -- a complete world whose sides end well
@@ -101,7 +101,7 @@ well_once ends w well done h = record {
 }
 
 -- a world that settled, of a setup in which the two understand each other
-pub settled_well : {S D : Type 0} (meaning : S → Meaning) (policy : D → Policy) (client : ClientData) (server : ServerData) (suite : S) (decisions : D) (old new : WorldData S D)
+pub settled_well : {S D : Type 0} (meaning : S → SuiteData) (policy : D → DecisionsData) (client : ClientData) (server : ServerData) (suite : S) (decisions : D) (old new : WorldData S D)
     → old.client_config ≡ client → old.server_config ≡ server → old.suite ≡ suite → old.decisions ≡ decisions → IsSameSetup old new
     → AreUnderstoodIn meaning policy old → HadMemory new → KeepsHeadline meaning policy new → Complete new
     → EndsWellOnce (outcome (meaning suite) (policy decisions) client server) new

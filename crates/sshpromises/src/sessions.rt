@@ -2,7 +2,7 @@
 
 ghost use Rattle.std.specs.Prelude.{◌≡◌, ℕ, IfOk, List, OnOk, Some, take};
 ghost use Rattle.sshcore.specs.declared.session.Session.{Session};
-ghost use Rattle.sshcore.specs.Ending.{AgreedData, Authenticated};
+ghost use Rattle.sshcore.specs.EndData.{AgreedData, Authenticated};
 ghost use Rattle.sshcore.specs.Endpoints.{Fed};
 ghost use Rattle.sshcore.specs.Linked.{AreLinked, incoming_of, outgoing_of};
 ghost use Rattle.sshworld.specs.Joined.{AreCrosswise};

@@ -1,7 +1,7 @@
 //! What is promised of worlds.
 
 ghost use Rattle.std.specs.Prelude.{◌≡◌, ◌≢◌, ◌↔◌, IfOk, OnOk};
-ghost use Rattle.sshcore.specs.Ending.{AgreedData, Authenticated, Open, ending};
+ghost use Rattle.sshcore.specs.EndData.{AgreedData, Authenticated, Open, end_data};
 ghost use Rattle.sshworld.specs.Outcome.{outcome};
 ghost use Rattle.sshworld.specs.WorldCourse.{AreUnderstoodIn};
 ghost use Rattle.sshworld.specs.Worlds.{Complete, HadMemory};
@@ -104,8 +104,8 @@ pub fn foretold<'a, S: AgreeingSuite, D: Decisions>(
     decisions: &'a D,
     schedule: &[Delivery],
 ) -> Result<((End, End), World<'a, S, D>), Memory>
-    ensures client { IfOk result (λ two. Complete two.1 → two.1.client.end ≡ ending two.0.0) }
-    ensures server { IfOk result (λ two. Complete two.1 → two.1.server.end ≡ ending two.0.1) }
+    ensures client { IfOk result (λ two. Complete two.1 → two.1.client.end ≡ end_data two.0.0) }
+    ensures server { IfOk result (λ two. Complete two.1 → two.1.server.end ≡ end_data two.0.1) }
 {
     let told = predict(alloc, client, server, suite, decisions)?;
     let world = schedule_ends(alloc, client, server, suite, decisions, schedule);

@@ -5,7 +5,7 @@ use sshcore::Decisions;
 use sshlab::{Scenario, ScenarioFault, TEXT_LIMIT};
 use sshpacket::Suite;
 use sshrows_acts::{
-    Generous, Line, Names, Stop, judge_client, judge_config, judge_server, nothing_behind,
+    Generous, Line, Names, Stop, judge_client, judge_config, judge_server, nothing_after,
     same_text, shows, wrong,
 };
 use sshsuite::DeployedSuite;
@@ -33,7 +33,7 @@ pub(crate) fn act(
         Err(fault) => {
             let wanted = if word == "refused" { role } else { "accepted" };
             shows(alloc, line, "config", wanted, &fault)?;
-            nothing_behind(alloc, rest)
+            nothing_after(alloc, rest)
         }
     }
 }
@@ -94,7 +94,7 @@ fn act_by(
         ),
         "world" => judge_world(alloc, scenario, rest),
         "predict" => judge_prediction(alloc, scenario, rest),
-        "accepted" => nothing_behind(alloc, rest),
+        "accepted" => nothing_after(alloc, rest),
         _ => wrong(alloc, line, "config", role, "accepted"),
     }
 }

@@ -10,7 +10,7 @@ use std::cell::{Cell, RefCell};
 
 /// What was kept since it was judged last, in its order.
 #[derive(Drop)]
-pub(crate) struct Kept {
+pub(crate) struct StateData {
     /// A blank and words for each.
     text: RefCell<String>,
     /// Whether memory was wanting for one.
@@ -18,10 +18,10 @@ pub(crate) struct Kept {
     alloc: Global,
 }
 
-impl Kept {
+impl StateData {
     /// Nothing yet.
-    fn new(alloc: Global) -> Kept {
-        Kept {
+    fn new(alloc: Global) -> StateData {
+        StateData {
             text: RefCell::new(String::new(alloc)),
             is_lost: Cell::new(false),
             alloc,
@@ -69,33 +69,33 @@ impl Kept {
 
 /// What decisions were asked and told.
 #[derive(Drop)]
-pub(crate) struct Heard {
+pub(crate) struct Received {
     /// The questions: `host_key`, or the number of a request.
-    pub(crate) questions: Kept,
+    pub(crate) questions: StateData,
     /// The notices, each with its kind and its fields; none where no line of the row judges them.
-    pub(crate) notices: Kept,
+    pub(crate) notices: StateData,
     is_told: bool,
 }
 
-impl Heard {
+impl Received {
     /// Nothing yet, for a row of these lines.
-    pub(crate) fn new(alloc: Global, lines: &[Line<'_>]) -> Heard {
-        Heard {
-            questions: Kept::new(alloc),
-            notices: Kept::new(alloc),
+    pub(crate) fn new(alloc: Global, lines: &[Line<'_>]) -> Received {
+        Received {
+            questions: StateData::new(alloc),
+            notices: StateData::new(alloc),
             is_told: lines.iter().any(|line| line.text.starts_with("told ")),
         }
     }
 }
 
 /// Keeps a question on the request with this number.
-fn keep_number(questions: &Kept, request_number: u32) -> Result<(), Stop> {
+fn keep_number(questions: &StateData, request_number: u32) -> Result<(), Stop> {
     let word = format!(in questions.alloc; "{request_number}")?;
     questions.keep(&word)
 }
 
 /// Keeps a notice.
-fn keep_notice(notices: &Kept, notice: Notice<'_>) -> Result<(), Stop> {
+fn keep_notice(notices: &StateData, notice: Notice<'_>) -> Result<(), Stop> {
     let words = words_of(notices.alloc, notice)?;
     notices.keep(&words)
 }
@@ -130,27 +130,27 @@ fn words_of(alloc: Global, notice: Notice<'_>) -> Result<String, Stop> {
 #[derive(Drop)]
 pub(crate) struct Asking<'a, D: Decisions> {
     pub(crate) decisions: &'a D,
-    pub(crate) heard: &'a Heard,
+    pub(crate) received: &'a Received,
 }
 
 impl<D: Decisions> Decisions for Asking<'_, D> {
     ghost policy = { λ asking. D.policy asking.decisions.now };
 
     fn host_key(&self, algorithm: &str, blob: &[u8]) -> bool {
-        let questions = &self.heard.questions;
+        let questions = &self.received.questions;
         questions.note(questions.keep("host_key"));
         self.decisions.host_key(algorithm, blob)
     }
 
     fn user(&self, request_number: u32, user: &str, service: &str, proof: &Proof<'_>) -> bool {
-        let questions = &self.heard.questions;
+        let questions = &self.received.questions;
         questions.note(keep_number(questions, request_number));
         self.decisions.user(request_number, user, service, proof)
     }
 
     fn told(&self, notice: Notice<'_>) {
-        if self.heard.is_told {
-            let notices = &self.heard.notices;
+        if self.received.is_told {
+            let notices = &self.received.notices;
             notices.note(keep_notice(notices, notice));
         }
         self.decisions.told(notice);

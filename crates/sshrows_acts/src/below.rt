@@ -2,7 +2,7 @@
 
 use crate::below_choices::judge_choice;
 use crate::below_derivations::judge_derivations;
-use crate::below_lines::judge_hearing;
+use crate::below_lines::judge_receiving;
 use crate::below_messages::judge_message;
 use crate::below_packets::judge_packets;
 use crate::below_suites::judge_suite;
@@ -45,7 +45,7 @@ pub fn judge_below(
     let (word, terms) = line.head();
     match word {
         "message" => judge_message(alloc, names, line, terms, rest),
-        "lines" => judge_hearing(alloc, names, line, terms, rest, piece_len),
+        "lines" => judge_receiving(alloc, names, line, terms, rest, piece_len),
         "packets" => packets(alloc, names, line, terms, rest, piece_len),
         "choose" => judge_choice(alloc, names, line, terms, rest),
         "suite" => calls(alloc, names, line, terms, rest),

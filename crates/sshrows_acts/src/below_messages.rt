@@ -6,7 +6,7 @@ use crate::names::Names;
 use crate::refusals::{refused, vector};
 use crate::stop::Stop;
 use crate::terms::bytes_of;
-use crate::texts::{BEFORE, same_text, stands_behind, wrong};
+use crate::texts::{BEFORE, same_text, stands_after, wrong};
 use crate::words::{Line, split_word};
 use sshmsg::{Message, MsgFault, read_exchange, write};
 use sshwire::ShareForm;
@@ -118,7 +118,7 @@ fn judge_written(
     }
     let mut out = Vec::from_slice(alloc, BEFORE)?;
     match write(message, &mut out) {
-        Ok(()) => stands_behind(alloc, line, wanted, &out),
+        Ok(()) => stands_after(alloc, line, wanted, &out),
         Err(_) => Err(refused(alloc, line, vector(out.as_slice() == BEFORE))),
     }
 }

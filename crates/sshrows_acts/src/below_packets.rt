@@ -6,7 +6,7 @@ use crate::refusals::{stopped, vector};
 use crate::stop::Stop;
 use crate::terms::{bytes_of, count_of, put_string};
 use crate::texts::{
-    BEFORE, flag_of, number_of, same_bytes, same_count, same_text, shows, stands_behind, wrong,
+    BEFORE, flag_of, number_of, same_bytes, same_count, same_text, shows, stands_after, wrong,
 };
 use crate::words::{Line, split_word};
 use sshpacket::{
@@ -135,11 +135,11 @@ fn answer_again<S: Suite>(suite: &S, receiver: &mut Receiver) -> &'static str {
 /// Gives the reader the bytes in pieces, up to one that it doesn't use whole, and answers how many it used.
 fn used_of<S: Suite>(suite: &S, receiver: &mut Receiver, piece: &[u8]) -> Result<usize, Stop> {
     if piece.is_empty() {
-        return hear(suite, receiver, piece);
+        return receive(suite, receiver, piece);
     }
     let mut all = 0usize;
     for part in piece.chunks(receiver.piece_len.max(1)) {
-        let used = hear_all(suite, receiver, part)?;
+        let used = receive_all(suite, receiver, part)?;
         all = all.saturating_add(used);
         if used < part.len() {
             return Ok(all);
@@ -149,11 +149,11 @@ fn used_of<S: Suite>(suite: &S, receiver: &mut Receiver, piece: &[u8]) -> Result
 }
 
 /// Gives the reader a piece, packet by packet, up to where it uses nothing more.
-fn hear_all<S: Suite>(suite: &S, receiver: &mut Receiver, part: &[u8]) -> Result<usize, Stop> {
+fn receive_all<S: Suite>(suite: &S, receiver: &mut Receiver, part: &[u8]) -> Result<usize, Stop> {
     let mut all = 0usize;
     for _ in 0..part.len() {
         let left = part.get(all..).unwrap_or(&[]);
-        let used = hear(suite, receiver, left)?;
+        let used = receive(suite, receiver, left)?;
         all = all.saturating_add(used);
         if used == 0 || used >= left.len() {
             return Ok(all);
@@ -163,7 +163,7 @@ fn hear_all<S: Suite>(suite: &S, receiver: &mut Receiver, part: &[u8]) -> Result
 }
 
 /// Gives the reader what is left of a piece, up to the end of a packet.
-fn hear<S: Suite>(suite: &S, receiver: &mut Receiver, left: &[u8]) -> Result<usize, Stop> {
+fn receive<S: Suite>(suite: &S, receiver: &mut Receiver, left: &[u8]) -> Result<usize, Stop> {
     match receiver.reader.next(suite, left) {
         Ok(PacketStep::More) => {}
         Ok(PacketStep::Payload { payload, .. }) => {
@@ -267,7 +267,7 @@ fn judge_packet<S: Suite>(
     match put_packet(alloc, names, suite, line, keys, words, &mut out) {
         Ok(wanted) => {
             let wanted = bytes_of(alloc, names, line, wanted)?;
-            stands_behind(alloc, line, &wanted, &out)
+            stands_after(alloc, line, &wanted, &out)
         }
         Err(stop) => Err(stopped(alloc, line, stop, vector(out.as_slice() == BEFORE))),
     }

@@ -48,8 +48,8 @@ fn standing(is_unchanged: bool) -> &'static str {
 /// Makes the call of the line, `CALL VALUE` or `refused CODE CALL`, and tells what came of it.
 fn text_of_call(alloc: Global, reader: &mut Reader<'_>, line: &Line<'_>) -> Result<String, Stop> {
     let (first, rest) = line.head();
-    let (_, behind) = split_word(rest);
-    let call = if first == "refused" { behind } else { first };
+    let (_, after) = split_word(rest);
+    let call = if first == "refused" { after } else { first };
     match call {
         "boolean" => {
             let found = reader.boolean();
@@ -130,7 +130,7 @@ fn told_names(alloc: Global, found: Result<NameList, WireFault>) -> Result<Strin
     }
 }
 
-/// Puts values by calls, and judges what was put: `says TERMS`.
+/// Puts values by calls, and judges what was put: `output TERMS`.
 pub(crate) fn judge_putting(alloc: Global, names: &Names, lines: &[Line<'_>]) -> Result<(), Stop> {
     let mut out = Vec::new(alloc);
     for line in lines {

@@ -6,7 +6,7 @@ use crate::names::Names;
 use crate::parts::{client_by, server_by};
 use crate::stop::Stop;
 use crate::terms::bytes_of;
-use crate::texts::{nothing_behind, same_bytes, same_text, shows, wrong};
+use crate::texts::{nothing_after, same_bytes, same_text, shows, wrong};
 use crate::words::{Line, split_word};
 use sshcore::{ClientConfig, ClientParts, ConfigFault, ServerConfig, ServerParts};
 use sshmsg::{KexInit, Message, write};
@@ -28,7 +28,7 @@ pub fn judge_config(
     let Some((line, rest)) = judged.split_first() else {
         return wrong(alloc, row, "row", "what comes of the config", "none");
     };
-    nothing_behind_verdict(alloc, line, rest)?;
+    nothing_after_verdict(alloc, line, rest)?;
     match role {
         "client" => {
             let parts = client_by(alloc, names, parts)?;
@@ -43,11 +43,11 @@ pub fn judge_config(
 }
 
 /// No line stands behind what comes of a config, but behind `generous`.
-fn nothing_behind_verdict(alloc: Global, line: &Line<'_>, rest: &[Line<'_>]) -> Result<(), Stop> {
+fn nothing_after_verdict(alloc: Global, line: &Line<'_>, rest: &[Line<'_>]) -> Result<(), Stop> {
     if line.text == "generous" {
         return Ok(());
     }
-    nothing_behind(alloc, rest)
+    nothing_after(alloc, rest)
 }
 
 /// Judges what comes of a client's parts.

@@ -1,10 +1,10 @@
 //! Rows of one endpoint.
 
-use crate::asked::{Asking, Heard};
+use crate::asked::{Asking, Received};
 use crate::handed::judge_session;
 use crate::linked::{judge_link, link_of, seed_of};
 use crate::names::Names;
-use crate::refusals::{is_out_of_memory, refused_saying};
+use crate::refusals::{is_out_of_memory, refused_sending};
 use crate::stop::Stop;
 use crate::terms::{bytes_of, count_of, text_of};
 use crate::texts::{number_of, same_agreed, same_bytes, same_count, same_end, shows, wrong};
@@ -20,7 +20,7 @@ use std::mem;
 struct Subject<'a, S: Suite, D: Decisions> {
     endpoint: Endpoint<'a, S, D>,
     /// What its decisions were asked and told since that was last judged.
-    heard: &'a Heard,
+    received: &'a Received,
     /// What it has said since that was last judged.
     out: Vec<u8>,
     /// How many bytes it is given at once, at most.
@@ -40,9 +40,12 @@ pub fn judge_client<S: Suite, D: Decisions>(
     lines: &[Line<'_>],
     piece_len: usize,
 ) -> Result<(), Stop> {
-    let heard = &Heard::new(alloc, lines);
-    let asking = &Asking { decisions, heard };
-    let subject = client_of(alloc, row, config, suite, asking, heard, piece_len)?;
+    let received = &Received::new(alloc, lines);
+    let asking = &Asking {
+        decisions,
+        received,
+    };
+    let subject = client_of(alloc, row, config, suite, asking, received, piece_len)?;
     talk(alloc, names, suite, row, subject, lines)
 }
 
@@ -56,9 +59,12 @@ pub fn judge_server<S: Suite, D: Decisions>(
     lines: &[Line<'_>],
     piece_len: usize,
 ) -> Result<(), Stop> {
-    let heard = &Heard::new(alloc, lines);
-    let asking = &Asking { decisions, heard };
-    let subject = server_of(alloc, row, config, suite, asking, heard, piece_len)?;
+    let received = &Received::new(alloc, lines);
+    let asking = &Asking {
+        decisions,
+        received,
+    };
+    let subject = server_of(alloc, row, config, suite, asking, received, piece_len)?;
     talk(alloc, names, suite, row, subject, lines)
 }
 
@@ -69,13 +75,13 @@ fn client_of<'a, S: Suite, D: Decisions>(
     config: &'a ClientConfig,
     suite: &'a S,
     decisions: &'a D,
-    heard: &'a Heard,
+    received: &'a Received,
     piece_len: usize,
 ) -> Result<Box<Subject<'a, S, D>>, Stop> {
     let mut out = Vec::new(alloc);
     match Endpoint::client(alloc, config, suite, decisions, &mut out) {
-        Ok(endpoint) => subject_of(alloc, endpoint, heard, out, piece_len),
-        Err(_) => Err(refused_saying(line, "no endpoint", out)),
+        Ok(endpoint) => subject_of(alloc, endpoint, received, out, piece_len),
+        Err(_) => Err(refused_sending(line, "no endpoint", out)),
     }
 }
 
@@ -86,13 +92,13 @@ fn server_of<'a, S: Suite, D: Decisions>(
     config: &'a ServerConfig,
     suite: &'a S,
     decisions: &'a D,
-    heard: &'a Heard,
+    received: &'a Received,
     piece_len: usize,
 ) -> Result<Box<Subject<'a, S, D>>, Stop> {
     let mut out = Vec::new(alloc);
     match Endpoint::server(alloc, config, suite, decisions, &mut out) {
-        Ok(endpoint) => subject_of(alloc, endpoint, heard, out, piece_len),
-        Err(_) => Err(refused_saying(line, "no endpoint", out)),
+        Ok(endpoint) => subject_of(alloc, endpoint, received, out, piece_len),
+        Err(_) => Err(refused_sending(line, "no endpoint", out)),
     }
 }
 
@@ -100,7 +106,7 @@ fn server_of<'a, S: Suite, D: Decisions>(
 fn subject_of<'a, S: Suite, D: Decisions>(
     alloc: Global,
     endpoint: Endpoint<'a, S, D>,
-    heard: &'a Heard,
+    received: &'a Received,
     out: Vec<u8>,
     piece_len: usize,
 ) -> Result<Box<Subject<'a, S, D>>, Stop> {
@@ -108,7 +114,7 @@ fn subject_of<'a, S: Suite, D: Decisions>(
         alloc,
         Subject {
             endpoint,
-            heard,
+            received,
             out,
             piece_len,
             judged: false,
@@ -181,10 +187,10 @@ fn finish<S: Suite, D: Decisions>(
     talk: &Subject<'_, S, D>,
 ) -> Result<(), Stop> {
     same_bytes(alloc, row, "said and not judged", &[], &talk.out)?;
-    talk.heard
+    talk.received
         .questions
         .same(row, "asked and not judged", "nothing")?;
-    talk.heard
+    talk.received
         .notices
         .same(row, "told and not judged", "nothing")?;
     if talk.judged {
@@ -214,7 +220,7 @@ fn step<S: Suite, D: Decisions>(
         }
         "says" => {
             let wanted = bytes_of(alloc, names, line, rest)?;
-            hears(alloc, line, talk, &wanted)
+            judge_sent(alloc, line, talk, &wanted)
         }
         "cut" => {
             talk.judged = false;
@@ -232,7 +238,7 @@ fn step<S: Suite, D: Decisions>(
 }
 
 /// These bytes have to be what was said since that was last judged.
-fn hears<S: Suite, D: Decisions>(
+fn judge_sent<S: Suite, D: Decisions>(
     alloc: Global,
     line: &Line<'_>,
     talk: &mut Subject<'_, S, D>,
@@ -258,8 +264,8 @@ fn look<S: Suite, D: Decisions>(
         }
         "held" => shows(alloc, line, "held", rest, &talk.endpoint.buffered()),
         "agreed" => same_agreed(alloc, line, rest, talk.endpoint.end()),
-        "asked" => talk.heard.questions.same(line, "asked", rest),
-        "told" => talk.heard.notices.same(line, "told", rest),
+        "asked" => talk.received.questions.same(line, "asked", rest),
+        "told" => talk.received.notices.same(line, "told", rest),
         _ => wrong(alloc, line, "line", "a word of an endpoint", word),
     }
 }
@@ -306,7 +312,7 @@ fn refused_call<S: Suite, D: Decisions>(
     } else {
         "F15, and not for good"
     };
-    refused_saying(line, stands, mem::replace(&mut talk.out, Vec::new(alloc)))
+    refused_sending(line, stands, mem::replace(&mut talk.out, Vec::new(alloc)))
 }
 
 /// Whether it ended by want of memory, and neither a byte more nor the end of its input changes that.

@@ -37,6 +37,6 @@ pub use refusals::{is_out_of_memory, refused};
 pub use stop::{Refusal, Stop, Told, Wrong};
 pub use terms::{bytes_of, digest_of, xor_of};
 pub use texts::{
-    nothing_behind, number_of, same_agreed, same_end, same_text, shows, wrong, yes_or_no,
+    nothing_after, number_of, same_agreed, same_end, same_text, shows, wrong, yes_or_no,
 };
 pub use words::{Line, split_word};

@@ -5,7 +5,7 @@ use crate::names::Names;
 use crate::refusals::{refused, stopped, vector};
 use crate::stop::Stop;
 use crate::terms::bytes_of;
-use crate::texts::{BEFORE, same_bytes, same_text, shows, stands_behind, wrong};
+use crate::texts::{BEFORE, same_bytes, same_text, shows, stands_after, wrong};
 use crate::words::{Line, split_word};
 use sshcore::{Link, LinkFault, Session};
 use sshpacket::{PacketFault, PacketStep, Suite};
@@ -108,11 +108,11 @@ fn judge_sealed<S: Suite>(
     match link.seal(suite, &payload, &mut out) {
         Ok(()) => {
             let wanted = bytes_of(alloc, names, line, wanted)?;
-            stands_behind(alloc, line, &wanted, &out)
+            stands_after(alloc, line, &wanted, &out)
         }
         Err(LinkFault::Memory) => Err(refused(alloc, line, vector(out.as_slice() == BEFORE))),
         Err(fault) => {
-            stands_behind(alloc, line, &[], &out)?;
+            stands_after(alloc, line, &[], &out)?;
             same_text(alloc, line, "sealed", wanted, name_of(fault))
         }
     }

@@ -7,15 +7,15 @@ use std::alloc::Global;
 
 /// A judged call was refused memory, and this stands behind it.
 pub fn refused(alloc: Global, line: &Line<'_>, stands: &'static str) -> Stop {
-    refused_saying(line, stands, Vec::new(alloc))
+    refused_sending(line, stands, Vec::new(alloc))
 }
 
 /// The same of an endpoint that has said this since it was judged last.
-pub(crate) fn refused_saying(line: &Line<'_>, stands: &'static str, said: Vec<u8>) -> Stop {
+pub(crate) fn refused_sending(line: &Line<'_>, stands: &'static str, sent: Vec<u8>) -> Stop {
     line.told.keep_refusal(Refusal {
         number: line.number,
         stands,
-        said,
+        sent,
     });
     Stop::Refused
 }

@@ -6,8 +6,8 @@ use Rattle.std.proofs.lemmas.Nat.{and_le_l, and_mask, or_block, or_lt, xor_block
 use Rattle.std.specs.Int.{w128, rotate_left}
 use Rattle.std.specs.Int.Bits.{and_zero_r, or_zero_l, or_zero_r, xor_assoc, xor_zero_l, xor_zero_r}
 use Rattle.std.specs.Prelude.{bit_and, bit_or, bit_xor, slice_index}
-use Rattle.sshsuite.specs.Aes.{behind_rounds, cipher, doubled, last_round, mix_columns, number_at, round, shift_rows, sub_bytes, turned_words}
-use Rattle.sshsuite.specs.AesBytes.{below_in_column, block_of, byte_product, byte_product_to, encrypted_state, mixed_column, s_box, shifted_row, state_behind, with_key, xtime, xtime_by}
+use Rattle.sshsuite.specs.Aes.{after_rounds, cipher, doubled, last_round, mix_columns, number_at, round, shift_rows, sub_bytes, turned_words}
+use Rattle.sshsuite.specs.AesBytes.{below_in_column, block_of, byte_product, byte_product_to, encrypted_state, mixed_column, s_box, shifted_row, state_after, with_key, xtime, xtime_by}
 use Rattle.sshsuite.proofs.AesLemmas.{AreBytes, and_of, below_limit, by_xor, doubled_is, limit, product_byte, s_box_byte, same_block, same_until, sub_bytes_is, xor_byte, xtime_byte, xtime_is}
 
 or_of : (n : ℕ) (f g : ℕ → ℕ) → AreBytes f → AreBytes g → bit_or (block_of n f) (block_of n g) ≡ block_of n (λ i. bit_or (f i) (g i))
@@ -394,27 +394,27 @@ shifted_is : (a : ℕ) (f : ℕ → ℕ) → AreBytes f → a ≡ block_of 16 f 
 shifted_is a f h e =
     ap (λ (x : ℕ). shift_rows (sub_bytes x)) e ∙ (ap shift_rows (sub_bytes_is f h) ∙ shift_rows_is (substituted f) (substituted_bytes f h))
 
-states_bytes : (keys : ℕ → ℕ → ℕ) (f : ℕ → ℕ) (n : ℕ) → ((j : ℕ) → AreBytes (keys j)) → AreBytes f → AreBytes (state_behind keys f n)
-unfolding state_behind
+states_bytes : (keys : ℕ → ℕ → ℕ) (f : ℕ → ℕ) (n : ℕ) → ((j : ℕ) → AreBytes (keys j)) → AreBytes f → AreBytes (state_after keys f n)
+unfolding state_after
 states_bytes keys f zero k h = keyed_bytes f (keys 0) h (k 0)
 states_bytes keys f (suc n) k h =
     let before = states_bytes keys f n k h in
-    let s : ℕ → ℕ = state_behind keys f n in
+    let s : ℕ → ℕ = state_after keys f n in
     keyed_bytes (mixed_column (shifted_row (substituted s))) (keys (suc n))
     (mixed_bytes (shifted_row (substituted s)) (shifted_bytes (substituted s) (substituted_bytes s before))) (k (suc n))
 
 states_are : (keys : List ℕ) (by : ℕ → ℕ → ℕ) (f : ℕ → ℕ) (n : ℕ) → ((j : ℕ) → AreBytes (by j))
     → ((j : ℕ) → j < 15 → slice_index keys j ≡ block_of 16 (by j)) → AreBytes f → n < 14
-    → behind_rounds keys (block_of 16 f) n ≡ block_of 16 (state_behind by f n)
-unfolding behind_rounds state_behind round
+    → after_rounds keys (block_of 16 f) n ≡ block_of 16 (state_after by f n)
+unfolding after_rounds state_after round
 states_are keys by f zero k are h low = by_key (block_of 16 f) (slice_index keys 0) f (by 0) h (k 0) refl (are 0 (omega arith))
 states_are keys by f (suc n) k are h low =
-    let s : ℕ → ℕ = state_behind by f n in
+    let s : ℕ → ℕ = state_after by f n in
     let before = states_are keys by f n k are h (omega arith) in
     let hs : AreBytes s = states_bytes by f n k h in
-    let shifted = shifted_is (behind_rounds keys (block_of 16 f) n) s hs before in
+    let shifted = shifted_is (after_rounds keys (block_of 16 f) n) s hs before in
     let hr : AreBytes (shifted_row (substituted s)) = shifted_bytes (substituted s) (substituted_bytes s hs) in
-    by_key (mix_columns (shift_rows (sub_bytes (behind_rounds keys (block_of 16 f) n)))) (slice_index keys (suc n))
+    by_key (mix_columns (shift_rows (sub_bytes (after_rounds keys (block_of 16 f) n)))) (slice_index keys (suc n))
     (mixed_column (shifted_row (substituted s))) (by (suc n)) (mixed_bytes (shifted_row (substituted s)) hr) (k (suc n))
     (ap mix_columns shifted ∙ mix_columns_is (shifted_row (substituted s)) hr) (are (suc n) (omega arith))
 
@@ -423,11 +423,11 @@ pub cipher_is : (keys : List ℕ) (by : ℕ → ℕ → ℕ) (f : ℕ → ℕ) �
     → cipher keys (block_of 16 f) ≡ block_of 16 (encrypted_state by f)
 unfolding cipher last_round encrypted_state
 cipher_is keys by f k are h =
-    let s : ℕ → ℕ = state_behind by f 13 in
+    let s : ℕ → ℕ = state_after by f 13 in
     let hs : AreBytes s = states_bytes by f 13 k h in
-    by_key (shift_rows (sub_bytes (behind_rounds keys (block_of 16 f) 13))) (slice_index keys 14) (shifted_row (substituted s)) (by 14)
+    by_key (shift_rows (sub_bytes (after_rounds keys (block_of 16 f) 13))) (slice_index keys 14) (shifted_row (substituted s)) (by 14)
     (shifted_bytes (substituted s) (substituted_bytes s hs)) (k 14)
-    (shifted_is (behind_rounds keys (block_of 16 f) 13) s hs (states_are keys by f 13 k are h (omega arith))) (are 14 (omega arith))
+    (shifted_is (after_rounds keys (block_of 16 f) 13) s hs (states_are keys by f 13 k are h (omega arith))) (are 14 (omega arith))
 
 -- 16 bytes of a list
 pub number_is : (bytes : List ℕ) (i : ℕ) → number_at bytes i ≡ block_of 16 (λ k. slice_index bytes (i + k))

@@ -7,7 +7,7 @@ use Rattle.sshwire.specs.ByteLaws.{bytes_cons}
 use Rattle.sshwire.specs.Types.{IsBytes}
 use Rattle.sshsuite.specs.Bits.{number_of_32, word_at}
 use Rattle.sshsuite.specs.Curve25519.{base_point, clamped}
-use Rattle.sshsuite.specs.Deployed.{is_curve25519, mpint_body, share, shared, shared_number}
+use Rattle.sshsuite.specs.Deployed.{is_curve25519, mpint_body, share, shared, shared_secret}
 use Rattle.sshsuite.proofs.DecodingLemmas.{same_number, zeros}
 use Rattle.sshsuite.proofs.WordLemmas.{are_words, zero_bytes}
 use Rattle.sshsuite.proofs.X25519Lemmas.{x25519_is}
@@ -33,8 +33,8 @@ below_field : (random : List ℕ) (u : ℕ) → x25519_number random u < 2 ^ 256
 unfolding x25519_number times
 below_field random u = omega arith
 
-body_is : (n : ℕ) → n < 2 ^ 256 → shared_number (bytes_of_number n) ≡ cond (eqb n 0) None (Some (mpint_body (bytes_of_number n)))
-unfolding shared_number
+body_is : (n : ℕ) → n < 2 ^ 256 → shared_secret (bytes_of_number n) ≡ cond (eqb n 0) None (Some (mpint_body (bytes_of_number n)))
+unfolding shared_secret
 body_is n h =
     ap (λ (b : Bool). cond b None (Some (mpint_body (bytes_of_number n))))
     (ap (bytes_eq (bytes_of_number n)) zeros ∙ same_number n 0 h (omega arith))
@@ -44,4 +44,4 @@ unfolding shared shared_body
 shared_is kex random peer h =
     let u : ℕ = number_of_32 peer % 2 ^ 255 % field in
     ap (λ (o : Option (List ℕ)). cond (is_curve25519 kex && eqb (length peer) 32) o None)
-    (ap shared_number (x25519_is random peer (are_words peer h)) ∙ body_is (x25519_number (clamped random) u) (below_field (clamped random) u))
+    (ap shared_secret (x25519_is random peer (are_words peer h)) ∙ body_is (x25519_number (clamped random) u) (below_field (clamped random) u))

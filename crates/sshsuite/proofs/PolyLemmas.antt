@@ -207,8 +207,8 @@ sum_value a b h k =
       omega (arith, e0, e1, e2, e3, e4),
     )
 
-behind : (block : List ℕ) → IsBytes block → IsBytes (block ++ 1 ∷ replicate (15 - length block) 0)
-behind block h = bytes_append block (1 ∷ replicate (15 - length block) 0) h (bytes_cons 1 (replicate (15 - length block) 0) (omega arith) (zero_bytes (15 - length block)))
+after : (block : List ℕ) → IsBytes block → IsBytes (block ++ 1 ∷ replicate (15 - length block) 0)
+after block h = bytes_append block (1 ∷ replicate (15 - length block) 0) h (bytes_cons 1 (replicate (15 - length block) 0) (omega arith) (zero_bytes (15 - length block)))
 
 block_value : (block : List ℕ) → IsBytes block → AreBelow (2 ^ 26) (block_limbs block) × (value (block_limbs block) ≡ block_number block)
 unfolding block_limbs block_number number_of_16
@@ -216,7 +216,7 @@ block_value block h =
     both (eqb (length block) 16)
     (topped_limbs (word_at block 0) (word_at block 8) (word_low block 0 h) (word_low block 8 h))
     (plain_limbs (word_at (block ++ 1 ∷ replicate (15 - length block) 0) 0) (word_at (block ++ 1 ∷ replicate (15 - length block) 0) 8)
-    (word_low (block ++ 1 ∷ replicate (15 - length block) 0) 0 (behind block h)) (word_low (block ++ 1 ∷ replicate (15 - length block) 0) 8 (behind block h)))
+    (word_low (block ++ 1 ∷ replicate (15 - length block) 0) 0 (after block h)) (word_low (block ++ 1 ∷ replicate (15 - length block) 0) 8 (after block h)))
   where
     both : (b : Bool) {x y : List ℕ} {m n : ℕ} → AreBelow (2 ^ 26) x × (value x ≡ m) → AreBelow (2 ^ 26) y × (value y ≡ n)
         → AreBelow (2 ^ 26) (cond b x y) × (value (cond b x y) ≡ cond b m n)

@@ -152,18 +152,18 @@ round_keys key =
     ∷ slice_index p7 0 ∷ []
 
 -- a block behind so many rounds
-unfoldable pub behind_rounds : List ℕ → ℕ → ℕ → ℕ
-behind_rounds keys block zero = bit_xor block (slice_index keys 0)
-behind_rounds keys block (suc n) = round (behind_rounds keys block n) (slice_index keys (suc n))
+unfoldable pub after_rounds : List ℕ → ℕ → ℕ → ℕ
+after_rounds keys block zero = bit_xor block (slice_index keys 0)
+after_rounds keys block (suc n) = round (after_rounds keys block n) (slice_index keys (suc n))
 
-pub rounds_none : (keys : List ℕ) (block : ℕ) → behind_rounds keys block 0 ≡ bit_xor block (slice_index keys 0)
-unfolding behind_rounds
+pub rounds_none : (keys : List ℕ) (block : ℕ) → after_rounds keys block 0 ≡ bit_xor block (slice_index keys 0)
+unfolding after_rounds
 rounds_none keys block = refl
 
-pub rounds_more : (keys : List ℕ) (block n : ℕ) → behind_rounds keys block (n + 1) ≡ round (behind_rounds keys block n) (slice_index keys (n + 1))
-unfolding behind_rounds
+pub rounds_more : (keys : List ℕ) (block n : ℕ) → after_rounds keys block (n + 1) ≡ round (after_rounds keys block n) (slice_index keys (n + 1))
+unfolding after_rounds
 rounds_more keys block n = rw (add-one n) refl
 
 -- a block encrypted by its round keys
 unfoldable pub cipher : List ℕ → ℕ → ℕ
-cipher keys block = last_round (behind_rounds keys block 13) (slice_index keys 14)
+cipher keys block = last_round (after_rounds keys block 13) (slice_index keys 14)

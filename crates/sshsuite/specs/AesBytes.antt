@@ -84,13 +84,13 @@ unfoldable pub with_key : (ℕ → ℕ) → (ℕ → ℕ) → ℕ → ℕ
 with_key state key i = bit_xor (state i) (key i)
 
 -- the state behind so many rounds (section 5.1)
-unfoldable pub state_behind : (ℕ → ℕ → ℕ) → (ℕ → ℕ) → ℕ → ℕ → ℕ
-state_behind keys input zero = with_key input (keys 0)
-state_behind keys input (suc n) = with_key (mixed_column (shifted_row (λ i. s_box (state_behind keys input n i)))) (keys (suc n))
+unfoldable pub state_after : (ℕ → ℕ → ℕ) → (ℕ → ℕ) → ℕ → ℕ → ℕ
+state_after keys input zero = with_key input (keys 0)
+state_after keys input (suc n) = with_key (mixed_column (shifted_row (λ i. s_box (state_after keys input n i)))) (keys (suc n))
 
 -- a block encrypted by its 15 round keys (section 5.1)
 unfoldable pub encrypted_state : (ℕ → ℕ → ℕ) → (ℕ → ℕ) → ℕ → ℕ
-encrypted_state keys input = with_key (shifted_row (λ i. s_box (state_behind keys input 13 i))) (keys 14)
+encrypted_state keys input = with_key (shifted_row (λ i. s_box (state_after keys input 13 i))) (keys 14)
 
 -- the key schedule (section 5.2): word n has the bytes w n 0 to w n 3, and every eighth word takes in a power of x
 pub record IsExpanded (key : ℕ → ℕ) (w : ℕ → ℕ → ℕ) : Type 0 where

@@ -8,7 +8,7 @@ use Rattle.sshpacket.specs.declared.suite.Need.TheVariants.{Encryption, Signatur
 use Rattle.sshwire.specs.declared.share_form.ShareForm.TheVariants.{OctetString}
 use Rattle.sshpacket.specs.declared.suite.KeyLens.{KeyLens}
 use Rattle.sshpacket.specs.Packet.{number}
-use Rattle.sshpacket.specs.Suite.{Meaning, ResponseData}
+use Rattle.sshpacket.specs.Suite.{ResponseData, SuiteData}
 use Rattle.sshsuite.specs.Curve25519.{base_point, x25519}
 use Rattle.sshsuite.specs.Gcm.{seal as gcm_seal, unseal as gcm_unseal}
 use Rattle.sshsuite.specs.Sealing.{head, seal, unseal}
@@ -43,12 +43,12 @@ mpint_body [] = []
 mpint_body (b ∷ bytes) = if b == 0 then mpint_body bytes else (if nat_le 128 b then 0 ∷ b ∷ bytes else b ∷ bytes)
 
 -- the number that is shared, where it isn't zero
-unfoldable pub shared_number : List ℕ → Option (List ℕ)
-shared_number secret = if bytes_eq secret (replicate 32 0) then None else Some (mpint_body secret)
+unfoldable pub shared_secret : List ℕ → Option (List ℕ)
+shared_secret secret = if bytes_eq secret (replicate 32 0) then None else Some (mpint_body secret)
 
 -- what 32 random bytes and the peer's share make, by a method that is known
 unfoldable pub shared : List ℕ → List ℕ → List ℕ → Option (List ℕ)
-shared kex random peer = if is_curve25519 kex && (length peer == 32) then shared_number (x25519 random peer) else None
+shared kex random peer = if is_curve25519 kex && (length peer == 32) then shared_secret (x25519 random peer) else None
 
 abbrev pub response_with : List ℕ → List ℕ → ResponseData
 response_with own body = record { share = own; shared = body }
@@ -65,7 +65,7 @@ unfoldable pub verify : List ℕ → List ℕ → List ℕ → List ℕ → Bool
 verify alg blob input found = if is_ed25519 alg && (length blob == 51) && (length found == 83) then is_verified blob input found else false
 
 -- the answers of the suite
-abbrev pub deployed : Meaning
+abbrev pub deployed : SuiteData
 deployed = record {
   need = λ kex. if is_curve25519 kex then Signature else Encryption;
   can = λ alg. record { signature = is_ed25519 alg; encryption = false };

@@ -10,7 +10,7 @@ use Rattle.sha2.proofs.Facts256.{length-sha256}
 use Rattle.sha2.specs.Sha256.{sha256}
 use Rattle.sshwire.specs.ByteLaws.{bytes_append, bytes_cons, bytes_dropped, bytes_none}
 use Rattle.sshwire.specs.Types.{IsBytes, string}
-use Rattle.sshpacket.specs.KeyData.{KeyData}
+use Rattle.sshpacket.specs.KeysData.{KeysData}
 use Rattle.sshpacket.specs.Packet.{number}
 use Rattle.sshpacket.specs.Suite.{IsLawful, IsNumberBody, IsPositiveBody, Keeps, ResponseData}
 use Rattle.sshpacket.specs.declared.limits.TheConstants.{BLOCK_LIMIT, KEY_LIMIT, SHARE_LIMIT}
@@ -19,7 +19,7 @@ use Rattle.sshsuite.specs.Curve25519.{affine, base_point, x25519}
 use Rattle.sshsuite.specs.Edwards25519.{with_sign, encode_point}
 use Rattle.sshsuite.specs.declared.edwards25519.Point.{Point}
 use Rattle.sshsuite.specs.FieldElement.{encode}
-use Rattle.sshsuite.specs.Deployed.{deployed, ed25519, is_aes256_gcm, is_curve25519, key_lens, mpint_body, response_with, share, shared, shared_number, wrapped}
+use Rattle.sshsuite.specs.Deployed.{deployed, ed25519, is_aes256_gcm, is_curve25519, key_lens, mpint_body, response_with, share, shared, shared_secret, wrapped}
 use Rattle.sshsuite.specs.Scalar.{bytes_of_halves, encode_scalar}
 use Rattle.sshsuite.specs.Gcm.{seal as gcm_seal, unseal as gcm_unseal}
 use Rattle.sshsuite.specs.GcmLaws as gcm
@@ -107,15 +107,15 @@ body_bytes (b ∷ bytes) h =
     (λ _. bytes_cons 0 (b ∷ bytes) (omega arith) h)
     (λ _. h))
 
-shared_number_given : (secret body : List ℕ) → shared_number secret ≡ Some body → mpint_body secret ≡ body
-unfolding shared_number
-shared_number_given secret body e =
+shared_secret_given : (secret body : List ℕ) → shared_secret secret ≡ Some body → mpint_body secret ≡ body
+unfolding shared_secret
+shared_secret_given secret body e =
     let inner = (guard_none (bytes_eq secret (replicate 32 0)) (Some (mpint_body secret)) body e).1 in cc
 
 shared_given : (kex random peer body : List ℕ) → shared kex random peer ≡ Some body → mpint_body (x25519 random peer) ≡ body
 unfolding shared
 shared_given kex random peer body e =
-    shared_number_given (x25519 random peer) body (cond_some (is_curve25519 kex && eqb (length peer) 32) (shared_number (x25519 random peer)) body e)
+    shared_secret_given (x25519 random peer) body (cond_some (is_curve25519 kex && eqb (length peer) 32) (shared_secret (x25519 random peer)) body e)
 
 shared_fits : (kex random peer body : List ℕ) → shared kex random peer ≡ Some body → IsNumberBody body
 shared_fits kex random peer body e =
@@ -158,19 +158,19 @@ unfolding wrapped
 length_wrapped bytes = let both = length-append (string ed25519) (string bytes) in omega (arith, both)
 
 -- Each cipher.
-both_head : (b : Bool) (keys : KeyData) (seq : ℕ) (clear : List ℕ) → 4 ≤ length clear →
+both_head : (b : Bool) (keys : KeysData) (seq : ℕ) (clear : List ℕ) → 4 ≤ length clear →
     (let sealed = cond b (gcm_seal keys.iv keys.enc seq clear) (seal keys.enc seq clear) in
     cond b (number (take 4 sealed)) (head keys.enc seq (take 4 sealed)) ≡ number clear)
 both_head true keys seq clear h = gcm.head_of_seal keys.iv keys.enc seq clear h
 both_head false keys seq clear h = head_of_seal keys.enc seq clear h
 
-both_unseal : (b : Bool) (keys : KeyData) (seq : ℕ) (clear : List ℕ) → 4 ≤ length clear →
+both_unseal : (b : Bool) (keys : KeysData) (seq : ℕ) (clear : List ℕ) → 4 ≤ length clear →
     (let sealed = cond b (gcm_seal keys.iv keys.enc seq clear) (seal keys.enc seq clear) in
     cond b (gcm_unseal keys.iv keys.enc seq sealed) (unseal keys.enc seq sealed) ≡ Some clear)
 both_unseal true keys seq clear h = gcm.unseal_of_seal keys.iv keys.enc seq clear h
 both_unseal false keys seq clear h = unseal_of_seal keys.enc seq clear h
 
-both_unsealed : (b : Bool) (keys : KeyData) (seq : ℕ) (sealed clear : List ℕ) → IsBytes sealed
+both_unsealed : (b : Bool) (keys : KeysData) (seq : ℕ) (sealed clear : List ℕ) → IsBytes sealed
     → length sealed ≡ 4 + cond b (number (take 4 sealed)) (head keys.enc seq (take 4 sealed)) + 16
     → cond b (gcm_unseal keys.iv keys.enc seq sealed) (unseal keys.enc seq sealed) ≡ Some clear
     → Keeps (cond b (number (take 4 sealed)) (head keys.enc seq (take 4 sealed))) clear

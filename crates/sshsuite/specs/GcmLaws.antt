@@ -132,11 +132,11 @@ unseal_of_seal iv enc seq clear h =
     let enough : ltb (length (front ++ back)) 20 ≡ false = le-ltb (length (front ++ back)) 20 (omega arith) in
     let before : take (length (front ++ back) - 16) (front ++ back) ≡ front
     = ap (λ (n : ℕ). take n (front ++ back)) cut ∙ take_at front back (length clear) front_long in
-    let behind : drop (length (front ++ back) - 16) (front ++ back) ≡ back
+    let after : drop (length (front ++ back) - 16) (front ++ back) ≡ back
     = ap (λ (n : ℕ). drop n (front ++ back)) cut ∙ drop_at front back (length clear) front_long in
     ap (λ (xs : List ℕ). unseal iv enc seq xs) is
     ∙ rw enough (ap (λ (xs : List ℕ). checked iv enc seq xs (drop (length (front ++ back) - 16) (front ++ back))) before
-    ∙ (ap (λ (xs : List ℕ). checked iv enc seq front xs) behind
+    ∙ (ap (λ (xs : List ℕ). checked iv enc seq front xs) after
     ∙ rw (same_bytes back) (ap (λ (xs : List ℕ). Some xs) (encrypted_twice iv enc seq clear))))
 
 unsealed_is : (iv enc : List ℕ) (seq : ℕ) (sealed clear : List ℕ) → unseal iv enc seq sealed ≡ Some clear

@@ -1,7 +1,7 @@
 //! Algorithms that are deployed, as a suite.
 
 ghost use Rattle.std.specs.Prelude.{◌≡◌, ◌<◌, ◌≤◌, ◌^◌, IfOk, drop, length, option_map};
-ghost use Rattle.sshsuite.specs.Deployed.{deployed, is_aes256_gcm, is_curve25519, is_ed25519, is_verified, mpint_body, share, shared, shared_number, verify, wrapped};
+ghost use Rattle.sshsuite.specs.Deployed.{deployed, is_aes256_gcm, is_curve25519, is_ed25519, is_verified, mpint_body, share, shared, shared_secret, verify, wrapped};
 ghost use Rattle.sshsuite.specs.DeployedLaws.{deployed_lawful};
 
 use crate::chacha20::stream;
@@ -246,7 +246,7 @@ fn shared(alloc: Global, kex: &str, random: &[u8], peer: &[u8]) -> Result<Option
     ensures { IfOk result (λ o. option_map (λ v. v.items) o ≡ shared kex.now random.now peer.now) }
 {
     if is_curve25519(kex) && peer.len() == 32 {
-        shared_number(alloc, x25519(scalar_of(random), peer))
+        shared_secret(alloc, x25519(scalar_of(random), peer))
     } else {
         Ok(None)
     }
@@ -254,9 +254,9 @@ fn shared(alloc: Global, kex: &str, random: &[u8], peer: &[u8]) -> Result<Option
 
 /// The number that is shared, where it isn't zero, which is what comes of each share of small order (RFC
 /// 7748 section 6.1, RFC 8731 section 3).
-#[tactic(auto, unfolding(crate::specs::Deployed::shared_number))]
-fn shared_number(alloc: Global, secret: [u8; 32]) -> Result<Option<Vec<u8>>, Memory>
-    ensures { IfOk result (λ o. option_map (λ v. v.items) o ≡ shared_number secret) }
+#[tactic(auto, unfolding(crate::specs::Deployed::shared_secret))]
+fn shared_secret(alloc: Global, secret: [u8; 32]) -> Result<Option<Vec<u8>>, Memory>
+    ensures { IfOk result (λ o. option_map (λ v. v.items) o ≡ shared_secret secret) }
 {
     if is_equal(&secret, &[0; 32]) {
         return Ok(None);

@@ -6,8 +6,8 @@ use Rattle.std.specs.List.{Contains, list_any}
 use Rattle.std.specs.Str.{bytes_eq}
 use Rattle.std.proofs.lemmas.Bool.{and_from, and_parts, eqb-true, or_cases, or_left, or_right}
 use Rattle.std.proofs.lemmas.Slice.Eq.{bytes_eq-Decides}
-use Rattle.sshcore.specs.Party.{KeyProof, NoProof, PasswordProof, ProofData}
-use Rattle.sshsuites.specs.LabRules.{Allowance, LabRules, is_proof, lab_policy, lets_in}
+use Rattle.sshcore.specs.EndpointParts.{KeyProof, NoProof, PasswordProof, ProofData}
+use Rattle.sshsuites.specs.LabDecisionsData.{AllowedData, LabDecisionsData, accepts, is_proof, lab_policy}
 
 module _ {X : Type 0} (same : X → Bool) (q : X) where
   found : ((x : X) → same x ≡ true → x ≡ q) → (xs : List X) → list_any same xs ≡ true → Contains xs q
@@ -42,15 +42,15 @@ same_proof (KeyProof own own_blob) (KeyProof algorithm blob) e =
 own_bytes : (bytes : List ℕ) → bytes_eq bytes bytes ≡ true
 own_bytes bytes = (bytes_eq-Decides bytes bytes).1 refl
 
-own_proof : (proof : ProofData) → is_proof proof proof ≡ true
-own_proof NoProof = refl
-own_proof (PasswordProof password) = own_bytes password
-own_proof (KeyProof algorithm blob) = and_from _ _ (own_bytes algorithm) (own_bytes blob)
+own_proof_data : (proof : ProofData) → is_proof proof proof ≡ true
+own_proof_data NoProof = refl
+own_proof_data (PasswordProof password) = own_bytes password
+own_proof_data (KeyProof algorithm blob) = and_from _ _ (own_bytes algorithm) (own_bytes blob)
 
-pair : List ℕ → ProofData → Allowance
+pair : List ℕ → ProofData → AllowedData
 pair user proof = record { user = user; proof = proof }
 
-same_pair : (allowance : Allowance) (user : List ℕ) (proof : ProofData) → lets_in allowance user proof ≡ true → allowance ≡ pair user proof
+same_pair : (allowance : AllowedData) (user : List ℕ) (proof : ProofData) → accepts allowance user proof ≡ true → allowance ≡ pair user proof
 unfolding pair
 same_pair allowance user proof e =
     let parts = and_parts (bytes_eq allowance.user user) (is_proof allowance.proof proof) e in
@@ -58,12 +58,12 @@ same_pair allowance user proof e =
     let proves = same_proof allowance.proof proof parts.1 in
     ap (λ u. pair u allowance.proof) name ∙ ap (pair user) proves
 
-pub allowed_is : (allowed : List Allowance) (user : List ℕ) (proof : ProofData)
-    → (list_any (λ allowance. lets_in allowance user proof) allowed ≡ true) ↔ Contains allowed (record { user = user; proof = proof })
+pub allowed_is : (allowed : List AllowedData) (user : List ℕ) (proof : ProofData)
+    → (list_any (λ allowance. accepts allowance user proof) allowed ≡ true) ↔ Contains allowed (record { user = user; proof = proof })
 unfolding pair
 allowed_is allowed user proof =
-    any_is (λ allowance. lets_in allowance user proof) (pair user proof) (λ allowance e. same_pair allowance user proof e)
-    (and_from _ _ (own_bytes user) (own_proof proof)) allowed
+    any_is (λ allowance. accepts allowance user proof) (pair user proof) (λ allowance e. same_pair allowance user proof e)
+    (and_from _ _ (own_bytes user) (own_proof_data proof)) allowed
 
 pub distrusted_is : (names : List (List ℕ)) (algorithm : List ℕ) → (list_any (λ name. bytes_eq name algorithm) names ≡ true) ↔ Contains names algorithm
 distrusted_is names algorithm =
@@ -82,11 +82,11 @@ both_is true true P Q is denies = (λ e. cc, λ h. absurd (h.1 (denies.0 refl)))
 both_is true false P Q is denies = (λ e. (is.0 refl, λ q. let e = denies.1 q in cc), λ h. refl)
 both_is false d P Q is denies = (λ e. cc, λ h. is.1 h.0)
 
-pub distrusts : (rules : LabRules) (algorithm blob : List ℕ) → ((lab_policy rules).host_key algorithm blob ≡ false) ↔ Contains rules.distrusted algorithm
+pub distrusts : (rules : LabDecisionsData) (algorithm blob : List ℕ) → ((lab_policy rules).host_key algorithm blob ≡ false) ↔ Contains rules.distrusted algorithm
 unfolding lab_policy
 distrusts rules algorithm blob = not_is _ _ (distrusted_is rules.distrusted algorithm)
 
-pub admits : (rules : LabRules) (number : ℕ) (user service : List ℕ) (proof : ProofData)
+pub admits : (rules : LabDecisionsData) (number : ℕ) (user service : List ℕ) (proof : ProofData)
     → ((lab_policy rules).user number user service proof ≡ true)
     ↔ (Contains rules.allowed (record { user = user; proof = proof }) × (Contains rules.denied number → ⊥))
 unfolding lab_policy

@@ -14,9 +14,9 @@ pub any_seen : {X Y : Type 0} (f : X → Y) (p : Y → Bool) (xs held : List X) 
 any_seen f p xs held seen is sees = any_mapped f p xs ∙ ap (list_any p) (ap (map f) is ∙ sees)
 
 -- who is allowed is let in unless denied, and nobody else
-pub allowed_let_in : (a b c d : Bool) → a ≡ b → c ≡ d → a ≡ true → not c ≡ (b && not d)
-allowed_let_in a true c d is denied h = ap not denied
-allowed_let_in a false c d is denied h = cc
+pub allowed_accepted : (a b c d : Bool) → a ≡ b → c ≡ d → a ≡ true → not c ≡ (b && not d)
+allowed_accepted a true c d is denied h = ap not denied
+allowed_accepted a false c d is denied h = cc
 
 pub others_stay_out : (a b d : Bool) → a ≡ b → a ≡ false → a ≡ (b && not d)
 others_stay_out a true d is h = cc

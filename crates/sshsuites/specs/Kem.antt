@@ -7,29 +7,29 @@ use Rattle.sha2.specs.Sha256.{sha256}
 use Rattle.sshwire.specs.Types.{uint32}
 use Rattle.sshpacket.specs.declared.suite.Need.TheVariants.{Signature}
 use Rattle.sshwire.specs.declared.share_form.ShareForm.TheVariants.{Hybrid}
-use Rattle.sshpacket.specs.KeyData.{KeyData}
+use Rattle.sshpacket.specs.KeysData.{KeysData}
 use Rattle.sshpacket.specs.Packet.{number}
-use Rattle.sshpacket.specs.Suite.{Meaning, ResponseData}
+use Rattle.sshpacket.specs.Suite.{ResponseData, SuiteData}
 use Rattle.sshsuites.specs.Lab.{lab, masked, xored}
 
 -- the first four bytes in clear, and the others masked or unmasked
-unfoldable pub crossed : KeyData → ℕ → List ℕ → List ℕ
+unfoldable pub crossed : KeysData → ℕ → List ℕ → List ℕ
 crossed keys seq bytes = take 4 bytes ++ masked keys seq (drop 4 bytes)
 
 -- the tag of a masked packet with this number, which covers the length in clear
-unfoldable pub kem_tag : KeyData → ℕ → List ℕ → List ℕ
+unfoldable pub kem_tag : KeysData → ℕ → List ℕ → List ℕ
 kem_tag keys seq covered = take 16 (sha256 (keys.enc ++ uint32 seq ++ covered))
 
 -- the packet, masked behind its length, and its tag
-unfoldable pub kem_seal : KeyData → ℕ → List ℕ → List ℕ
+unfoldable pub kem_seal : KeysData → ℕ → List ℕ → List ℕ
 kem_seal keys seq clear = crossed keys seq clear ++ kem_tag keys seq (crossed keys seq clear)
 
 -- the packet, where the tag is its own
-unfoldable pub kem_checked : KeyData → ℕ → List ℕ → List ℕ → Option (List ℕ)
+unfoldable pub kem_checked : KeysData → ℕ → List ℕ → List ℕ → Option (List ℕ)
 kem_checked keys seq covered found = if bytes_eq found (kem_tag keys seq covered) then Some (crossed keys seq covered) else None
 
 -- a sealed packet has a length field and a tag at least; its last 16 bytes are the tag
-unfoldable pub kem_unseal : KeyData → ℕ → List ℕ → Option (List ℕ)
+unfoldable pub kem_unseal : KeysData → ℕ → List ℕ → Option (List ℕ)
 kem_unseal keys seq sealed =
     if nat_le 20 (length sealed) then kem_checked keys seq (take (length sealed - 16) sealed) (drop (length sealed - 16) sealed) else None
 
@@ -58,7 +58,7 @@ kem_shared random peer =
     if (length peer == 33) && (slice_index peer 0 == 3) then Some (kem_number (xored (drop 1 peer) random) (kem_share random) peer) else None
 
 -- the answers of the suite; blocks, padding, hashes and host keys are those of the lab suite
-abbrev pub kem : Meaning
+abbrev pub kem : SuiteData
 kem = record {
   need = λ kex. Signature;
   can = λ alg. record { signature = true; encryption = false };

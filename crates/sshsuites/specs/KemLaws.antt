@@ -9,7 +9,7 @@ use Rattle.sha2.proofs.Facts256.{length-sha256}
 use Rattle.sha2.specs.Sha256.{sha256}
 use Rattle.sshwire.specs.ByteLaws.{bytes_append, bytes_cons, bytes_dropped, bytes_taken}
 use Rattle.sshwire.specs.Types.{IsBytes, uint32}
-use Rattle.sshpacket.specs.KeyData.{KeyData}
+use Rattle.sshpacket.specs.KeysData.{KeysData}
 use Rattle.sshpacket.specs.Packet.{number}
 use Rattle.sshpacket.specs.Suite.{IsAgreeing, IsLawful, Keeps, ResponseData}
 use Rattle.sshsuites.specs.Kem.{crossed, kem, kem_answer, kem_checked, kem_number, kem_respond, kem_seal, kem_share, kem_shared, kem_tag, kem_unseal}
@@ -19,7 +19,7 @@ use Rattle.sshsuites.specs.Masks.{bytes_sha256, bytes_xored, length_xored, xored
 use Rattle.sshpacket.specs.declared.limits.TheConstants.{SHARE_LIMIT}
 
 -- The first four bytes in clear.
-module _ (keys : KeyData) (seq : ℕ) (bytes : List ℕ) where
+module _ (keys : KeysData) (seq : ℕ) (bytes : List ℕ) where
   length_crossed : length (crossed keys seq bytes) ≡ length bytes
   unfolding crossed
   length_crossed =
@@ -34,37 +34,37 @@ module _ (keys : KeyData) (seq : ℕ) (bytes : List ℕ) where
   unfolding crossed
   front_crossed h = take_at (take 4 bytes) (masked keys seq (drop 4 bytes)) 4 (length-take-le 4 bytes h)
 
-  behind_crossed : 4 ≤ length bytes → drop 4 (crossed keys seq bytes) ≡ masked keys seq (drop 4 bytes)
+  after_crossed : 4 ≤ length bytes → drop 4 (crossed keys seq bytes) ≡ masked keys seq (drop 4 bytes)
   unfolding crossed
-  behind_crossed h = drop_at (take 4 bytes) (masked keys seq (drop 4 bytes)) 4 (length-take-le 4 bytes h)
+  after_crossed h = drop_at (take 4 bytes) (masked keys seq (drop 4 bytes)) 4 (length-take-le 4 bytes h)
 
   bytes_crossed : IsBytes bytes → IsBytes (crossed keys seq bytes)
   unfolding crossed
   bytes_crossed h = bytes_append (take 4 bytes) (masked keys seq (drop 4 bytes)) (bytes_taken 4 bytes h) (bytes_masked keys seq (drop 4 bytes) (bytes_dropped 4 bytes h))
 
-crossed_is : (keys : KeyData) (seq : ℕ) (bytes : List ℕ) → crossed keys seq bytes ≡ take 4 bytes ++ masked keys seq (drop 4 bytes)
+crossed_is : (keys : KeysData) (seq : ℕ) (bytes : List ℕ) → crossed keys seq bytes ≡ take 4 bytes ++ masked keys seq (drop 4 bytes)
 unfolding crossed
 crossed_is keys seq bytes = refl
 
-crossed_twice : (keys : KeyData) (seq : ℕ) (bytes : List ℕ) → 4 ≤ length bytes → crossed keys seq (crossed keys seq bytes) ≡ bytes
+crossed_twice : (keys : KeysData) (seq : ℕ) (bytes : List ℕ) → 4 ≤ length bytes → crossed keys seq (crossed keys seq bytes) ≡ bytes
 crossed_twice keys seq bytes h =
     crossed_is keys seq (crossed keys seq bytes)
     ∙ (ap (λ (xs : List ℕ). xs ++ masked keys seq (drop 4 (crossed keys seq bytes))) (front_crossed keys seq bytes h)
-    ∙ (ap (λ (xs : List ℕ). take 4 bytes ++ masked keys seq xs) (behind_crossed keys seq bytes h)
+    ∙ (ap (λ (xs : List ℕ). take 4 bytes ++ masked keys seq xs) (after_crossed keys seq bytes h)
     ∙ (ap (λ (xs : List ℕ). take 4 bytes ++ xs) (masked_twice keys seq (drop 4 bytes)) ∙ take-append-drop 4 bytes)))
 
-length_tag : (keys : KeyData) (seq : ℕ) (covered : List ℕ) → length (kem_tag keys seq covered) ≡ 16
+length_tag : (keys : KeysData) (seq : ℕ) (covered : List ℕ) → length (kem_tag keys seq covered) ≡ 16
 unfolding kem_tag
 length_tag keys seq covered =
     let long : length (sha256 (keys.enc ++ uint32 seq ++ covered)) ≡ 32 = length-sha256 (keys.enc ++ uint32 seq ++ covered) in
     length-take-le 16 (sha256 (keys.enc ++ uint32 seq ++ covered)) (omega arith)
 
-bytes_tag : (keys : KeyData) (seq : ℕ) (covered : List ℕ) → IsBytes (kem_tag keys seq covered)
+bytes_tag : (keys : KeysData) (seq : ℕ) (covered : List ℕ) → IsBytes (kem_tag keys seq covered)
 unfolding kem_tag
 bytes_tag keys seq covered = bytes_taken 16 (sha256 (keys.enc ++ uint32 seq ++ covered)) (bytes_sha256 (keys.enc ++ uint32 seq ++ covered))
 
 -- Sealing.
-seal_length : (keys : KeyData) (seq : ℕ) (clear : List ℕ) → length (kem_seal keys seq clear) ≡ length clear + 16
+seal_length : (keys : KeysData) (seq : ℕ) (clear : List ℕ) → length (kem_seal keys seq clear) ≡ length clear + 16
 unfolding kem_seal
 seal_length keys seq clear =
     let front = length_crossed keys seq clear in
@@ -72,14 +72,14 @@ seal_length keys seq clear =
     let both = length-append (crossed keys seq clear) (kem_tag keys seq (crossed keys seq clear)) in
     omega (arith, front, back, both)
 
-head_of_seal : (keys : KeyData) (seq : ℕ) (clear : List ℕ) → 4 ≤ length clear → number (take 4 (kem_seal keys seq clear)) ≡ number clear
+head_of_seal : (keys : KeysData) (seq : ℕ) (clear : List ℕ) → 4 ≤ length clear → number (take 4 (kem_seal keys seq clear)) ≡ number clear
 unfolding kem_seal
 head_of_seal keys seq clear h =
     let long : length (crossed keys seq clear) ≡ length clear = length_crossed keys seq clear in
     ap number (take-append-le 4 (crossed keys seq clear) (kem_tag keys seq (crossed keys seq clear)) (omega arith) ∙ front_crossed keys seq clear h)
     ∙ number_front clear h
 
-unseal_of_seal : (keys : KeyData) (seq : ℕ) (clear : List ℕ) → 4 ≤ length clear → kem_unseal keys seq (kem_seal keys seq clear) ≡ Some clear
+unseal_of_seal : (keys : KeysData) (seq : ℕ) (clear : List ℕ) → 4 ≤ length clear → kem_unseal keys seq (kem_seal keys seq clear) ≡ Some clear
 unfolding kem_seal kem_unseal kem_checked
 unseal_of_seal keys seq clear h =
     let front : List ℕ = crossed keys seq clear in
@@ -90,13 +90,13 @@ unseal_of_seal keys seq clear h =
     let enough : leb 20 (length (front ++ back)) ≡ true = le-leb 20 (length (front ++ back)) (omega arith) in
     let before : take (length (front ++ back) - 16) (front ++ back) ≡ front
     = ap (λ (n : ℕ). take n (front ++ back)) cut ∙ take_at front back (length clear) front_long in
-    let behind : drop (length (front ++ back) - 16) (front ++ back) ≡ back
+    let after : drop (length (front ++ back) - 16) (front ++ back) ≡ back
     = ap (λ (n : ℕ). drop n (front ++ back)) cut ∙ drop_at front back (length clear) front_long in
     rw enough (ap (λ (xs : List ℕ). kem_checked keys seq xs (drop (length (front ++ back) - 16) (front ++ back))) before
-    ∙ (ap (λ (xs : List ℕ). kem_checked keys seq front xs) behind
+    ∙ (ap (λ (xs : List ℕ). kem_checked keys seq front xs) after
     ∙ rw (same_bytes back) (ap (λ (xs : List ℕ). Some xs) (crossed_twice keys seq clear h))))
 
-unsealed_is : (keys : KeyData) (seq : ℕ) (sealed clear : List ℕ) → 20 ≤ length sealed → kem_unseal keys seq sealed ≡ Some clear
+unsealed_is : (keys : KeysData) (seq : ℕ) (sealed clear : List ℕ) → 20 ≤ length sealed → kem_unseal keys seq sealed ≡ Some clear
     → crossed keys seq (take (length sealed - 16) sealed) ≡ clear
 unfolding kem_unseal kem_checked
 unsealed_is keys seq sealed clear h e =
@@ -106,7 +106,7 @@ unsealed_is keys seq sealed clear h e =
     let inner : kem_checked keys seq covered found ≡ Some clear = rw enough at e in
     (guard_some (bytes_eq found (kem_tag keys seq covered)) (crossed keys seq covered) clear inner).1
 
-unsealed : (keys : KeyData) (seq : ℕ) (sealed clear : List ℕ) → IsBytes sealed → length sealed ≡ 4 + number (take 4 sealed) + 16
+unsealed : (keys : KeysData) (seq : ℕ) (sealed clear : List ℕ) → IsBytes sealed → length sealed ≡ 4 + number (take 4 sealed) + 16
     → kem_unseal keys seq sealed ≡ Some clear → Keeps (number (take 4 sealed)) clear
 unsealed keys seq sealed clear h long e =
     let front : List ℕ = take (length sealed - 16) sealed in
@@ -121,7 +121,7 @@ unsealed keys seq sealed clear h long e =
       bytes_are = rw is at (bytes_crossed keys seq front (bytes_taken (length sealed - 16) sealed h));
     }
 
-bytes_seal : (keys : KeyData) (seq : ℕ) (clear : List ℕ) → IsBytes clear → IsBytes (kem_seal keys seq clear)
+bytes_seal : (keys : KeysData) (seq : ℕ) (clear : List ℕ) → IsBytes clear → IsBytes (kem_seal keys seq clear)
 unfolding kem_seal
 bytes_seal keys seq clear h =
     bytes_append (crossed keys seq clear) (kem_tag keys seq (crossed keys seq clear)) (bytes_crossed keys seq clear h) (bytes_tag keys seq (crossed keys seq clear))

@@ -9,9 +9,9 @@ use Rattle.sshpacket.specs.declared.suite.Capability.{Capability}
 use Rattle.sshpacket.specs.declared.suite.Need.{Need}
 use Rattle.sshpacket.specs.declared.suite.Need.TheVariants.{Encryption, Signature}
 use Rattle.sshwire.specs.declared.share_form.ShareForm.TheVariants.{Mpint}
-use Rattle.sshpacket.specs.KeyData.{KeyData}
+use Rattle.sshpacket.specs.KeysData.{KeysData}
 use Rattle.sshpacket.specs.Packet.{number}
-use Rattle.sshpacket.specs.Suite.{Meaning, ResponseData}
+use Rattle.sshpacket.specs.Suite.{ResponseData, SuiteData}
 
 -- a method whose name begins with x needs a host key that encrypts, every other one that signs
 abbrev pub lab_need : List ℕ → Need
@@ -44,32 +44,32 @@ xored [] mask = []
 xored (b ∷ bytes) mask = bit_xor b (slice_index mask 0) ∷ xored bytes (drop 1 mask)
 
 -- the key stream for so many bytes of the packet with this number
-unfoldable pub key_stream : KeyData → ℕ → ℕ → List ℕ
+unfoldable pub key_stream : KeysData → ℕ → ℕ → List ℕ
 key_stream keys seq len = stream (keys.enc ++ keys.iv) seq (blocks_for len)
 
 -- the bytes of a packet, masked or unmasked
-unfoldable pub masked : KeyData → ℕ → List ℕ → List ℕ
+unfoldable pub masked : KeysData → ℕ → List ℕ → List ℕ
 masked keys seq bytes = xored bytes (key_stream keys seq (length bytes))
 
 -- the tag of a clear packet with this number
-unfoldable pub tag : KeyData → ℕ → List ℕ → List ℕ
+unfoldable pub tag : KeysData → ℕ → List ℕ → List ℕ
 tag keys seq clear = sha256 (keys.mac_key ++ uint32 seq ++ clear)
 
 -- the masked packet, then its tag
-unfoldable pub lab_seal : KeyData → ℕ → List ℕ → List ℕ
+unfoldable pub lab_seal : KeysData → ℕ → List ℕ → List ℕ
 lab_seal keys seq clear = masked keys seq clear ++ tag keys seq clear
 
 -- the uint32 in the first four bytes, unmasked
-unfoldable pub lab_head : KeyData → ℕ → List ℕ → ℕ
+unfoldable pub lab_head : KeysData → ℕ → List ℕ → ℕ
 lab_head keys seq first = number (masked keys seq first)
 
 -- the packet, where the tag is its own and its length field counts it
-unfoldable pub checked : KeyData → ℕ → List ℕ → List ℕ → Option (List ℕ)
+unfoldable pub checked : KeysData → ℕ → List ℕ → List ℕ → Option (List ℕ)
 checked keys seq clear found =
     if bytes_eq found (tag keys seq clear) && (number clear + 4 == length clear) then Some clear else None
 
 -- a sealed packet has a length field and a tag at least; its last 32 bytes are the tag
-unfoldable pub lab_unseal : KeyData → ℕ → List ℕ → Option (List ℕ)
+unfoldable pub lab_unseal : KeysData → ℕ → List ℕ → Option (List ℕ)
 lab_unseal keys seq sealed =
     if nat_le 36 (length sealed) then
     checked keys seq (masked keys seq (take (length sealed - 32) sealed)) (drop (length sealed - 32) sealed)
@@ -101,7 +101,7 @@ unfoldable pub signature_by : List ℕ → List ℕ → List ℕ
 signature_by blob input = sha256 (string blob ++ string input)
 
 -- the answers of the lab suite
-abbrev pub lab : Meaning
+abbrev pub lab : SuiteData
 lab = record {
   need = lab_need;
   can = lab_can;

@@ -11,7 +11,7 @@ use Rattle.sha2.specs.Sha256.{sha256}
 use Rattle.sshwire.specs.ByteLaws.{bytes_append, bytes_cons, bytes_dropped, bytes_taken, uint32_read}
 use Rattle.sshwire.specs.TypeReadings.{uint32_at}
 use Rattle.sshwire.specs.Types.{IsBytes, string, uint32}
-use Rattle.sshpacket.specs.KeyData.{KeyData}
+use Rattle.sshpacket.specs.KeysData.{KeysData}
 use Rattle.sshpacket.specs.Packet.{IsPacket, length_field, number, number_read}
 use Rattle.sshpacket.specs.Suite.{IsAgreeing, IsLawful, IsPositiveBody, Keeps, ResponseData}
 use Rattle.sshsuites.specs.Masks.{bytes_sha256, bytes_stream, bytes_xored, stream_length, length_xored, stream_begins, xored_comm, xored_more, xored_take, xored_twice}
@@ -49,17 +49,17 @@ number_of_packet counts block tag payload clear p =
     (omega arith, omega arith)
 
 -- Masks.
-pub length_masked : (keys : KeyData) (seq : ℕ) (bytes : List ℕ) → length (masked keys seq bytes) ≡ length bytes
+pub length_masked : (keys : KeysData) (seq : ℕ) (bytes : List ℕ) → length (masked keys seq bytes) ≡ length bytes
 unfolding masked
 length_masked keys seq bytes = length_xored bytes (key_stream keys seq (length bytes))
 
-pub masked_twice : (keys : KeyData) (seq : ℕ) (bytes : List ℕ) → masked keys seq (masked keys seq bytes) ≡ bytes
+pub masked_twice : (keys : KeysData) (seq : ℕ) (bytes : List ℕ) → masked keys seq (masked keys seq bytes) ≡ bytes
 unfolding masked
 masked_twice keys seq bytes =
     ap (λ (n : ℕ). xored (masked keys seq bytes) (key_stream keys seq n)) (length_masked keys seq bytes)
     ∙ xored_twice bytes (key_stream keys seq (length bytes))
 
-masked_front : (keys : KeyData) (seq : ℕ) (bytes : List ℕ) → 4 ≤ length bytes → masked keys seq (take 4 bytes) ≡ take 4 (masked keys seq bytes)
+masked_front : (keys : KeysData) (seq : ℕ) (bytes : List ℕ) → 4 ≤ length bytes → masked keys seq (take 4 bytes) ≡ take 4 (masked keys seq bytes)
 unfolding masked key_stream
 masked_front keys seq bytes h =
     let seed : List ℕ = keys.enc ++ keys.iv in
@@ -74,20 +74,20 @@ masked_front keys seq bytes h =
     ∙ (ap (λ (n : ℕ). xored (take 4 bytes) (stream seed seq n)) (sym count)
     ∙ sym (xored_take 4 bytes (stream seed seq (blocks_for (length bytes)))))))
 
-pub bytes_masked : (keys : KeyData) (seq : ℕ) (bytes : List ℕ) → IsBytes bytes → IsBytes (masked keys seq bytes)
+pub bytes_masked : (keys : KeysData) (seq : ℕ) (bytes : List ℕ) → IsBytes bytes → IsBytes (masked keys seq bytes)
 unfolding masked key_stream
 bytes_masked keys seq bytes h = bytes_xored bytes (key_stream keys seq (length bytes)) h (bytes_stream (keys.enc ++ keys.iv) seq (blocks_for (length bytes)))
 
-length_tag : (keys : KeyData) (seq : ℕ) (clear : List ℕ) → length (tag keys seq clear) ≡ 32
+length_tag : (keys : KeysData) (seq : ℕ) (clear : List ℕ) → length (tag keys seq clear) ≡ 32
 unfolding tag
 length_tag keys seq clear = length-sha256 (keys.mac_key ++ uint32 seq ++ clear)
 
-bytes_tag : (keys : KeyData) (seq : ℕ) (clear : List ℕ) → IsBytes (tag keys seq clear)
+bytes_tag : (keys : KeysData) (seq : ℕ) (clear : List ℕ) → IsBytes (tag keys seq clear)
 unfolding tag
 bytes_tag keys seq clear = bytes_sha256 (keys.mac_key ++ uint32 seq ++ clear)
 
 -- Sealing.
-seal_length : (keys : KeyData) (seq : ℕ) (clear : List ℕ) → length (lab_seal keys seq clear) ≡ length clear + 32
+seal_length : (keys : KeysData) (seq : ℕ) (clear : List ℕ) → length (lab_seal keys seq clear) ≡ length clear + 32
 unfolding lab_seal
 seal_length keys seq clear =
     let front = length_masked keys seq clear in
@@ -95,7 +95,7 @@ seal_length keys seq clear =
     let both = length-append (masked keys seq clear) (tag keys seq clear) in
     omega (arith, front, back, both)
 
-head_of_seal : (keys : KeyData) (seq : ℕ) (clear : List ℕ) → 4 ≤ length clear → lab_head keys seq (take 4 (lab_seal keys seq clear)) ≡ number clear
+head_of_seal : (keys : KeysData) (seq : ℕ) (clear : List ℕ) → 4 ≤ length clear → lab_head keys seq (take 4 (lab_seal keys seq clear)) ≡ number clear
 unfolding lab_seal lab_head
 head_of_seal keys seq clear h =
     let long : length (masked keys seq clear) ≡ length clear = length_masked keys seq clear in
@@ -104,7 +104,7 @@ head_of_seal keys seq clear h =
     ∙ (ap number (masked_front keys seq (masked keys seq clear) within ∙ ap (take 4) (masked_twice keys seq clear))
     ∙ number_front clear h)
 
-unseal_of_seal : (keys : KeyData) (seq : ℕ) (clear : List ℕ) → number clear + 4 ≡ length clear → 4 ≤ length clear
+unseal_of_seal : (keys : KeysData) (seq : ℕ) (clear : List ℕ) → number clear + 4 ≡ length clear → 4 ≤ length clear
     → lab_unseal keys seq (lab_seal keys seq clear) ≡ Some clear
 unfolding lab_seal lab_unseal checked
 unseal_of_seal keys seq clear counted h =
@@ -116,16 +116,16 @@ unseal_of_seal keys seq clear counted h =
     let enough : leb 36 (length (front ++ back)) ≡ true = le-leb 36 (length (front ++ back)) (omega arith) in
     let before : take (length (front ++ back) - 32) (front ++ back) ≡ front
     = ap (λ (n : ℕ). take n (front ++ back)) cut ∙ take_at front back (length clear) front_long in
-    let behind : drop (length (front ++ back) - 32) (front ++ back) ≡ back
+    let after : drop (length (front ++ back) - 32) (front ++ back) ≡ back
     = ap (λ (n : ℕ). drop n (front ++ back)) cut ∙ drop_at front back (length clear) front_long in
     let right : (bytes_eq back back && eqb (number clear + 4) (length clear)) ≡ true
     = and_from (bytes_eq back back) (eqb (number clear + 4) (length clear)) (same_bytes back) (eq-eqb (number clear + 4) (length clear) counted) in
     rw enough (ap (λ (xs : List ℕ). checked keys seq (masked keys seq xs) (drop (length (front ++ back) - 32) (front ++ back))) before
-    ∙ (ap (λ (xs : List ℕ). checked keys seq (masked keys seq front) xs) behind
+    ∙ (ap (λ (xs : List ℕ). checked keys seq (masked keys seq front) xs) after
     ∙ (ap (λ (xs : List ℕ). checked keys seq xs back) (masked_twice keys seq clear)
     ∙ rw right refl)))
 
-unsealed_is : (keys : KeyData) (seq : ℕ) (sealed clear : List ℕ) → 36 ≤ length sealed → lab_unseal keys seq sealed ≡ Some clear
+unsealed_is : (keys : KeysData) (seq : ℕ) (sealed clear : List ℕ) → 36 ≤ length sealed → lab_unseal keys seq sealed ≡ Some clear
     → masked keys seq (take (length sealed - 32) sealed) ≡ clear
 unfolding lab_unseal checked
 unsealed_is keys seq sealed clear h e =
@@ -135,7 +135,7 @@ unsealed_is keys seq sealed clear h e =
     let inner : checked keys seq opened found ≡ Some clear = rw enough at e in
     (guard_some (bytes_eq found (tag keys seq opened) && eqb (number opened + 4) (length opened)) opened clear inner).1
 
-unsealed : (keys : KeyData) (seq : ℕ) (sealed clear : List ℕ) → IsBytes sealed → length sealed ≡ 4 + lab_head keys seq (take 4 sealed) + 32
+unsealed : (keys : KeysData) (seq : ℕ) (sealed clear : List ℕ) → IsBytes sealed → length sealed ≡ 4 + lab_head keys seq (take 4 sealed) + 32
     → lab_unseal keys seq sealed ≡ Some clear → Keeps (lab_head keys seq (take 4 sealed)) clear
 unfolding lab_head
 unsealed keys seq sealed clear h long e =
@@ -152,7 +152,7 @@ unsealed keys seq sealed clear h long e =
       bytes_are = rw is at (bytes_masked keys seq front (bytes_taken (length sealed - 32) sealed h));
     }
 
-bytes_seal : (keys : KeyData) (seq : ℕ) (clear : List ℕ) → IsBytes clear → IsBytes (lab_seal keys seq clear)
+bytes_seal : (keys : KeysData) (seq : ℕ) (clear : List ℕ) → IsBytes clear → IsBytes (lab_seal keys seq clear)
 unfolding lab_seal
 bytes_seal keys seq clear h = bytes_append (masked keys seq clear) (tag keys seq clear) (bytes_masked keys seq clear h) (bytes_tag keys seq clear)
 

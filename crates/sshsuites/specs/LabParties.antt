@@ -1,7 +1,7 @@
 -- What the lab endpoints are made of where nothing else is said.
 
 use Rattle.std.specs.Prelude.{ℕ, false, true, [], ◌∷◌, codes, None, replicate}
-use Rattle.sshcore.specs.ConfigData.{ClientData, HostKey, ServerData, SideData}
+use Rattle.sshcore.specs.ConfigParts.{ClientData, HostKeyData, ServerData, SideData}
 
 -- one name for each list, and bytes that are all alike
 abbrev pub lab_side : ℕ → ℕ → ℕ → SideData
@@ -23,7 +23,7 @@ lab_side cookie random seed = record {
 abbrev pub lab_client : ClientData
 lab_client = record { side = lab_side 0 17 34; host_key_algorithms = codes "h" ∷ []; guess = false; plan = [] }
 
-abbrev pub lab_host_key : HostKey
+abbrev pub lab_host_key : HostKeyData
 lab_host_key = record { algorithm = codes "h"; secret = 0 ∷ [] }
 
 abbrev pub lab_server : ServerData

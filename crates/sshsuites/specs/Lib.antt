@@ -3,6 +3,6 @@ pub mod KemLaws
 pub mod Lab
 pub mod Masks
 pub mod LabLaws
-pub mod LabRules
-pub mod LabRulesView
+pub mod LabDecisionsData
+pub mod LabDecisionsView
 pub mod LabParties

@@ -98,7 +98,7 @@ impl Suite for KemSuite {
     }
 
     fn public(&self, alloc: Global, _kex: &str, random: &[u8]) -> Result<Vec<u8>, Memory> {
-        behind(alloc, 2, random)
+        prefixed(alloc, 2, random)
     }
 
     #[tactic(auto, unfolding(crate::specs::Kem::kem_shared))]
@@ -112,7 +112,7 @@ impl Suite for KemSuite {
         if peer.len() != 33 || peer[0] != 3 {
             return Ok(None);
         }
-        let own = behind(alloc, 2, random)?;
+        let own = prefixed(alloc, 2, random)?;
         let shared = number_with(alloc, random, &own, peer)?;
         Ok(Some(shared))
     }
@@ -189,11 +189,11 @@ fn answer_to(alloc: Global, random: &[u8], peer: &[u8]) -> Result<Vec<u8>, Memor
 {
     let mut masked = Vec::from_slice(alloc, random)?;
     xor_with(&mut masked, &peer[1..]);
-    behind(alloc, 3, &masked)
+    prefixed(alloc, 3, &masked)
 }
 
 /// A byte, and these behind it.
-fn behind(alloc: Global, first: u8, bytes: &[u8]) -> Result<Vec<u8>, Memory>
+fn prefixed(alloc: Global, first: u8, bytes: &[u8]) -> Result<Vec<u8>, Memory>
     ensures { IfOk result (λ all. all.items ≡ first ∷ bytes.now) }
 {
     let mut all = Vec::new(alloc);
@@ -206,7 +206,7 @@ fn behind(alloc: Global, first: u8, bytes: &[u8]) -> Result<Vec<u8>, Memory>
 fn number_of(alloc: Global, random: &[u8], client: &[u8], server: &[u8]) -> Result<Vec<u8>, Memory>
     ensures { IfOk result (λ number. number.items ≡ kem_number random.now client.now server.now) }
 {
-    Ok(Vec::from_slice(alloc, &shared_number(random, client, server))?)
+    Ok(Vec::from_slice(alloc, &shared_secret(random, client, server))?)
 }
 
 /// The first four bytes as they are, and the others XOR the key stream.
@@ -216,7 +216,7 @@ fn crossed(alloc: Global, keys: &Keys, seq: u32, bytes: &[u8]) -> Result<Vec<u8>
     ensures { IfOk result (λ v. v.items ≡ crossed keys.now seq bytes.now) }
 {
     let mut crossed = Vec::from_slice(alloc, first_four(bytes))?;
-    crossed.extend_from_slice(&masked(alloc, keys, seq, behind_four(bytes))?)?;
+    crossed.extend_from_slice(&masked(alloc, keys, seq, after_four(bytes))?)?;
     Ok(crossed)
 }
 
@@ -228,7 +228,7 @@ fn first_four(bytes: &[u8]) -> &[u8]
 }
 
 /// What stands behind them.
-fn behind_four(bytes: &[u8]) -> &[u8]
+fn after_four(bytes: &[u8]) -> &[u8]
     ensures { result.now ≡ drop 4 bytes.now }
 {
     if bytes.len() < 4 { &[] } else { &bytes[4..] }
@@ -251,7 +251,7 @@ fn tag(keys: &Keys, seq: u32, covered: &[u8]) -> [u8; 16]
 
 /// The shared number.
 #[tactic(auto, unfolding(crate::specs::Kem::kem_number))]
-fn shared_number(random: &[u8], client: &[u8], server: &[u8]) -> [u8; 32]
+fn shared_secret(random: &[u8], client: &[u8], server: &[u8]) -> [u8; 32]
     ensures { result ≡ kem_number random.now client.now server.now }
 {
     let mut hasher = Sha256::new();

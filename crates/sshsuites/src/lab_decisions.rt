@@ -4,11 +4,11 @@ ghost use Rattle.std.specs.Prelude.{◌≡◌, ◌==◌, ◌++◌, ◌∷◌, �
 ghost use Rattle.std.specs.List.{list_any};
 ghost use Rattle.std.specs.Str.{bytes_eq};
 ghost use Rattle.sshcore.specs.ConfigRules.{IsNamed};
-ghost use Rattle.sshcore.specs.ConfigView.{proving_of};
-ghost use Rattle.sshcore.specs.Party.{ProofData};
-ghost use Rattle.sshcore.specs.PartyView.{proof_of};
-ghost use Rattle.sshsuites.specs.LabRules.{LabRules, is_proof, lab_policy, lets_in, proof_by};
-ghost use Rattle.sshsuites.specs.LabRulesView.{allowance_of, own_proof};
+ghost use Rattle.sshcore.specs.ConfigView.{credential_data};
+ghost use Rattle.sshcore.specs.EndpointParts.{ProofData};
+ghost use Rattle.sshcore.specs.EndpointPartsView.{proof_data};
+ghost use Rattle.sshsuites.specs.LabDecisionsData.{LabDecisionsData, accepts, is_proof, lab_policy, proof_by};
+ghost use Rattle.sshsuites.specs.LabDecisionsView.{allowed_data, own_proof_data};
 
 use crate::lab_suite::blob;
 use sshcore::{Credential, Decisions, Proof};
@@ -48,14 +48,14 @@ enum OwnProof {
 
 impl Model for LabDecisions {
     ghost use Rattle.std.specs.Prelude.{map, string_bytes};
-    ghost use Rattle.sshsuites.specs.LabRules.{LabRules};
-    ghost use Rattle.sshsuites.specs.LabRulesView.{allowance_of};
+    ghost use Rattle.sshsuites.specs.LabDecisionsData.{LabDecisionsData};
+    ghost use Rattle.sshsuites.specs.LabDecisionsView.{allowed_data};
 
-    ghost Value = { LabRules };
+    ghost Value = { LabDecisionsData };
 
     ghost view = { λ d. record {
       distrusted = map string_bytes d.distrusted.items;
-      allowed = map allowance_of d.allowed.items;
+      allowed = map allowed_data d.allowed.items;
       denied = d.denied.items;
     } };
 }
@@ -87,8 +87,8 @@ impl LabDecisions {
     /// whose blob the lab suite makes of the private key. The algorithm's name has at most 64 bytes. At
     /// `Memory` nothing is changed.
     pub fn allow(&mut self, user: &str, credential: &Credential) -> Result<(), Memory>
-        requires { IsNamed (proving_of credential.now) }
-        ensures done { OnOk result (self.new ≡ record self.old { allowed = self.old.allowed ++ record { user = user.now; proof = proof_by (proving_of credential.now) } ∷ [] }) }
+        requires { IsNamed (credential_data credential.now) }
+        ensures done { OnOk result (self.new ≡ record self.old { allowed = self.old.allowed ++ record { user = user.now; proof = proof_by (credential_data credential.now) } ∷ [] }) }
         ensures memory { OnErr result (self.new ≡ self.old) }
     {
         let proof = proof_by(self.alloc, credential)?;
@@ -109,7 +109,7 @@ impl LabDecisions {
 }
 
 impl Decisions for LabDecisions {
-    ghost use Rattle.sshsuites.specs.LabRules.{lab_policy};
+    ghost use Rattle.sshsuites.specs.LabDecisionsData.{lab_policy};
 
     ghost policy = { lab_policy };
 
@@ -126,8 +126,8 @@ impl Decisions for LabDecisions {
 
 /// What a request proves that is made so.
 fn proof_by(alloc: Global, credential: &Credential) -> Result<OwnProof, Memory>
-    requires { IsNamed (proving_of credential.now) }
-    ensures { IfOk result (λ own. own_proof own ≡ proof_by (proving_of credential.now)) }
+    requires { IsNamed (credential_data credential.now) }
+    ensures { IfOk result (λ own. own_proof_data own ≡ proof_by (credential_data credential.now)) }
 {
     match credential {
         Credential::None => Ok(OwnProof::None),
@@ -148,9 +148,9 @@ fn proof_by(alloc: Global, credential: &Credential) -> Result<OwnProof, Memory>
 /// The law of these decisions: no is said exactly to the host keys of distrusted algorithms, and yes
 /// exactly to the requests whose user and proof are allowed together and whose number isn't denied.
 pub fn lab_decisions_law()
-    ensures host_key { (rules : LabRules) (algorithm blob : List ℕ) → ((lab_policy rules).host_key algorithm blob ≡ false)
+    ensures host_key { (rules : LabDecisionsData) (algorithm blob : List ℕ) → ((lab_policy rules).host_key algorithm blob ≡ false)
         ↔ Contains rules.distrusted algorithm }
-    ensures user { (rules : LabRules) (number : ℕ) (user service : List ℕ) (proof : ProofData)
+    ensures user { (rules : LabDecisionsData) (number : ℕ) (user service : List ℕ) (proof : ProofData)
         → ((lab_policy rules).user number user service proof ≡ true)
         ↔ (Contains rules.allowed (record { user = user; proof = proof }) × (Contains rules.denied number → ⊥)) }
 {}
@@ -171,21 +171,21 @@ fn is_denied(numbers: &[u32], request_number: u32) -> bool
 
 /// Whether user and proof are allowed together.
 fn is_allowed(all: &[Allowed], user: &str, proof: &Proof<'_>) -> bool
-    ensures { result ≡ list_any (λ allowed. lets_in (allowance_of allowed) user.now (proof_of proof.now)) all.now }
+    ensures { result ≡ list_any (λ allowed. accepts (allowed_data allowed) user.now (proof_data proof.now)) all.now }
 {
-    all.iter().any(|allowed| lets_in(allowed, user, proof))
+    all.iter().any(|allowed| accepts(allowed, user, proof))
 }
 
 /// Whether user and proof are these.
-fn lets_in(allowed: &Allowed, user: &str, proof: &Proof<'_>) -> bool
-    ensures { result ≡ lets_in (allowance_of allowed.now) user.now (proof_of proof.now) }
+fn accepts(allowed: &Allowed, user: &str, proof: &Proof<'_>) -> bool
+    ensures { result ≡ accepts (allowed_data allowed.now) user.now (proof_data proof.now) }
 {
     allowed.user.as_str() == user && is_proof(&allowed.proof, proof)
 }
 
 /// Whether the proof is this one.
 fn is_proof(own: &OwnProof, proof: &Proof<'_>) -> bool
-    ensures { result ≡ is_proof (own_proof own.now) (proof_of proof.now) }
+    ensures { result ≡ is_proof (own_proof_data own.now) (proof_data proof.now) }
 {
     match (own, proof) {
         (OwnProof::None, Proof::None) => true,

@@ -1,7 +1,7 @@
 //! What the lab endpoints are made of where nothing else is said.
 
 ghost use Rattle.std.specs.Prelude.{◌≡◌, ◌∷◌, [], IfOk, codes, map, replicate, string_bytes};
-ghost use Rattle.sshcore.specs.ConfigView.{client_data, host_key_of, server_data, side_data};
+ghost use Rattle.sshcore.specs.ConfigView.{client_data, host_key_data, server_data, side_data};
 ghost use Rattle.sshsuites.specs.LabParties.{lab_client, lab_host_key, lab_server, lab_side};
 
 use crate::owned::{alone, and, beside};
@@ -129,7 +129,7 @@ fn drawn_of(
 
 /// The one host key, as a list.
 fn host_keys_of(alloc: Global) -> Result<Vec<HostKey>, Memory>
-    ensures { IfOk result (λ keys. map host_key_of keys.items ≡ lab_host_key ∷ []) }
+    ensures { IfOk result (λ keys. map host_key_data keys.items ≡ lab_host_key ∷ []) }
 {
     let algorithm = text_of(alloc, "h")?;
     let private_key = bytes_of(alloc, 0x00, 1);

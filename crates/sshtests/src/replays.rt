@@ -105,7 +105,7 @@ struct Recording {
 }
 
 /// Gives a side what waits for it, which is recorded.
-fn hear(
+fn receive(
     side: &mut LabEndpoint<'_>,
     waiting: &mut Vec<u8>,
     out: &mut Vec<u8>,
@@ -128,13 +128,13 @@ fn record(alloc: Global, lab: &Lab) -> Result<Recording, Fail> {
         server: Vec::new(alloc),
     };
     for _ in 0..4 {
-        hear(
+        receive(
             &mut server,
             &mut to_server,
             &mut to_client,
             &mut recording.client,
         )?;
-        hear(
+        receive(
             &mut client,
             &mut to_client,
             &mut to_server,
@@ -159,8 +159,8 @@ fn replay(
     mut endpoint: Box<LabEndpoint<'_>>,
     recorded: &[u8],
 ) -> Result<Replayed, Fail> {
-    let mut said = Vec::new(alloc);
-    endpoint.feed(recorded, &mut said)?;
+    let mut sent = Vec::new(alloc);
+    endpoint.feed(recorded, &mut sent)?;
     Ok(match endpoint.end() {
         End::Authenticated(_) => Replayed::Authenticated,
         End::Failed(Fault::Length | Fault::Mac) => Replayed::BadKeys,

@@ -13,14 +13,14 @@ use std::time::{CpuClock, Duration};
 
 /// What is written to the output and to the faults, and the status.
 #[derive(Clone, Copy)]
-struct Said<'a> {
+struct Answered<'a> {
     output: &'a str,
     faults: &'a str,
     status: usize,
 }
 
 /// What is told where a read failed.
-const READ_FAILED: Said<'static> = Said {
+const READ_FAILED: Answered<'static> = Answered {
     output: "",
     faults: "read failed\n",
     status: 4,
@@ -33,7 +33,7 @@ fn answers(
     words: &str,
     source: &mut TextSource<'_>,
     room: usize,
-    wanted: Said<'_>,
+    wanted: Answered<'_>,
 ) -> Result<(), Fail>
     requires { source.old.failed ≡ false }
 {
@@ -62,7 +62,7 @@ const AL: &str = "client try al ssh-connection none\nallow al none\n";
 /// How much processor time it takes to run a scenario that lets `al` in.
 fn time_of(rt: &(impl Abort + CpuClock), alloc: Global, text: &[u8]) -> Result<Duration, Fail> {
     let start = rt.thread_cpu_time()?;
-    let wanted = Said {
+    let wanted = Answered {
         output: "client authenticated al ssh-connection\nserver authenticated al ssh-connection\ncomplete yes\nkex a\nhostkey h\ncipher_cs c\ncipher_sc c\nmac_cs m\nmac_sc m\nstrict yes\n",
         faults: "",
         status: 0,
@@ -107,7 +107,7 @@ const READING: &[&str] = &[
 ];
 
 /// What is told of input that is too long.
-const TOO_LONG: Said<'static> = Said {
+const TOO_LONG: Answered<'static> = Answered {
     output: "",
     faults: "input too long\n",
     status: 2,
@@ -120,7 +120,7 @@ fn leaves(
     alloc: Global,
     words: &str,
     text: &[u8],
-    wanted: Said<'_>,
+    wanted: Answered<'_>,
     left: usize,
 ) -> Result<(), Fail> {
     let mut source = TextSource {
@@ -139,7 +139,7 @@ fn all_leave(
     rt: &impl Abort,
     alloc: Global,
     text: &[u8],
-    wanted: Said<'_>,
+    wanted: Answered<'_>,
     left: usize,
 ) -> Result<(), Fail> {
     for words in READING {
@@ -149,14 +149,14 @@ fn all_leave(
 }
 
 #[test]
-fn reads_nothing_behind_the_first_byte_too_many(rt: HostRuntime) -> Result<(), Fail> {
+fn reads_nothing_after_the_first_byte_too_many(rt: HostRuntime) -> Result<(), Fail> {
     let alloc = rt.alloc();
     let text = text_of(alloc, "x", "\n", 1_048_676)?;
     all_leave(&rt, alloc, &text, TOO_LONG, 100)
 }
 
 #[test]
-fn tells_a_failed_read_behind_1048576_bytes(rt: HostRuntime) -> Result<(), Fail> {
+fn tells_a_failed_read_after_1048576_bytes(rt: HostRuntime) -> Result<(), Fail> {
     let alloc = rt.alloc();
     let text = text_of(alloc, "x", "\n", 1_048_575)?;
     all_leave(&rt, alloc, &text, READ_FAILED, 0)

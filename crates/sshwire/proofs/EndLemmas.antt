@@ -73,15 +73,15 @@ start_next : (place e : ℕ) (ends : List ℕ) (i : ℕ) → start_at place (e �
 start_next place e ends zero = refl
 start_next place e ends (suc i) = refl
 
-start_behind : (ends : List ℕ) (i : ℕ) → 0 < i → start_at 0 ends i ≡ get_or ends (i - 1) 0 + 1
-start_behind ends zero some = absurd (omega arith)
-start_behind ends (suc i) some = let one : suc i - 1 ≡ i = omega arith in rw one refl
+start_after : (ends : List ℕ) (i : ℕ) → 0 < i → start_at 0 ends i ≡ get_or ends (i - 1) 0 + 1
+start_after ends zero some = absurd (omega arith)
+start_after ends (suc i) some = let one : suc i - 1 ≡ i = omega arith in rw one refl
 
 -- the name is that part of the body
 record IsPiece (body name : List ℕ) (start end : ℕ) : Type 0 where
   pub front : List ℕ
-  pub behind : List ℕ
-  pub body_is : body ≡ front ++ (name ++ behind)
+  pub after : List ℕ
+  pub body_is : body ≡ front ++ (name ++ after)
   pub start_is : start ≡ length front
   pub end_is : end ≡ length front + length name
 
@@ -91,7 +91,7 @@ piece : (front : List ℕ) (names : List (List ℕ)) (i : ℕ) → i < length na
 piece front [] i within = absurd (omega arith)
 piece front (name ∷ []) zero within = record {
   front = front;
-  behind = [];
+  after = [];
   body_is = ap (λ (xs : List ℕ). front ++ xs) (sym (append-nil name));
   start_is = refl;
   end_is = refl;
@@ -99,7 +99,7 @@ piece front (name ∷ []) zero within = record {
 piece front (name ∷ []) (suc i) within = absurd (omega arith)
 piece front (name ∷ next ∷ names) zero within = record {
   front = front;
-  behind = 44 ∷ names_body (next ∷ names);
+  after = 44 ∷ names_body (next ∷ names);
   body_is = refl;
   start_is = refl;
   end_is = refl;
@@ -115,7 +115,7 @@ piece front (name ∷ next ∷ names) (suc i) within =
     ∙ ap (λ (xs : List ℕ). front ++ xs) (append_assoc name (44 ∷ []) (names_body (next ∷ names))) in
     record {
       front = p.front;
-      behind = p.behind;
+      after = p.after;
       body_is = sym whole ∙ p.body_is;
       start_is = start_next (length front) (length front + length name) (ends_from (length front + length name + 1) (next ∷ names)) i
           ∙ (ap (λ (n : ℕ). start_at n (ends_from n (next ∷ names)) i) (sym long) ∙ p.start_is);
@@ -147,12 +147,12 @@ pub record IsCut (body : List ℕ) (i start end : ℕ) : Type 0 where
   pub gets : (part : List ℕ) → part ≡ take (end - start) (drop start body) → slice_get (names_of body) i ≡ Some part
   pub named : (part : List ℕ) → part ≡ take (end - start) (drop start body) → IsName part
 
-cut_out : (body front name behind : List ℕ) (start end : ℕ) → body ≡ front ++ (name ++ behind) → start ≡ length front → end ≡ length front + length name
+cut_out : (body front name after : List ℕ) (start end : ℕ) → body ≡ front ++ (name ++ after) → start ≡ length front → end ≡ length front + length name
     → take (end - start) (drop start body) ≡ name
-cut_out body front name behind start end is starts stops =
+cut_out body front name after start end is starts stops =
     ap (λ (xs : List ℕ). take (end - start) (drop start xs)) is
-    ∙ (ap (λ (xs : List ℕ). take (end - start) xs) (drop_at front (name ++ behind) start (sym starts))
-    ∙ take_at name behind (end - start) (omega arith))
+    ∙ (ap (λ (xs : List ℕ). take (end - start) xs) (drop_at front (name ++ after) start (sym starts))
+    ∙ take_at name after (end - start) (omega arith))
 
 cut_piece : (body : List ℕ) (i start end : ℕ) → AreNames (names_of body) → IsAscii body → i < length (names_of body)
     → IsPiece body (get_or (names_of body) i []) start end → IsCut body i start end
@@ -160,10 +160,10 @@ cut_piece body i start end each ascii inside p =
     let name : List ℕ = get_or (names_of body) i [] in
     let starts : start ≡ length p.front = p.start_is in
     let stops : end ≡ length p.front + length name = p.end_is in
-    let inner : length (name ++ p.behind) ≡ length name + length p.behind = length-append name p.behind in
-    let outer : length (p.front ++ (name ++ p.behind)) ≡ length p.front + length (name ++ p.behind) = length-append p.front (name ++ p.behind) in
-    let whole : length body ≡ length (p.front ++ (name ++ p.behind)) = ap (λ (xs : List ℕ). length xs) p.body_is in
-    let is : take (end - start) (drop start body) ≡ name = cut_out body p.front name p.behind start end p.body_is starts stops in
+    let inner : length (name ++ p.after) ≡ length name + length p.after = length-append name p.after in
+    let outer : length (p.front ++ (name ++ p.after)) ≡ length p.front + length (name ++ p.after) = length-append p.front (name ++ p.after) in
+    let whole : length body ≡ length (p.front ++ (name ++ p.after)) = ap (λ (xs : List ℕ). length xs) p.body_is in
+    let is : take (end - start) (drop start body) ≡ name = cut_out body p.front name p.after start end p.body_is starts stops in
     record {
       ordered = omega arith;
       at_start = IsCharBoundary-from_ascii body start ascii (omega arith);
@@ -189,8 +189,8 @@ cut_first body ends i table within first =
     let start : start_at 0 ends i ≡ 0 = rw first refl in
     subst (λ (s : ℕ). IsCut body i s (get_or ends i 0)) start (cut body ends i table within)
 
-pub cut_behind : (body ends : List ℕ) (i : ℕ) → IsNameTable body ends → i < length ends → 0 < i → IsCut body i (get_or ends (i - 1) 0 + 1) (get_or ends i 0)
-cut_behind body ends i table within some = subst (λ (s : ℕ). IsCut body i s (get_or ends i 0)) (start_behind ends i some) (cut body ends i table within)
+pub cut_after : (body ends : List ℕ) (i : ℕ) → IsNameTable body ends → i < length ends → 0 < i → IsCut body i (get_or ends (i - 1) 0 + 1) (get_or ends i 0)
+cut_after body ends i table within some = subst (λ (s : ℕ). IsCut body i s (get_or ends i 0)) (start_after ends i some) (cut body ends i table within)
 
 -- the name at a position is the first of those that are left there
 pub left_at : (names : List (List ℕ)) (i : ℕ) (name : List ℕ) → slice_get names i ≡ Some name → drop i names ≡ name ∷ drop (i + 1) names

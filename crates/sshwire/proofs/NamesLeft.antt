@@ -113,12 +113,12 @@ left_counted name (b ∷ bs) t short = elim (cases_Bool (eqb b 44)) [
       elim (cases_Bool (eqb (length name) 64)) [
         | inl full ↦ rw (other, full) (counted_refused _ (name ++ b ∷ p.0) p.1 whole (long_refused name p.0 b (eqb-true _ _ full)))
         | inr room ↦ elim (cases_Bool (is_name_byte b)) [
-          | inl good ↦
+          | inl valid ↦
               let some : length name ≢ 64 = eqb-false _ _ room in
               let long : length (name ++ b ∷ []) ≡ length name + 1 = length-append name (b ∷ []) in
               let all : list_all is_name_byte (name ++ b ∷ []) ≡ true
-              = list_all-append is_name_byte name (b ∷ []) ∙ and_from _ _ t (and_from _ _ good refl) in
-              rw (good, other, room)
+              = list_all-append is_name_byte name (b ∷ []) ∙ and_from _ _ t (and_from _ _ valid refl) in
+              rw (valid, other, room)
               (ap (λ (n : ℕ). names_left n bs) (sym long)
               ∙ (left_counted (name ++ b ∷ []) bs all (omega arith)
               ∙ ap (λ (xs : List ℕ). counted (slice_split is_comma xs)) (append_assoc name (b ∷ []) bs)))
@@ -175,8 +175,8 @@ module _ (body : List ℕ) (i count len : ℕ) (c : IsCounting body i count len)
   refused_here : names_left len (b ∷ drop (i + 1) body) ≡ None → names_left 0 body ≡ None
   refused_here e = sym c.left ∙ ap (λ (x : Option ℕ). option_map (λ n. count + n) x) (here ∙ e)
 
-  pub comma_behind_none : b ≡ 44 → len ≡ 0 → names_left 0 body ≡ None
-  comma_behind_none comma none =
+  pub comma_after_none : b ≡ 44 → len ≡ 0 → names_left 0 body ≡ None
+  comma_after_none comma none =
       let t : eqb b 44 ≡ true = eq-eqb _ _ comma in
       let z : eqb len 0 ≡ true = eq-eqb _ _ none in
       refused_here (rw (t, z) refl)

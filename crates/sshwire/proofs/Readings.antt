@@ -49,35 +49,35 @@ reading-append left line (b ∷ bs) more = elim (cases_Bool (eqb b 0)) [
 ]
 
 -- A reading that stops has read a byte.
-stop_shorter : (left : ℕ) (line bytes : List ℕ) (code : WireFault) (behind : List ℕ) → reading left line bytes ≡ Stop code behind → length behind < length bytes
-stop_shorter left line [] code behind e = cc
-stop_shorter left line (b ∷ bs) code behind e = elim (cases_Bool (eqb b 0)) [
-  | inl t ↦ let is : Stop Line bs ≡ Stop code behind = rw t at e in let same : bs ≡ behind = cc in omega (arith, ap (λ (xs : List ℕ). length xs) same)
+stop_shorter : (left : ℕ) (line bytes : List ℕ) (code : WireFault) (after : List ℕ) → reading left line bytes ≡ Stop code after → length after < length bytes
+stop_shorter left line [] code after e = cc
+stop_shorter left line (b ∷ bs) code after e = elim (cases_Bool (eqb b 0)) [
+  | inl t ↦ let is : Stop Line bs ≡ Stop code after = rw t at e in let same : bs ≡ after = cc in omega (arith, ap (λ (xs : List ℕ). length xs) same)
   | inr f ↦ elim (cases_Bool (eqb b 10)) [
     | inl t₁ ↦ elim (cases_Bool (starts_with eqb line ssh)) [
       | inl t₂ ↦ elim (cases_Bool (is_version_line (with_lf line))) [
-        | inl t₃ ↦ let is : Got (text_in (with_lf line)) bs ≡ Stop code behind = rw (f, t₁, t₂, t₃) at e in cc
-        | inr f₃ ↦ let is : Stop Line bs ≡ Stop code behind = rw (f, t₁, t₂, f₃) at e in let same : bs ≡ behind = cc in omega (arith, ap (λ (xs : List ℕ). length xs) same)
+        | inl t₃ ↦ let is : Got (text_in (with_lf line)) bs ≡ Stop code after = rw (f, t₁, t₂, t₃) at e in cc
+        | inr f₃ ↦ let is : Stop Line bs ≡ Stop code after = rw (f, t₁, t₂, f₃) at e in let same : bs ≡ after = cc in omega (arith, ap (λ (xs : List ℕ). length xs) same)
       ]
       | inr f₂ ↦ elim (cases_Bool (eqb left 0)) [
-        | inl t₃ ↦ let is : Stop TooManyLines bs ≡ Stop code behind = rw (f, t₁, f₂, t₃) at e in let same : bs ≡ behind = cc in omega (arith, ap (λ (xs : List ℕ). length xs) same)
-        | inr f₃ ↦ let is : reading (left - 1) [] bs ≡ Stop code behind = rw (f, t₁, f₂, f₃) at e in
-            let less = stop_shorter (left - 1) [] bs code behind is in omega (arith, less)
+        | inl t₃ ↦ let is : Stop TooManyLines bs ≡ Stop code after = rw (f, t₁, f₂, t₃) at e in let same : bs ≡ after = cc in omega (arith, ap (λ (xs : List ℕ). length xs) same)
+        | inr f₃ ↦ let is : reading (left - 1) [] bs ≡ Stop code after = rw (f, t₁, f₂, f₃) at e in
+            let less = stop_shorter (left - 1) [] bs code after is in omega (arith, less)
       ]
     ]
     | inr f₁ ↦ elim (cases_Bool (leb 254 (length line))) [
-      | inl t₂ ↦ let is : Stop TooLong bs ≡ Stop code behind = rw (f, f₁, t₂) at e in let same : bs ≡ behind = cc in omega (arith, ap (λ (xs : List ℕ). length xs) same)
-      | inr f₂ ↦ let is : reading left (line ++ b ∷ []) bs ≡ Stop code behind = rw (f, f₁, f₂) at e in
-          let less = stop_shorter left (line ++ b ∷ []) bs code behind is in omega (arith, less)
+      | inl t₂ ↦ let is : Stop TooLong bs ≡ Stop code after = rw (f, f₁, t₂) at e in let same : bs ≡ after = cc in omega (arith, ap (λ (xs : List ℕ). length xs) same)
+      | inr f₂ ↦ let is : reading left (line ++ b ∷ []) bs ≡ Stop code after = rw (f, f₁, f₂) at e in
+          let less = stop_shorter left (line ++ b ∷ []) bs code after is in omega (arith, less)
     ]
   ]
 ]
 
 -- Where the reading of one byte stops, or memory runs out at it, so does the reading with more behind it.
 stops_later : (r : Reading) (bs : List ℕ) → StopsWithin r [] → ((left : ℕ) (line : List ℕ) → r ≡ More left line → StopsWithin (reading left line bs) bs) → StopsWithin (then_on r bs) bs
-stops_later (More left line) bs within more code behind e = more left line refl code behind e
-stops_later (Got text rest) bs within more code behind e = cc
-stops_later (Stop other rest) bs within more code behind e = let less : length rest < 0 = within other rest refl in absurd (omega arith)
+stops_later (More left line) bs within more code after e = more left line refl code after e
+stops_later (Got text rest) bs within more code after e = cc
+stops_later (Stop other rest) bs within more code after e = let less : length rest < 0 = within other rest refl in absurd (omega arith)
 
 pub stops_on : (code : WireFault) (left : ℕ) (line : List ℕ) (b : ℕ) (bs : List ℕ) → Stops code (reading left line (b ∷ [])) [] → Stops code (reading left line (b ∷ bs)) bs
 stops_on code left line b bs stops =
@@ -85,7 +85,7 @@ stops_on code left line b bs stops =
     record {
       refusal = λ other. on ∙ ap (λ (r : Reading). then_on r bs) (stops.refusal other);
       memory = λ memory. subst (λ (r : Reading). StopsWithin r bs) (sym on)
-          (stops_later (reading left line (b ∷ [])) bs (stops.memory memory) (λ left' line' e code behind is. stop_shorter left' line' bs code behind is));
+          (stops_later (reading left line (b ∷ [])) bs (stops.memory memory) (λ left' line' e code after is. stop_shorter left' line' bs code after is));
     }
 
 pub stops_in : (code : WireFault) (left : ℕ) (line piece : List ℕ) (i : ℕ) (r : Reading) → i < length piece → reading left line (drop i piece) ≡ r
@@ -257,11 +257,11 @@ Parts k bytes (More left line) = LineOpen k bytes left line
 Parts k bytes (Got text rest) = EndsPreamble k bytes text rest
 Parts k bytes (Stop code rest) = Stopped k bytes code rest
 
-module _ (k left : ℕ) (heard line : List ℕ) (o : LineOpen k heard left line) where
-  with_byte : (b : ℕ) (bs : List ℕ) → heard ++ b ∷ bs ≡ joined o.others ++ (line ++ b ∷ bs)
+module _ (k left : ℕ) (received line : List ℕ) (o : LineOpen k received left line) where
+  with_byte : (b : ℕ) (bs : List ℕ) → received ++ b ∷ bs ≡ joined o.others ++ (line ++ b ∷ bs)
   with_byte b bs = ap (λ (xs : List ℕ). xs ++ b ∷ bs) o.bytes_are ∙ append_assoc (joined o.others) line (b ∷ bs)
 
-  stops_at : (b : ℕ) (bs : List ℕ) (code : WireFault) → IsCause k o.others line b code → Stopped k (heard ++ b ∷ bs) code bs
+  stops_at : (b : ℕ) (bs : List ℕ) (code : WireFault) → IsCause k o.others line b code → Stopped k (received ++ b ∷ bs) code bs
   stops_at b bs code cause = record {
     others = o.others;
     few = (let few : length o.others + left ≡ k = o.few in omega arith);
@@ -273,7 +273,7 @@ module _ (k left : ℕ) (heard line : List ℕ) (o : LineOpen k heard left line)
     bytes_are = with_byte b bs;
   }
 
-  ends_at : (bs text : List ℕ) → IsVersionText text → with_lf line ≡ version_line text → EndsPreamble k (heard ++ 10 ∷ bs) text bs
+  ends_at : (bs text : List ℕ) → IsVersionText text → with_lf line ≡ version_line text → EndsPreamble k (received ++ 10 ∷ bs) text bs
   ends_at bs text v is =
       let grouped : line ++ 10 ∷ bs ≡ version_line text ++ bs = search append_assoc ∙ ap (λ (xs : List ℕ). xs ++ bs) is in
       record {
@@ -288,8 +288,8 @@ module _ (k left : ℕ) (heard line : List ℕ) (o : LineOpen k heard left line)
         };
       }
 
-  other_heard : (BeginsSsh line → ⊥) → 0 < left → LineOpen k (heard ++ 10 ∷ []) (left - 1) []
-  other_heard never some = record {
+  other_received : (BeginsSsh line → ⊥) → 0 < left → LineOpen k (received ++ 10 ∷ []) (left - 1) []
+  other_received never some = record {
     others = o.others ++ line ∷ [];
     few = (let few : length o.others + left ≡ k = o.few in
         let long : length (o.others ++ line ∷ []) ≡ length o.others + 1 = length-append o.others (line ∷ []) in omega arith);
@@ -298,8 +298,8 @@ module _ (k left : ℕ) (heard line : List ℕ) (o : LineOpen k heard left line)
     bytes_are = with_byte 10 [] ∙ (sym (joined_push o.others line) ∙ sym (append-nil (joined (o.others ++ line ∷ []))));
   }
 
-  byte_heard : (b : ℕ) → b ≢ 0 → b ≢ 10 → length line < 254 → LineOpen k (heard ++ b ∷ []) left (line ++ b ∷ [])
-  byte_heard b no_nul no_lf short = record {
+  byte_received : (b : ℕ) → b ≢ 0 → b ≢ 10 → length line < 254 → LineOpen k (received ++ b ∷ []) left (line ++ b ∷ [])
+  byte_received b no_nul no_lf short = record {
     others = o.others;
     few = o.few;
     each = o.each;
@@ -310,47 +310,47 @@ module _ (k left : ℕ) (heard line : List ℕ) (o : LineOpen k heard left line)
     bytes_are = with_byte b [];
   }
 
-parts_read : (k left : ℕ) (heard line bytes : List ℕ) → LineOpen k heard left line → Parts k (heard ++ bytes) (reading left line bytes)
-parts_read k left heard line [] o = rw (append-nil heard) o
-parts_read k left heard line (b ∷ bs) o =
-    let on : heard ++ b ∷ bs ≡ (heard ++ b ∷ []) ++ bs = search append_assoc in
+parts_read : (k left : ℕ) (received line bytes : List ℕ) → LineOpen k received left line → Parts k (received ++ bytes) (reading left line bytes)
+parts_read k left received line [] o = rw (append-nil received) o
+parts_read k left received line (b ∷ bs) o =
+    let on : received ++ b ∷ bs ≡ (received ++ b ∷ []) ++ bs = search append_assoc in
     elim (cases_Bool (eqb b 0)) [
-      | inl t ↦ rw t (stops_at k left heard line o b bs Line (inl (eqb-true b 0 t)))
+      | inl t ↦ rw t (stops_at k left received line o b bs Line (inl (eqb-true b 0 t)))
       | inr f ↦ elim (cases_Bool (eqb b 10)) [
         | inl t₁ ↦ let lf : b ≡ 10 = eqb-true b 10 t₁ in elim (cases_Bool (starts_with eqb line ssh)) [
           | inl t₂ ↦ elim (cases_Bool (is_version_line (with_lf line))) [
             | inl t₃ ↦
                 let w = whole_line_from_test (with_lf line) t₃ in
-                rw (f, t₁, t₂, t₃, lf) (ends_at k left heard line o bs _ w.version w.line_is)
+                rw (f, t₁, t₂, t₃, lf) (ends_at k left received line o bs _ w.version w.line_is)
             | inr f₃ ↦ rw (f, t₁, t₂, f₃)
-                (stops_at k left heard line o b bs Line (inr (lf, begins_from_test line t₂, no_line_from_test (with_lf line) f₃)))
+                (stops_at k left received line o b bs Line (inr (lf, begins_from_test line t₂, no_line_from_test (with_lf line) f₃)))
           ]
           | inr f₂ ↦ let never = not_begins_from_test line f₂ in elim (cases_Bool (eqb left 0)) [
             | inl t₃ ↦
                 let zero_left : left ≡ 0 = eqb-true left 0 t₃ in
                 let few : length o.others + left ≡ k = o.few in
                 rw (f, t₁, f₂, t₃)
-                (stops_at k left heard line o b bs TooManyLines
+                (stops_at k left received line o b bs TooManyLines
                 (lf, record { unfinished = o.unfinished; no_ssh = never }, o.each, omega arith))
             | inr f₃ ↦
                 let some : left ≢ 0 = eqb-false left 0 f₃ in
-                rw (f, t₁, f₂, f₃, on, lf) (parts_read k (left - 1) (heard ++ 10 ∷ []) [] bs (other_heard k left heard line o never (omega arith)))
+                rw (f, t₁, f₂, f₃, on, lf) (parts_read k (left - 1) (received ++ 10 ∷ []) [] bs (other_received k left received line o never (omega arith)))
           ]
         ]
         | inr f₁ ↦ elim (cases_Bool (leb 254 (length line))) [
           | inl t₂ ↦
               let long : 254 ≤ length line = leb-true 254 (length line) t₂ in
               let short : length line ≤ 254 = o.unfinished.short in
-              rw (f, f₁, t₂) (stops_at k left heard line o b bs TooLong (eqb-false b 0 f, eqb-false b 10 f₁, omega arith))
+              rw (f, f₁, t₂) (stops_at k left received line o b bs TooLong (eqb-false b 0 f, eqb-false b 10 f₁, omega arith))
           | inr f₂ ↦ rw (f, f₁, f₂, on)
-              (parts_read k left (heard ++ b ∷ []) (line ++ b ∷ []) bs
-              (byte_heard k left heard line o b (eqb-false b 0 f) (eqb-false b 10 f₁) (leb-false 254 (length line) f₂)))
+              (parts_read k left (received ++ b ∷ []) (line ++ b ∷ []) bs
+              (byte_received k left received line o b (eqb-false b 0 f) (eqb-false b 10 f₁) (leb-false 254 (length line) f₂)))
         ]
       ]
     ]
 
-pub nothing_heard : (k : ℕ) → LineOpen k [] k []
-nothing_heard k = record { others = []; few = omega arith; each = tt; unfinished = record { bytes = tt; short = omega arith }; bytes_are = refl }
+pub nothing_received : (k : ℕ) → LineOpen k [] k []
+nothing_received k = record { others = []; few = omega arith; each = tt; unfinished = record { bytes = tt; short = omega arith }; bytes_are = refl }
 
 pub read_parts : (k : ℕ) (bytes : List ℕ) → Parts k bytes (reading k [] bytes)
-read_parts k bytes = parts_read k k [] [] bytes (nothing_heard k)
+read_parts k bytes = parts_read k k [] [] bytes (nothing_received k)

@@ -74,7 +74,7 @@ cause_stops k left lines line byte Memory bs few c = absurd c
 -- what stands before a place, and behind it
 record PlaceCuts (bytes : List ℕ) (i : ℕ) (lines : List (List ℕ)) (line : List ℕ) (byte : ℕ) (rest : List ℕ) : Type 0 where
   before : take i bytes ≡ joined lines ++ line
-  behind : rest ≡ drop (i + 1) bytes
+  after : rest ≡ drop (i + 1) bytes
   cut : bytes ≡ take i bytes ++ byte ∷ rest
   long : i + 1 + length rest ≡ length bytes
 
@@ -90,7 +90,7 @@ place_cuts bytes i lines line byte at =
     let place : i ≡ length front = at.place in
     record {
       before = before;
-      behind = sym (ap (λ (xs : List ℕ). drop (i + 1) xs) next ∙ drop_at (front ++ byte ∷ []) at.rest (i + 1) long);
+      after = sym (ap (λ (xs : List ℕ). drop (i + 1) xs) next ∙ drop_at (front ++ byte ∷ []) at.rest (i + 1) long);
       cut = cut ∙ ap (λ (xs : List ℕ). xs ++ byte ∷ at.rest) (sym before);
       long = omega arith;
     }
@@ -99,7 +99,7 @@ place_cuts bytes i lines line byte at =
 pub record StopsAt (k : ℕ) (bytes : List ℕ) (i : ℕ) (code : WireFault) : Type 0 where
   pub rest : List ℕ
   pub stops : reading k [] bytes ≡ Stop code rest
-  pub behind : rest ≡ drop (i + 1) bytes
+  pub after : rest ≡ drop (i + 1) bytes
   pub long : i + 1 + length rest ≡ length bytes
 
 cause_at : (k : ℕ) (bytes : List ℕ) (i : ℕ) (code : WireFault) (left : ℕ) (line : List ℕ) → HasCause k bytes i code
@@ -115,7 +115,7 @@ cause_at k bytes i code left line has read =
     ∙ (reading-append k [] (take i bytes) (has.byte ∷ has.at.rest) ∙ ap (λ (r : Reading). then_on r (has.byte ∷ has.at.rest)) read) in
     let stop : reading left line (has.byte ∷ has.at.rest) ≡ Stop code has.at.rest
     = rw (← same.line) (cause_stops k left has.lines has.line has.byte code has.at.rest few has.cause) in
-    record { rest = has.at.rest; stops = whole ∙ stop; behind = cuts.behind; long = cuts.long }
+    record { rest = has.at.rest; stops = whole ∙ stop; after = cuts.after; long = cuts.long }
 
 -- The place at which a reading stops, and its cause.
 abbrev stopped_place : (k : ℕ) (bytes : List ℕ) (code : WireFault) (rest : List ℕ) → (s : Stopped k bytes code rest)
@@ -215,7 +215,7 @@ stopped_refused k bytes code rest stop s =
         least = λ j other before has. least_from k bytes i code rest j other (reading k [] (take j bytes)) stop cuts.long before has refl;
         no_preamble = λ j text within p. no_preamble_from k bytes code rest j text stop p;
       };
-      rest_is = cuts.behind;
+      rest_is = cuts.after;
     }
 
 sound_from : (k : ℕ) (bytes : List ℕ) (r : Reading) → reading k [] bytes ≡ r → Parts k bytes r → ReadingMeans k bytes r
@@ -231,7 +231,7 @@ reading_complete k bytes (More left line) m = open_read k bytes left line m
 reading_complete k bytes (Got text rest) m = ap (λ (xs : List ℕ). reading k [] xs) m.bytes_are ∙ preamble_read k text m.prefix rest m.preamble
 reading_complete k bytes (Stop code rest) m =
     let s = refused_read k bytes m.place code m.refused in
-    s.stops ∙ ap (λ (xs : List ℕ). Stop code xs) (s.behind ∙ sym m.rest_is)
+    s.stops ∙ ap (λ (xs : List ℕ). Stop code xs) (s.after ∙ sym m.rest_is)
 
 pub one_meaning : (k : ℕ) (bytes : List ℕ) (r s : Reading) → ReadingMeans k bytes r → ReadingMeans k bytes s → r ≡ s
 one_meaning k bytes r s m n = sym (reading_complete k bytes r m) ∙ reading_complete k bytes s n
@@ -243,8 +243,8 @@ refused_within k bytes place code refused =
     omega arith
 
 -- What is read stays read, whatever follows.
-pub preamble_behind : (k : ℕ) (bytes text rest : List ℕ) → reading k [] bytes ≡ Got text rest → IsLeftOf bytes rest
-preamble_behind k bytes text rest read =
+pub preamble_after : (k : ℕ) (bytes text rest : List ℕ) → reading k [] bytes ≡ Got text rest → IsLeftOf bytes rest
+preamble_after k bytes text rest read =
     let means : EndsPreamble k bytes text rest = (let m = reading_sound k bytes in rw read at m) in
     let all : length bytes ≡ length means.prefix + length rest = ap (λ (xs : List ℕ). length xs) means.bytes_are ∙ length-append means.prefix rest in
     (length means.prefix, omega arith, sym (ap (λ (xs : List ℕ). drop (length means.prefix) xs) means.bytes_are ∙ drop_at means.prefix rest (length means.prefix) refl))

@@ -193,7 +193,7 @@ unsigned_unique (b ∷ bs) (c ∷ cs) h k l e =
     let v : unsigned_value cs < 256 ^ length bs = rw long (unsigned_below cs (tail_bytes c cs k)) in
     let same : b * 256 ^ length bs + unsigned_value bs ≡ c * 256 ^ length bs + unsigned_value cs = rw (← long) at e in
     let first : b ≡ c = one_digit (256 ^ length bs) b c (unsigned_value bs) (unsigned_value cs) u v same in
-    let behind : b * 256 ^ length bs + unsigned_value bs ≡ b * 256 ^ length bs + unsigned_value cs = rw (← first) at same in
+    let after : b * 256 ^ length bs + unsigned_value bs ≡ b * 256 ^ length bs + unsigned_value cs = rw (← first) at same in
     let more : bs ≡ cs = unsigned_unique bs cs (tail_bytes b bs h) (tail_bytes c cs k) long (omega arith) in
     cc
 

@@ -9,38 +9,38 @@ use Rattle.sshwire.specs.declared.line_reader.LineStep.TheVariants as step
 use Rattle.sshwire.specs.Lines.{LineOpen, LineRefused, Preamble}
 use Rattle.sshwire.specs.Reading.{Reading, More, Got, Stop, Stops, reading, then_on}
 use Rattle.sshwire.specs.Meaning.{EndsPreamble, EndsRefused, ReadingMeans}
-use Rattle.sshwire.specs.LineState.{LineState, Progress, Waits, Finished, Refused}
-use Rattle.sshwire.specs.Feeding.{NoneRefused, OnlyPreambleAnswer, Reads, StandsOpen, PreambleAnswer, TellsRefusal}
+use Rattle.sshwire.specs.LineReaderData.{LineReaderData, Progress, Waits, Finished, Refused}
+use Rattle.sshwire.specs.Feeding.{NoneRefused, OnlyPreambleAnswer, FeedAnswer, StandsOpen, PreambleAnswer, TellsRefusal}
 use Rattle.sshwire.proofs.Readings.{open_read, preamble_read, reading-append}
 use Rattle.sshwire.proofs.Refusals.{reading_sound, refused_read, refused_within}
 
 -- behind the bytes heard so far the piece reads as it does behind the unfinished line
-joined_reading : (k left : ℕ) (line heard piece : List ℕ) → LineOpen k heard left line → reading k [] (heard ++ piece) ≡ reading left line piece
-joined_reading k left line heard piece o =
-    reading-append k [] heard piece ∙ ap (λ (r : Reading). then_on r piece) (open_read k heard left line o)
+joined_reading : (k left : ℕ) (line received piece : List ℕ) → LineOpen k received left line → reading k [] (received ++ piece) ≡ reading left line piece
+joined_reading k left line received piece o =
+    reading-append k [] received piece ∙ ap (λ (r : Reading). then_on r piece) (open_read k received left line o)
 
-means_of : (k left : ℕ) (line heard piece : List ℕ) (r : Reading) → LineOpen k heard left line → reading left line piece ≡ r → ReadingMeans k (heard ++ piece) r
-means_of k left line heard piece r o read =
-    subst (λ (x : Reading). ReadingMeans k (heard ++ piece) x) (joined_reading k left line heard piece o ∙ read) (reading_sound k (heard ++ piece))
+means_of : (k left : ℕ) (line received piece : List ℕ) (r : Reading) → LineOpen k received left line → reading left line piece ≡ r → ReadingMeans k (received ++ piece) r
+means_of k left line received piece r o read =
+    subst (λ (x : Reading). ReadingMeans k (received ++ piece) x) (joined_reading k left line received piece o ∙ read) (reading_sound k (received ++ piece))
 
 -- the preamble ends with the last byte used
-ends_at_used : (k : ℕ) (heard piece text : List ℕ) (used : ℕ) → EndsPreamble k (heard ++ piece) text (drop used piece)
-    → Preamble k text (heard ++ take used piece)
-ends_at_used k heard piece text used ends =
-    let cut : (heard ++ take used piece) ++ drop used piece ≡ ends.prefix ++ drop used piece
-    = append_assoc heard (take used piece) (drop used piece) ∙ (ap (λ (xs : List ℕ). heard ++ xs) (take-append-drop used piece) ∙ ends.bytes_are) in
-    let same : heard ++ take used piece ≡ ends.prefix = append_cancel_right (heard ++ take used piece) ends.prefix (drop used piece) cut in
+ends_at_used : (k : ℕ) (received piece text : List ℕ) (used : ℕ) → EndsPreamble k (received ++ piece) text (drop used piece)
+    → Preamble k text (received ++ take used piece)
+ends_at_used k received piece text used ends =
+    let cut : (received ++ take used piece) ++ drop used piece ≡ ends.prefix ++ drop used piece
+    = append_assoc received (take used piece) (drop used piece) ∙ (ap (λ (xs : List ℕ). received ++ xs) (take-append-drop used piece) ∙ ends.bytes_are) in
+    let same : received ++ take used piece ≡ ends.prefix = append_cancel_right (received ++ take used piece) ends.prefix (drop used piece) cut in
     rw same ends.preamble
 
-refusal_place : (k : ℕ) (heard piece : List ℕ) (code : WireFault) (taken : ℕ) → taken ≤ length piece
-    → EndsRefused k (heard ++ piece) code (drop taken piece)
-    → (place : ℕ) × (place + 1 ≡ length heard + taken) × LineRefused k (heard ++ piece) place code
-refusal_place k heard piece code taken within ends =
-    let all : length (heard ++ piece) ≡ length heard + length piece = length-append heard piece in
+refusal_place : (k : ℕ) (received piece : List ℕ) (code : WireFault) (taken : ℕ) → taken ≤ length piece
+    → EndsRefused k (received ++ piece) code (drop taken piece)
+    → (place : ℕ) × (place + 1 ≡ length received + taken) × LineRefused k (received ++ piece) place code
+refusal_place k received piece code taken within ends =
+    let all : length (received ++ piece) ≡ length received + length piece = length-append received piece in
     let dropped : length (drop taken piece) ≡ length piece - taken = length-drop taken piece in
-    let behind : length (drop taken piece) ≡ length (heard ++ piece) - (ends.place + 1)
-    = ap (λ (xs : List ℕ). length xs) ends.rest_is ∙ length-drop (ends.place + 1) (heard ++ piece) in
-    let inside : ends.place < length (heard ++ piece) = refused_within k (heard ++ piece) ends.place code ends.refused in
+    let after : length (drop taken piece) ≡ length (received ++ piece) - (ends.place + 1)
+    = ap (λ (xs : List ℕ). length xs) ends.rest_is ∙ length-drop (ends.place + 1) (received ++ piece) in
+    let inside : ends.place < length (received ++ piece) = refused_within k (received ++ piece) ends.place code ends.refused in
     (ends.place, omega arith, ends.refused)
 
 memory_or_not : (code : WireFault) → (code ≡ Memory) ⊎ (code ≢ Memory)
@@ -52,34 +52,34 @@ memory_or_not Short = inr (λ e. cc)
 memory_or_not Name = inr (λ e. cc)
 memory_or_not NotCanonical = inr (λ e. cc)
 
-tells_refusal : (k left : ℕ) (line heard piece : List ℕ) (code : WireFault) (new : LineState) → LineOpen k heard left line
-    → new.taken ≤ length piece → Stops code (reading left line piece) (drop new.taken piece) → TellsRefusal k heard piece code new
-tells_refusal k left line heard piece code new o within stops = λ other.
-    let means : EndsRefused k (heard ++ piece) code (drop new.taken piece) = means_of k left line heard piece (Stop code (drop new.taken piece)) o (stops.refusal other) in
-    refusal_place k heard piece code new.taken within means
+tells_refusal : (k left : ℕ) (line received piece : List ℕ) (code : WireFault) (new : LineReaderData) → LineOpen k received left line
+    → new.taken ≤ length piece → Stops code (reading left line piece) (drop new.taken piece) → TellsRefusal k received piece code new
+tells_refusal k left line received piece code new o within stops = λ other.
+    let means : EndsRefused k (received ++ piece) code (drop new.taken piece) = means_of k left line received piece (Stop code (drop new.taken piece)) o (stops.refusal other) in
+    refusal_place k received piece code new.taken within means
 
-tells_waiting : (k left : ℕ) (line heard piece : List ℕ) (result : Result LineStep WireFault) (new : LineState) → LineOpen k heard left line
-    → new.taken ≤ length piece → Reads (reading left line piece) piece result new → PreambleAnswer k heard piece result new
-tells_waiting k left line heard piece (Ok step.More) new o within (left', line', read, waits, taken) =
-    let means : LineOpen k (heard ++ piece) left' line' = means_of k left line heard piece (More left' line') o read in
+tells_waiting : (k left : ℕ) (line received piece : List ℕ) (result : Result LineStep WireFault) (new : LineReaderData) → LineOpen k received left line
+    → new.taken ≤ length piece → FeedAnswer (reading left line piece) piece result new → PreambleAnswer k received piece result new
+tells_waiting k left line received piece (Ok step.More) new o within (left', line', read, waits, taken) =
+    let means : LineOpen k (received ++ piece) left' line' = means_of k left line received piece (More left' line') o read in
     (rw waits means, taken)
-tells_waiting k left line heard piece (Ok (step.Done text used)) new o within (read, finished, taken) =
-    let means : EndsPreamble k (heard ++ piece) text (drop used piece) = means_of k left line heard piece (Got text (drop used piece)) o read in
-    (rw (← taken) within, ends_at_used k heard piece text used means, finished, taken)
-tells_waiting k left line heard piece (Err code) new o within (stops, refused) =
-    (tells_refusal k left line heard piece code new o within stops, refused)
+tells_waiting k left line received piece (Ok (step.Done text used)) new o within (read, finished, taken) =
+    let means : EndsPreamble k (received ++ piece) text (drop used piece) = means_of k left line received piece (Got text (drop used piece)) o read in
+    (rw (← taken) within, ends_at_used k received piece text used means, finished, taken)
+tells_waiting k left line received piece (Err code) new o within (stops, refused) =
+    (tells_refusal k left line received piece code new o within stops, refused)
 
 -- an open reader waits
-pub tells : (k : ℕ) (heard piece : List ℕ) (result : Result LineStep WireFault) (old : Progress) (new : LineState) → StandsOpen k heard old
-    → new.taken ≤ length piece → ((left : ℕ) (line : List ℕ) → old ≡ Waits left line → Reads (reading left line piece) piece result new)
-    → PreambleAnswer k heard piece result new
-tells k heard piece result (Waits left line) new o within reads = tells_waiting k left line heard piece result new o within (reads left line refl)
-tells k heard piece result Finished new o within reads = absurd o
-tells k heard piece result (Refused code) new o within reads = absurd o
+pub tells : (k : ℕ) (received piece : List ℕ) (result : Result LineStep WireFault) (old : Progress) (new : LineReaderData) → StandsOpen k received old
+    → new.taken ≤ length piece → ((left : ℕ) (line : List ℕ) → old ≡ Waits left line → FeedAnswer (reading left line piece) piece result new)
+    → PreambleAnswer k received piece result new
+tells k received piece result (Waits left line) new o within reads = tells_waiting k left line received piece result new o within (reads left line refl)
+tells k received piece result Finished new o within reads = absurd o
+tells k received piece result (Refused code) new o within reads = absurd o
 
 -- No other answer comes.
-answer_of_more : (result : Result LineStep WireFault) (r : Reading) (piece : List ℕ) (new : LineState) (left : ℕ) (line : List ℕ)
-    → r ≡ More left line → Reads r piece result new → (result ≡ Ok step.More) ⊎ (result ≡ Err Memory)
+answer_of_more : (result : Result LineStep WireFault) (r : Reading) (piece : List ℕ) (new : LineReaderData) (left : ℕ) (line : List ℕ)
+    → r ≡ More left line → FeedAnswer r piece result new → (result ≡ Ok step.More) ⊎ (result ≡ Err Memory)
 answer_of_more (Ok step.More) r piece new left line e reads = inl refl
 answer_of_more (Ok (step.Done text used)) r piece new left line e reads = let bad : More left line ≡ Got text (drop used piece) = sym e ∙ reads.0 in cc
 answer_of_more (Err code) r piece new left line e reads = elim (memory_or_not code) [
@@ -87,8 +87,8 @@ answer_of_more (Err code) r piece new left line e reads = elim (memory_or_not co
   | inr known ↦ let bad : More left line ≡ Stop code (drop new.taken piece) = sym e ∙ reads.0.refusal known in cc
 ]
 
-answer_of_got : (result : Result LineStep WireFault) (r : Reading) (piece : List ℕ) (new : LineState) (text : List ℕ) (used : ℕ) → used ≤ length piece
-    → new.taken ≤ length piece → r ≡ Got text (drop used piece) → Reads r piece result new → (result ≡ Ok (step.Done text used)) ⊎ (result ≡ Err Memory)
+answer_of_got : (result : Result LineStep WireFault) (r : Reading) (piece : List ℕ) (new : LineReaderData) (text : List ℕ) (used : ℕ) → used ≤ length piece
+    → new.taken ≤ length piece → r ≡ Got text (drop used piece) → FeedAnswer r piece result new → (result ≡ Ok (step.Done text used)) ⊎ (result ≡ Err Memory)
 answer_of_got (Ok step.More) r piece new text used fits within e (left, line, read, waits, taken) =
     let bad : Got text (drop used piece) ≡ More left line = sym e ∙ read in cc
 answer_of_got (Ok (step.Done text' used')) r piece new text used fits within e (read, finished, taken) =
@@ -103,8 +103,8 @@ answer_of_got (Err code) r piece new text used fits within e reads = elim (memor
   | inr known ↦ let bad : Got text (drop used piece) ≡ Stop code (drop new.taken piece) = sym e ∙ reads.0.refusal known in cc
 ]
 
-answer_of_stop : (result : Result LineStep WireFault) (r : Reading) (piece : List ℕ) (new : LineState) (code : WireFault) (rest : List ℕ)
-    → r ≡ Stop code rest → Reads r piece result new → (result ≡ Err code) ⊎ (result ≡ Err Memory)
+answer_of_stop : (result : Result LineStep WireFault) (r : Reading) (piece : List ℕ) (new : LineReaderData) (code : WireFault) (rest : List ℕ)
+    → r ≡ Stop code rest → FeedAnswer r piece result new → (result ≡ Err code) ⊎ (result ≡ Err Memory)
 answer_of_stop (Ok step.More) r piece new code rest e (left, line, read, waits, taken) =
     let bad : Stop code rest ≡ More left line = sym e ∙ read in cc
 answer_of_stop (Ok (step.Done text used)) r piece new code rest e reads = let bad : Stop code rest ≡ Got text (drop used piece) = sym e ∙ reads.0 in cc
@@ -113,50 +113,50 @@ answer_of_stop (Err other) r piece new code rest e reads = elim (memory_or_not o
   | inr known ↦ let same : Stop code rest ≡ Stop other (drop new.taken piece) = sym e ∙ reads.0.refusal known in let codes : other ≡ code = cc in inl (ap Err codes)
 ]
 
-only_waiting : (k left : ℕ) (line heard piece : List ℕ) (result : Result LineStep WireFault) (new : LineState) → LineOpen k heard left line
-    → new.taken ≤ length piece → Reads (reading left line piece) piece result new → OnlyPreambleAnswer k heard piece result
-only_waiting k left line heard piece result new o within reads =
-    let joins : reading k [] (heard ++ piece) ≡ reading left line piece = joined_reading k left line heard piece o in
+only_waiting : (k left : ℕ) (line received piece : List ℕ) (result : Result LineStep WireFault) (new : LineReaderData) → LineOpen k received left line
+    → new.taken ≤ length piece → FeedAnswer (reading left line piece) piece result new → OnlyPreambleAnswer k received piece result
+only_waiting k left line received piece result new o within reads =
+    let joins : reading k [] (received ++ piece) ≡ reading left line piece = joined_reading k left line received piece o in
     record {
       more = λ left' line' stands. answer_of_more result (reading left line piece) piece new left' line'
-          (sym joins ∙ open_read k (heard ++ piece) left' line' stands) reads;
+          (sym joins ∙ open_read k (received ++ piece) left' line' stands) reads;
       done = λ used text fits preamble.
-          let cut : (heard ++ take used piece) ++ drop used piece ≡ heard ++ piece
-          = append_assoc heard (take used piece) (drop used piece) ∙ ap (λ (xs : List ℕ). heard ++ xs) (take-append-drop used piece) in
-          let read : reading k [] (heard ++ piece) ≡ Got text (drop used piece)
-          = ap (λ (xs : List ℕ). reading k [] xs) (sym cut) ∙ preamble_read k text (heard ++ take used piece) (drop used piece) preamble in
+          let cut : (received ++ take used piece) ++ drop used piece ≡ received ++ piece
+          = append_assoc received (take used piece) (drop used piece) ∙ ap (λ (xs : List ℕ). received ++ xs) (take-append-drop used piece) in
+          let read : reading k [] (received ++ piece) ≡ Got text (drop used piece)
+          = ap (λ (xs : List ℕ). reading k [] xs) (sym cut) ∙ preamble_read k text (received ++ take used piece) (drop used piece) preamble in
           answer_of_got result (reading left line piece) piece new text used fits within (sym joins ∙ read) reads;
       refused = λ place code stands.
-          let s = refused_read k (heard ++ piece) place code stands in
+          let s = refused_read k (received ++ piece) place code stands in
           answer_of_stop result (reading left line piece) piece new code s.rest (sym joins ∙ s.stops) reads;
     }
 
-pub only : (k : ℕ) (heard piece : List ℕ) (result : Result LineStep WireFault) (old : Progress) (new : LineState) → StandsOpen k heard old
-    → new.taken ≤ length piece → ((left : ℕ) (line : List ℕ) → old ≡ Waits left line → Reads (reading left line piece) piece result new)
-    → OnlyPreambleAnswer k heard piece result
-only k heard piece result (Waits left line) new o within reads = only_waiting k left line heard piece result new o within (reads left line refl)
-only k heard piece result Finished new o within reads = absurd o
-only k heard piece result (Refused code) new o within reads = absurd o
+pub only : (k : ℕ) (received piece : List ℕ) (result : Result LineStep WireFault) (old : Progress) (new : LineReaderData) → StandsOpen k received old
+    → new.taken ≤ length piece → ((left : ℕ) (line : List ℕ) → old ≡ Waits left line → FeedAnswer (reading left line piece) piece result new)
+    → OnlyPreambleAnswer k received piece result
+only k received piece result (Waits left line) new o within reads = only_waiting k left line received piece result new o within (reads left line refl)
+only k received piece result Finished new o within reads = absurd o
+only k received piece result (Refused code) new o within reads = absurd o
 
 -- Where memory ran out no refusal was due.
-none_waiting : (k left : ℕ) (line heard piece : List ℕ) (result : Result LineStep WireFault) (new : LineState) → LineOpen k heard left line
-    → Reads (reading left line piece) piece result new → result ≡ Err Memory → NoneRefused k (heard ++ take new.taken piece)
-none_waiting k left line heard piece (Ok x) new o reads e place code refused = cc
-none_waiting k left line heard piece (Err fault) new o reads e place code refused =
+none_waiting : (k left : ℕ) (line received piece : List ℕ) (result : Result LineStep WireFault) (new : LineReaderData) → LineOpen k received left line
+    → FeedAnswer (reading left line piece) piece result new → result ≡ Err Memory → NoneRefused k (received ++ take new.taken piece)
+none_waiting k left line received piece (Ok x) new o reads e place code refused = cc
+none_waiting k left line received piece (Err fault) new o reads e place code refused =
     let used : List ℕ = take new.taken piece in
     let rest : List ℕ = drop new.taken piece in
     let memory : fault ≡ Memory = cc in
-    let s = refused_read k (heard ++ used) place code refused in
-    let stops : reading left line used ≡ Stop code s.rest = sym (joined_reading k left line heard used o) ∙ s.stops in
+    let s = refused_read k (received ++ used) place code refused in
+    let stops : reading left line used ≡ Stop code s.rest = sym (joined_reading k left line received used o) ∙ s.stops in
     let cut : reading left line piece ≡ then_on (reading left line used) rest
     = ap (λ (xs : List ℕ). reading left line xs) (sym (take-append-drop new.taken piece)) ∙ reading-append left line used rest in
     let less : length (s.rest ++ rest) < length rest = reads.0.memory memory code (s.rest ++ rest) (cut ∙ ap (λ (r : Reading). then_on r rest) stops) in
     let long : length (s.rest ++ rest) ≡ length s.rest + length rest = length-append s.rest rest in
     omega arith
 
-pub none_refused : (k : ℕ) (heard piece : List ℕ) (result : Result LineStep WireFault) (old : Progress) (new : LineState) → StandsOpen k heard old
-    → ((left : ℕ) (line : List ℕ) → old ≡ Waits left line → Reads (reading left line piece) piece result new)
-    → result ≡ Err Memory → NoneRefused k (heard ++ take new.taken piece)
-none_refused k heard piece result (Waits left line) new o reads e = none_waiting k left line heard piece result new o (reads left line refl) e
-none_refused k heard piece result Finished new o reads e = absurd o
-none_refused k heard piece result (Refused code) new o reads e = absurd o
+pub none_refused : (k : ℕ) (received piece : List ℕ) (result : Result LineStep WireFault) (old : Progress) (new : LineReaderData) → StandsOpen k received old
+    → ((left : ℕ) (line : List ℕ) → old ≡ Waits left line → FeedAnswer (reading left line piece) piece result new)
+    → result ≡ Err Memory → NoneRefused k (received ++ take new.taken piece)
+none_refused k received piece result (Waits left line) new o reads e = none_waiting k left line received piece result new o (reads left line refl) e
+none_refused k received piece result Finished new o reads e = absurd o
+none_refused k received piece result (Refused code) new o reads e = absurd o

@@ -13,18 +13,18 @@ use Rattle.sshwire.specs.Types.{boolean, BooleanText, IsBytes, MpintText, NameLi
 use Rattle.sshwire.specs.TypeReadings.{IsReading, ◌>>=◌, boolean_at, is_canonical, mpint_at, mpint_in, names_at, names_in, string_at, uint32_at}
 
 -- more or fewer bytes are bytes
-pub bytes_behind : (text rest : List ℕ) → IsBytes (text ++ rest) → IsBytes rest
-bytes_behind text rest h = λ i. rw (← get_or-append-add text rest i 0) (h (length text + i))
+pub bytes_after : (text rest : List ℕ) → IsBytes (text ++ rest) → IsBytes rest
+bytes_after text rest h = λ i. rw (← get_or-append-add text rest i 0) (h (length text + i))
 
 -- two readings of one front are one
 one_from : {V : Type 0} (Text : V → List ℕ → Type 0) (read : List ℕ → Result (V × List ℕ) WireFault)
     → ((value : V) (text rest : List ℕ) → Text value text → read (text ++ rest) ≡ Ok (value, rest))
-    → (value other : V) (text more rest behind : List ℕ) → Text value text → Text other more
-    → text ++ rest ≡ more ++ behind → (value ≡ other) × (rest ≡ behind)
-one_from {V = V} Text read complete value other text more rest behind t u e =
-    let same : ◌≡◌ {A = Result (V × List ℕ) WireFault} (Ok (value, rest)) (Ok (other, behind))
-    = sym (complete value text rest t) ∙ (ap read e ∙ complete other more behind u) in
-    let pairs : ◌≡◌ {A = V × List ℕ} (value, rest) (other, behind) = cc in
+    → (value other : V) (text more rest after : List ℕ) → Text value text → Text other more
+    → text ++ rest ≡ more ++ after → (value ≡ other) × (rest ≡ after)
+one_from {V = V} Text read complete value other text more rest after t u e =
+    let same : ◌≡◌ {A = Result (V × List ℕ) WireFault} (Ok (value, rest)) (Ok (other, after))
+    = sym (complete value text rest t) ∙ (ap read e ∙ complete other more after u) in
+    let pairs : ◌≡◌ {A = V × List ℕ} (value, rest) (other, after) = cc in
     (ap (λ (p : V × List ℕ). p.0) pairs, ap (λ (p : V × List ℕ). p.1) pairs)
 
 -- the steps of a reading
@@ -89,11 +89,11 @@ number_taken (a ∷ b ∷ c ∷ d ∷ bs) n rest h e =
     let read : ◌≡◌ {A = Result (ℕ × List ℕ) WireFault} (Ok (big_number 4 (a ∷ b ∷ c ∷ d ∷ bs), bs)) (Ok (n, rest)) = rw long at e in
     let same : ◌≡◌ {A = ℕ × List ℕ} (big_number 4 (a ∷ b ∷ c ∷ d ∷ bs), bs) (n, rest) = cc in
     let number : big_number 4 (a ∷ b ∷ c ∷ d ∷ bs) ≡ n = ap (λ (p : ℕ × List ℕ). p.0) same in
-    let behind : bs ≡ rest = ap (λ (p : ℕ × List ℕ). p.1) same in
+    let after : bs ≡ rest = ap (λ (p : ℕ × List ℕ). p.1) same in
     record {
       fits = rw number at (number_below a b c d bs (h 0) (h 1) (h 2) (h 3));
       bytes_are = ap (λ (xs : List ℕ). xs ++ bs) (sym (number_of_bytes a b c d bs (h 0) (h 1) (h 2) (h 3)))
-          ∙ (ap (λ (m : ℕ). uint32 m ++ bs) number ∙ ap (λ (xs : List ℕ). uint32 n ++ xs) behind);
+          ∙ (ap (λ (m : ℕ). uint32 m ++ bs) number ∙ ap (λ (xs : List ℕ). uint32 n ++ xs) after);
     }
 
 pub uint32_reading : IsReading Uint32Text uint32_at
@@ -114,20 +114,20 @@ unfolding string_at
 string_taken bytes s rest h e =
     let b = bind_ok (uint32_at bytes) (λ (n : ℕ × List ℕ). cond (ltb (length n.1) n.0) (Err Short) (Ok (take n.0 n.1, drop n.0 n.1))) (s, rest) e in
     let n : ℕ = b.0.0 in
-    let behind : List ℕ = b.0.1 in
-    let t = number_taken bytes n behind h b.1 in
-    let g = guard_ok (ltb (length behind) n) Short (take n behind, drop n behind) (s, rest) b.2 in
-    let within : n ≤ length behind = ltb-false _ _ g.0 in
-    let front : take n behind ≡ s = ap (λ (p : List ℕ × List ℕ). p.0) g.1 in
-    let back : drop n behind ≡ rest = ap (λ (p : List ℕ × List ℕ). p.1) g.1 in
-    let long : length s ≡ n = sym (ap (λ (xs : List ℕ). length xs) front) ∙ length-take-le n behind within in
-    let whole : behind ≡ s ++ rest = sym (take-append-drop n behind) ∙ (ap (λ (xs : List ℕ). xs ++ drop n behind) front ∙ ap (λ (xs : List ℕ). s ++ xs) back) in
+    let after : List ℕ = b.0.1 in
+    let t = number_taken bytes n after h b.1 in
+    let g = guard_ok (ltb (length after) n) Short (take n after, drop n after) (s, rest) b.2 in
+    let within : n ≤ length after = ltb-false _ _ g.0 in
+    let front : take n after ≡ s = ap (λ (p : List ℕ × List ℕ). p.0) g.1 in
+    let back : drop n after ≡ rest = ap (λ (p : List ℕ × List ℕ). p.1) g.1 in
+    let long : length s ≡ n = sym (ap (λ (xs : List ℕ). length xs) front) ∙ length-take-le n after within in
+    let whole : after ≡ s ++ rest = sym (take-append-drop n after) ∙ (ap (λ (xs : List ℕ). xs ++ drop n after) front ∙ ap (λ (xs : List ℕ). s ++ xs) back) in
     let fits : n < 2 ^ 32 = t.fits in
     record {
       fits = omega arith;
-      bytes_are = t.bytes_are ∙ (ap (λ (m : ℕ). uint32 m ++ behind) (sym long)
+      bytes_are = t.bytes_are ∙ (ap (λ (m : ℕ). uint32 m ++ after) (sym long)
           ∙ (ap (λ (xs : List ℕ). uint32 (length s) ++ xs) whole ∙ sym (append_assoc (uint32 (length s)) s rest)));
-      each = (let all : IsBytes (uint32 n ++ behind) = rw t.bytes_are at h in rw front at (bytes_taken n behind (bytes_behind (uint32 n) behind all)));
+      each = (let all : IsBytes (uint32 n ++ after) = rw t.bytes_are at h in rw front at (bytes_taken n after (bytes_after (uint32 n) after all)));
     }
 
 pub string_complete : (s rest : List ℕ) → length s < 2 ^ 32 → string_at (string s ++ rest) ≡ Ok (s, rest)
@@ -232,4 +232,4 @@ pub rest_bytes : {V : Type 0} (Text : V → List ℕ → Type 0) (read : List �
 rest_bytes Text read r bytes value rest h e =
     let s = r.sound bytes value rest h e in
     let all : IsBytes (s.0 ++ rest) = rw s.2 at h in
-    bytes_behind s.0 rest all
+    bytes_after s.0 rest all

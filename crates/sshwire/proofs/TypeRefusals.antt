@@ -10,7 +10,7 @@ use Rattle.sshwire.proofs.TypeLemmas.{number_taken, string_complete, string_read
 use Rattle.sshwire.specs.ByteLaws.{uint32_read}
 use Rattle.sshwire.specs.Types.{IsBytes, StringText, string}
 use Rattle.sshwire.specs.TypeReadings.{◌>>=◌, boolean_at, is_canonical, mpint_at, mpint_in, names_at, names_in, string_at, uint32_at}
-use Rattle.sshwire.specs.TypeRefusals.{AreNoNames, BeginsString, BooleanRefused, IsCutBehindLength, IsNotShortest, MpintRefused, NameListRefused, NoString, OnlyShort, RefusesExactly, StringRefused, Uint32Refused}
+use Rattle.sshwire.specs.TypeRefusals.{AreNoNames, BeginsString, BooleanRefused, IsCutAfterLength, IsNotShortest, MpintRefused, NameListRefused, NoString, OnlyShort, RefusesExactly, StringRefused, Uint32Refused}
 
 -- the steps of a reading that is refused
 bind_err : {A B : Type 0} (r : Result A WireFault) (f : A → Result B WireFault) (code : WireFault) → (r >>= f) ≡ Err code
@@ -62,7 +62,7 @@ uint32_refuses bytes code h = (
 
 -- string
 abbrev IsCut : List ℕ → Type 0
-IsCut bytes = (length bytes < 4) ⊎ IsCutBehindLength bytes
+IsCut bytes = (length bytes < 4) ⊎ IsCutAfterLength bytes
 
 string_err : (bytes : List ℕ) (code : WireFault) → IsBytes bytes → string_at bytes ≡ Err code → IsCut bytes × (code ≡ Short)
 unfolding string_at

@@ -25,15 +25,15 @@ round_further b bytes f =
     let n : suc (position_or_len is_space bytes) + 1 ≡ suc (position_or_len is_space bytes + 1) = omega arith in
     rw (e, n) (sym (and_assoc (is_software_byte b) (list_all is_software_byte (before_first is_space bytes)) (list_all is_comment_byte (after_first is_space bytes))))
 
-round_behind : (b : ℕ) (bytes : List ℕ) → is_space b ≡ true → are_round_space (b ∷ bytes) ≡ list_all is_comment_byte bytes
+round_after : (b : ℕ) (bytes : List ℕ) → is_space b ≡ true → are_round_space (b ∷ bytes) ≡ list_all is_comment_byte bytes
 unfolding are_round_space
-round_behind b bytes t = rw t refl
+round_after b bytes t = rw t refl
 
 round_spaced : (software comments : List ℕ) → are_round_space (software ++ 32 ∷ comments) ≡ (are_round_space software && list_all is_comment_byte comments)
 unfolding are_round_space
 round_spaced [] comments = refl
 round_spaced (b ∷ bs) comments = elim (cases_Bool (is_space b)) [
-  | inl t ↦ rw (round_behind b (bs ++ 32 ∷ comments) t, round_behind b bs t) (list_all-append is_comment_byte bs (32 ∷ comments))
+  | inl t ↦ rw (round_after b (bs ++ 32 ∷ comments) t, round_after b bs t) (list_all-append is_comment_byte bs (32 ∷ comments))
   | inr f ↦ rw (round_further b (bs ++ 32 ∷ comments) f, round_further b bs f, round_spaced bs comments)
       (and_assoc (is_software_byte b) (are_round_space bs) (list_all is_comment_byte comments))
 ]

@@ -45,11 +45,11 @@ software_not_space : (b : ℕ) → IsSoftwareByte b → is_space b ≡ false
 software_not_space b h = let above : 33 ≤ b = h.above_space in ne_eqb b 32 (λ e. omega arith)
 
 -- the softwareversion ends at the first space
-space_behind : (software : List ℕ) (comments : Option (List ℕ)) → AllByRecursion IsSoftwareByte software
+space_after : (software : List ℕ) (comments : Option (List ℕ)) → AllByRecursion IsSoftwareByte software
     → position_or_len is_space (software ++ comment_part comments) ≡ length software
-space_behind [] None h = refl
-space_behind [] (Some comments) h = refl
-space_behind (b ∷ bs) comments h = rw (software_not_space b h.0) (omega (arith, space_behind bs comments h.1))
+space_after [] None h = refl
+space_after [] (Some comments) h = refl
+space_after (b ∷ bs) comments h = rw (software_not_space b h.0) (omega (arith, space_after bs comments h.1))
 
 -- the comments, or nothing
 comments_or_nil : Option (List ℕ) → List ℕ
@@ -73,7 +73,7 @@ comments_tested (Some comments) h = all_tested is_comment_byte IsCommentByte com
 record RoundSpace (bytes : List ℕ) : Type 0 where
   comments : Option (List ℕ)
   bytes_are : bytes ≡ before_first is_space bytes ++ comment_part comments
-  behind : IfSome comments (λ c. c ≡ after_first is_space bytes)
+  after : IfSome comments (λ c. c ≡ after_first is_space bytes)
 
 pub space_further : (b : ℕ) (bs : List ℕ) → is_space b ≡ false → position_or_len is_space (b ∷ bs) ≡ suc (position_or_len is_space bs)
 space_further b bs f = rw f (one-add (position_or_len is_space bs))
@@ -84,23 +84,23 @@ further b bs comments f e =
     let P : ℕ → Type 0 = λ n. b ∷ bs ≡ take n (b ∷ bs) ++ comment_part comments in
     subst P (sym (space_further b bs f)) (ap (λ xs. b ∷ xs) e)
 
-further_behind : (b : ℕ) (bs : List ℕ) (comments : Option (List ℕ)) → is_space b ≡ false → IfSome comments (λ c. c ≡ after_first is_space bs)
+further_after : (b : ℕ) (bs : List ℕ) (comments : Option (List ℕ)) → is_space b ≡ false → IfSome comments (λ c. c ≡ after_first is_space bs)
     → IfSome comments (λ c. c ≡ after_first is_space (b ∷ bs))
-further_behind b bs None f h = tt
-further_behind b bs (Some c) f h =
+further_after b bs None f h = tt
+further_after b bs (Some c) f h =
     let P : ℕ → Type 0 = λ n. c ≡ drop n (b ∷ bs) in
     let e : suc (position_or_len is_space bs + 1) ≡ position_or_len is_space (b ∷ bs) + 1 = rw (space_further b bs f) (omega arith) in
     subst P e h
 
 round_space : (bytes : List ℕ) → RoundSpace bytes
-round_space [] = record { comments = None; bytes_are = refl; behind = tt }
+round_space [] = record { comments = None; bytes_are = refl; after = tt }
 round_space (b ∷ bs) = elim (cases_Bool (is_space b)) [
   | inl t ↦
       let is : b ≡ 32 = eqb-true b 32 t in
-      record { comments = Some bs; bytes_are = rw (t, is) refl; behind = rw t refl }
+      record { comments = Some bs; bytes_are = rw (t, is) refl; after = rw t refl }
   | inr f ↦
       let r = round_space bs in
-      record { comments = r.comments; bytes_are = further b bs r.comments f r.bytes_are; behind = further_behind b bs r.comments f r.behind }
+      record { comments = r.comments; bytes_are = further b bs r.comments f r.bytes_are; after = further_after b bs r.comments f r.after }
 ]
 
 -- the bytes behind SSH-2.0-
@@ -114,8 +114,8 @@ record IsTail (bytes : List ℕ) : Type 0 where
 
 comments_from_test : (bytes : List ℕ) (comments : Option (List ℕ)) → IfSome comments (λ c. c ≡ after_first is_space bytes)
     → list_all is_comment_byte (after_first is_space bytes) ≡ true → IfSome comments (AllByRecursion IsCommentByte)
-comments_from_test bytes None behind t = tt
-comments_from_test bytes (Some c) behind t = all_from_test is_comment_byte IsCommentByte comment_byte c (rw behind t)
+comments_from_test bytes None after t = tt
+comments_from_test bytes (Some c) after t = all_from_test is_comment_byte IsCommentByte comment_byte c (rw after t)
 
 tail_from_test : (bytes : List ℕ) → is_software_and_comments bytes ≡ true → IsTail bytes
 unfolding is_software_and_comments
@@ -130,20 +130,20 @@ tail_from_test bytes t =
       bytes_are = r.bytes_are;
       not_empty = ltb-true 0 (length software) p.0;
       software_bytes = all_from_test is_software_byte IsSoftwareByte software_byte software q.0;
-      comment_bytes = comments_from_test bytes r.comments r.behind q.1;
+      comment_bytes = comments_from_test bytes r.comments r.after q.1;
     }
 
 tail_tested : (software : List ℕ) (comments : Option (List ℕ)) → 0 < length software → AllByRecursion IsSoftwareByte software
     → IfSome comments (AllByRecursion IsCommentByte) → is_software_and_comments (software ++ comment_part comments) ≡ true
 unfolding is_software_and_comments
 tail_tested software comments some s c =
-    let end : position_or_len is_space (software ++ comment_part comments) ≡ length software = space_behind software comments s in
+    let end : position_or_len is_space (software ++ comment_part comments) ≡ length software = space_after software comments s in
     let front : before_first is_space (software ++ comment_part comments) ≡ software = rw end (take_at software (comment_part comments) (length software) refl) in
-    let behind : after_first is_space (software ++ comment_part comments) ≡ comments_or_nil comments = rw end (after_space software comments) in
+    let after : after_first is_space (software ++ comment_part comments) ≡ comments_or_nil comments = rw end (after_space software comments) in
     let t₀ : ltb 0 (length (before_first is_space (software ++ comment_part comments))) ≡ true = rw front (lt-ltb 0 (length software) some) in
     let t₁ : list_all is_software_byte (before_first is_space (software ++ comment_part comments)) ≡ true
     = rw front (all_tested is_software_byte IsSoftwareByte software_byte_test software s) in
-    let t₂ : list_all is_comment_byte (after_first is_space (software ++ comment_part comments)) ≡ true = rw behind (comments_tested comments c) in
+    let t₂ : list_all is_comment_byte (after_first is_space (software ++ comment_part comments)) ≡ true = rw after (comments_tested comments c) in
     and_from _ _ t₀ (and_from _ _ t₁ t₂)
 
 pub version_text_from_test : (text : List ℕ) → is_version_text text ≡ true → IsVersionText text

@@ -1,7 +1,7 @@
 pub mod Lines
 pub mod Reading
 pub mod Meaning
-pub mod LineState
+pub mod LineReaderData
 pub mod Feeding
 pub mod Types
 pub mod TypeReadings

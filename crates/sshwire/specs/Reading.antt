@@ -68,7 +68,7 @@ then_on (Stop code rest) more = Stop code (rest ++ more)
 
 -- where the reading stops, it stops within the rest: what stands before it is not refused
 abbrev pub StopsWithin : Reading → List ℕ → Type 0
-StopsWithin r rest = (code : WireFault) (behind : List ℕ) → r ≡ Stop code behind → length behind < length rest
+StopsWithin r rest = (code : WireFault) (after : List ℕ) → r ≡ Stop code after → length after < length rest
 
 -- the reading stops with the code; or memory ran out, where nothing that was read is refused
 pub record Stops (code : WireFault) (r : Reading) (rest : List ℕ) : Type 0 where

@@ -126,5 +126,5 @@ pub record IsReading {V : Type 0} (Text : V → List ℕ → Type 0) (read : Lis
       → (text : List ℕ) × Text value text × (bytes ≡ text ++ rest)
   pub complete : (value : V) (text rest : List ℕ) → Text value text → read (text ++ rest) ≡ Ok (value, rest)
   -- no two readings hold of one text, nor of one prefix
-  pub one : (value other : V) (text more rest behind : List ℕ) → Text value text → Text other more
-      → text ++ rest ≡ more ++ behind → (value ≡ other) × (rest ≡ behind)
+  pub one : (value other : V) (text more rest after : List ℕ) → Text value text → Text other more
+      → text ++ rest ≡ more ++ after → (value ≡ other) × (rest ≡ after)

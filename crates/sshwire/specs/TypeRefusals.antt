@@ -11,7 +11,7 @@ OnlyShort missing Short = missing
 OnlyShort missing _ = ⊥
 
 -- a length stands at the front, with fewer bytes behind it
-pub record IsCutBehindLength (bytes : List ℕ) : Type 0 where
+pub record IsCutAfterLength (bytes : List ℕ) : Type 0 where
   pub len : ℕ
   pub rest : List ℕ
   pub fits : len < 2 ^ 32
@@ -25,7 +25,7 @@ abbrev pub Uint32Refused : List ℕ → WireFault → Type 0
 Uint32Refused bytes code = OnlyShort (length bytes < 4) code
 
 abbrev pub StringRefused : List ℕ → WireFault → Type 0
-StringRefused bytes code = OnlyShort ((length bytes < 4) ⊎ IsCutBehindLength bytes) code
+StringRefused bytes code = OnlyShort ((length bytes < 4) ⊎ IsCutAfterLength bytes) code
 
 -- no string stands at the front
 abbrev pub NoString : List ℕ → Type 0

@@ -21,7 +21,7 @@ pub fn reading_law()
     ensures one { (k : ℕ) (bytes : List ℕ) (r s : Reading) → ReadingMeans k bytes r → ReadingMeans k bytes s → r ≡ s }
 
     // What stands behind a preamble lies within the bytes, and so does a refused byte.
-    ensures behind { (k : ℕ) (bytes text rest : List ℕ) → reading k [] bytes ≡ Got text rest → IsLeftOf bytes rest }
+    ensures after { (k : ℕ) (bytes text rest : List ℕ) → reading k [] bytes ≡ Got text rest → IsLeftOf bytes rest }
     ensures within { (k : ℕ) (bytes : List ℕ) (place : ℕ) (code : WireFault) → LineRefused k bytes place code → place < length bytes }
 
     // A cut changes nothing; a refusal stays, whatever follows.

@@ -2,7 +2,7 @@
 
 ghost use Rattle.std.specs.Prelude.{◌≡◌, ◌≢◌, ◌-◌, ◌≤◌, ◌↔◌, ℕ, IsTrue, List, [], ◌∷◌, ◌++◌, length, drop, take, None, Ok, Err};
 ghost use Rattle.sshwire.specs.Lines.{IsUnfinished};
-ghost use Rattle.sshwire.specs.LineState.{Finished, Waits, held, unfinished};
+ghost use Rattle.sshwire.specs.LineReaderData.{Finished, Waits, held, unfinished};
 ghost use Rattle.sshwire.specs.Reading.{ReadsTo, reading};
 
 use crate::fault::WireFault;
@@ -48,21 +48,21 @@ pub struct LineReader {
 }
 
 impl Model for LineReader {
-    ghost use Rattle.sshwire.specs.LineState.{LineState};
+    ghost use Rattle.sshwire.specs.LineReaderData.{LineReaderData};
 
-    ghost Value = { LineState };
+    ghost Value = { LineReaderData };
 
-    ghost use Rattle.sshwire.specs.Feeding.{IsInside, state_of};
+    ghost use Rattle.sshwire.specs.Feeding.{IsInside, line_reader_data};
 
-    ghost view = { state_of };
+    ghost view = { line_reader_data };
 
     ghost invariant = { IsInside };
 }
 
 impl LineReader {
     ghost use Rattle.sshwire.specs.declared.fault.WireFault.{WireFault};
-    ghost use Rattle.sshwire.specs.Feeding.{IsAgain, Leaves, NoneRefused, OnlyPreambleAnswer, Reads, StandsOpen, PreambleAnswer};
-    ghost use Rattle.sshwire.specs.LineState.{Refused};
+    ghost use Rattle.sshwire.specs.Feeding.{IsAgain, Leaves, NoneRefused, OnlyPreambleAnswer, FeedAnswer, StandsOpen, PreambleAnswer};
+    ghost use Rattle.sshwire.specs.LineReaderData.{Refused};
 
     /// A reader that accepts so many other lines before the version line, and has read nothing. A
     /// client gives `OTHER_LINE_LIMIT`; a server takes none (RFC 4253 section 4.2).
@@ -92,14 +92,14 @@ impl LineReader {
         requires { self.old.progress ≢ Finished }
 
         // Whatever was heard before, in whatever pieces: the answer is that of all bytes together.
-        ensures tells { (k : ℕ) (heard : List ℕ) → StandsOpen k heard self.old.progress
-            → PreambleAnswer k heard piece.now result self.new }
-        ensures only { (k : ℕ) (heard : List ℕ) → StandsOpen k heard self.old.progress
-            → OnlyPreambleAnswer k heard piece.now result }
+        ensures tells { (k : ℕ) (received : List ℕ) → StandsOpen k received self.old.progress
+            → PreambleAnswer k received piece.now result self.new }
+        ensures only { (k : ℕ) (received : List ℕ) → StandsOpen k received self.old.progress
+            → OnlyPreambleAnswer k received piece.now result }
 
         // Want of memory never stands in place of a refusal: up to the last byte used none was due.
-        ensures memory { (k : ℕ) (heard : List ℕ) → StandsOpen k heard self.old.progress
-            → result ≡ Err WireFault.Memory → NoneRefused k (heard ++ take self.new.taken piece.now) }
+        ensures memory { (k : ℕ) (received : List ℕ) → StandsOpen k received self.old.progress
+            → result ≡ Err WireFault.Memory → NoneRefused k (received ++ take self.new.taken piece.now) }
 
         ensures leaves { Leaves result self.new.progress }
         ensures taken { self.new.taken ≤ length piece.now }
@@ -108,7 +108,7 @@ impl LineReader {
 
         // The same as a function of what the reader holds.
         ensures reads { (left : ℕ) (line : List ℕ) → self.old.progress ≡ Waits left line
-            → Reads (reading left line piece.now) piece.now result self.new }
+            → FeedAnswer (reading left line piece.now) piece.now result self.new }
     {
         self.advance(piece)
     }
@@ -164,7 +164,7 @@ impl LineReader {
         ensures again { (code : WireFault) → self.old.progress ≡ Refused code
             → IsAgain code result self.new }
         ensures reads { (left : ℕ) (line : List ℕ) → self.old.progress ≡ Waits left line
-            → Reads (reading left line piece.now) piece.now result self.new }
+            → FeedAnswer (reading left line piece.now) piece.now result self.new }
     {
         if let Ending::Refused(fault) = self.ending {
             self.taken = 0;

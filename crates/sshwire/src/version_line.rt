@@ -228,7 +228,7 @@ fn are_parts(software: &[u8], comments: &[u8]) -> bool
 /// What stands before the first space, and behind it.
 fn split_at_space(bytes: &[u8]) -> (&[u8], &[u8])
     ensures before { result.0.now ≡ before_first is_space bytes.now }
-    ensures behind { result.1.now ≡ after_first is_space bytes.now }
+    ensures after { result.1.now ≡ after_first is_space bytes.now }
 {
     match first_space(bytes) {
         Some(end) => (&bytes[..end], &bytes[end + 1..]),

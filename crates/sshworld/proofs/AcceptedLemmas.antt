@@ -9,7 +9,7 @@ use Rattle.sshwire.specs.declared.share_form.ShareForm.{ShareForm}
 use Rattle.sshwire.specs.declared.share_form.ShareForm.TheVariants.{Hybrid, Mpint, OctetString}
 use Rattle.sshwire.specs.Types.{IsBytes, IsName}
 use Rattle.sshwire.proofs.NameLemmas.{name_tested}
-use Rattle.sshmsg.specs.Content.{Content, KexInit, UserauthBanner, UserauthFailure, UserauthPkOk, UserauthRequest}
+use Rattle.sshmsg.specs.MessageData.{KexInit, MessageData, UserauthBanner, UserauthFailure, UserauthPkOk, UserauthRequest}
 use Rattle.sshmsg.specs.Messages.{message_in}
 use Rattle.sshmsg.specs.Written.{IsMessageOf, IsMethod, IsNameList, IsNumber, IsOffer, IsString, IsWellFormed, method_name, written_message}
 use Rattle.sshneg.specs.declared.choice.NoCommon.TheVariants as field
@@ -17,27 +17,27 @@ use Rattle.sshneg.specs.declared.role.Role.{Role}
 use Rattle.sshneg.specs.declared.role.Role.TheVariants.{Client, Server}
 use Rattle.sshneg.specs.ChoiceReadings.{choice, is_in}
 use Rattle.sshneg.specs.Derivations.{signed_text}
-use Rattle.sshneg.specs.Fields.{Algorithms}
+use Rattle.sshneg.specs.Fields.{AlgorithmsData}
 use Rattle.sshneg.specs.Markers.{strict_marker}
 use Rattle.sshneg.proofs.ChoiceLaws.{choice_sound}
 use Rattle.sshneg.proofs.ChoicePlaces.{well}
 use Rattle.sshneg.proofs.FirstLemmas.{contains_in}
 use Rattle.sshpacket.specs.Shares.{IsShare}
-use Rattle.sshpacket.specs.Suite.{Agrees, IsAgreeing, IsLawful, Meaning, ResponseData, has_number_shares, shares_number}
+use Rattle.sshpacket.specs.Suite.{Agrees, IsAgreeing, IsLawful, ResponseData, SuiteData, has_number_shares, shares_number}
 use Rattle.sshcore.specs.declared.config_fault.ConfigFault.TheVariants as fault
 use Rattle.sshcore.specs.Attempts.{method_by}
-use Rattle.sshcore.specs.ConfigData.{Attempt, ByKey, ByNothing, ByPassword, ClientData, Proving, ServerData, client_offer, server_offer}
+use Rattle.sshcore.specs.ConfigParts.{AttemptData, ByKey, ByNothing, ByPassword, ClientData, CredentialData, ServerData, client_offer, server_offer}
 use Rattle.sshcore.specs.ConfigRules.{HasShortPassword, IsClient, IsNamed, IsServer}
 use Rattle.sshcore.specs.Counting.{switched_out}
 use Rattle.sshcore.specs.Exchange.{answer_or, secret_of}
-use Rattle.sshcore.specs.Party.{Policy, client_party, server_party}
-use Rattle.sshcore.specs.Plan.{behind_query, unasked}
+use Rattle.sshcore.specs.EndpointParts.{DecisionsData, config_of_client, config_of_server}
+use Rattle.sshcore.specs.Plan.{after_query, unasked}
 use Rattle.sshcore.specs.Work.{init_in, reply_in}
 use Rattle.sshworld.specs.Agreement.{answer_of_server, host_key_of_server, session_between}
 use Rattle.sshworld.specs.Follows.{BothFollow}
 use Rattle.sshworld.specs.Judging.{is_proved}
 use Rattle.sshworld.specs.Offered.{offered}
-use Rattle.sshworld.specs.Placed.{BothInPlace, HaveSameKeys, said_by_client, said_by_server}
+use Rattle.sshworld.specs.Placed.{BothInPlace, HaveSameKeys, sent_by_client, sent_by_server}
 use Rattle.sshworld.specs.Understood.{AreUnderstood, CanSign}
 use Rattle.sshworld.specs.Wordings.{answer_by, signature_of_server, wording_of}
 use Rattle.sshworld.proofs.BothFollowLemmas.{both_follow}
@@ -47,8 +47,8 @@ use Rattle.sshworld.proofs.PlacedLemmas.{both_placed}
 use Rattle.sshworld.proofs.Readable.{AreOffersRead, AreSound, HasShortBlob, IsRead, IsTestedName}
 
 -- the laws of the crates below that this rests on
-pub record Below (m : Meaning) : Type 0 where
-  pub again : (form : ShareForm) (x : Content) → IsMessageOf form x → IsWellFormed x → message_in form (written_message x) ≡ Ok x
+pub record Below (m : SuiteData) : Type 0 where
+  pub again : (form : ShareForm) (x : MessageData) → IsMessageOf form x → IsWellFormed x → message_in form (written_message x) ≡ Ok x
   pub share : (kex a : List ℕ) → length a ≡ 32 → IsBytes a → IsShare (has_number_shares (m.share_form kex)) (m.share kex a)
   pub response : (kex a peer : List ℕ) (r : ResponseData) → length a ≡ 32 → IsBytes a → IsBytes peer → m.respond kex a peer ≡ Some r
       → IsShare (has_number_shares (m.share_form kex)) r.share × IsShare (shares_number (m.share_form kex)) r.shared
@@ -93,34 +93,34 @@ not_in names name none = by (is_in names name) refl
     by true e = absurd (none (contains_in names name e))
     by false e = e
 
-module _ (m : Meaning) (law : IsLawful m) (below : Below m) (c : ClientData) (s : ServerData) (client : IsClient c) (server : IsServer s) where
+module _ (m : SuiteData) (law : IsLawful m) (below : Below m) (c : ClientData) (s : ServerData) (client : IsClient c) (server : IsServer s) where
   pub offers_read : AreOffersRead c s
   offers_read = record {
     client = λ form. below.again form (KexInit (client_offer c)) tt (below.client_written c client);
     server = λ form. below.again form (KexInit (server_offer s)) tt (below.server_written s server);
   }
 
-  of_plan : (d : Policy) (Q : Attempt → Type 0) → ((r : Attempt) → Q r → Q (behind_query r)) → AllByRecursion Q c.plan
-      → (i : ℕ) (r : Attempt) → slice_get (offered m d s c.plan) i ≡ Some r → Q r
+  of_plan : (d : DecisionsData) (Q : AttemptData → Type 0) → ((r : AttemptData) → Q r → Q (after_query r)) → AllByRecursion Q c.plan
+      → (i : ℕ) (r : AttemptData) → slice_get (offered m d s c.plan) i ≡ Some r → Q r
   of_plan d Q itself all i r e = offered_each m d s Q itself c.plan all i r e
 
-  named_by : (p : Proving) → IsNamed p → IsTestedName p
+  named_by : (p : CredentialData) → IsNamed p → IsTestedName p
   named_by ByNothing t = tt
   named_by (ByPassword password) t = tt
   named_by (ByKey algorithm secret ask) t = name_tested algorithm t
 
   -- an attempt behind its query has what it had
-  unasked_named : (p : Proving) → IsNamed p → IsNamed (unasked p)
+  unasked_named : (p : CredentialData) → IsNamed p → IsNamed (unasked p)
   unasked_named ByNothing t = t
   unasked_named (ByPassword password) t = t
   unasked_named (ByKey algorithm secret ask) t = t
 
-  unasked_short : (p : Proving) → HasShortPassword p → HasShortPassword (unasked p)
+  unasked_short : (p : CredentialData) → HasShortPassword p → HasShortPassword (unasked p)
   unasked_short ByNothing t = t
   unasked_short (ByPassword password) t = t
   unasked_short (ByKey algorithm secret ask) t = t
 
-  each_named : (plan : List Attempt) → AllByRecursion (λ (a : Attempt). IsName a.service × IsNamed a.proving) plan → AllByRecursion (λ (a : Attempt). IsTestedName a.proving) plan
+  each_named : (plan : List AttemptData) → AllByRecursion (λ (a : AttemptData). IsName a.service × IsNamed a.proving) plan → AllByRecursion (λ (a : AttemptData). IsTestedName a.proving) plan
   each_named [] all = tt
   each_named (x ∷ later) all = (named_by x.proving all.0.1, each_named later all.1)
 
@@ -141,7 +141,7 @@ module _ (m : Meaning) (law : IsLawful m) (below : Below m) (c : ClientData) (s 
       let answered = below.response kex s.side.random (m.share kex c.side.random) g.answer (server.keeps fault.Random).random server.bytes.random (client_share kex).bytes g.responds in
       subst (λ (o : Option ResponseData). IsShare (has_number_shares (m.share_form kex)) (answer_or o).share) (sym g.responds) answered.0
 
-  method_well : (session : List ℕ) (r : Attempt) (p : Proving) → IsNamed p → HasShortPassword p
+  method_well : (session : List ℕ) (r : AttemptData) (p : CredentialData) → IsNamed p → HasShortPassword p
       → IsString (method_name (method_by m session r.user r.service p)) × IsMethod (method_by m session r.user r.service p)
   method_well session r ByNothing named short = (omega arith, tt)
   method_well session r (ByPassword password) named short = (omega arith, omega (arith, short))
@@ -156,7 +156,7 @@ module _ (m : Meaning) (law : IsLawful m) (below : Below m) (c : ClientData) (s 
   banner_short : (text : List ℕ) → s.banner ≡ Some text → length text ≤ 8192
   banner_short text has = subst (λ (b : Option (List ℕ)). IfSome b (λ text. length text ≤ 8192)) has (server.keeps fault.Blob).1
 
-  pub reads_all : (d : Policy) → AreUnderstood m d c s → (a : Algorithms) → choice m (client_offer c) (server_offer s) ≡ Ok a → IsRead m d c s a
+  pub reads_all : (d : DecisionsData) → AreUnderstood m d c s → (a : AlgorithmsData) → choice m (client_offer c) (server_offer s) ≡ Ok a → IsRead m d c s a
   reads_all d understood a chosen =
       let name : IsName a.host_key = well m (client_offer c) (server_offer s) a (choice_sound m (client_offer c) (server_offer s) a chosen) field.HostKey (below.client_written c client).server_host_key_algorithms.each in
       record {
@@ -170,15 +170,15 @@ module _ (m : Meaning) (law : IsLawful m) (below : Below m) (c : ClientData) (s 
         short = λ i r e. blob_short r.proving (named_at i r e).1;
         requests = λ i r e form.
             let named = named_at i r e in
-            let w = method_well (session_between m c s a) r r.proving named.1 (of_plan d (λ (a : Attempt). HasShortPassword a.proving) (λ r h. unasked_short r.proving h) (client.keeps fault.Secret) i r e) in
+            let w = method_well (session_between m c s a) r r.proving named.1 (of_plan d (λ (a : AttemptData). HasShortPassword a.proving) (λ r h. unasked_short r.proving h) (client.keeps fault.Secret) i r e) in
             below.again form (UserauthRequest r.user r.service (method_by m (session_between m c s a) r.user r.service r.proving)) tt
-            (of_plan d (λ (a : Attempt). IsUtf8 a.user) (λ r h. h) client.users i r e, omega (arith, of_plan d (λ (a : Attempt). length a.user ≤ 255) (λ r h. h) (client.keeps fault.User) i r e), omega (arith, named.0.short), w.0, w.1);
+            (of_plan d (λ (a : AttemptData). IsUtf8 a.user) (λ r h. h) client.users i r e, omega (arith, of_plan d (λ (a : AttemptData). length a.user ≤ 255) (λ r h. h) (client.keeps fault.User) i r e), omega (arith, named.0.short), w.0, w.1);
       }
     where
-      named_at : (i : ℕ) (r : Attempt) → slice_get (offered m d s c.plan) i ≡ Some r → IsName r.service × IsNamed r.proving
-      named_at i r e = of_plan d (λ (a : Attempt). IsName a.service × IsNamed a.proving) (λ r h. (h.0, unasked_named r.proving h.1)) (client.keeps fault.Name).2 i r e
+      named_at : (i : ℕ) (r : AttemptData) → slice_get (offered m d s c.plan) i ≡ Some r → IsName r.service × IsNamed r.proving
+      named_at i r e = of_plan d (λ (a : AttemptData). IsName a.service × IsNamed a.proving) (λ r h. (h.0, unasked_named r.proving h.1)) (client.keeps fault.Name).2 i r e
 
-      blob_short : (p : Proving) → IsNamed p → HasShortBlob m p
+      blob_short : (p : CredentialData) → IsNamed p → HasShortBlob m p
       blob_short ByNothing t = tt
       blob_short (ByPassword password) t = tt
       blob_short (ByKey algorithm secret ask) t = let high : length (m.blob algorithm secret) ≤ 8192 = law.blob_high algorithm secret t in grind (arith, nat_tests, high)
@@ -186,7 +186,7 @@ module _ (m : Meaning) (law : IsLawful m) (below : Below m) (c : ClientData) (s 
       failure_read : (form : ShareForm) (partial : Bool) → message_in form (written_message (UserauthFailure s.methods partial)) ≡ Ok (UserauthFailure s.methods partial)
       failure_read form partial = below.again form (UserauthFailure s.methods partial) tt methods_well
 
-      answer_read : (form : ShareForm) (p : Proving) (proved : Bool) → IsNamed p → message_in form (written_message (answer_by m s.methods proved p)) ≡ Ok (answer_by m s.methods proved p)
+      answer_read : (form : ShareForm) (p : CredentialData) (proved : Bool) → IsNamed p → message_in form (written_message (answer_by m s.methods proved p)) ≡ Ok (answer_by m s.methods proved p)
       answer_read form ByNothing proved t = failure_read form proved
       answer_read form (ByPassword password) proved t = failure_read form proved
       answer_read form (ByKey algorithm secret false) proved t = failure_read form proved
@@ -195,32 +195,32 @@ module _ (m : Meaning) (law : IsLawful m) (below : Below m) (c : ClientData) (s 
       answer_read form (ByKey algorithm secret true) false t = failure_read form false
 
 -- all ends agree, and all keys sign
-can_sign : (m : Meaning) → IsAgreeing m → (p : Proving) → CanSign m p
+can_sign : (m : SuiteData) → IsAgreeing m → (p : CredentialData) → CanSign m p
 can_sign m agrees ByNothing = tt
 can_sign m agrees (ByPassword password) = tt
 can_sign m agrees (ByKey algorithm secret ask) = agrees.signed algorithm secret
 
-can_sign_each : (m : Meaning) → IsAgreeing m → (plan : List Attempt) → AllByRecursion (λ (r : Attempt). CanSign m r.proving) plan
+can_sign_each : (m : SuiteData) → IsAgreeing m → (plan : List AttemptData) → AllByRecursion (λ (r : AttemptData). CanSign m r.proving) plan
 can_sign_each m agrees [] = tt
 can_sign_each m agrees (a ∷ later) = (can_sign m agrees a.proving, can_sign_each m agrees later)
 
-pub understood_by : (m : Meaning) (d : Policy) (c : ClientData) (s : ServerData) → IsAgreeing m → IsClient c → IsServer s → AreUnderstood m d c s
+pub understood_by : (m : SuiteData) (d : DecisionsData) (c : ClientData) (s : ServerData) → IsAgreeing m → IsClient c → IsServer s → AreUnderstood m d c s
 understood_by m d c s agrees client server = record {
   exchange = λ a chosen. agrees.agreed a.kex c.side.random s.side.random (client.keeps fault.Random).random (server.keeps fault.Random).random client.bytes.random server.bytes.random;
   host_key = λ a chosen trusted. agrees.signed a.host_key (secret_of s.host_keys a.host_key);
   plan = can_sign_each m agrees c.plan;
 }
 
-pub accepted_follow : (m : Meaning) → IsLawful m → Below m → (d : Policy) (c : ClientData) (s : ServerData) → AreUnderstood m d c s → IsClient c → IsServer s → BothFollow m d c s (wording_of m d c s)
+pub accepted_follow : (m : SuiteData) → IsLawful m → Below m → (d : DecisionsData) (c : ClientData) (s : ServerData) → AreUnderstood m d c s → IsClient c → IsServer s → BothFollow m d c s (wording_of m d c s)
 accepted_follow m law below d c s understood client server =
     both_follow m d c s understood (sound m law below c s client server) (offers_read m law below c s client server) (reads_all m law below c s client server d understood)
 
-pub accepted_placed : (m : Meaning) → IsLawful m → Below m → (d : Policy) (c : ClientData) (s : ServerData) → AreUnderstood m d c s → IsClient c → IsServer s → BothInPlace m d c s
+pub accepted_placed : (m : SuiteData) → IsLawful m → Below m → (d : DecisionsData) (c : ClientData) (s : ServerData) → AreUnderstood m d c s → IsClient c → IsServer s → BothInPlace m d c s
 accepted_placed m law below d c s understood client server =
     both_placed m d c s understood (sound m law below c s client server) (offers_read m law below c s client server) (reads_all m law below c s client server d understood)
 
-pub accepted_same_keys : (m : Meaning) → IsLawful m → Below m → (d : Policy) (c : ClientData) (s : ServerData) → AreUnderstood m d c s → IsClient c → IsServer s
-    → (switched_out (said_by_client m d c s) ≡ true) ⊎ (switched_out (said_by_server m d c s) ≡ true)
-    → HaveSameKeys m Client Server (client_party c) (server_party s) (said_by_client m d c s) (said_by_server m d c s)
+pub accepted_same_keys : (m : SuiteData) → IsLawful m → Below m → (d : DecisionsData) (c : ClientData) (s : ServerData) → AreUnderstood m d c s → IsClient c → IsServer s
+    → (switched_out (sent_by_client m d c s) ≡ true) ⊎ (switched_out (sent_by_server m d c s) ≡ true)
+    → HaveSameKeys m Client Server (config_of_client c) (config_of_server s) (sent_by_client m d c s) (sent_by_server m d c s)
 accepted_same_keys m law below d c s understood client server =
     same_keys m d c s understood (sound m law below c s client server) (offers_read m law below c s client server) (reads_all m law below c s client server d understood)

@@ -4,41 +4,41 @@ use Rattle.std.proofs.Common.{◌≡◌, ◌≢◌, ℕ, Bool, true, false, cond
 use Rattle.sshneg.specs.declared.role.Role.TheVariants.{Client, Server}
 use Rattle.sshneg.specs.Derivations.{ExchangeData}
 use Rattle.sshneg.specs.Markers.{other}
-use Rattle.sshpacket.specs.KeyData.{KeyData}
+use Rattle.sshpacket.specs.KeysData.{KeysData}
 use Rattle.sshpacket.specs.Parse.{Refusal}
 use Rattle.sshpacket.specs.Places.{EachPlace, IsPrefix, flat_places}
-use Rattle.sshpacket.specs.Stream.{Heard, Read, Spelled, Units}
-use Rattle.sshpacket.specs.Suite.{IsLawful, Meaning}
+use Rattle.sshpacket.specs.Stream.{Read, Received, Spelled, Units}
+use Rattle.sshpacket.specs.Suite.{IsLawful, SuiteData}
 use Rattle.sshpacket.proofs.Places.{prefix-all}
 use Rattle.sshpacket.proofs.Streams.{read_more}
 use Rattle.sshcore.specs.declared.session.Direction.{Direction}
 use Rattle.sshcore.specs.declared.session.Session.{Session}
 use Rattle.sshcore.specs.Before.{stood, strict_at}
-use Rattle.sshcore.specs.ConfigData.{ClientData, ServerData, version_of}
+use Rattle.sshcore.specs.ConfigParts.{ClientData, ServerData, version_of}
 use Rattle.sshcore.specs.Counting.{number_in, number_out, switched_out}
 use Rattle.sshcore.specs.Directions.{keys_in, parsers, payloads_in, spells, version_in}
-use Rattle.sshcore.specs.Ending.{AgreedData, Authenticated, Ending, Open}
+use Rattle.sshcore.specs.EndData.{AgreedData, Authenticated, EndData, Open}
 use Rattle.sshcore.specs.Exchange.{exchange_at, keys_at}
 use Rattle.sshcore.specs.History.{History, IsReady}
-use Rattle.sshcore.specs.Party.{Policy, client_party, server_party}
+use Rattle.sshcore.specs.EndpointParts.{DecisionsData, config_of_client, config_of_server}
 use Rattle.sshcore.specs.Sessions.{IsSession}
 use Rattle.sshcore.proofs.Below.{Below}
-use Rattle.sshworld.specs.CourseHeard.{BothHear, client_partner, server_partner}
+use Rattle.sshworld.specs.CourseReceived.{BothReceive, client_partner, server_partner}
 use Rattle.sshworld.specs.Course.{way_of}
 use Rattle.sshworld.specs.Follows.{IsInPart}
 use Rattle.sshworld.specs.Guesses.{guess_of}
-use Rattle.sshworld.specs.Halves.{HearsCourse, Partner, payloads_of, stream_of}
+use Rattle.sshworld.specs.Partners.{Partner, ReceivesCourse, payloads_of, stream_of}
 use Rattle.sshworld.specs.Headline.{AreInCourse, EndAs}
 use Rattle.sshworld.specs.Joined.{AreCrosswise}
 use Rattle.sshworld.specs.Laws.{Laws}
 use Rattle.sshworld.specs.Outcome.{outcome}
-use Rattle.sshworld.specs.Rounds.{units_said}
+use Rattle.sshworld.specs.Rounds.{units_sent}
 use Rattle.sshworld.specs.Wording.{Wording}
 use Rattle.sshworld.proofs.HeadlineLemmas.{end_as, ends_as, one, sent_count}
-use Rattle.sshworld.proofs.JoinedLemmas.{client_of, joined_course, said_within, server_of}
-use Rattle.sshworld.proofs.LetInLemmas.{HearAll, hear_all, lets_in}
-use Rattle.sshworld.proofs.LinkLemmas.{SpeaksInCourse, SameWay, all_spelled, numbers_same, same_way, speaks_by, switches_said}
-use Rattle.sshworld.proofs.OneWayLemmas.{behind_all}
+use Rattle.sshworld.proofs.JoinedLemmas.{client_of, joined_course, sent_within, server_of}
+use Rattle.sshworld.proofs.UserAcceptedLemmas.{ReceiveAll, accepts, receive_all}
+use Rattle.sshworld.proofs.LinkLemmas.{SpeaksInCourse, SameWay, all_spelled, numbers_same, same_way, speaks_by, switches_sent}
+use Rattle.sshworld.proofs.OneWayLemmas.{after_all}
 
 none_left : {A : Type 0} (xs : List A) → length xs ≡ 0 → xs ≡ []
 none_left [] e = refl
@@ -51,37 +51,37 @@ prefix_full us all f e =
     sym (f.whole_is ∙ (ap (λ (l : Units). us ++ l) none ∙ append-nil us))
 
 -- the keys that are there are these
-keyed_by : (b : Bool) (keys used : KeyData) → cond b (Some keys) None ≡ Some used → (b ≡ true) × (keys ≡ used)
+keyed_by : (b : Bool) (keys used : KeysData) → cond b (Some keys) None ≡ Some used → (b ≡ true) × (keys ≡ used)
 keyed_by true keys used e = (refl, cc (e))
 keyed_by false keys used e = absurd (cc (e))
 
 same_direction : (x y : Direction) → x.keys ≡ y.keys → x.sequence_number ≡ y.sequence_number → x ≡ y
 same_direction x y keys number =
-    ap (λ (k : KeyData). record { keys = k; sequence_number = x.sequence_number }) keys ∙ ap (λ (n : ℕ). record { keys = y.keys; sequence_number = n }) number
+    ap (λ (k : KeysData). record { keys = k; sequence_number = x.sequence_number }) keys ∙ ap (λ (n : ℕ). record { keys = y.keys; sequence_number = n }) number
 
 -- One direction: their endpoint has said these bytes, and the own one has heard all their units.
-module _ (laws : Laws) (m : Meaning) (d : Policy) (lawful : IsLawful m) (own their : Partner) (hears : HearsCourse m d own their)
-    (units answers : Units) (rest h s : List ℕ) (end : Ending) (b : History m d their.role their.party units rest None answers end h s)
+module _ (laws : Laws) (m : SuiteData) (d : DecisionsData) (lawful : IsLawful m) (own their : Partner) (receives : ReceivesCourse m d own their)
+    (units answers : Units) (rest h s : List ℕ) (end : EndData) (b : History m d their.role their.party units rest None answers end h s)
     (f : IsPrefix units (stream_of own)) (is : IsInPart their.part units answers end) where
   speaks : SpeaksInCourse their.role own.party their.party (payloads_of own) (payloads_of their) units answers
-  speaks = speaks_by m d their.role own.party their.party (payloads_of own) (payloads_of their) units answers rest h s None end b f (said_within their units answers end is)
+  speaks = speaks_by m d their.role own.party their.party (payloads_of own) (payloads_of their) units answers rest h s None end b f (sent_within their units answers end is)
 
-  pub all_bytes : (us : Units) (left heard : List ℕ) (refusal : Option Refusal) → Heard (parsers m own.role own.party) heard us left refusal → IsPrefix heard s → us ≡ their.party.version ∷ answers → heard ≡ s
-  all_bytes us left heard refusal a to_own all =
-      let said : Units = their.party.version ∷ answers in
+  pub all_bytes : (us : Units) (left received : List ℕ) (refusal : Option Refusal) → Received (parsers m own.role own.party) received us left refusal → IsPrefix received s → us ≡ their.party.version ∷ answers → received ≡ s
+  all_bytes us left received refusal a to_own all =
+      let sent : Units = their.party.version ∷ answers in
       let reads = parsers m own.role own.party in
       let writes = spells m their.role their.party units in
       let spelled : EachPlace (Spelled (parsers m own.role own.party) (spells m their.role their.party units)) [] (their.party.version ∷ answers) =
-      all_spelled m own.role their.role own.party their.party (payloads_of own) (payloads_of their) hears.heard units answers speaks laws lawful in
+      all_spelled m own.role their.role own.party their.party (payloads_of own) (payloads_of their) receives.received units answers speaks laws lawful in
       let read : Read (parsers m own.role own.party) [] s (their.party.version ∷ answers) (left ++ to_own.rest) =
       subst (λ (l : Units). Read (parsers m own.role own.party) [] s l (left ++ to_own.rest)) all
       (subst (λ (t : List ℕ). Read (parsers m own.role own.party) [] t us (left ++ to_own.rest)) (sym to_own.whole_is)
-      (read_more (parsers m own.role own.party) (laws.parsers m own.role own.party) [] heard to_own.rest us left a.read)) in
+      (read_more (parsers m own.role own.party) (laws.parsers m own.role own.party) [] received to_own.rest us left a.read)) in
       let none : left ++ to_own.rest ≡ [] =
-      behind_all (parsers m own.role own.party) (spells m their.role their.party units) [] (their.party.version ∷ answers) s [] (left ++ to_own.rest)
-      (b.said.spelled ∙ sym (append-nil (flat_places (spells m their.role their.party units) [] (their.party.version ∷ answers)))) spelled read in
+      after_all (parsers m own.role own.party) (spells m their.role their.party units) [] (their.party.version ∷ answers) s [] (left ++ to_own.rest)
+      (b.sent.spelled ∙ sym (append-nil (flat_places (spells m their.role their.party units) [] (their.party.version ∷ answers)))) spelled read in
       let nothing : to_own.rest ≡ [] = none_left to_own.rest (omega (arith, ap length none, length-append left to_own.rest)) in
-      sym (to_own.whole_is ∙ (ap (λ (l : List ℕ). heard ++ l) nothing ∙ append-nil heard))
+      sym (to_own.whole_is ∙ (ap (λ (l : List ℕ). received ++ l) nothing ∙ append-nil received))
 
   -- both have hashed the same
   pub same_exchange : (us : Units) → us ≡ their.party.version ∷ answers → switched_out answers ≡ true → IsReady own.role own.party (payloads_in us)
@@ -89,33 +89,33 @@ module _ (laws : Laws) (m : Meaning) (d : Policy) (lawful : IsLawful m) (own the
   same_exchange us all on ready =
       let now_ready : IsReady own.role own.party answers = subst (λ (l : Units). IsReady own.role own.party (payloads_in l)) all ready in
       let way : SameWay m own.role their.role own.party their.party units answers =
-      same_way m own.role their.role own.party their.party (payloads_of own) (payloads_of their) hears.heard units answers speaks answers (prefix-all answers) on now_ready in
+      same_way m own.role their.role own.party their.party (payloads_of own) (payloads_of their) receives.received units answers speaks answers (prefix-all answers) on now_ready in
       ap (λ (l : Units). exchange_at m own.role own.party (version_in l) (payloads_in l)) all ∙ way.exchange
 
   -- what the one says next, the other hears
-  pub direction : (us said : Units) → us ≡ their.party.version ∷ answers → IsReady own.role own.party (payloads_in us) → (agreed other_agreed : AgreedData) (speaker hearer : Session)
-      → IsSession m d their.role their.party units answers agreed speaker → IsSession m d own.role own.party us said other_agreed hearer → speaker.outgoing ≡ hearer.incoming
-  direction us said all ready agreed other_agreed speaker hearer t u =
+  pub direction : (us sent : Units) → us ≡ their.party.version ∷ answers → IsReady own.role own.party (payloads_in us) → (agreed other_agreed : AgreedData) (speaker receiver : Session)
+      → IsSession m d their.role their.party units answers agreed speaker → IsSession m d own.role own.party us sent other_agreed receiver → speaker.outgoing ≡ receiver.incoming
+  direction us sent all ready agreed other_agreed speaker receiver t u =
       let out = keyed_by (switched_out answers) (keys_at m their.role their.party (version_in units) (payloads_in units) their.role) speaker.outgoing.keys t.outgoing_keys in
-      let heard_keys : keys_in m own.role own.party their.party.version answers ≡ Some hearer.incoming.keys = ap (λ (l : Units). keys_in m own.role own.party (version_in l) (payloads_in l)) (sym all) ∙ u.incoming_keys in
-      let inside = keyed_by (stood own.role own.party.offer 21 answers) (keys_at m own.role own.party their.party.version answers (other own.role)) hearer.incoming.keys heard_keys in
+      let received_keys : keys_in m own.role own.party their.party.version answers ≡ Some receiver.incoming.keys = ap (λ (l : Units). keys_in m own.role own.party (version_in l) (payloads_in l)) (sym all) ∙ u.incoming_keys in
+      let inside = keyed_by (stood own.role own.party.offer 21 answers) (keys_at m own.role own.party their.party.version answers (other own.role)) receiver.incoming.keys received_keys in
       let now_ready : IsReady own.role own.party answers = subst (λ (l : Units). IsReady own.role own.party (payloads_in l)) all ready in
       let way : SameWay m own.role their.role own.party their.party units answers =
-      same_way m own.role their.role own.party their.party (payloads_of own) (payloads_of their) hears.heard units answers speaks answers (prefix-all answers) out.0 now_ready in
-      let switches = switches_said m own.role their.role own.party their.party (payloads_of own) (payloads_of their) hears.heard units answers speaks in
+      same_way m own.role their.role own.party their.party (payloads_of own) (payloads_of their) receives.received units answers speaks answers (prefix-all answers) out.0 now_ready in
+      let switches = switches_sent m own.role their.role own.party their.party (payloads_of own) (payloads_of their) receives.received units answers speaks in
       let numbers : number_in own.role own.party answers ≡ number_out (strict_at their.role their.party (payloads_in units)) answers =
       numbers_same laws m lawful own.role their.role own.party their.party units answers switches out.0 way in
-      same_direction speaker.outgoing hearer.incoming
+      same_direction speaker.outgoing receiver.incoming
       (sym out.1 ∙ (sym way.keys ∙ inside.1))
       (t.outgoing_number ∙ (sym numbers ∙ (ap (λ (l : Units). number_in own.role own.party (payloads_in l)) (sym all) ∙ sym u.incoming_number)))
 
 -- Both, where each ended authenticated.
-module _ (laws : Laws) (below : Below) (m : Meaning) (d : Policy) (lawful : IsLawful m) (c : ClientData) (s : ServerData) (w : Wording) (hear : BothHear m d c s w)
-    (client_units client_answers : Units) (client_rest client_heard client_said : List ℕ) (client_agreed : AgreedData)
-    (a : History m d Client (client_party c) client_units client_rest None client_answers (Authenticated client_agreed) client_heard client_said)
-    (server_units server_answers : Units) (server_rest server_heard server_said : List ℕ) (server_agreed : AgreedData)
-    (b : History m d Server (server_party s) server_units server_rest None server_answers (Authenticated server_agreed) server_heard server_said)
-    (to_client : IsPrefix client_heard server_said) (to_server : IsPrefix server_heard client_said) where
+module _ (laws : Laws) (below : Below) (m : SuiteData) (d : DecisionsData) (lawful : IsLawful m) (c : ClientData) (s : ServerData) (w : Wording) (receive : BothReceive m d c s w)
+    (client_units client_answers : Units) (client_rest client_received client_sent : List ℕ) (client_agreed : AgreedData)
+    (a : History m d Client (config_of_client c) client_units client_rest None client_answers (Authenticated client_agreed) client_received client_sent)
+    (server_units server_answers : Units) (server_rest server_received server_sent : List ℕ) (server_agreed : AgreedData)
+    (b : History m d Server (config_of_server s) server_units server_rest None server_answers (Authenticated server_agreed) server_received server_sent)
+    (to_client : IsPrefix client_received server_sent) (to_server : IsPrefix server_received client_sent) where
   abbrev cp : Partner
   cp = client_partner m d c s w
 
@@ -123,8 +123,8 @@ module _ (laws : Laws) (below : Below) (m : Meaning) (d : Policy) (lawful : IsLa
   sp = server_partner m d c s w
 
   course : AreInCourse m d c s w (record { units = client_units; answers = client_answers; end = Authenticated client_agreed }) (record { units = server_units; answers = server_answers; end = Authenticated server_agreed })
-  course = joined_course laws below m d lawful c s w hear client_units client_answers client_rest client_heard client_said (Authenticated client_agreed) a
-      server_units server_answers server_rest server_heard server_said (Authenticated server_agreed) b to_client to_server
+  course = joined_course laws below m d lawful c s w receive client_units client_answers client_rest client_received client_sent (Authenticated client_agreed) a
+      server_units server_answers server_rest server_received server_sent (Authenticated server_agreed) b to_client to_server
 
   shut : (x : AgreedData) → Authenticated x ≢ Open
   shut x e = cc (e)
@@ -140,55 +140,55 @@ module _ (laws : Laws) (below : Below) (m : Meaning) (d : Policy) (lawful : IsLa
       let e : Authenticated server_agreed ≡ Authenticated client_agreed = ends.server_as (shut server_agreed) ∙ (one m d c s client_agreed).0 by_client in
       cc (e)
 
-  counts : HearAll w (guess_of c s) (way_of m d c s) (outcome m d c s)
-  counts = hear_all w (guess_of c s) (outcome m d c s) (way_of m d c s) (lets_in m d c s client_agreed by_client)
+  counts : ReceiveAll w (guess_of c s) (way_of m d c s) (outcome m d c s)
+  counts = receive_all w (guess_of c s) (outcome m d c s) (way_of m d c s) (accepts m d c s client_agreed by_client)
 
-  client_count : length client_units ≡ cp.part.hears
+  client_count : length client_units ≡ cp.part.receives
   client_count = (ends_as cp.part client_units client_answers (Authenticated client_agreed) course.client_in_part (shut client_agreed)).1
 
-  server_count : length server_units ≡ sp.part.hears
+  server_count : length server_units ≡ sp.part.receives
   server_count = (ends_as sp.part server_units server_answers (Authenticated server_agreed) course.server_in_part (shut server_agreed)).1
 
   client_all : client_units ≡ version_of s.side ∷ server_answers
   client_all =
-      let sent = sent_count sp.part server_units server_answers (Authenticated server_agreed) course.server_in_part (version_of s.side) ∙ ap (λ (n : ℕ). units_said sp.part n) server_count in
-      prefix_full client_units (version_of s.side ∷ server_answers) course.client_heard (client_count ∙ (counts.client_all ∙ sym sent))
+      let sent = sent_count sp.part server_units server_answers (Authenticated server_agreed) course.server_in_part (version_of s.side) ∙ ap (λ (n : ℕ). units_sent sp.part n) server_count in
+      prefix_full client_units (version_of s.side ∷ server_answers) course.client_received (client_count ∙ (counts.client_all ∙ sym sent))
 
   server_all : server_units ≡ version_of c.side ∷ client_answers
   server_all =
-      let sent = sent_count cp.part client_units client_answers (Authenticated client_agreed) course.client_in_part (version_of c.side) ∙ ap (λ (n : ℕ). units_said cp.part n) client_count in
-      prefix_full server_units (version_of c.side ∷ client_answers) course.server_heard (server_count ∙ (counts.server_all ∙ sym sent))
+      let sent = sent_count cp.part client_units client_answers (Authenticated client_agreed) course.client_in_part (version_of c.side) ∙ ap (λ (n : ℕ). units_sent cp.part n) client_count in
+      prefix_full server_units (version_of c.side ∷ client_answers) course.server_received (server_count ∙ (counts.server_all ∙ sym sent))
 
   client_in : IsPrefix client_units (stream_of sp)
-  client_in = client_of laws below m d lawful c s w hear client_units client_answers client_rest client_heard client_said (Authenticated client_agreed) a
-      server_units server_answers server_rest server_heard server_said (Authenticated server_agreed) b to_client to_server
+  client_in = client_of laws below m d lawful c s w receive client_units client_answers client_rest client_received client_sent (Authenticated client_agreed) a
+      server_units server_answers server_rest server_received server_sent (Authenticated server_agreed) b to_client to_server
 
   server_in : IsPrefix server_units (stream_of cp)
-  server_in = server_of laws below m d lawful c s w hear client_units client_answers client_rest client_heard client_said (Authenticated client_agreed) a
-      server_units server_answers server_rest server_heard server_said (Authenticated server_agreed) b to_client to_server
+  server_in = server_of laws below m d lawful c s w receive client_units client_answers client_rest client_received client_sent (Authenticated client_agreed) a
+      server_units server_answers server_rest server_received server_sent (Authenticated server_agreed) b to_client to_server
 
-  pub all_heard : (client_heard ≡ server_said) × (server_heard ≡ client_said) × (client_agreed ≡ server_agreed)
-  all_heard = (
-    all_bytes laws m d lawful cp sp hear.to_client server_units server_answers server_rest server_heard server_said (Authenticated server_agreed) b server_in course.server_in_part
-        client_units client_rest client_heard None a.heard to_client client_all,
-    all_bytes laws m d lawful sp cp hear.to_server client_units client_answers client_rest client_heard client_said (Authenticated client_agreed) a client_in course.client_in_part
-        server_units server_rest server_heard None b.heard to_server server_all,
+  pub all_received : (client_received ≡ server_sent) × (server_received ≡ client_sent) × (client_agreed ≡ server_agreed)
+  all_received = (
+    all_bytes laws m d lawful cp sp receive.to_client server_units server_answers server_rest server_received server_sent (Authenticated server_agreed) b server_in course.server_in_part
+        client_units client_rest client_received None a.received to_client client_all,
+    all_bytes laws m d lawful sp cp receive.to_server client_units client_answers client_rest client_received client_sent (Authenticated client_agreed) a client_in course.client_in_part
+        server_units server_rest server_received None b.received to_server server_all,
     same_agreed,
   )
 
-  pub crosswise : (one_session other_session : Session) → IsSession m d Client (client_party c) client_units client_answers client_agreed one_session
-      → IsSession m d Server (server_party s) server_units server_answers server_agreed other_session → AreCrosswise one_session other_session
+  pub crosswise : (one_session other_session : Session) → IsSession m d Client (config_of_client c) client_units client_answers client_agreed one_session
+      → IsSession m d Server (config_of_server s) server_units server_answers server_agreed other_session → AreCrosswise one_session other_session
   crosswise one_session other_session t u =
-      let client_keyed = keyed_by (switched_out client_answers) (keys_at m Client (client_party c) (version_in client_units) (payloads_in client_units) Client) one_session.outgoing.keys t.outgoing_keys in
-      let server_keyed = keyed_by (switched_out server_answers) (keys_at m Server (server_party s) (version_in server_units) (payloads_in server_units) Server) other_session.outgoing.keys u.outgoing_keys in
+      let client_keyed = keyed_by (switched_out client_answers) (keys_at m Client (config_of_client c) (version_in client_units) (payloads_in client_units) Client) one_session.outgoing.keys t.outgoing_keys in
+      let server_keyed = keyed_by (switched_out server_answers) (keys_at m Server (config_of_server s) (version_in server_units) (payloads_in server_units) Server) other_session.outgoing.keys u.outgoing_keys in
       record {
         same_agreed = t.agreed_is ∙ (same_agreed ∙ sym u.agreed_is);
         there_version = t.own_version ∙ sym (u.peer_version ∙ ap version_in server_all);
         back_version = u.own_version ∙ sym (t.peer_version ∙ ap version_in client_all);
-        same_host_key = t.host_key ∙ (ap (λ (x : ExchangeData). x.host_key) (sym (same_exchange laws m d lawful sp cp hear.to_server client_units client_answers client_rest client_heard client_said (Authenticated client_agreed) a client_in course.client_in_part
+        same_host_key = t.host_key ∙ (ap (λ (x : ExchangeData). x.host_key) (sym (same_exchange laws m d lawful sp cp receive.to_server client_units client_answers client_rest client_received client_sent (Authenticated client_agreed) a client_in course.client_in_part
             server_units server_all client_keyed.0 (b.keyed server_keyed.0))) ∙ sym u.host_key);
-        there = direction laws m d lawful sp cp hear.to_server client_units client_answers client_rest client_heard client_said (Authenticated client_agreed) a client_in course.client_in_part
+        there = direction laws m d lawful sp cp receive.to_server client_units client_answers client_rest client_received client_sent (Authenticated client_agreed) a client_in course.client_in_part
             server_units server_answers server_all (b.keyed server_keyed.0) client_agreed server_agreed one_session other_session t u;
-        back = direction laws m d lawful cp sp hear.to_client server_units server_answers server_rest server_heard server_said (Authenticated server_agreed) b server_in course.server_in_part
+        back = direction laws m d lawful cp sp receive.to_client server_units server_answers server_rest server_received server_sent (Authenticated server_agreed) b server_in course.server_in_part
             client_units client_answers client_all (a.keyed client_keyed.0) server_agreed client_agreed other_session one_session u t;
       }

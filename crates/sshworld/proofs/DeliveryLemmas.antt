@@ -4,12 +4,12 @@ use Rattle.std.proofs.Common.{◌≡◌, ◌≢◌, ℕ, zero, suc, ◌+◌, ◌
 use Rattle.std.proofs.lemmas.List.{take_more}
 use Rattle.std.specs.Result.{IfOk, OnErr, OnOk}
 use Rattle.sshwire.specs.declared.fault.Memory.{Memory}
-use Rattle.sshpacket.specs.Suite.{Meaning}
+use Rattle.sshpacket.specs.Suite.{SuiteData}
 use Rattle.sshcore.specs.declared.end.Fault.TheVariants as fault
-use Rattle.sshcore.specs.ConfigData.{ClientData, ServerData}
-use Rattle.sshcore.specs.Ending.{Authenticated, Closed, Disconnected, Ending, Failed, Open}
-use Rattle.sshcore.specs.Endpoints.{ending_of}
-use Rattle.sshcore.specs.Party.{Party, Policy}
+use Rattle.sshcore.specs.ConfigParts.{ClientData, ServerData}
+use Rattle.sshcore.specs.EndData.{Authenticated, Closed, Disconnected, EndData, Failed, Open}
+use Rattle.sshcore.specs.Endpoints.{endpoint_end}
+use Rattle.sshcore.specs.EndpointParts.{ConfigData, DecisionsData}
 use Rattle.sshneg.specs.declared.role.Role.{Role}
 use Rattle.sshworld.specs.declared.node.Node.{Node}
 use Rattle.sshworld.specs.declared.side.Delivery.{Delivery}
@@ -17,7 +17,7 @@ use Rattle.sshworld.specs.declared.side.Side.{Side}
 use Rattle.sshworld.specs.declared.side.Side.TheVariants.{Client, Server}
 use Rattle.sshworld.specs.Conversed.{EachReplies}
 use Rattle.sshworld.specs.Deliveries.{Delivered, Done, DoneBy, Refused, Round, RoundInto, Rounds, RoundsInto, Runs, RunsInto, TakesIn}
-use Rattle.sshworld.specs.Stands.{BrokenWith, NodeStands, NodesStand, Receives, ReceivesInto, ReceivesNone, ReceivesSome, Takes, TakesNone, TakesSome, half_of, seen}
+use Rattle.sshworld.specs.Nodes.{BrokenWith, NodeStands, NodesStand, Receives, ReceivesInto, ReceivesNone, ReceivesSome, Takes, TakesNone, TakesSome, node_data, seen}
 use Rattle.sshworld.specs.WorldCourse.{KeepsHeadline}
 use Rattle.sshworld.specs.Worlds.{HadMemory, IsSameSetup, WorldData, waiting_at, waiting_for}
 use Rattle.sshworld.proofs.StandsLemmas.{breaks_off, receiver_stands, sender_stands, sent_on, side_replies}
@@ -44,7 +44,7 @@ module _ {S D : Type 0} where
     same_decisions = y.same_decisions ∙ x.same_decisions;
   }
 
-module _ {S D : Type 0} (meaning : S → Meaning) (policy : D → Policy) where
+module _ {S D : Type 0} (meaning : S → SuiteData) (policy : D → DecisionsData) where
   -- a delivery that answered how many bytes it moved
   pub done : (to : Side) (n k : ℕ) (old new : WorldData S D) → n ≡ k → Delivered to n old new → IsSameSetup old new → EachReplies meaning policy new
       → KeepsHeadline meaning policy new → Done meaning policy to k old new
@@ -93,7 +93,7 @@ module _ {S D : Type 0} (meaning : S → Meaning) (policy : D → Policy) where
 pub as_seen : {S D : Type 0} (P : Side → WorldData S D → Type 0) (to one : Side) (w v : WorldData S D) → to ≡ one → v ≡ w → P one v → P to w
 as_seen P to one w v e f p = subst (λ (s : Side). P s w) (sym e) (subst (λ w. P one w) f p)
 
-module _ {S D : Type 0} (meaning : S → Meaning) (policy : D → Policy) where
+module _ {S D : Type 0} (meaning : S → SuiteData) (policy : D → DecisionsData) where
   -- Nodes that stand so have replied, as callers see it.
   pub each_replies : (client_config : ClientData) (server_config : ServerData) (suite : S) (decisions : D) (client server : Node S D)
       → NodesStand meaning policy client_config server_config suite decisions client server → EachReplies meaning policy (seen client_config server_config suite decisions client server)
@@ -104,16 +104,16 @@ module _ {S D : Type 0} (meaning : S → Meaning) (policy : D → Policy) where
 
   -- what a node did that received n bytes, or for which memory was wanting
   module _ (sent : List ℕ) (old new : Node S D) where
-    receives : (n : ℕ) → Takes meaning policy sent n old new → Receives meaning policy sent old new
-    receives n (TakesNone z e) = ReceivesNone e
-    receives n (TakesSome some f) = ReceivesSome n f
+    node_receives : (n : ℕ) → Takes meaning policy sent n old new → Receives meaning policy sent old new
+    node_receives n (TakesNone z e) = ReceivesNone e
+    node_receives n (TakesSome some f) = ReceivesSome n f
 
     pub either : (r : Result ℕ Memory) (n : ℕ) → IfOk r (λ k. Takes meaning policy sent k old new) → OnErr r (BrokenWith meaning policy sent n old new) → Receives meaning policy sent old new
-    either (Ok k) n takes broken = receives k takes
+    either (Ok k) n takes broken = node_receives k takes
     either (Err e) n takes broken = ReceivesInto n broken
 
-    had_still : (n : ℕ) → Takes meaning policy sent n old new → ending_of old.endpoint ≢ Failed fault.Memory → ending_of new.endpoint ≢ Failed fault.Memory
-    had_still n (TakesNone z e) had failed = had (ap (λ (x : Node S D). ending_of x.endpoint) (sym e) ∙ failed)
+    had_still : (n : ℕ) → Takes meaning policy sent n old new → endpoint_end old.endpoint ≢ Failed fault.Memory → endpoint_end new.endpoint ≢ Failed fault.Memory
+    had_still n (TakesNone z e) had failed = had (ap (λ (x : Node S D). endpoint_end x.endpoint) (sym e) ∙ failed)
     had_still n (TakesSome some f) had failed = f.had_memory failed
 
     moved_on : (n : ℕ) → Takes meaning policy sent n old new → new.moved ≡ old.moved + n
@@ -124,19 +124,19 @@ module _ {S D : Type 0} (meaning : S → Meaning) (policy : D → Policy) where
     unmoved n (TakesNone z e) h = e
     unmoved n (TakesSome some f) h = absurd (some h)
 
-    used_more : (n : ℕ) → Takes meaning policy sent n old new → (ending_of old.endpoint ≡ Open → old.used ≡ old.moved) → old.used ≤ new.used
+    used_more : (n : ℕ) → Takes meaning policy sent n old new → (endpoint_end old.endpoint ≡ Open → old.used ≡ old.moved) → old.used ≤ new.used
     used_more n (TakesNone z e) even = omega (arith, ap (λ (x : Node S D). x.used) e)
     used_more n (TakesSome some f) even = omega (arith, f.used_on, even f.was_open)
 
     -- a node that has ended takes nothing
-    pub none_ended : (count : ℕ) (r : Result ℕ Memory) → ending_of old.endpoint ≢ Open → IfOk r (λ k. Takes meaning policy sent k old new)
-        → IfOk r (λ k. k ≡ min count (waiting_at (ending_of old.endpoint) (length sent) old.moved)) → OnErr r (BrokenWith meaning policy sent (min count (waiting_at (ending_of old.endpoint) (length sent) old.moved)) old new)
+    pub none_ended : (count : ℕ) (r : Result ℕ Memory) → endpoint_end old.endpoint ≢ Open → IfOk r (λ k. Takes meaning policy sent k old new)
+        → IfOk r (λ k. k ≡ min count (waiting_at (endpoint_end old.endpoint) (length sent) old.moved)) → OnErr r (BrokenWith meaning policy sent (min count (waiting_at (endpoint_end old.endpoint) (length sent) old.moved)) old new)
         → (r ≡ Ok 0) × (new ≡ old)
     none_ended count (Ok k) ended takes is broken =
-        let none : k ≡ 0 = omega (arith, is, none_waits (ending_of old.endpoint) ended) in
+        let none : k ≡ 0 = omega (arith, is, none_waits (endpoint_end old.endpoint) ended) in
         (ap (λ (n : ℕ). Ok n) none, unmoved k takes none)
       where
-        none_waits : (e : Ending) → e ≢ Open → waiting_at e (length sent) old.moved ≡ 0
+        none_waits : (e : EndData) → e ≢ Open → waiting_at e (length sent) old.moved ≡ 0
         none_waits Open h = absurd (h refl)
         none_waits (Authenticated a) h = refl
         none_waits (Failed f) h = refl
@@ -145,10 +145,10 @@ module _ {S D : Type 0} (meaning : S → Meaning) (policy : D → Policy) where
     none_ended count (Err e) ended takes is broken = absurd (ended broken.was_open)
 
   -- so callers see it, if n bytes were received
-  takes_in : (role : Role) (party : Party) (suite : S) (decisions : D) (sent : List ℕ) (old new : Node S D) (n : ℕ)
-      → NodeStands meaning policy role party suite decisions old sent → Takes meaning policy sent n old new → TakesIn n (half_of old) (half_of new)
+  takes_in : (role : Role) (party : ConfigData) (suite : S) (decisions : D) (sent : List ℕ) (old new : Node S D) (n : ℕ)
+      → NodeStands meaning policy role party suite decisions old sent → Takes meaning policy sent n old new → TakesIn n (node_data old) (node_data new)
   takes_in role party suite decisions sent old new n s t =
-      let r = receives sent old new n t in
+      let r = node_receives sent old new n t in
       let stands = receiver_stands meaning policy role party suite decisions sent old new s r in
       record {
         moved_on = moved_on sent old new n t;
@@ -157,10 +157,10 @@ module _ {S D : Type 0} (meaning : S → Meaning) (policy : D → Policy) where
         all_used = stands.all_used;
         more_sent = sent_on meaning policy sent old new r;
         had_memory = had_still sent old new n t;
-        by_none = λ z. ap (λ (x : Node S D). half_of x) (unmoved sent old new n t z);
+        by_none = λ z. ap (λ (x : Node S D). node_data x) (unmoved sent old new n t z);
       }
 
-module _ {S D : Type 0} (meaning : S → Meaning) (policy : D → Policy) (client_config : ClientData) (server_config : ServerData) (suite : S) (decisions : D) where
+module _ {S D : Type 0} (meaning : S → SuiteData) (policy : D → DecisionsData) (client_config : ClientData) (server_config : ServerData) (suite : S) (decisions : D) where
   -- a world of the node of this side, and the other one
   abbrev pub seen_at : Side → Node S D → Node S D → WorldData S D
   seen_at Client own their = seen client_config server_config suite decisions own their
@@ -171,21 +171,21 @@ module _ {S D : Type 0} (meaning : S → Meaning) (policy : D → Policy) (clien
   StandAt Server own their = NodesStand meaning policy client_config server_config suite decisions their own
 
   -- Both nodes stand behind a delivery.
-  pub received : (to : Side) (own their next : Node S D) → StandAt to own their → Receives meaning policy their.sent.items own next → StandAt to next their
-  received Client own their next s r = record {
+  pub nodes_received : (to : Side) (own their next : Node S D) → StandAt to own their → Receives meaning policy their.sent.items own next → StandAt to next their
+  nodes_received Client own their next s r = record {
     client_stands = receiver_stands meaning policy _ _ suite decisions their.sent.items own next s.client_stands r;
     server_stands = sender_stands meaning policy _ _ suite decisions their own.sent.items next.sent.items s.server_stands (sent_on meaning policy their.sent.items own next r);
   }
-  received Server own their next s r = record {
+  nodes_received Server own their next s r = record {
     client_stands = sender_stands meaning policy _ _ suite decisions their own.sent.items next.sent.items s.client_stands (sent_on meaning policy their.sent.items own next r);
     server_stands = receiver_stands meaning policy _ _ suite decisions their.sent.items own next s.server_stands r;
   }
 
-  taken : (to : Side) (own their next : Node S D) (n : ℕ) → StandAt to own their → Takes meaning policy their.sent.items n own next → TakesIn n (half_of own) (half_of next)
+  taken : (to : Side) (own their next : Node S D) (n : ℕ) → StandAt to own their → Takes meaning policy their.sent.items n own next → TakesIn n (node_data own) (node_data next)
   taken Client own their next n s t = takes_in meaning policy _ _ suite decisions their.sent.items own next n s.client_stands t
   taken Server own their next n s t = takes_in meaning policy _ _ suite decisions their.sent.items own next n s.server_stands t
 
-  delivered_at : (to : Side) (own their next : Node S D) (n : ℕ) → TakesIn n (half_of own) (half_of next) → Delivered to n (seen_at to own their) (seen_at to next their)
+  delivered_at : (to : Side) (own their next : Node S D) (n : ℕ) → TakesIn n (node_data own) (node_data next) → Delivered to n (seen_at to own their) (seen_at to next their)
   delivered_at Client own their next n t = record { receiver = t; sender = refl }
   delivered_at Server own their next n t = record { receiver = t; sender = refl }
 
@@ -203,7 +203,7 @@ module _ {S D : Type 0} (meaning : S → Meaning) (policy : D → Policy) (clien
       → OnErr r (Refused meaning policy to n (seen_at to own their) (seen_at to next their))
   refused to own their next n r s broken = on_err r broken (refused_at to own their next n s)
 
-  still_at : (to : Side) (own their next : Node S D) → (ending_of own.endpoint ≢ Failed fault.Memory → ending_of next.endpoint ≢ Failed fault.Memory)
+  still_at : (to : Side) (own their next : Node S D) → (endpoint_end own.endpoint ≢ Failed fault.Memory → endpoint_end next.endpoint ≢ Failed fault.Memory)
       → HadMemory (seen_at to own their) → HadMemory (seen_at to next their)
   still_at Client own their next f h = record { client_had = f h.client_had; server_had = h.server_had }
   still_at Server own their next f h = record { client_had = h.client_had; server_had = f h.server_had }

@@ -7,87 +7,87 @@ use Rattle.sshneg.specs.declared.role.Role.TheVariants.{Client, Server}
 use Rattle.sshpacket.specs.Parse.{Refusal}
 use Rattle.sshpacket.specs.Places.{IsPrefix}
 use Rattle.sshpacket.specs.Stream.{Units}
-use Rattle.sshpacket.specs.Suite.{IsLawful, Meaning}
+use Rattle.sshpacket.specs.Suite.{IsLawful, SuiteData}
 use Rattle.sshcore.specs.declared.end.Fault.TheVariants as fault
 use Rattle.sshcore.specs.declared.input.Input.{Input}
 use Rattle.sshcore.specs.declared.session.Session.{Session}
-use Rattle.sshcore.specs.ConfigData.{ClientData, ServerData}
-use Rattle.sshcore.specs.Ending.{AgreedData, Authenticated, Ending, Failed}
+use Rattle.sshcore.specs.ConfigParts.{ClientData, ServerData}
+use Rattle.sshcore.specs.EndData.{AgreedData, Authenticated, EndData, Failed}
 use Rattle.sshcore.specs.EndpointData.{EndpointData}
-use Rattle.sshcore.specs.Endpoints.{ending_of}
+use Rattle.sshcore.specs.Endpoints.{endpoint_end}
 use Rattle.sshcore.specs.History.{History}
-use Rattle.sshcore.specs.Inputs.{Stands}
-use Rattle.sshcore.specs.Kept.{Kept}
-use Rattle.sshcore.specs.Party.{Party, Policy, client_party, server_party}
+use Rattle.sshcore.specs.Inputs.{EndpointStands}
+use Rattle.sshcore.specs.StateData.{StateData}
+use Rattle.sshcore.specs.EndpointParts.{ConfigData, DecisionsData, config_of_client, config_of_server}
 use Rattle.sshcore.specs.Replies.{Ends, ended, goes_on}
 use Rattle.sshcore.specs.Sessions.{IsSession}
 use Rattle.sshcore.proofs.AuthenticatedLemmas.{none_refused}
 use Rattle.sshcore.proofs.Below.{Below}
 use Rattle.sshcore.proofs.SessionLemmas.{uncut_end}
 use Rattle.sshworld.specs.Conversed.{EachReplies}
-use Rattle.sshworld.specs.CourseHeard.{BothHear}
+use Rattle.sshworld.specs.CourseReceived.{BothReceive}
 use Rattle.sshworld.specs.Joined.{AreCrosswise, AreJoined}
 use Rattle.sshworld.specs.Laws.{Laws}
 use Rattle.sshworld.specs.Wordings.{wording_of}
 use Rattle.sshworld.specs.Worlds.{WorldData}
-use Rattle.sshworld.proofs.CrosswiseLemmas.{all_heard, crosswise}
+use Rattle.sshworld.proofs.CrosswiseLemmas.{all_received, crosswise}
 
-module _ (m : Meaning) (d : Policy) (role : Role) (party : Party) where
+module _ (m : SuiteData) (d : DecisionsData) (role : Role) (party : ConfigData) where
   unrefused : (units : Units) (refusal : Option Refusal) (agreed : AgreedData) → Ends m d role party units refusal (Authenticated agreed) → refusal ≡ None
   unrefused units refusal agreed (goes_on stays is) = absurd (none_refused refusal agreed is)
   unrefused units refusal agreed (ended before last units_are stays is shut none) = none
 
   -- an endpoint that ended authenticated was refused nothing
-  pub history_so : (kept : Kept) (i : Input) (h s : List ℕ) (p : Stands m d role party kept i h s) (agreed : AgreedData) → kept.end ≡ Authenticated agreed
+  pub history_so : (kept : StateData) (i : Input) (h s : List ℕ) (p : EndpointStands m d role party kept i h s) (agreed : AgreedData) → kept.end ≡ Authenticated agreed
       → History m d role party p.units p.rest None p.answers (Authenticated agreed) h s
   history_so kept i h s p agreed is =
       let now : History m d role party p.units p.rest p.refusal p.answers (Authenticated agreed) h s =
-      subst (λ (e : Ending). History m d role party p.units p.rest p.refusal p.answers e h s) (uncut_end p.heard_end kept.end agreed p.ends is) p.history in
+      subst (λ (e : EndData). History m d role party p.units p.rest p.refusal p.answers e h s) (uncut_end p.received_end kept.end agreed p.ends is) p.history in
       subst (λ (r : Option Refusal). History m d role party p.units p.rest r p.answers (Authenticated agreed) h s) (unrefused p.units p.refusal agreed now.replies.ends) now
 
-module _ {S D : Type 0} (meaning : S → Meaning) (policy : D → Policy) where
-  module _ (laws : Laws) (below : Below) (c : ClientData) (s : ServerData) (client server : EndpointData S D) (client_heard client_said server_heard server_said : List ℕ)
-      (lawful : IsLawful (meaning client.suite)) (hear : BothHear (meaning client.suite) (policy client.decisions) c s (wording_of (meaning client.suite) (policy client.decisions) c s))
-      (j : AreJoined meaning policy c s client server client_heard client_said server_heard server_said) (a b : AgreedData)
-      (is : ending_of client ≡ Authenticated a) (other_is : ending_of server ≡ Authenticated b) where
-    client_history : History (meaning client.suite) (policy client.decisions) Client (client_party c) j.client_after.units j.client_after.rest None j.client_after.answers (Authenticated a) client_heard client_said
+module _ {S D : Type 0} (meaning : S → SuiteData) (policy : D → DecisionsData) where
+  module _ (laws : Laws) (below : Below) (c : ClientData) (s : ServerData) (client server : EndpointData S D) (client_received client_sent server_received server_sent : List ℕ)
+      (lawful : IsLawful (meaning client.suite)) (receive : BothReceive (meaning client.suite) (policy client.decisions) c s (wording_of (meaning client.suite) (policy client.decisions) c s))
+      (j : AreJoined meaning policy c s client server client_received client_sent server_received server_sent) (a b : AgreedData)
+      (is : endpoint_end client ≡ Authenticated a) (other_is : endpoint_end server ≡ Authenticated b) where
+    client_history : History (meaning client.suite) (policy client.decisions) Client (config_of_client c) j.client_after.units j.client_after.rest None j.client_after.answers (Authenticated a) client_received client_sent
     client_history =
         let p = j.client_after in
-        subst (λ (r : Role). History (meaning client.suite) (policy client.decisions) r (client_party c) p.units p.rest None p.answers (Authenticated a) client_heard client_said) j.is_client
-        (subst (λ (q : Party). History (meaning client.suite) (policy client.decisions) client.role q p.units p.rest None p.answers (Authenticated a) client_heard client_said) j.of_client
-        (history_so (meaning client.suite) (policy client.decisions) client.role client.party _ client.input client_heard client_said p a is))
+        subst (λ (r : Role). History (meaning client.suite) (policy client.decisions) r (config_of_client c) p.units p.rest None p.answers (Authenticated a) client_received client_sent) j.is_client
+        (subst (λ (q : ConfigData). History (meaning client.suite) (policy client.decisions) client.role q p.units p.rest None p.answers (Authenticated a) client_received client_sent) j.of_client
+        (history_so (meaning client.suite) (policy client.decisions) client.role client.party _ client.input client_received client_sent p a is))
 
-    server_history : History (meaning client.suite) (policy client.decisions) Server (server_party s) j.server_after.units j.server_after.rest None j.server_after.answers (Authenticated b) server_heard server_said
+    server_history : History (meaning client.suite) (policy client.decisions) Server (config_of_server s) j.server_after.units j.server_after.rest None j.server_after.answers (Authenticated b) server_received server_sent
     server_history =
         let p = j.server_after in
-        subst (λ (r : Role). History (meaning client.suite) (policy client.decisions) r (server_party s) p.units p.rest None p.answers (Authenticated b) server_heard server_said) j.is_server
-        (subst (λ (q : Party). History (meaning client.suite) (policy client.decisions) server.role q p.units p.rest None p.answers (Authenticated b) server_heard server_said) j.of_server
-        (subst (λ (k : S). History (meaning k) (policy client.decisions) server.role server.party p.units p.rest None p.answers (Authenticated b) server_heard server_said) j.one_suite
-        (subst (λ (k : D). History (meaning server.suite) (policy k) server.role server.party p.units p.rest None p.answers (Authenticated b) server_heard server_said) j.same_decisions
-        (history_so (meaning server.suite) (policy server.decisions) server.role server.party _ server.input server_heard server_said p b other_is))))
+        subst (λ (r : Role). History (meaning client.suite) (policy client.decisions) r (config_of_server s) p.units p.rest None p.answers (Authenticated b) server_received server_sent) j.is_server
+        (subst (λ (q : ConfigData). History (meaning client.suite) (policy client.decisions) server.role q p.units p.rest None p.answers (Authenticated b) server_received server_sent) j.of_server
+        (subst (λ (k : S). History (meaning k) (policy client.decisions) server.role server.party p.units p.rest None p.answers (Authenticated b) server_received server_sent) j.one_suite
+        (subst (λ (k : D). History (meaning server.suite) (policy k) server.role server.party p.units p.rest None p.answers (Authenticated b) server_received server_sent) j.same_decisions
+        (history_so (meaning server.suite) (policy server.decisions) server.role server.party _ server.input server_received server_sent p b other_is))))
 
-    pub joined_heard : (client_heard ≡ server_said) × (server_heard ≡ client_said) × (a ≡ b)
-    joined_heard =
+    pub joined_received : (client_received ≡ server_sent) × (server_received ≡ client_sent) × (a ≡ b)
+    joined_received =
         let p = j.client_after in
         let q = j.server_after in
-        all_heard laws below (meaning client.suite) (policy client.decisions) lawful c s (wording_of (meaning client.suite) (policy client.decisions) c s) hear p.units p.answers p.rest client_heard client_said a client_history
-        q.units q.answers q.rest server_heard server_said b server_history j.to_client j.to_server
+        all_received laws below (meaning client.suite) (policy client.decisions) lawful c s (wording_of (meaning client.suite) (policy client.decisions) c s) receive p.units p.answers p.rest client_received client_sent a client_history
+        q.units q.answers q.rest server_received server_sent b server_history j.to_client j.to_server
 
     pub joined_crosswise : (one other : Session) → IsSession (meaning client.suite) (policy client.decisions) client.role client.party j.client_after.units j.client_after.answers a one
         → IsSession (meaning server.suite) (policy server.decisions) server.role server.party j.server_after.units j.server_after.answers b other → AreCrosswise one other
     joined_crosswise one other t u =
         let p = j.client_after in
         let q = j.server_after in
-        crosswise laws below (meaning client.suite) (policy client.decisions) lawful c s (wording_of (meaning client.suite) (policy client.decisions) c s) hear p.units p.answers p.rest client_heard client_said a client_history
-        q.units q.answers q.rest server_heard server_said b server_history j.to_client j.to_server one other
-        (subst (λ (r : Role). IsSession (meaning client.suite) (policy client.decisions) r (client_party c) p.units p.answers a one) j.is_client
-        (subst (λ (x : Party). IsSession (meaning client.suite) (policy client.decisions) client.role x p.units p.answers a one) j.of_client t))
-        (subst (λ (r : Role). IsSession (meaning client.suite) (policy client.decisions) r (server_party s) q.units q.answers b other) j.is_server
-        (subst (λ (x : Party). IsSession (meaning client.suite) (policy client.decisions) server.role x q.units q.answers b other) j.of_server
+        crosswise laws below (meaning client.suite) (policy client.decisions) lawful c s (wording_of (meaning client.suite) (policy client.decisions) c s) receive p.units p.answers p.rest client_received client_sent a client_history
+        q.units q.answers q.rest server_received server_sent b server_history j.to_client j.to_server one other
+        (subst (λ (r : Role). IsSession (meaning client.suite) (policy client.decisions) r (config_of_client c) p.units p.answers a one) j.is_client
+        (subst (λ (x : ConfigData). IsSession (meaning client.suite) (policy client.decisions) client.role x p.units p.answers a one) j.of_client t))
+        (subst (λ (r : Role). IsSession (meaning client.suite) (policy client.decisions) r (config_of_server s) q.units q.answers b other) j.is_server
+        (subst (λ (x : ConfigData). IsSession (meaning client.suite) (policy client.decisions) server.role x q.units q.answers b other) j.of_server
         (subst (λ (k : S). IsSession (meaning k) (policy client.decisions) server.role server.party q.units q.answers b other) j.one_suite
         (subst (λ (k : D). IsSession (meaning server.suite) (policy k) server.role server.party q.units q.answers b other) j.same_decisions u))))
 
-  had : (end : Ending) (a : AgreedData) → end ≡ Authenticated a → end ≢ Failed fault.Memory
+  had : (end : EndData) (a : AgreedData) → end ≡ Authenticated a → end ≢ Failed fault.Memory
   had end a is failed = cc (is, failed)
 
   some_taken : (n : ℕ) (sent : List ℕ) → IsPrefix (take n sent) sent
@@ -95,7 +95,7 @@ module _ {S D : Type 0} (meaning : S → Meaning) (policy : D → Policy) where
 
   -- the two endpoints of a world
   pub of_world : (w : WorldData S D) (a b : AgreedData) → EachReplies meaning policy w → w.client.end ≡ Authenticated a → w.server.end ≡ Authenticated b
-      → (client : EndpointData S D) × (server : EndpointData S D) × (ending_of client ≡ w.client.end) × (ending_of server ≡ w.server.end) × (client.suite ≡ w.suite) × (client.decisions ≡ w.decisions)
+      → (client : EndpointData S D) × (server : EndpointData S D) × (endpoint_end client ≡ w.client.end) × (endpoint_end server ≡ w.server.end) × (client.suite ≡ w.suite) × (client.decisions ≡ w.decisions)
       × AreJoined meaning policy w.client_config w.server_config client server (take w.client.used w.server.sent) w.client.sent (take w.server.used w.client.sent) w.server.sent
   of_world w a b r is other_is =
       let x = r.client.replies (had w.client.end a is) in
@@ -109,8 +109,8 @@ module _ {S D : Type 0} (meaning : S → Meaning) (policy : D → Policy) where
         record {
           is_client = x.is_role;
           is_server = y.is_role;
-          of_client = x.is_party;
-          of_server = y.is_party;
+          of_client = x.is_config;
+          of_server = y.is_config;
           one_suite = y.is_suite ∙ sym x.is_suite;
           same_decisions = y.is_decisions ∙ sym x.is_decisions;
           client_after = x.after;

@@ -7,14 +7,14 @@ use Rattle.sshneg.specs.declared.role.Role.{Role}
 use Rattle.sshneg.specs.declared.role.Role.TheVariants.{Client, Server}
 use Rattle.sshpacket.specs.Places.{EachPlace, IsPrefix, flat_places}
 use Rattle.sshpacket.specs.Stream.{Units}
-use Rattle.sshpacket.specs.Suite.{Meaning}
+use Rattle.sshpacket.specs.Suite.{SuiteData}
 use Rattle.sshpacket.proofs.Places.{each-prefix, each-last, prefix-through}
-use Rattle.sshcore.specs.ConfigData.{ClientData, ServerData}
-use Rattle.sshcore.specs.Ending.{Open}
-use Rattle.sshcore.specs.Party.{Party, Policy, client_party, server_party}
+use Rattle.sshcore.specs.ConfigParts.{ClientData, ServerData}
+use Rattle.sshcore.specs.EndData.{Open}
+use Rattle.sshcore.specs.EndpointParts.{ConfigData, DecisionsData, config_of_client, config_of_server}
 use Rattle.sshcore.specs.Replies.{Ends, StaysOpen, answers_at, end_at, ended, goes_on}
 use Rattle.sshcore.specs.Work.{making}
-use Rattle.sshworld.specs.Course.{Part, said_after}
+use Rattle.sshworld.specs.Course.{Part, sent_after}
 use Rattle.sshworld.specs.Follows.{BothFollow, BothKeep, FollowsPart, IsInPart, KeepsPart, end_after, part_of_client, part_of_server, units_of}
 use Rattle.sshworld.specs.Rounds.{IsCourse}
 use Rattle.sshworld.specs.Wording.{Wording}
@@ -43,21 +43,21 @@ each_all {A} Q before (x ∷ xs) f = (
   each_all Q (before ++ x ∷ []) xs (λ b u g. f b u (record { rest = g.rest; whole_is = sym (append_assoc before (x ∷ []) xs) ∙ g.whole_is })),
 )
 
-said_from : (f : Units → List ℕ → Units) (group : ℕ → Units) (before xs : Units) → EachPlace (λ b x. f b x ≡ group (length b)) before xs → flat_places f before xs ≡ from group (length before) (length xs)
-said_from f group before [] e = refl
-said_from f group before (x ∷ xs) e =
+sent_from : (f : Units → List ℕ → Units) (group : ℕ → Units) (before xs : Units) → EachPlace (λ b x. f b x ≡ group (length b)) before xs → flat_places f before xs ≡ from group (length before) (length xs)
+sent_from f group before [] e = refl
+sent_from f group before (x ∷ xs) e =
     ap (λ (g : Units). g ++ flat_places f (before ++ x ∷ []) xs) e.0
-    ∙ ap (λ (g : Units). group (length before) ++ g) (said_from f group (before ++ x ∷ []) xs e.1 ∙ ap (λ (n : ℕ). from group n (length xs)) (let n : length (before ++ x ∷ []) ≡ suc (length before) = omega (arith, length-append before (x ∷ [])) in n))
+    ∙ ap (λ (g : Units). group (length before) ++ g) (sent_from f group (before ++ x ∷ []) xs e.1 ∙ ap (λ (n : ℕ). from group n (length xs)) (let n : length (before ++ x ∷ []) ≡ suc (length before) = omega (arith, length-append before (x ∷ [])) in n))
 
-module _ (m : Meaning) (d : Policy) (role : Role) (own : Party) (p : Part) (stream : Units) (follows : FollowsPart m d role own p stream) (some : 0 < p.hears) (ends : p.final ≢ Open) where
+module _ (m : SuiteData) (d : DecisionsData) (role : Role) (own : ConfigData) (p : Part) (stream : Units) (follows : FollowsPart m d role own p stream) (some : 0 < p.receives) (ends : p.final ≢ Open) where
   -- it stays open at fewer units than it hears
-  few : (units : Units) → IsPrefix units stream → StaysOpen m d role own units → length units < p.hears
-  few units front open_at = elim (dec_lt (length units) p.hears) [
+  few : (units : Units) → IsPrefix units stream → StaysOpen m d role own units → length units < p.receives
+  few units front open_at = elim (dec_lt (length units) p.receives) [
     | yes less ↦ less
-    | no ge ↦ many ge p.hears refl
+    | no ge ↦ many ge p.receives refl
   ]
     where
-      many : (length units < p.hears → ⊥) → (n : ℕ) → p.hears ≡ n → length units < p.hears
+      many : (length units < p.receives → ⊥) → (n : ℕ) → p.receives ≡ n → length units < p.receives
       many ge zero e = absurd (omega (arith, e, some))
       many ge (suc n) e =
           let s = split units n (omega (arith, ge, e)) in
@@ -66,19 +66,19 @@ module _ (m : Meaning) (d : Policy) (role : Role) (own : Party) (p : Part) (stre
           each-prefix (λ b u. end_at m d role own b u ≡ Open) [] (s.before ++ s.here ∷ []) s.rest (subst (λ (l : Units). EachPlace (λ b u. end_at m d role own b u ≡ Open) [] l) near open_at) in
           let here : end_at m d role own s.before s.here ≡ Open = each-last (λ b u. end_at m d role own b u ≡ Open) [] s.before s.here stays in
           let place = follows.places s.before s.here (prefix-through (s.before ++ s.here ∷ []) units stream (record { rest = s.rest; whole_is = near }) front) (omega (arith, s.at, e)) in
-          let last : (suc (length s.before) == p.hears) ≡ true = eq-eqb (suc (length s.before)) p.hears (omega (arith, s.at, e)) in
+          let last : (suc (length s.before) == p.receives) ≡ true = eq-eqb (suc (length s.before)) p.receives (omega (arith, s.at, e)) in
           let final_is : end_after p (suc (length s.before)) ≡ p.final = rw last refl in
           absurd (ends (sym final_is ∙ sym place.end ∙ here))
 
-  said_is : (units answers : Units) → IsPrefix units stream → length units ≤ p.hears → answers ≡ making m role own ++ (flat_places (answers_at m d role own) [] units ++ []) → answers ≡ said_after p (length units)
-  said_is units answers front h e =
+  sent_is : (units answers : Units) → IsPrefix units stream → length units ≤ p.receives → answers ≡ making m role own ++ (flat_places (answers_at m d role own) [] units ++ []) → answers ≡ sent_after p (length units)
+  sent_is units answers front h e =
       let each : EachPlace (λ b x. answers_at m d role own b x ≡ p.group (length b)) [] units =
       each_all (λ b x. answers_at m d role own b x ≡ p.group (length b)) [] units (λ b u g. (follows.places b u (prefix-through (b ++ u ∷ []) units stream g front) (short b u g h)).answer) in
       e ∙ ap (λ (l : Units). making m role own ++ l) (append-nil (flat_places (answers_at m d role own) [] units))
       ∙ ap (λ (l : Units). l ++ flat_places (answers_at m d role own) [] units) follows.making_is
-      ∙ ap (λ (l : Units). p.first ++ l) (said_from (answers_at m d role own) p.group [] units each ∙ sym (answers_from p.group (length units)))
+      ∙ ap (λ (l : Units). p.first ++ l) (sent_from (answers_at m d role own) p.group [] units each ∙ sym (answers_from p.group (length units)))
     where
-      short : (b : Units) (u : List ℕ) → IsPrefix (b ++ u ∷ []) units → length units ≤ p.hears → length b < p.hears
+      short : (b : Units) (u : List ℕ) → IsPrefix (b ++ u ∷ []) units → length units ≤ p.receives → length b < p.receives
       short b u g h = let n = ap length g.whole_is in omega (arith, n, length-append (b ++ u ∷ []) g.rest, length-append b (u ∷ []), h)
 
   pub keeps : KeepsPart m d role own p stream
@@ -89,8 +89,8 @@ module _ (m : Meaning) (d : Policy) (role : Role) (own : Party) (p : Part) (stre
           let less = few units front open_at in
           record {
             within = omega (arith, less);
-            said = said_is units answers front (omega (arith, less)) replies.in_order;
-            ends = e ∙ sym (let no_end : (length units == p.hears) ≡ false = ne_eqb (length units) p.hears (λ z. omega (arith, z, less)) in rw no_end refl);
+            sent = sent_is units answers front (omega (arith, less)) replies.in_order;
+            ends = e ∙ sym (let no_end : (length units == p.receives) ≡ false = ne_eqb (length units) p.receives (λ z. omega (arith, z, less)) in rw no_end refl);
           }
       by (ended before last is open_at e closed none) =
           let front_before : IsPrefix before stream = prefix-through before units stream (record { rest = last ∷ []; whole_is = is }) front in
@@ -99,14 +99,14 @@ module _ (m : Meaning) (d : Policy) (role : Role) (own : Party) (p : Part) (stre
           let place = follows.places before last (prefix-through (before ++ last ∷ []) units stream (record { rest = []; whole_is = is ∙ sym (append-nil (before ++ last ∷ [])) }) front) less in
           record {
             within = omega (arith, less, n);
-            said = said_is units answers front (omega (arith, less, n)) replies.in_order;
+            sent = sent_is units answers front (omega (arith, less, n)) replies.in_order;
             ends = e ∙ place.end ∙ ap (λ (k : ℕ). end_after p k) (sym n);
           }
 
-pub both_keep : (m : Meaning) (d : Policy) (c : ClientData) (s : ServerData) (w : Wording) → BothFollow m d c s w → BothKeep m d c s w
+pub both_keep : (m : SuiteData) (d : DecisionsData) (c : ClientData) (s : ServerData) (w : Wording) → BothFollow m d c s w → BothKeep m d c s w
 both_keep m d c s w both =
     let is : IsCourse (part_of_client m d c s w) (part_of_server m d c s w) = of_outcome m d c s w in
     record {
-      client_keeps = keeps m d Client (client_party c) (part_of_client m d c s w) (units_of (server_party s) (part_of_server m d c s w)) both.client_follows is.fit.client_hears_some is.client_ends;
-      server_keeps = keeps m d Server (server_party s) (part_of_server m d c s w) (units_of (client_party c) (part_of_client m d c s w)) both.server_follows is.fit.server_hears_some is.server_ends;
+      client_keeps = keeps m d Client (config_of_client c) (part_of_client m d c s w) (units_of (config_of_server s) (part_of_server m d c s w)) both.client_follows is.fit.client_receives_some is.client_ends;
+      server_keeps = keeps m d Server (config_of_server s) (part_of_server m d c s w) (units_of (config_of_client c) (part_of_client m d c s w)) both.server_follows is.fit.server_receives_some is.server_ends;
     }

@@ -4,27 +4,27 @@ use Rattle.std.proofs.Common.{◌≡◌, ◌≢◌, ◌⊎◌, inl, inr, ℕ, Li
 use Rattle.std.proofs.lemmas.List.{take-append-drop}
 use Rattle.std.specs.Option.{option_zip}
 use Rattle.sshpacket.specs.Places.{IsPrefix}
-use Rattle.sshpacket.specs.Suite.{Meaning}
+use Rattle.sshpacket.specs.Suite.{SuiteData}
 use Rattle.sshcore.specs.declared.end.Fault.TheVariants as fault
 use Rattle.sshcore.specs.declared.session.Session.{Session}
-use Rattle.sshcore.specs.ConfigData.{ClientData, ServerData}
-use Rattle.sshcore.specs.Ending.{AgreedData, Authenticated, Closed, Disconnected, Ending, Failed, Open}
-use Rattle.sshcore.specs.Endpoints.{After, ending_of}
-use Rattle.sshcore.specs.Party.{Party, Policy}
+use Rattle.sshcore.specs.ConfigParts.{ClientData, ServerData}
+use Rattle.sshcore.specs.EndData.{AgreedData, Authenticated, Closed, Disconnected, EndData, Failed, Open}
+use Rattle.sshcore.specs.Endpoints.{EndpointAfter, endpoint_end}
+use Rattle.sshcore.specs.EndpointParts.{ConfigData, DecisionsData}
 use Rattle.sshcore.specs.Sessions.{IsSession}
 use Rattle.sshworld.specs.declared.node.Node.{Node}
 use Rattle.sshworld.specs.Joined.{AreCrosswise, AreJoined, HandOver}
-use Rattle.sshworld.specs.Stands.{NodesStand}
+use Rattle.sshworld.specs.Nodes.{NodesStand}
 use Rattle.sshworld.specs.Understood.{AreUnderstood}
 
 some_taken : (n : ℕ) (sent : List ℕ) → IsPrefix (take n sent) sent
 some_taken n sent = record { rest = drop n sent; whole_is = sym (take-append-drop n sent) }
 
-had : (end : Ending) (a : AgreedData) → end ≡ Authenticated a → end ≢ Failed fault.Memory
+had : (end : EndData) (a : AgreedData) → end ≡ Authenticated a → end ≢ Failed fault.Memory
 had end a is failed = cc
 
 -- authenticated or not
-is_authenticated : (x : Ending) → ((a : AgreedData) × (x ≡ Authenticated a)) ⊎ ((a : AgreedData) → x ≢ Authenticated a)
+is_authenticated : (x : EndData) → ((a : AgreedData) × (x ≡ Authenticated a)) ⊎ ((a : AgreedData) → x ≢ Authenticated a)
 is_authenticated Open = inr (λ a e. cc)
 is_authenticated (Authenticated a) = inl (a, refl)
 is_authenticated (Failed f) = inr (λ a e. cc)
@@ -32,30 +32,30 @@ is_authenticated (Closed reason) = inr (λ a e. cc)
 is_authenticated (Disconnected reason) = inr (λ a e. cc)
 
 -- where not both are, one hands over nothing
-pub not_both : (x y : Ending) (r q : Option Session) → (((a : AgreedData) → x ≢ Authenticated a) → r ≡ None) → (((a : AgreedData) → y ≢ Authenticated a) → q ≡ None)
+pub not_both : (x y : EndData) (r q : Option Session) → (((a : AgreedData) → x ≢ Authenticated a) → r ≡ None) → (((a : AgreedData) → y ≢ Authenticated a) → q ≡ None)
     → ((a b : AgreedData) → x ≡ Authenticated a → y ≢ Authenticated b) → option_zip r q ≡ None
 not_both x y r q first second off = by (is_authenticated x) (is_authenticated y)
   where
-    none_behind : (o : Option Session) → option_zip {U = Session} o None ≡ None
-    none_behind None = refl
-    none_behind (Some s) = refl
+    none_after : (o : Option Session) → option_zip {U = Session} o None ≡ None
+    none_after None = refl
+    none_after (Some s) = refl
 
     by : ((a : AgreedData) × (x ≡ Authenticated a)) ⊎ ((a : AgreedData) → x ≢ Authenticated a) → ((b : AgreedData) × (y ≡ Authenticated b)) ⊎ ((b : AgreedData) → y ≢ Authenticated b) → option_zip r q ≡ None
     by (inl (a, is)) (inl (b, other_is)) = absurd (off a b is other_is)
-    by (inl a) (inr not) = ap (option_zip r) (second not) ∙ none_behind r
+    by (inl a) (inr not) = ap (option_zip r) (second not) ∙ none_after r
     by (inr not) b = ap (λ (o : Option Session). option_zip o q) (first not)
 
 -- where both are handed over
 zip_both : (r q : Option Session) (x y : Session) → r ≡ Some x → q ≡ Some y → Some (x, y) ≡ option_zip r q
 zip_both r q x y e f = rw (e, f) refl
 
-module _ {S D : Type 0} (meaning : S → Meaning) (policy : D → Policy) (c : ClientData) (s : ServerData) (suite : S) (decisions : D) (client server : Node S D)
-    (stands : NodesStand meaning policy c s suite decisions client server) (a b : AgreedData) (is : ending_of client.endpoint ≡ Authenticated a) (other_is : ending_of server.endpoint ≡ Authenticated b) where
-  pub client_after : After meaning policy client.endpoint (take client.used server.sent.items) client.sent.items
-  client_after = stands.client_stands.after (had (ending_of client.endpoint) a is)
+module _ {S D : Type 0} (meaning : S → SuiteData) (policy : D → DecisionsData) (c : ClientData) (s : ServerData) (suite : S) (decisions : D) (client server : Node S D)
+    (stands : NodesStand meaning policy c s suite decisions client server) (a b : AgreedData) (is : endpoint_end client.endpoint ≡ Authenticated a) (other_is : endpoint_end server.endpoint ≡ Authenticated b) where
+  pub client_after : EndpointAfter meaning policy client.endpoint (take client.used server.sent.items) client.sent.items
+  client_after = stands.client_stands.after (had (endpoint_end client.endpoint) a is)
 
-  pub server_after : After meaning policy server.endpoint (take server.used client.sent.items) server.sent.items
-  server_after = stands.server_stands.after (had (ending_of server.endpoint) b other_is)
+  pub server_after : EndpointAfter meaning policy server.endpoint (take server.used client.sent.items) server.sent.items
+  server_after = stands.server_stands.after (had (endpoint_end server.endpoint) b other_is)
 
   pub nodes_joined : AreJoined meaning policy c s client.endpoint server.endpoint (take client.used server.sent.items) client.sent.items (take server.used client.sent.items) server.sent.items
   nodes_joined =
@@ -64,8 +64,8 @@ module _ {S D : Type 0} (meaning : S → Meaning) (policy : D → Policy) (c : C
       record {
         is_client = x.is_role;
         is_server = y.is_role;
-        of_client = x.is_party;
-        of_server = y.is_party;
+        of_client = x.is_config;
+        of_server = y.is_config;
         one_suite = y.is_suite ∙ sym x.is_suite;
         same_decisions = y.is_decisions ∙ sym x.is_decisions;
         client_after = client_after;
@@ -87,8 +87,8 @@ module _ {S D : Type 0} (meaning : S → Meaning) (policy : D → Policy) (c : C
       subst (λ (t : Option (Session × Session)). HandOver (AreUnderstood (meaning suite) (policy decisions) c s) c s a b t) (zip_both r q x y rx qy) (record {
         client_agreed = sx.agreed_is;
         server_agreed = sy.agreed_is;
-        client_version = sx.own_version ∙ ap (λ (q : Party). q.version) stands.client_stands.is_party;
-        server_version = sy.own_version ∙ ap (λ (q : Party). q.version) stands.server_stands.is_party;
+        client_version = sx.own_version ∙ ap (λ (q : ConfigData). q.version) stands.client_stands.is_config;
+        server_version = sy.own_version ∙ ap (λ (q : ConfigData). q.version) stands.server_stands.is_config;
         crosswise = λ u. law x y (understood u) sx sy;
       })
     where

@@ -8,7 +8,7 @@ pub mod DrawnLemmas
 pub mod RoundLemmas
 pub mod CourseLemmas
 pub mod FitLemmas
-pub mod GroupsSaidLemmas
+pub mod GroupsSentLemmas
 pub mod CountLemmas
 pub mod CourseLaws
 pub mod StepLemmas
@@ -21,12 +21,12 @@ pub mod HeadlineLemmas
 pub mod InCourseLemmas
 pub mod StandsLemmas
 pub mod DeliveryLemmas
-pub mod HalfLemmas
+pub mod PartnerLemmas
 pub mod HandedLemmas
-pub mod CourseHeardLemmas
+pub mod CourseReceivedLemmas
 pub mod MessageLemmas
 pub mod JudgedLemmas
-pub mod SaidLemmas
+pub mod SentLemmas
 pub mod ServerRequests
 pub mod ClientRequests
 pub mod ServerFollows
@@ -37,7 +37,7 @@ pub mod Readable
 pub mod AcceptedLemmas
 pub mod KeysLemmas
 pub mod PreambleLemmas
-pub mod HearLemmas
+pub mod ReceiveLemmas
 pub mod CourseSamples
 pub mod VerdictSamples
 pub mod TurnLemmas
@@ -47,7 +47,7 @@ pub mod MoveLemmas
 pub mod OneWayLemmas
 pub mod SoFarLemmas
 pub mod JoinedLemmas
-pub mod LetInLemmas
+pub mod UserAcceptedLemmas
 pub mod CrosswiseLemmas
 pub mod EndpointPairs
 pub mod ReceiverLemmas

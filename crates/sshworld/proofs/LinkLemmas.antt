@@ -7,29 +7,29 @@ use Rattle.std.proofs.lemmas.Nat.{mod_below}
 use Rattle.sshmsg.specs.Numbers.{kind}
 use Rattle.sshneg.specs.declared.role.Role.{Role}
 use Rattle.sshneg.specs.Markers.{other}
-use Rattle.sshpacket.specs.KeyData.{KeyData}
+use Rattle.sshpacket.specs.KeysData.{KeysData}
 use Rattle.sshpacket.specs.Parse.{Refusal, parse_packet, protection, whole}
 use Rattle.sshpacket.specs.Places.{EachPlace, IsPrefix, after_first, stands}
-use Rattle.sshpacket.specs.Stream.{Heard, HeardAll, Linked, Spelled, Units}
-use Rattle.sshpacket.specs.Suite.{IsLawful, Meaning}
+use Rattle.sshpacket.specs.Stream.{Linked, Received, ReceivedAll, Spelled, Units}
+use Rattle.sshpacket.specs.Suite.{IsLawful, SuiteData}
 use Rattle.sshpacket.proofs.Places.{each-prefix, each-push, each-weaker, prefix-through, stands-prefix}
 use Rattle.sshcore.specs.Before.{kept, offered, since, stood, strict_at}
 use Rattle.sshcore.specs.Counting.{is_newkeys, number_by, number_in, number_out, switched_out}
 use Rattle.sshcore.specs.Directions.{keys_in, keys_out, others_of, parsers, payloads_in, spelled_by, spells, version_in}
-use Rattle.sshcore.specs.Ending.{Ending}
+use Rattle.sshcore.specs.EndData.{EndData}
 use Rattle.sshcore.specs.Exchange.{exchange_at, keys_at}
 use Rattle.sshcore.specs.History.{AllFit, FitsPacket, History, IsReady}
-use Rattle.sshcore.specs.Party.{Party, Policy}
+use Rattle.sshcore.specs.EndpointParts.{ConfigData, DecisionsData}
 use Rattle.sshcore.proofs.StreamLemmas.{exchange_stays, keys_stay, strict_stays}
 use Rattle.sshworld.specs.Laws.{Laws}
-use Rattle.sshworld.specs.Links.{CanBeHeard}
+use Rattle.sshworld.specs.Links.{CanBeReceived}
 use Rattle.sshworld.specs.Placed.{HaveSameKeys, IsInPlace}
 
 -- A speaker stands in its course, once it has heard these units and said these answers: both are a prefix of all that is
 -- said, what was said fits packets, and NEWKEYS is among it only where the speaker has heard the exchange message.
-pub record SpeaksInCourse (peer : Role) (own their : Party) (ours theirs units answers : Units) : Type 0 where
-  pub heard : IsPrefix units (own.version ∷ ours)
-  pub said : IsPrefix answers theirs
+pub record SpeaksInCourse (peer : Role) (own their : ConfigData) (ours theirs units answers : Units) : Type 0 where
+  pub received : IsPrefix units (own.version ∷ ours)
+  pub sent : IsPrefix answers theirs
   pub fits : AllFit answers
   pub keyed : switched_out answers ≡ true → IsReady peer their (payloads_in units)
 
@@ -46,10 +46,10 @@ module _ (t u : Units → List ℕ → Bool) where
       ap (λ (b : Bool). cond b xs (after_first t (before ++ x ∷ []) xs)) each.0 ∙ ap (λ (r : Units). cond (u before x) xs r) (after_same (before ++ x ∷ []) xs each.1)
 
 -- NEWKEYS isn't dropped here
-abbrev pub SameSwitch : Role → Party → Units → List ℕ → Type 0
+abbrev pub SameSwitch : Role → ConfigData → Units → List ℕ → Type 0
 SameSwitch role own before p = kept role own.offer 21 before p ≡ (kind p == 21)
 
-module _ (role : Role) (own : Party) where
+module _ (role : Role) (own : ConfigData) where
   -- the switch and the packets behind it are the same on both sides
   pub switch_same : (xs : Units) → EachPlace (SameSwitch role own) [] xs → stood role own.offer 21 xs ≡ switched_out xs
   unfolding stood switched_out
@@ -63,61 +63,61 @@ number_below : (switched strict : Bool) (since all : ℕ) → number_by switched
 number_below switched strict since all = mod_below _ (2 ^ 32) (omega arith)
 
 -- behind this NEWKEYS the hearer reads with what the speaker writes with, and both have hashed the same
-pub record SameWay (m : Meaning) (role peer : Role) (own their : Party) (heard before : Units) : Type 0 where
-  pub exchange : exchange_at m role own their.version before ≡ exchange_at m peer their (version_in heard) (payloads_in heard)
-  pub keys : keys_at m role own their.version before (other role) ≡ keys_at m peer their (version_in heard) (payloads_in heard) peer
-  pub strict : strict_at role own before ≡ strict_at peer their (payloads_in heard)
+pub record SameWay (m : SuiteData) (role peer : Role) (own their : ConfigData) (received before : Units) : Type 0 where
+  pub exchange : exchange_at m role own their.version before ≡ exchange_at m peer their (version_in received) (payloads_in received)
+  pub keys : keys_at m role own their.version before (other role) ≡ keys_at m peer their (version_in received) (payloads_in received) peer
+  pub strict : strict_at role own before ≡ strict_at peer their (payloads_in received)
 
-module _ (laws : Laws) (m : Meaning) (lawful : IsLawful m) where
+module _ (laws : Laws) (m : SuiteData) (lawful : IsLawful m) where
   -- what is written in one way is read in it, with the same keys and, where there are keys, the same number
-  reads_as : (k l q : Option KeyData) (i j : ℕ) (seed p more : List ℕ) → k ≡ q → l ≡ q → ((keys : KeyData) → q ≡ Some keys → i ≡ j) → j < 2 ^ 32 → FitsPacket p
+  reads_as : (k l q : Option KeysData) (i j : ℕ) (seed p more : List ℕ) → k ≡ q → l ≡ q → ((keys : KeysData) → q ≡ Some keys → i ≡ j) → j < 2 ^ 32 → FitsPacket p
       → parse_packet (protection m k i) (spelled_by m l seed j p ++ more) ≡ whole p (length (spelled_by m l seed j p))
   reads_as k l None i j seed p more ek el same low fits = rw (ek, el) (laws.clear m lawful seed j p more fits.some fits.short)
   reads_as k l (Some keys) i j seed p more ek el same low fits =
       let e : i ≡ j = same keys refl in
       rw (ek, el, e) (laws.sealed m lawful keys seed j p more low fits.bytes fits.some fits.short)
 
-  module _ (role peer : Role) (own their : Party) (heard : Units) where
-    pub numbers_same : (before : Units) → EachPlace (SameSwitch role own) [] before → switched_out before ≡ true → SameWay m role peer own their heard before
-        → number_in role own before ≡ number_out (strict_at peer their (payloads_in heard)) before
+  module _ (role peer : Role) (own their : ConfigData) (received : Units) where
+    pub numbers_same : (before : Units) → EachPlace (SameSwitch role own) [] before → switched_out before ≡ true → SameWay m role peer own their received before
+        → number_in role own before ≡ number_out (strict_at peer their (payloads_in received)) before
     unfolding number_out
     numbers_same before same on way =
         ap (λ (b : Bool). number_by b (strict_at role own before) (since role own.offer 21 before) (length before)) (switch_same role own before same)
         ∙ ap (λ (b : Bool). number_by (switched_out before) b (since role own.offer 21 before) (length before)) way.strict
-        ∙ ap (λ (n : ℕ). number_by (switched_out before) (strict_at peer their (payloads_in heard)) n (length before)) (since_same role own before same)
+        ∙ ap (λ (n : ℕ). number_by (switched_out before) (strict_at peer their (payloads_in received)) n (length before)) (since_same role own before same)
 
-    low_out : (before : Units) → number_out (strict_at peer their (payloads_in heard)) before < 2 ^ 32
+    low_out : (before : Units) → number_out (strict_at peer their (payloads_in received)) before < 2 ^ 32
     unfolding number_out
-    low_out before = number_below (switched_out before) (strict_at peer their (payloads_in heard)) (length (after_first is_newkeys [] before)) (length before)
+    low_out before = number_below (switched_out before) (strict_at peer their (payloads_in received)) (length (after_first is_newkeys [] before)) (length before)
 
     -- one payload
-    spelled_at : (before : Units) (p : List ℕ) → EachPlace (SameSwitch role own) [] before → FitsPacket p → (switched_out before ≡ true → SameWay m role peer own their heard before)
-        → Spelled (parsers m role own) (spells m peer their heard) (their.version ∷ before) p
+    spelled_at : (before : Units) (p : List ℕ) → EachPlace (SameSwitch role own) [] before → FitsPacket p → (switched_out before ≡ true → SameWay m role peer own their received before)
+        → Spelled (parsers m role own) (spells m peer their received) (their.version ∷ before) p
     spelled_at before p same fits agree more = elim (cases_Bool (switched_out before)) [
       | inl on ↦
           let way = agree on in
-          reads_as (keys_in m role own their.version before) (keys_out m peer their heard before) (Some (keys_at m peer their (version_in heard) (payloads_in heard) peer))
-          (number_in role own before) (number_out (strict_at peer their (payloads_in heard)) before) their.seed p more
-          (ap (λ (b : Bool). cond b (Some (keys_at m role own their.version before (other role))) None) (switch_same role own before same ∙ on) ∙ ap (λ (k : KeyData). Some k) way.keys)
-          (ap (λ (b : Bool). cond b (Some (keys_at m peer their (version_in heard) (payloads_in heard) peer)) None) on)
+          reads_as (keys_in m role own their.version before) (keys_out m peer their received before) (Some (keys_at m peer their (version_in received) (payloads_in received) peer))
+          (number_in role own before) (number_out (strict_at peer their (payloads_in received)) before) their.seed p more
+          (ap (λ (b : Bool). cond b (Some (keys_at m role own their.version before (other role))) None) (switch_same role own before same ∙ on) ∙ ap (λ (k : KeysData). Some k) way.keys)
+          (ap (λ (b : Bool). cond b (Some (keys_at m peer their (version_in received) (payloads_in received) peer)) None) on)
           (λ keys e. numbers_same before same on way) (low_out before) fits
       | inr off ↦
-          reads_as (keys_in m role own their.version before) (keys_out m peer their heard before) None
-          (number_in role own before) (number_out (strict_at peer their (payloads_in heard)) before) their.seed p more
+          reads_as (keys_in m role own their.version before) (keys_out m peer their received before) None
+          (number_in role own before) (number_out (strict_at peer their (payloads_in received)) before) their.seed p more
           (ap (λ (b : Bool). cond b (Some (keys_at m role own their.version before (other role))) None) (switch_same role own before same ∙ off))
-          (ap (λ (b : Bool). cond b (Some (keys_at m peer their (version_in heard) (payloads_in heard) peer)) None) off)
+          (ap (λ (b : Bool). cond b (Some (keys_at m peer their (version_in received) (payloads_in received) peer)) None) off)
           (λ keys e. absurd cc) (low_out before) fits
     ]
 
     -- all from a place on
-    each_spelled : (before said : Units) → EachPlace (SameSwitch role own) [] before → EachPlace (IsInPlace role own) before said → EachPlace (λ b p. FitsPacket p) before said
-        → ((b : Units) → IsPrefix b (before ++ said) → switched_out b ≡ true → IsReady role own b → SameWay m role peer own their heard b)
-        → EachPlace (Spelled (parsers m role own) (spells m peer their heard)) (their.version ∷ before) said
+    each_spelled : (before sent : Units) → EachPlace (SameSwitch role own) [] before → EachPlace (IsInPlace role own) before sent → EachPlace (λ b p. FitsPacket p) before sent
+        → ((b : Units) → IsPrefix b (before ++ sent) → switched_out b ≡ true → IsReady role own b → SameWay m role peer own their received b)
+        → EachPlace (Spelled (parsers m role own) (spells m peer their received)) (their.version ∷ before) sent
     each_spelled before [] same each fits agree = tt
-    each_spelled before (p ∷ said) same each fits agree = (
-      spelled_at before p same fits.0 (λ on. agree before (record { rest = p ∷ said; whole_is = refl }) on (each.0.ready on)),
-      each_spelled (before ++ p ∷ []) said (each-push (SameSwitch role own) [] before p same each.0.switch) each.1 fits.1
-          (λ b f on r. agree b (record { rest = f.rest; whole_is = sym (append_assoc before (p ∷ []) said) ∙ f.whole_is }) on r),
+    each_spelled before (p ∷ sent) same each fits agree = (
+      spelled_at before p same fits.0 (λ on. agree before (record { rest = p ∷ sent; whole_is = refl }) on (each.0.ready on)),
+      each_spelled (before ++ p ∷ []) sent (each-push (SameSwitch role own) [] before p same each.0.switch) each.1 fits.1
+          (λ b f on r. agree b (record { rest = f.rest; whole_is = sym (append_assoc before (p ∷ []) sent) ∙ f.whole_is }) on r),
     )
 
 switched_on : (xs ys : Units) → IsPrefix xs ys → switched_out xs ≡ true → switched_out ys ≡ true
@@ -135,7 +135,7 @@ begins_so (u ∷ us) version ps f e =
     let is : version ∷ ps ≡ u ∷ (us ++ f.rest) = f.whole_is in
     (cc, record { rest = f.rest; whole_is = cc })
 
-module _ (m : Meaning) (role : Role) (party : Party) where
+module _ (m : SuiteData) (role : Role) (party : ConfigData) where
   keys_of_prefix : (version : List ℕ) (xs ys : Units) (sender : Role) → IsPrefix xs ys → IsReady role party xs → keys_at m role party version ys sender ≡ keys_at m role party version xs sender
   keys_of_prefix version xs ys sender f r = ap (λ (q : Units). keys_at m role party version q sender) f.whole_is ∙ keys_stay m role party version xs f.rest sender r
 
@@ -145,13 +145,13 @@ module _ (m : Meaning) (role : Role) (party : Party) where
   strict_of_prefix : (xs ys : Units) → IsPrefix xs ys → IsReady role party xs → strict_at role party ys ≡ strict_at role party xs
   strict_of_prefix xs ys f r = ap (λ (q : Units). strict_at role party q) f.whole_is ∙ strict_stays m role party xs f.rest r.offer
 
-module _ (m : Meaning) (role peer : Role) (own their : Party) (ours theirs : Units) (can : CanBeHeard m role peer own their ours theirs) (units answers : Units) (speaks : SpeaksInCourse peer own their ours theirs units answers) where
+module _ (m : SuiteData) (role peer : Role) (own their : ConfigData) (ours theirs : Units) (can : CanBeReceived m role peer own their ours theirs) (units answers : Units) (speaks : SpeaksInCourse peer own their ours theirs units answers) where
   pub same_way : (b : Units) → IsPrefix b answers → switched_out b ≡ true → IsReady role own b → SameWay m role peer own their units b
   same_way b f on ready =
       let mine : IsReady peer their (payloads_in units) = speaks.keyed (switched_on b answers f on) in
-      let all : IsPrefix b theirs = prefix-through b answers theirs f speaks.said in
+      let all : IsPrefix b theirs = prefix-through b answers theirs f speaks.sent in
       let agree : HaveSameKeys m role peer own their ours theirs = can.keys (switched_on b theirs all on) in
-      let begins = begins_so units own.version ours speaks.heard mine.offer in
+      let begins = begins_so units own.version ours speaks.received mine.offer in
       record {
         exchange = sym (exchange_of_prefix m role own their.version b theirs all ready)
             ∙ (agree.exchange
@@ -165,31 +165,31 @@ module _ (m : Meaning) (role peer : Role) (own their : Party) (ours theirs : Uni
         strict = sym (strict_of_prefix m role own b theirs all ready) ∙ (agree.strict ∙ strict_of_prefix m peer their (payloads_in units) ours begins.1 mine);
       }
 
-  places_said : EachPlace (IsInPlace role own) [] answers
-  places_said = each-prefix (IsInPlace role own) [] answers speaks.said.rest (subst (λ (q : Units). EachPlace (IsInPlace role own) [] q) speaks.said.whole_is can.places)
+  places_sent : EachPlace (IsInPlace role own) [] answers
+  places_sent = each-prefix (IsInPlace role own) [] answers speaks.sent.rest (subst (λ (q : Units). EachPlace (IsInPlace role own) [] q) speaks.sent.whole_is can.places)
 
-  pub switches_said : EachPlace (SameSwitch role own) [] answers
-  switches_said = each-weaker (IsInPlace role own) (SameSwitch role own) (λ before payload place. place.switch) [] answers places_said
+  pub switches_sent : EachPlace (SameSwitch role own) [] answers
+  switches_sent = each-weaker (IsInPlace role own) (SameSwitch role own) (λ before payload place. place.switch) [] answers places_sent
 
   pub all_spelled : Laws → IsLawful m → EachPlace (Spelled (parsers m role own) (spells m peer their units)) [] (their.version ∷ answers)
   all_spelled laws lawful = (
     (λ more. laws.preamble (others_of role) their.version _ more can.preamble),
-    each_spelled laws m lawful role peer own their units [] answers tt places_said speaks.fits same_way,
+    each_spelled laws m lawful role peer own their units [] answers tt places_sent speaks.fits same_way,
   )
 
 -- a speaker with a history stands in its course
-pub speaks_by : (m : Meaning) (d : Policy) (peer : Role) (own their : Party) (ours theirs units answers : Units) (rest h s : List ℕ) (refusal : Option Refusal) (end : Ending)
+pub speaks_by : (m : SuiteData) (d : DecisionsData) (peer : Role) (own their : ConfigData) (ours theirs units answers : Units) (rest h s : List ℕ) (refusal : Option Refusal) (end : EndData)
     → History m d peer their units rest refusal answers end h s → IsPrefix units (own.version ∷ ours) → IsPrefix answers theirs → SpeaksInCourse peer own their ours theirs units answers
-speaks_by m d peer own their ours theirs units answers rest h s refusal end a f g = record { heard = f; said = g; fits = a.fits; keyed = a.keyed }
+speaks_by m d peer own their ours theirs units answers rest h s refusal end a f g = record { received = f; sent = g; fits = a.fits; keyed = a.keyed }
 
-module _ (laws : Laws) (m : Meaning) (d : Policy) (lawful : IsLawful m) (role peer : Role) (own their : Party) (ours theirs : Units) (can : CanBeHeard m role peer own their ours theirs)
-    (units answers : Units) (rest h s : List ℕ) (refusal : Option Refusal) (end : Ending) (a : History m d peer their units rest refusal answers end h s)
+module _ (laws : Laws) (m : SuiteData) (d : DecisionsData) (lawful : IsLawful m) (role peer : Role) (own their : ConfigData) (ours theirs : Units) (can : CanBeReceived m role peer own their ours theirs)
+    (units answers : Units) (rest h s : List ℕ) (refusal : Option Refusal) (end : EndData) (a : History m d peer their units rest refusal answers end h s)
     (f : IsPrefix units (own.version ∷ ours)) (g : IsPrefix answers theirs) where
   spelled_so : EachPlace (Spelled (parsers m role own) (spells m peer their units)) [] (their.version ∷ answers)
   spelled_so = all_spelled m role peer own their ours theirs can units answers (speaks_by m d peer own their ours theirs units answers rest h s refusal end a f g) laws lawful
 
-  pub heard_prefix : (heard more : List ℕ) (us : Units) (left : List ℕ) (r : Option Refusal) → s ≡ heard ++ more → Heard (parsers m role own) heard us left r → Linked us (their.version ∷ answers) r
-  heard_prefix heard more us left r e b = laws.link (parsers m role own) (spells m peer their units) (laws.parsers m role own) s heard more (their.version ∷ answers) us left r a.said spelled_so e b
+  pub received_prefix : (received more : List ℕ) (us : Units) (left : List ℕ) (r : Option Refusal) → s ≡ received ++ more → Received (parsers m role own) received us left r → Linked us (their.version ∷ answers) r
+  received_prefix received more us left r e b = laws.link (parsers m role own) (spells m peer their units) (laws.parsers m role own) s received more (their.version ∷ answers) us left r a.sent spelled_so e b
 
-  pub heard_all : (us : Units) (left : List ℕ) (r : Option Refusal) → Heard (parsers m role own) s us left r → HeardAll us (their.version ∷ answers) left r
-  heard_all us left r b = laws.all (parsers m role own) (spells m peer their units) (laws.parsers m role own) s (their.version ∷ answers) us left r a.said spelled_so b
+  pub received_all : (us : Units) (left : List ℕ) (r : Option Refusal) → Received (parsers m role own) s us left r → ReceivedAll us (their.version ∷ answers) left r
+  received_all us left r b = laws.all (parsers m role own) (spells m peer their units) (laws.parsers m role own) s (their.version ∷ answers) us left r a.sent spelled_so b

@@ -5,12 +5,12 @@ use Rattle.std.proofs.lemmas.Bool.{ne_eqb}
 use Rattle.sshneg.specs.declared.role.Role.{Role}
 use Rattle.sshpacket.specs.Places.{EachPlace, IsPrefix}
 use Rattle.sshpacket.specs.Stream.{Units}
-use Rattle.sshpacket.specs.Suite.{Meaning}
+use Rattle.sshpacket.specs.Suite.{SuiteData}
 use Rattle.sshpacket.proofs.Places.{each-prefix, each-last}
-use Rattle.sshcore.specs.Ending.{Ending, Reply, goes}
-use Rattle.sshcore.specs.Party.{Party, Policy}
+use Rattle.sshcore.specs.EndData.{EndData, Reply, goes}
+use Rattle.sshcore.specs.EndpointParts.{ConfigData, DecisionsData}
 use Rattle.sshcore.specs.Replies.{unit_reply}
-use Rattle.sshworld.specs.Course.{Part, answers_to, group_at, said_after}
+use Rattle.sshworld.specs.Course.{Part, answers_to, group_at, sent_after}
 use Rattle.sshworld.specs.Follows.{IsAsPart}
 
 -- the shorter of two prefixes of one list is a prefix of the other
@@ -24,10 +24,10 @@ prefix_shorter {A} (x ∷ xs) (y ∷ ys) r t e h =
     record { rest = f.rest; whole_is = ap (λ (l : List A). y ∷ l) f.whole_is ∙ ap (λ (z : A). z ∷ (xs ++ f.rest)) (sym head) }
 
 -- what holds at each place of a prefix holds at each place of the stream before its length
-pub at_each : {A : Type 0} (Q : List A → A → Type 0) (heard stream : List A) (n : ℕ) → length heard ≡ n → IsPrefix heard stream → EachPlace Q [] heard
+pub at_each : {A : Type 0} (Q : List A → A → Type 0) (received stream : List A) (n : ℕ) → length received ≡ n → IsPrefix received stream → EachPlace Q [] received
     → (before : List A) (unit : A) → IsPrefix (before ++ unit ∷ []) stream → length before < n → Q before unit
-at_each {A} Q heard stream n e f each before unit g h =
-    let shorter : IsPrefix (before ++ unit ∷ []) heard = prefix_shorter (before ++ unit ∷ []) heard g.rest f.rest (sym g.whole_is ∙ f.whole_is) (omega (arith, length-append before (unit ∷ []), e, h)) in
+at_each {A} Q received stream n e f each before unit g h =
+    let shorter : IsPrefix (before ++ unit ∷ []) received = prefix_shorter (before ++ unit ∷ []) received g.rest f.rest (sym g.whole_is ∙ f.whole_is) (omega (arith, length-append before (unit ∷ []), e, h)) in
     each-last Q [] before unit (each-prefix Q [] (before ++ unit ∷ []) shorter.rest (subst (λ (l : List A). EachPlace Q [] l) shorter.whole_is each))
 
 -- what a function says from a place on, for so many places
@@ -45,15 +45,15 @@ pub answers_from : (f : ℕ → Units) (n : ℕ) → answers_to f n ≡ from f 0
 answers_from f n = ap (λ (k : ℕ). answers_to f k) (let e : n ≡ 0 + n = omega arith in e) ∙ answers_split f 0 n
 
 -- the groups that come behind others
-pub group_behind : (groups : List Units) (f : ℕ → Units) (i n : ℕ) → n ≡ length groups + i → group_at groups f n ≡ f i
-group_behind groups f i n e = ap (λ (k : ℕ). group_at groups f k) e ∙ here groups
+pub group_after : (groups : List Units) (f : ℕ → Units) (i n : ℕ) → n ≡ length groups + i → group_at groups f n ≡ f i
+group_after groups f i n e = ap (λ (k : ℕ). group_at groups f k) e ∙ here groups
   where
     here : (groups : List Units) → group_at groups f (length groups + i) ≡ f i
     here [] = ap (λ (k : ℕ). f k) (let z : 0 + i ≡ i = omega arith in z)
     here (g ∷ groups) = ap (λ (k : ℕ). group_at (g ∷ groups) f k) (let z : length (g ∷ groups) + i ≡ suc (length groups + i) = omega arith in z) ∙ here groups
 
 -- what a side has said at a place is a prefix of what it has said at a later one
-pub grows_to : (p : Part) (a b : ℕ) → a ≤ b → IsPrefix (said_after p a) (said_after p b)
+pub grows_to : (p : Part) (a b : ℕ) → a ≤ b → IsPrefix (sent_after p a) (sent_after p b)
 grows_to p a b h =
     let e : b ≡ a + (b - a) = omega (arith, h) in
     record {
@@ -61,20 +61,20 @@ grows_to p a b h =
       whole_is = ap (λ (k : ℕ). p.first ++ answers_to p.group k) e ∙ ap (λ (l : Units). p.first ++ l) (answers_split p.group a (b - a)) ∙ sym (append_assoc p.first (answers_to p.group a) (from p.group a (b - a)));
     }
 
-pub grows : (p : Part) (n : ℕ) → n ≤ p.hears → IsPrefix (said_after p n) (said_after p p.hears)
-grows p n h = grows_to p n p.hears h
+pub grows : (p : Part) (n : ℕ) → n ≤ p.receives → IsPrefix (sent_after p n) (sent_after p p.receives)
+grows p n h = grows_to p n p.receives h
 
 -- an endpoint that replies so at a place is as its part has it there, where it goes on and where it ends
-module _ (m : Meaning) (d : Policy) (role : Role) (own : Party) (p : Part) (before : Units) (unit : List ℕ) where
-  pub as_open : (answers : Units) → unit_reply m d role own before unit ≡ goes answers → p.group (length before) ≡ answers → suc (length before) < p.hears → IsAsPart m d role own p before unit
+module _ (m : SuiteData) (d : DecisionsData) (role : Role) (own : ConfigData) (p : Part) (before : Units) (unit : List ℕ) where
+  pub as_open : (answers : Units) → unit_reply m d role own before unit ≡ goes answers → p.group (length before) ≡ answers → suc (length before) < p.receives → IsAsPart m d role own p before unit
   as_open answers e g h = record {
     answer = ap (λ (r : Reply). r.answers) e ∙ sym g;
-    end = ap (λ (r : Reply). r.end) e ∙ sym (let no_end : (suc (length before) == p.hears) ≡ false = ne_eqb (suc (length before)) p.hears (λ z. omega (arith, z, h)) in rw no_end refl);
+    end = ap (λ (r : Reply). r.end) e ∙ sym (let no_end : (suc (length before) == p.receives) ≡ false = ne_eqb (suc (length before)) p.receives (λ z. omega (arith, z, h)) in rw no_end refl);
   }
 
-  pub as_last : (answers : Units) (end : Ending) → unit_reply m d role own before unit ≡ record { answers = answers; end = end } → p.group (length before) ≡ answers
-      → suc (length before) ≡ p.hears → p.final ≡ end → IsAsPart m d role own p before unit
+  pub as_last : (answers : Units) (end : EndData) → unit_reply m d role own before unit ≡ record { answers = answers; end = end } → p.group (length before) ≡ answers
+      → suc (length before) ≡ p.receives → p.final ≡ end → IsAsPart m d role own p before unit
   as_last answers end e g h f = record {
     answer = ap (λ (r : Reply). r.answers) e ∙ sym g;
-    end = ap (λ (r : Reply). r.end) e ∙ (sym f ∙ sym (let at_end : (suc (length before) == p.hears) ≡ true = eq-eqb (suc (length before)) p.hears h in rw at_end refl));
+    end = ap (λ (r : Reply). r.end) e ∙ (sym f ∙ sym (let at_end : (suc (length before) == p.receives) ≡ true = eq-eqb (suc (length before)) p.receives h in rw at_end refl));
   }

@@ -4,37 +4,37 @@ use Rattle.std.proofs.Common.{◌≡◌, ℕ, ◌+◌, ◌==◌, ◌&&◌, Bool,
 use Rattle.std.proofs.lemmas.Bool.{true≢false}
 use Rattle.sshwire.specs.declared.share_form.ShareForm.{ShareForm}
 use Rattle.sshwire.specs.declared.share_form.ShareForm.TheVariants.{Hybrid, Mpint, OctetString}
-use Rattle.sshmsg.specs.Content.{Disconnect, KexInit, Offer}
+use Rattle.sshmsg.specs.MessageData.{Disconnect, KexInit, KexInitData}
 use Rattle.sshmsg.specs.Numbers.{kind}
 use Rattle.sshmsg.specs.Written.{written_message}
 use Rattle.sshneg.specs.declared.choice.NoCommon.{NoCommon}
 use Rattle.sshneg.specs.declared.role.Role.{Role}
 use Rattle.sshneg.specs.declared.role.Role.TheVariants.{Client, Server}
 use Rattle.sshneg.specs.ChoiceReadings.{choice}
-use Rattle.sshneg.specs.Fields.{Algorithms}
+use Rattle.sshneg.specs.Fields.{AlgorithmsData}
 use Rattle.sshneg.specs.Strictness.{is_right_guess}
 use Rattle.sshpacket.specs.Places.{EachPlace}
 use Rattle.sshpacket.specs.Stream.{Units}
-use Rattle.sshpacket.specs.Suite.{Meaning}
+use Rattle.sshpacket.specs.Suite.{SuiteData}
 use Rattle.sshcore.specs.declared.table.Phase.{Phase}
 use Rattle.sshcore.specs.declared.table.Phase.TheVariants as phase
 use Rattle.sshcore.specs.Before.{expects_guess, offered, stood}
-use Rattle.sshcore.specs.ConfigData.{ClientData, ServerData, client_offer, server_offer, version_of}
+use Rattle.sshcore.specs.ConfigParts.{ClientData, ServerData, client_offer, server_offer, version_of}
 use Rattle.sshcore.specs.Counting.{switched_out}
-use Rattle.sshcore.specs.Ending.{Ending}
+use Rattle.sshcore.specs.EndData.{EndData}
 use Rattle.sshcore.specs.Exchange.{chosen_or}
 use Rattle.sshcore.specs.History.{IsReady}
 use Rattle.sshcore.specs.Known.{Known}
-use Rattle.sshcore.specs.Party.{Party, Policy, client_party, server_party}
+use Rattle.sshcore.specs.EndpointParts.{ConfigData, DecisionsData, config_of_client, config_of_server}
 use Rattle.sshcore.specs.Phases.{leaving, past_exchange, past_kexinit}
 use Rattle.sshcore.specs.Standing.{Sits}
 use Rattle.sshcore.specs.Work.{guessed_method, init_for, reply_in}
 use Rattle.sshcore.proofs.GuessLemmas.{no_guess}
 use Rattle.sshcore.proofs.PhaseLemmas.{kept_free, offered_push, stood_push}
 use Rattle.sshworld.specs.Agreement.{answer_of_server, host_key_of_server}
-use Rattle.sshworld.specs.Course.{NoTrust, Requests, Way, client_part, guessed, heard_last, init_anew, said_after, server_next, server_no_trust, server_part, way_by}
+use Rattle.sshworld.specs.Course.{NoTrust, Requests, Way, client_part, guessed, init_anew, received_last, sent_after, server_next, server_no_trust, server_part, way_by}
 use Rattle.sshworld.specs.Guesses.{Guess, NoGuess, RightGuess, WrongGuess, guess_by, guess_of}
-use Rattle.sshworld.specs.Outcome.{BothEnds, case_of_choice, outcome, table}
+use Rattle.sshworld.specs.Outcome.{BothEnds, case_of_choice, ends_of_case, outcome}
 use Rattle.sshworld.specs.Placed.{BothInPlace, IsInPlace}
 use Rattle.sshworld.specs.Understood.{AreUnderstood}
 use Rattle.sshworld.specs.Verdicts.{verdict}
@@ -43,10 +43,10 @@ use Rattle.sshworld.specs.Wordings.{method_used, signature_of_server, wording_wi
 use Rattle.sshworld.proofs.MessageLemmas.{client_exchanges, init_kind, server_drops, server_exchanges}
 use Rattle.sshworld.proofs.PartLemmas.{from}
 use Rattle.sshworld.proofs.Readable.{AreOffersRead, AreSound, IsRead}
-use Rattle.sshworld.proofs.SaidLemmas.{client_says, server_says}
+use Rattle.sshworld.proofs.SentLemmas.{client_sends, server_sends}
 use Rattle.sshworld.proofs.ServerFollows.{begun}
 
-none_due : (role : Role) (own : Party) → expects_guess role own.offer [] ≡ false
+none_due : (role : Role) (own : ConfigData) → expects_guess role own.offer [] ≡ false
 unfolding expects_guess offered
 none_due role own = refl
 
@@ -62,7 +62,7 @@ not_switched_two : (x y : List ℕ) → (kind x == 21) ≡ false → (kind y == 
 unfolding switched_out
 not_switched_two x y e f = rw (e, f) refl
 
-module _ (role : Role) (own : Party) where
+module _ (role : Role) (own : ConfigData) where
   free : (before : Units) (x : List ℕ) → expects_guess role own.offer before ≡ false → (switched_out before ≡ true → IsReady role own before) → IsInPlace role own before x
   free before x none r = record { switch = kept_free role own.offer before x 21 none; ready = r }
 
@@ -70,20 +70,20 @@ module _ (role : Role) (own : Party) where
   other before x e r = record { switch = rw e refl; ready = r }
 
   -- behind the exchange
-  behind_exchange : (before xs : Units) → offered before ≡ true → stood role own.offer (leaving role phase.Exchange) before ≡ true → expects_guess role own.offer before ≡ false → EachPlace (IsInPlace role own) before xs
-  behind_exchange before [] off on none = tt
-  behind_exchange before (x ∷ xs) off on none = (
+  after_exchange : (before xs : Units) → offered before ≡ true → stood role own.offer (leaving role phase.Exchange) before ≡ true → expects_guess role own.offer before ≡ false → EachPlace (IsInPlace role own) before xs
+  after_exchange before [] off on none = tt
+  after_exchange before (x ∷ xs) off on none = (
     free before x none (λ _. record { offer = off; exchange = on }),
-    behind_exchange (before ++ x ∷ []) xs (offered_push before x ∙ rw off refl) (stood_push role own.offer before x (leaving role phase.Exchange) ∙ rw on refl) (no_guess role own.offer before x off),
+    after_exchange (before ++ x ∷ []) xs (offered_push before x ∙ rw off refl) (stood_push role own.offer before x (leaving role phase.Exchange) ∙ rw on refl) (no_guess role own.offer before x off),
   )
 
-  sits_behind : (m : Meaning) (d : Policy) (version : List ℕ) (before xs : Units) (p : Phase) (x : Known) → Sits m d role own version before p false x → past_exchange p ≡ true → past_kexinit p ≡ true → EachPlace (IsInPlace role own) before xs
-  sits_behind m d version before xs p x s past begun = behind_exchange before xs (s.tied.offer ∙ begun) (s.tied.exchange ∙ past) s.due
+  sits_after : (m : SuiteData) (d : DecisionsData) (version : List ℕ) (before xs : Units) (p : Phase) (x : Known) → Sits m d role own version before p false x → past_exchange p ≡ true → past_kexinit p ≡ true → EachPlace (IsInPlace role own) before xs
+  sits_after m d version before xs p x s past begun = after_exchange before xs (s.tied.offer ∙ begun) (s.tied.exchange ∙ past) s.due
 
 never : {P : Type 0} (b : Bool) → b ≡ false → b ≡ true → P
 never b e f = absurd (true≢false (sym f ∙ e))
 
-module _ (role : Role) (own : Party) where
+module _ (role : Role) (own : ConfigData) where
   first : (k : List ℕ) → IsInPlace role own [] k
   first k = free role own [] k (none_due role own) (λ e. never (switched_out []) not_switched_none e)
 
@@ -93,7 +93,7 @@ module _ (role : Role) (own : Party) where
   third : (k x y : List ℕ) → (kind k == 21) ≡ false → (kind x == 21) ≡ false → (kind y == 21) ≡ false → IsInPlace role own (k ∷ x ∷ []) y
   third k x y e f g = other role own (k ∷ x ∷ []) y g (λ z. never (switched_out (k ∷ x ∷ [])) (not_switched_two k x e f) z)
 
-pub head : (offer : Offer) → (kind (written_message (KexInit offer)) == 21) ≡ false
+pub head : (offer : KexInitData) → (kind (written_message (KexInit offer)) == 21) ≡ false
 unfolding written_message
 head offer = refl
 
@@ -107,50 +107,50 @@ reply_head Mpint a b e = refl
 reply_head OctetString a b e = refl
 reply_head Hybrid a b e = refl
 
-pub init_head : (m : Meaning) (own : Party) (kex : List ℕ) → (kind (init_for m own kex) == 21) ≡ false
+pub init_head : (m : SuiteData) (own : ConfigData) (kex : List ℕ) → (kind (init_for m own kex) == 21) ≡ false
 init_head m own kex = ap (λ (n : ℕ). n == 21) (init_kind m own kex)
 
-module _ (m : Meaning) (d : Policy) (c : ClientData) (s : ServerData) (understood : AreUnderstood m d c s) (sound : AreSound c s) (offers : AreOffersRead c s) where
-  module _ (a : Algorithms) (chosen : choice m (client_offer c) (server_offer s) ≡ Ok a) (readable : IsRead m d c s a) where
+module _ (m : SuiteData) (d : DecisionsData) (c : ClientData) (s : ServerData) (understood : AreUnderstood m d c s) (sound : AreSound c s) (offers : AreOffersRead c s) where
+  module _ (a : AlgorithmsData) (chosen : choice m (client_offer c) (server_offer s) ≡ Ok a) (readable : IsRead m d c s a) where
     abbrev w : Wording
     w = wording_with m d c s a.kex a
 
-    heard_by_client : (tail : Units) → EachPlace (IsInPlace Client (client_party c)) [] (w.server_offer ∷ w.reply ∷ tail)
-    heard_by_client tail = (
-      first Client (client_party c) w.server_offer,
+    received_by_client : (tail : Units) → EachPlace (IsInPlace Client (config_of_client c)) [] (w.server_offer ∷ w.reply ∷ tail)
+    received_by_client tail = (
+      first Client (config_of_client c) w.server_offer,
       (
-        second Client (client_party c) w.server_offer w.reply (head (server_offer s)) (reply_head (m.share_form a.kex) (host_key_of_server m s a.host_key) (answer_of_server m c s a.kex).share (signature_of_server m c s a)),
-        sits_behind Client (client_party c) m d (version_of s.side) (w.server_offer ∷ w.reply ∷ []) tail phase.NewKeys _ (client_exchanges m d c s understood sound offers a chosen readable) refl refl,
+        second Client (config_of_client c) w.server_offer w.reply (head (server_offer s)) (reply_head (m.share_form a.kex) (host_key_of_server m s a.host_key) (answer_of_server m c s a.kex).share (signature_of_server m c s a)),
+        sits_after Client (config_of_client c) m d (version_of s.side) (w.server_offer ∷ w.reply ∷ []) tail phase.NewKeys _ (client_exchanges m d c s understood sound offers a chosen readable) refl refl,
       ),
     )
 
-    heard_by_server : (g r : Bool) → c.guess ≡ g → is_right_guess (client_offer c) (server_offer s) ≡ r → (tail : Units)
-        → EachPlace (IsInPlace Server (server_party s)) [] (w.client_offer ∷ (guessed w (guess_by g r) ++ (init_anew w (guess_by g r) ++ tail)))
-    heard_by_server false r eg er tail =
+    received_by_server : (g r : Bool) → c.guess ≡ g → is_right_guess (client_offer c) (server_offer s) ≡ r → (tail : Units)
+        → EachPlace (IsInPlace Server (config_of_server s)) [] (w.client_offer ∷ (guessed w (guess_by g r) ++ (init_anew w (guess_by g r) ++ tail)))
+    received_by_server false r eg er tail =
         let b = begun m d c s understood sound offers a chosen readable false (ap (λ (b : Bool). b && not (is_right_guess (client_offer c) (server_offer s))) eg) in (
-          first Server (server_party s) w.client_offer,
+          first Server (config_of_server s) w.client_offer,
           (
-            second Server (server_party s) w.client_offer w.init (head (client_offer c)) (init_head m (client_party c) a.kex),
-            sits_behind Server (server_party s) m d (version_of c.side) (w.client_offer ∷ w.init ∷ []) tail phase.NewKeys _ (server_exchanges m d c s understood sound offers a chosen readable (w.client_offer ∷ []) b) refl refl,
+            second Server (config_of_server s) w.client_offer w.init (head (client_offer c)) (init_head m (config_of_client c) a.kex),
+            sits_after Server (config_of_server s) m d (version_of c.side) (w.client_offer ∷ w.init ∷ []) tail phase.NewKeys _ (server_exchanges m d c s understood sound offers a chosen readable (w.client_offer ∷ []) b) refl refl,
           ),
         )
-    heard_by_server true true eg er tail =
+    received_by_server true true eg er tail =
         let b = begun m d c s understood sound offers a chosen readable false (ap (λ (b : Bool). b && not (is_right_guess (client_offer c) (server_offer s))) eg ∙ ap (λ (b : Bool). true && not b) er) in (
-          first Server (server_party s) w.client_offer,
+          first Server (config_of_server s) w.client_offer,
           (
-            second Server (server_party s) w.client_offer w.init (head (client_offer c)) (init_head m (client_party c) a.kex),
-            sits_behind Server (server_party s) m d (version_of c.side) (w.client_offer ∷ w.init ∷ []) tail phase.NewKeys _ (server_exchanges m d c s understood sound offers a chosen readable (w.client_offer ∷ []) b) refl refl,
+            second Server (config_of_server s) w.client_offer w.init (head (client_offer c)) (init_head m (config_of_client c) a.kex),
+            sits_after Server (config_of_server s) m d (version_of c.side) (w.client_offer ∷ w.init ∷ []) tail phase.NewKeys _ (server_exchanges m d c s understood sound offers a chosen readable (w.client_offer ∷ []) b) refl refl,
           ),
         )
-    heard_by_server true false eg er tail =
+    received_by_server true false eg er tail =
         let b = begun m d c s understood sound offers a chosen readable true (ap (λ (b : Bool). b && not (is_right_guess (client_offer c) (server_offer s))) eg ∙ ap (λ (b : Bool). true && not b) er) in
-        let drop = server_drops m d c s understood sound offers a chosen readable w.guess (init_kind m (client_party c) (guessed_method (client_party c))) (w.client_offer ∷ []) b in (
-          first Server (server_party s) w.client_offer,
+        let drop = server_drops m d c s understood sound offers a chosen readable w.guess (init_kind m (config_of_client c) (guessed_method (config_of_client c))) (w.client_offer ∷ []) b in (
+          first Server (config_of_server s) w.client_offer,
           (
-            second Server (server_party s) w.client_offer w.guess (head (client_offer c)) (init_head m (client_party c) (guessed_method (client_party c))),
+            second Server (config_of_server s) w.client_offer w.guess (head (client_offer c)) (init_head m (config_of_client c) (guessed_method (config_of_client c))),
             (
-              third Server (server_party s) w.client_offer w.guess w.init (head (client_offer c)) (init_head m (client_party c) (guessed_method (client_party c))) (init_head m (client_party c) a.kex),
-              sits_behind Server (server_party s) m d (version_of c.side) (w.client_offer ∷ w.guess ∷ w.init ∷ []) tail phase.NewKeys _ (server_exchanges m d c s understood sound offers a chosen readable (w.client_offer ∷ w.guess ∷ []) drop.1) refl refl,
+              third Server (config_of_server s) w.client_offer w.guess w.init (head (client_offer c)) (init_head m (config_of_client c) (guessed_method (config_of_client c))) (init_head m (config_of_client c) a.kex),
+              sits_after Server (config_of_server s) m d (version_of c.side) (w.client_offer ∷ w.guess ∷ w.init ∷ []) tail phase.NewKeys _ (server_exchanges m d c s understood sound offers a chosen readable (w.client_offer ∷ w.guess ∷ []) drop.1) refl refl,
             ),
           ),
         )
@@ -158,45 +158,45 @@ module _ (m : Meaning) (d : Policy) (c : ClientData) (s : ServerData) (understoo
   -- where nothing is common
   module _ (u : Wording) (offer : u.client_offer ≡ written_message (KexInit (client_offer c))) where
     none_by_server : (guess : Guess) → (kind u.client_offer == 21) ≡ false → (kind u.guess == 21) ≡ false → (kind u.init == 21) ≡ false → (kind (u.disconnect 3) == 21) ≡ false
-        → EachPlace (IsInPlace Server (server_party s)) [] (u.client_offer ∷ (guessed u guess ++ u.disconnect 3 ∷ []))
-    none_by_server NoGuess k g i e = (first Server (server_party s) u.client_offer, (second Server (server_party s) u.client_offer (u.disconnect 3) k e, tt))
+        → EachPlace (IsInPlace Server (config_of_server s)) [] (u.client_offer ∷ (guessed u guess ++ u.disconnect 3 ∷ []))
+    none_by_server NoGuess k g i e = (first Server (config_of_server s) u.client_offer, (second Server (config_of_server s) u.client_offer (u.disconnect 3) k e, tt))
     none_by_server RightGuess k g i e =
-        (first Server (server_party s) u.client_offer, (second Server (server_party s) u.client_offer u.init k i, (third Server (server_party s) u.client_offer u.init (u.disconnect 3) k i e, tt)))
+        (first Server (config_of_server s) u.client_offer, (second Server (config_of_server s) u.client_offer u.init k i, (third Server (config_of_server s) u.client_offer u.init (u.disconnect 3) k i e, tt)))
     none_by_server WrongGuess k g i e =
-        (first Server (server_party s) u.client_offer, (second Server (server_party s) u.client_offer u.guess k g, (third Server (server_party s) u.client_offer u.guess (u.disconnect 3) k g e, tt)))
+        (first Server (config_of_server s) u.client_offer, (second Server (config_of_server s) u.client_offer u.guess k g, (third Server (config_of_server s) u.client_offer u.guess (u.disconnect 3) k g e, tt)))
 
   -- by the choice
-  record Placed (r : Result Algorithms NoCommon) (way : Way) : Type 0 where
-    client : (ends : BothEnds) → EachPlace (IsInPlace Client (client_party c)) [] (said_after (server_part (wording_with m d c s (method_used c r) (chosen_or r)) (guess_of c s) way ends) (server_part (wording_with m d c s (method_used c r) (chosen_or r)) (guess_of c s) way ends).hears)
-    server : (ends : BothEnds) → EachPlace (IsInPlace Server (server_party s)) [] (said_after (client_part (wording_with m d c s (method_used c r) (chosen_or r)) (guess_of c s) way ends) (client_part (wording_with m d c s (method_used c r) (chosen_or r)) (guess_of c s) way ends).hears)
+  record Placed (r : Result AlgorithmsData NoCommon) (way : Way) : Type 0 where
+    client : (ends : BothEnds) → EachPlace (IsInPlace Client (config_of_client c)) [] (sent_after (server_part (wording_with m d c s (method_used c r) (chosen_or r)) (guess_of c s) way ends) (server_part (wording_with m d c s (method_used c r) (chosen_or r)) (guess_of c s) way ends).receives)
+    server : (ends : BothEnds) → EachPlace (IsInPlace Server (config_of_server s)) [] (sent_after (client_part (wording_with m d c s (method_used c r) (chosen_or r)) (guess_of c s) way ends) (client_part (wording_with m d c s (method_used c r) (chosen_or r)) (guess_of c s) way ends).receives)
 
-  pub refused_said : (u : Wording) (guess : Guess) (end : Ending) → said_after (server_no_trust u guess end) (server_no_trust u guess end).hears ≡ u.server_offer ∷ u.reply ∷ u.new_keys ∷ []
-  refused_said u NoGuess end = refl
-  refused_said u RightGuess end = refl
-  refused_said u WrongGuess end = refl
+  pub refused_sent : (u : Wording) (guess : Guess) (end : EndData) → sent_after (server_no_trust u guess end) (server_no_trust u guess end).receives ≡ u.server_offer ∷ u.reply ∷ u.new_keys ∷ []
+  refused_sent u NoGuess end = refl
+  refused_sent u RightGuess end = refl
+  refused_sent u WrongGuess end = refl
 
-  module _ (readable : (a : Algorithms) → choice m (client_offer c) (server_offer s) ≡ Ok a → IsRead m d c s a) where
-    placed_trusted : (a : Algorithms) → choice m (client_offer c) (server_offer s) ≡ Ok a → (b : Bool) → Placed (Ok a) (if b then Requests (verdict m d c s) else NoTrust)
+  module _ (readable : (a : AlgorithmsData) → choice m (client_offer c) (server_offer s) ≡ Ok a → IsRead m d c s a) where
+    placed_trusted : (a : AlgorithmsData) → choice m (client_offer c) (server_offer s) ≡ Ok a → (b : Bool) → Placed (Ok a) (if b then Requests (verdict m d c s) else NoTrust)
     placed_trusted a chosen true = record {
-      client = λ ends. subst (EachPlace (IsInPlace Client (client_party c)) []) (sym (server_says (wording_with m d c s a.kex a) (verdict m d c s) ends.server (guess_of c s))) (heard_by_client a chosen (readable a chosen) ((wording_with m d c s a.kex a).new_keys ∷ (wording_with m d c s a.kex a).service_accept ∷ ((wording_with m d c s a.kex a).banner ++ from (server_next (wording_with m d c s a.kex a) (verdict m d c s)) 0 ((verdict m d c s).requests + heard_last (verdict m d c s).how))));
-      server = λ ends. subst (EachPlace (IsInPlace Server (server_party s)) []) (sym (client_says (wording_with m d c s a.kex a) (verdict m d c s) ends.client (guess_of c s)))
-          (heard_by_server a chosen (readable a chosen) c.guess (is_right_guess (client_offer c) (server_offer s)) refl refl _);
+      client = λ ends. subst (EachPlace (IsInPlace Client (config_of_client c)) []) (sym (server_sends (wording_with m d c s a.kex a) (verdict m d c s) ends.server (guess_of c s))) (received_by_client a chosen (readable a chosen) ((wording_with m d c s a.kex a).new_keys ∷ (wording_with m d c s a.kex a).service_accept ∷ ((wording_with m d c s a.kex a).banner ++ from (server_next (wording_with m d c s a.kex a) (verdict m d c s)) 0 ((verdict m d c s).requests + received_last (verdict m d c s).how))));
+      server = λ ends. subst (EachPlace (IsInPlace Server (config_of_server s)) []) (sym (client_sends (wording_with m d c s a.kex a) (verdict m d c s) ends.client (guess_of c s)))
+          (received_by_server a chosen (readable a chosen) c.guess (is_right_guess (client_offer c) (server_offer s)) refl refl _);
     }
     placed_trusted a chosen false = record {
-      client = λ ends. subst (EachPlace (IsInPlace Client (client_party c)) []) (sym (refused_said (wording_with m d c s a.kex a) (guess_of c s) ends.server)) (heard_by_client a chosen (readable a chosen) ((wording_with m d c s a.kex a).new_keys ∷ []));
-      server = λ ends. heard_by_server a chosen (readable a chosen) c.guess (is_right_guess (client_offer c) (server_offer s)) refl refl _;
+      client = λ ends. subst (EachPlace (IsInPlace Client (config_of_client c)) []) (sym (refused_sent (wording_with m d c s a.kex a) (guess_of c s) ends.server)) (received_by_client a chosen (readable a chosen) ((wording_with m d c s a.kex a).new_keys ∷ []));
+      server = λ ends. received_by_server a chosen (readable a chosen) c.guess (is_right_guess (client_offer c) (server_offer s)) refl refl _;
     }
 
-    placed_with : (r : Result Algorithms NoCommon) → choice m (client_offer c) (server_offer s) ≡ r → Placed r (way_by m d c s r)
+    placed_with : (r : Result AlgorithmsData NoCommon) → choice m (client_offer c) (server_offer s) ≡ r → Placed r (way_by m d c s r)
     placed_with (Ok a) e = placed_trusted a e (d.host_key a.host_key (host_key_of_server m s a.host_key))
     placed_with (Err f) e = record {
-      client = λ ends. (first Client (client_party c) _, (second Client (client_party c) _ _ (head (server_offer s)) (bye 3), tt));
-      server = λ ends. none_by_server (wording_with m d c s (guessed_method (client_party c)) (chosen_or (Err f))) refl (guess_of c s) (head (client_offer c)) (init_head m (client_party c) (guessed_method (client_party c))) (init_head m (client_party c) (guessed_method (client_party c))) (bye 3);
+      client = λ ends. (first Client (config_of_client c) _, (second Client (config_of_client c) _ _ (head (server_offer s)) (bye 3), tt));
+      server = λ ends. none_by_server (wording_with m d c s (guessed_method (config_of_client c)) (chosen_or (Err f))) refl (guess_of c s) (head (client_offer c)) (init_head m (config_of_client c) (guessed_method (config_of_client c))) (init_head m (config_of_client c) (guessed_method (config_of_client c))) (bye 3);
     }
 
-pub both_placed : (m : Meaning) (d : Policy) (c : ClientData) (s : ServerData) → AreUnderstood m d c s → AreSound c s → AreOffersRead c s
-    → ((a : Algorithms) → choice m (client_offer c) (server_offer s) ≡ Ok a → IsRead m d c s a) → BothInPlace m d c s
+pub both_placed : (m : SuiteData) (d : DecisionsData) (c : ClientData) (s : ServerData) → AreUnderstood m d c s → AreSound c s → AreOffersRead c s
+    → ((a : AlgorithmsData) → choice m (client_offer c) (server_offer s) ≡ Ok a → IsRead m d c s a) → BothInPlace m d c s
 unfolding outcome
 both_placed m d c s understood sound offers readable =
     let p = placed_with m d c s understood sound offers readable (choice m (client_offer c) (server_offer s)) refl in
-    record { heard_by_client = p.client (table (case_of_choice m d c s (choice m (client_offer c) (server_offer s)))); heard_by_server = p.server (table (case_of_choice m d c s (choice m (client_offer c) (server_offer s)))) }
+    record { received_by_client = p.client (ends_of_case (case_of_choice m d c s (choice m (client_offer c) (server_offer s)))); received_by_server = p.server (ends_of_case (case_of_choice m d c s (choice m (client_offer c) (server_offer s)))) }

@@ -5,10 +5,10 @@ use Rattle.std.specs.List.{AllByRecursion, flat_map}
 use Rattle.sshwire.specs.Lines.{BeginsSsh, IsLineByte, IsOtherLine, Preamble, joined, ssh, version_line, with_lf}
 use Rattle.sshneg.specs.declared.role.Role.TheVariants.{Client, Server}
 use Rattle.sshcore.specs.declared.config_fault.ConfigFault.TheVariants as fault
-use Rattle.sshcore.specs.ConfigData.{ClientData, ServerData, version_of}
+use Rattle.sshcore.specs.ConfigParts.{ClientData, ServerData, version_of}
 use Rattle.sshcore.specs.ConfigRules.{IsClient, IsNotice, IsNoticeByte, IsServer}
 use Rattle.sshcore.specs.Directions.{others_of, preamble_of}
-use Rattle.sshcore.specs.Party.{client_party, server_party}
+use Rattle.sshcore.specs.EndpointParts.{config_of_client, config_of_server}
 
 -- the bytes of a notice line, with its CR
 line_bytes : (line : List ℕ) → AllByRecursion IsNoticeByte line → AllByRecursion IsLineByte (line ++ 13 ∷ [])
@@ -51,10 +51,10 @@ count_lines : (lines : List (List ℕ)) → length (map (λ line. line ++ 13 ∷
 count_lines [] = refl
 count_lines (line ∷ lines) = omega (arith, count_lines lines)
 
-pub client_preamble : (c : ClientData) → IsClient c → Preamble (others_of Server) (version_of c.side) (preamble_of (client_party c))
+pub client_preamble : (c : ClientData) → IsClient c → Preamble (others_of Server) (version_of c.side) (preamble_of (config_of_client c))
 client_preamble c is = record { others = []; few = omega arith; each = tt; version = is.keeps fault.Line; bytes_are = refl }
 
-pub server_preamble : (s : ServerData) → IsServer s → Preamble (others_of Client) (version_of s.side) (preamble_of (server_party s))
+pub server_preamble : (s : ServerData) → IsServer s → Preamble (others_of Client) (version_of s.side) (preamble_of (config_of_server s))
 server_preamble s is =
     let line = is.keeps fault.Line in
     let few = line.1 in

@@ -4,37 +4,37 @@ use Rattle.std.proofs.Common.{◌≡◌, ◌∙◌, ℕ, ◌+◌, ◌==◌, ◌&
 use Rattle.std.specs.List.{AllByRecursion}
 use Rattle.std.proofs.lemmas.Bool.{and_parts, eq-eqb, ne_eqb}
 use Rattle.sshneg.specs.ChoiceReadings.{is_in}
-use Rattle.sshpacket.specs.Suite.{Meaning}
+use Rattle.sshpacket.specs.Suite.{SuiteData}
 use Rattle.sshpacket.proofs.Places.{flat-push}
-use Rattle.sshcore.specs.ConfigData.{Attempt, ByKey, ByNothing, ByPassword, Proving, ServerData}
+use Rattle.sshcore.specs.ConfigParts.{AttemptData, ByKey, ByNothing, ByPassword, CredentialData, ServerData}
 use Rattle.sshcore.specs.ConfigRules.{IsListed}
-use Rattle.sshcore.specs.Party.{Policy}
-use Rattle.sshcore.specs.Plan.{asks, behind_query, proving_name, unasked}
-use Rattle.sshcore.specs.Reached.{Tried, are_reached, is_complete, nothing_reached, reached_after, reached_behind}
+use Rattle.sshcore.specs.EndpointParts.{DecisionsData}
+use Rattle.sshcore.specs.Plan.{after_query, asks, proving_name, unasked}
+use Rattle.sshcore.specs.Reached.{Tried, are_reached, is_complete, nothing_reached, reached_after, reached_after_one}
 use Rattle.sshcore.proofs.PlanLemmas.{reached_push}
 use Rattle.sshcore.proofs.ReachedLemmas.{complete_is}
-use Rattle.sshworld.specs.JudgedView.{IsSoFar, reached_of, tried_as}
-use Rattle.sshworld.specs.Judging.{is_good, is_proved, is_usable, proved_by}
+use Rattle.sshworld.specs.JudgedView.{IsSoFar, progress_reached, tried_as}
+use Rattle.sshworld.specs.Judging.{is_proved, is_successful, is_usable, proved_by}
 use Rattle.sshworld.specs.Offered.{is_confirmed, requests_for}
-use Rattle.sshworld.specs.Verdicts.{Limit, Success, Unknown, ends_by, is_let_in, tried_by, tried_of}
+use Rattle.sshworld.specs.Verdicts.{Limit, Success, Unknown, ends_by, is_accepted, tried_by, tried_of}
 use Rattle.sshworld.specs.declared.progress.Progress.{Progress}
 
 -- the attempt itself is by the method of its query
-named_itself : (p : Proving) → proving_name (unasked p) ≡ proving_name p
+named_itself : (p : CredentialData) → proving_name (unasked p) ≡ proving_name p
 named_itself ByNothing = refl
 named_itself (ByPassword password) = refl
 named_itself (ByKey algorithm secret ask) = refl
 
 -- what asks nothing is the attempt itself
-is_itself : (p : Proving) → not (asks p) ≡ true → unasked p ≡ p
+is_itself : (p : CredentialData) → not (asks p) ≡ true → unasked p ≡ p
 is_itself ByNothing h = refl
 is_itself (ByPassword password) h = refl
 is_itself (ByKey algorithm secret true) h = absurd (cc (h))
 is_itself (ByKey algorithm secret false) h = refl
 
-module _ (m : Meaning) (d : Policy) (s : ServerData) (required : AllByRecursion IsListed s.required) (old new : Progress) (x : Attempt) (good : Bool)
-    (counted : new.requests ≡ old.requests + 1) (reached : reached_of new ≡ reached_behind (reached_of old) (tried_as x good))
-    (made : List Attempt) (r : Attempt) (so_far : IsSoFar m d s made old) (same : behind_query r ≡ behind_query x) (is : good ≡ is_good m d s (length made + 1) r) where
+module _ (m : SuiteData) (d : DecisionsData) (s : ServerData) (required : AllByRecursion IsListed s.required) (old new : Progress) (x : AttemptData) (successful : Bool)
+    (counted : new.requests ≡ old.requests + 1) (reached : progress_reached new ≡ reached_after_one (progress_reached old) (tried_as x successful))
+    (made : List AttemptData) (r : AttemptData) (so_far : IsSoFar m d s made old) (same : after_query r ≡ after_query x) (is : successful ≡ is_successful m d s (length made + 1) r) where
   abbrev before : List Tried
   before = tried_of m d s made
 
@@ -42,23 +42,23 @@ module _ (m : Meaning) (d : Policy) (s : ServerData) (required : AllByRecursion 
   this = tried_by m d s made r
 
   abbrev done : Bool
-  done = good && is_complete s.required (reached_of new)
+  done = successful && is_complete s.required (progress_reached new)
 
   name_is : proving_name x.proving ≡ proving_name r.proving
-  name_is = sym (named_itself x.proving) ∙ (ap (λ (a : Attempt). proving_name a.proving) (sym same) ∙ named_itself r.proving)
+  name_is = sym (named_itself x.proving) ∙ (ap (λ (a : AttemptData). proving_name a.proving) (sym same) ∙ named_itself r.proving)
 
-  this_is : tried_as x good ≡ this
+  this_is : tried_as x successful ≡ this
   this_is =
-      ap (λ u. record { user = u; service = x.service; good = if good then Some (proving_name x.proving) else None }) (ap (λ (a : Attempt). a.user) (sym same))
-      ∙ (ap (λ v. record { user = r.user; service = v; good = if good then Some (proving_name x.proving) else None }) (ap (λ (a : Attempt). a.service) (sym same))
-      ∙ (ap (λ n. record { user = r.user; service = r.service; good = if good then Some n else None }) name_is
-      ∙ ap (λ b. record { user = r.user; service = r.service; good = if b then Some (proving_name r.proving) else None }) is))
+      ap (λ u. record { user = u; service = x.service; successful = if successful then Some (proving_name x.proving) else None }) (ap (λ (a : AttemptData). a.user) (sym same))
+      ∙ (ap (λ v. record { user = r.user; service = v; successful = if successful then Some (proving_name x.proving) else None }) (ap (λ (a : AttemptData). a.service) (sym same))
+      ∙ (ap (λ n. record { user = r.user; service = r.service; successful = if successful then Some n else None }) name_is
+      ∙ ap (λ b. record { user = r.user; service = r.service; successful = if b then Some (proving_name r.proving) else None }) is))
 
   now_is : tried_of m d s (made ++ r ∷ []) ≡ before ++ this ∷ []
   now_is = flat-push (λ b a. tried_by m d s b a ∷ []) [] made r
 
-  kept_is : reached_of new ≡ reached_behind (reached_after nothing_reached before) this
-  kept_is = reached ∙ (ap (λ g. reached_behind g (tried_as x good)) so_far.reached ∙ ap (reached_behind (reached_after nothing_reached before)) this_is)
+  kept_is : progress_reached new ≡ reached_after_one (reached_after nothing_reached before) this
+  kept_is = reached ∙ (ap (λ g. reached_after_one g (tried_as x successful)) so_far.reached ∙ ap (reached_after_one (reached_after nothing_reached before)) this_is)
 
   number_is : new.requests ≡ length made + 1
   number_is = counted ∙ ap (λ (n : ℕ). n + 1) so_far.counted
@@ -70,39 +70,39 @@ module _ (m : Meaning) (d : Policy) (s : ServerData) (required : AllByRecursion 
     reached = kept_is ∙ (sym (reached_push nothing_reached before (this ∷ [])) ∙ ap (reached_after nothing_reached) (sym now_is));
   }
 
-  complete : good ≡ true → is_complete s.required (reached_of new) ≡ are_reached s.required r.user r.service (tried_of m d s (made ++ r ∷ []))
+  complete : successful ≡ true → is_complete s.required (progress_reached new) ≡ are_reached s.required r.user r.service (tried_of m d s (made ++ r ∷ []))
   complete e =
-      let by_name : this.good ≡ Some (proving_name r.proving) = ap (λ (b : Bool). if b then Some (proving_name r.proving) else None) (sym is ∙ e) in
+      let by_name : this.successful ≡ Some (proving_name r.proving) = ap (λ (b : Bool). if b then Some (proving_name r.proving) else None) (sym is ∙ e) in
       ap (is_complete s.required) kept_is
       ∙ (complete_is before this (proving_name r.proving) by_name s.required required ∙ ap (are_reached s.required r.user r.service) (sym now_is))
 
-  let_in : is_let_in m d s made r ≡ done
-  let_in = by good refl
+  accepted_user : is_accepted m d s made r ≡ done
+  accepted_user = by successful refl
     where
-      by : (b : Bool) → good ≡ b → is_let_in m d s made r ≡ (b && is_complete s.required (reached_of new))
+      by : (b : Bool) → successful ≡ b → is_accepted m d s made r ≡ (b && is_complete s.required (progress_reached new))
       by true e = ap (λ (b : Bool). b && are_reached s.required r.user r.service (tried_of m d s (made ++ r ∷ []))) (sym is ∙ e) ∙ sym (complete e)
       by false e = ap (λ (b : Bool). b && are_reached s.required r.user r.service (tried_of m d s (made ++ r ∷ []))) (sym is ∙ e)
 
   -- a good request is no query
-  request_is : good ≡ true → r ≡ behind_query x
+  request_is : successful ≡ true → r ≡ after_query x
   request_is e =
       let asks_not : not (asks r.proving) ≡ true = (and_parts (not (asks r.proving)) (is_proved m d s (length made + 1) r) (sym is ∙ e)).0 in
-      ap (λ (p : Proving). record r { proving = p }) (sym (is_itself r.proving asks_not)) ∙ same
+      ap (λ (p : CredentialData). record r { proving = p }) (sym (is_itself r.proving asks_not)) ∙ same
 
   module _ (has : is_in s.services x.service ≡ true) where
     -- how it ends those before it, of a service that the server has
     ends : ends_by m d s made r ≡ (if done then Some (Success r) else if new.requests == s.tries then Some Limit else None)
     ends =
-        ap (λ (b : Bool). if not b then Some Unknown else if is_let_in m d s made r then Some (Success r) else if length made + 1 == s.tries then Some Limit else None)
-        (ap (λ (a : Attempt). is_in s.services a.service) same ∙ has)
-        ∙ (ap (λ (b : Bool). if b then Some (Success r) else if length made + 1 == s.tries then Some Limit else None) let_in
+        ap (λ (b : Bool). if not b then Some Unknown else if is_accepted m d s made r then Some (Success r) else if length made + 1 == s.tries then Some Limit else None)
+        (ap (λ (a : AttemptData). is_in s.services a.service) same ∙ has)
+        ∙ (ap (λ (b : Bool). if b then Some (Success r) else if length made + 1 == s.tries then Some Limit else None) accepted_user
         ∙ ap (λ (n : ℕ). if done then Some (Success r) else if n == s.tries then Some Limit else None) (sym number_is))
 
-    pub at_success : good ≡ true → is_complete s.required (reached_of new) ≡ true → Some (Success (behind_query x)) ≡ ends_by m d s made r
+    pub at_success : successful ≡ true → is_complete s.required (progress_reached new) ≡ true → Some (Success (after_query x)) ≡ ends_by m d s made r
     at_success e all =
         let is_done : done ≡ true = rw (e, all) refl in
         sym (ends ∙ (ap (λ (b : Bool). if b then Some (Success r) else if new.requests == s.tries then Some Limit else None) is_done
-        ∙ ap (λ (a : Attempt). Some (Success a)) (request_is e)))
+        ∙ ap (λ (a : AttemptData). Some (Success a)) (request_is e)))
 
     at_more : done ≡ false → (b : Bool) → (new.requests == s.tries) ≡ b → (if b then Some Limit else None) ≡ ends_by m d s made r
     at_more more b last =
@@ -116,44 +116,44 @@ module _ (m : Meaning) (d : Policy) (s : ServerData) (required : AllByRecursion 
     at_none tries granted more others = at_more more false (ne_eqb new.requests s.tries (λ e. others (e ∙ sym granted)))
 
 -- it isn't done, where it isn't good or something is missing
-pub not_good : (good complete : Bool) → good ≡ false → (good && complete) ≡ false
-not_good good complete e = ap (λ (b : Bool). b && complete) e
+pub not_successful : (successful complete : Bool) → successful ≡ false → (successful && complete) ≡ false
+not_successful successful complete e = ap (λ (b : Bool). b && complete) e
 
-pub not_complete : (good complete : Bool) → complete ≡ false → (good && complete) ≡ false
+pub not_complete : (successful complete : Bool) → complete ≡ false → (successful && complete) ≡ false
 not_complete true complete e = e
 not_complete false complete e = refl
 
 -- the attempt itself is behind its query what it was
-pub twice_itself : (x : Attempt) → behind_query (behind_query x) ≡ behind_query x
-twice_itself x = ap (λ (p : Proving). record x { proving = p }) (by x.proving)
+pub twice_itself : (x : AttemptData) → after_query (after_query x) ≡ after_query x
+twice_itself x = ap (λ (p : CredentialData). record x { proving = p }) (by x.proving)
   where
-    by : (p : Proving) → unasked (unasked p) ≡ unasked p
+    by : (p : CredentialData) → unasked (unasked p) ≡ unasked p
     by ByNothing = refl
     by (ByPassword password) = refl
     by (ByKey algorithm secret ask) = refl
 
-module _ (m : Meaning) (d : Policy) (s : ServerData) (made : List Attempt) (x : Attempt) where
+module _ (m : SuiteData) (d : DecisionsData) (s : ServerData) (made : List AttemptData) (x : AttemptData) where
   -- a query is never good
-  pub good_query : asks x.proving ≡ true → false ≡ is_good m d s (length made + 1) x
-  good_query asks_is = sym (ap (λ (b : Bool). not b && is_proved m d s (length made + 1) x) asks_is)
+  pub successful_query : asks x.proving ≡ true → false ≡ is_successful m d s (length made + 1) x
+  successful_query asks_is = sym (ap (λ (b : Bool). not b && is_proved m d s (length made + 1) x) asks_is)
 
   -- the attempt itself is good if it is proved
-  pub good_itself : (requests : ℕ) (proved : Bool) → requests ≡ length (made ++ x ∷ []) → proved ≡ is_proved m d s (requests + 1) x
-      → proved ≡ is_good m d s (length (made ++ x ∷ []) + 1) (behind_query x)
-  good_itself requests proved counted e = e ∙ (ap (λ (n : ℕ). is_proved m d s (n + 1) x) counted ∙ by (length (made ++ x ∷ []) + 1) x.proving)
+  pub successful_itself : (requests : ℕ) (proved : Bool) → requests ≡ length (made ++ x ∷ []) → proved ≡ is_proved m d s (requests + 1) x
+      → proved ≡ is_successful m d s (length (made ++ x ∷ []) + 1) (after_query x)
+  successful_itself requests proved counted e = e ∙ (ap (λ (n : ℕ). is_proved m d s (n + 1) x) counted ∙ by (length (made ++ x ∷ []) + 1) x.proving)
     where
-      by : (n : ℕ) (p : Proving) → (is_usable s.methods p && d.user n x.user x.service (proved_by m p))
+      by : (n : ℕ) (p : CredentialData) → (is_usable s.methods p && d.user n x.user x.service (proved_by m p))
           ≡ (not (asks (unasked p)) && (is_usable s.methods (unasked p) && d.user n x.user x.service (proved_by m (unasked p))))
       by n ByNothing = refl
       by n (ByPassword password) = refl
       by n (ByKey algorithm secret ask) = refl
 
   -- where its query is confirmed, the attempt has two requests
-  two_requests : is_confirmed m d s made x ≡ true → requests_for m d s made x ≡ x ∷ behind_query x ∷ []
-  two_requests is = ap (λ (b : Bool). if b then x ∷ behind_query x ∷ [] else x ∷ []) is
+  two_requests : is_confirmed m d s made x ≡ true → requests_for m d s made x ≡ x ∷ after_query x ∷ []
+  two_requests is = ap (λ (b : Bool). if b then x ∷ after_query x ∷ [] else x ∷ []) is
 
-  pub behind_two : (p : Progress) → is_confirmed m d s made x ≡ true → IsSoFar m d s ((made ++ x ∷ []) ++ behind_query x ∷ []) p
+  pub after_two : (p : Progress) → is_confirmed m d s made x ≡ true → IsSoFar m d s ((made ++ x ∷ []) ++ after_query x ∷ []) p
       → IsSoFar m d s (made ++ requests_for m d s made x) p
-  behind_two p is behind =
-      subst (λ (requests : List Attempt). IsSoFar m d s (made ++ requests) p) (sym (two_requests is))
-      (subst (λ (requests : List Attempt). IsSoFar m d s requests p) (append_assoc made (x ∷ []) (behind_query x ∷ [])) behind)
+  after_two p is after =
+      subst (λ (requests : List AttemptData). IsSoFar m d s (made ++ requests) p) (sym (two_requests is))
+      (subst (λ (requests : List AttemptData). IsSoFar m d s requests p) (append_assoc made (x ∷ []) (after_query x ∷ [])) after)

@@ -5,20 +5,20 @@ use Rattle.std.proofs.lemmas.Bool.{cases_Bool, true≢false}
 use Rattle.sshneg.specs.declared.role.Role.{Role}
 use Rattle.sshpacket.specs.Parse.{Refusal}
 use Rattle.sshpacket.specs.Places.{EachPlace, IsPrefix, flat_places}
-use Rattle.sshpacket.specs.Stream.{Said, Units}
-use Rattle.sshpacket.specs.Suite.{Meaning}
+use Rattle.sshpacket.specs.Stream.{Sent, Units}
+use Rattle.sshpacket.specs.Suite.{SuiteData}
 use Rattle.sshpacket.proofs.Places.{each-prefix, each-push, flat-append}
 use Rattle.sshcore.specs.declared.table.Phase.TheVariants as phase
 use Rattle.sshcore.specs.Counting.{switched_out}
 use Rattle.sshcore.specs.Directions.{payloads_in, spells}
-use Rattle.sshcore.specs.Ending.{Ending, Open}
+use Rattle.sshcore.specs.EndData.{EndData, Open}
 use Rattle.sshcore.specs.History.{IsReady}
-use Rattle.sshcore.specs.Party.{Party, Policy}
+use Rattle.sshcore.specs.EndpointParts.{ConfigData, DecisionsData}
 use Rattle.sshcore.specs.Replies.{Ends, Replies, StaysOpen, answers_at, end_at, ended, goes_on, refusal_reply}
 use Rattle.sshcore.specs.Work.{making}
 use Rattle.sshcore.proofs.Below.{Below}
 use Rattle.sshcore.proofs.KeyedLemmas.{keyed, still_making}
-use Rattle.sshcore.proofs.StreamLemmas.{ready_more, said_stays, switched_append}
+use Rattle.sshcore.proofs.StreamLemmas.{ready_more, sent_stays, switched_append}
 use Rattle.sshcore.proofs.StrictLaws.{begun_none, stands}
 use Rattle.sshworld.proofs.PartLemmas.{prefix_shorter}
 
@@ -26,29 +26,29 @@ nothing_switched : switched_out [] ≡ true → ⊥
 unfolding switched_out
 nothing_switched on = true≢false (sym on)
 
-module _ (m : Meaning) (d : Policy) (role : Role) (party : Party) where
-  abbrev pub said_so : Units → Units
-  said_so us = making m role party ++ flat_places (answers_at m d role party) [] us
+module _ (m : SuiteData) (d : DecisionsData) (role : Role) (party : ConfigData) where
+  abbrev pub sent_so : Units → Units
+  sent_so us = making m role party ++ flat_places (answers_at m d role party) [] us
 
   abbrev pub open_at : Units → List ℕ → Type 0
   open_at before unit = end_at m d role party before unit ≡ Open
 
   -- it stood open before the last of its units, and had replied to what it had heard
-  pub stays_so : (units us more : Units) (refusal : Option Refusal) (end : Ending) → units ≡ us ++ more → length us < length units → Ends m d role party units refusal end → StaysOpen m d role party us
+  pub stays_so : (units us more : Units) (refusal : Option Refusal) (end : EndData) → units ≡ us ++ more → length us < length units → Ends m d role party units refusal end → StaysOpen m d role party us
   stays_so units us more refusal end e less (goes_on stays is) = each-prefix open_at [] us more (subst (λ (l : Units). EachPlace open_at [] l) e stays)
   stays_so units us more refusal end e less (ended before last are stays is shut none) =
       let f : IsPrefix us before = prefix_shorter us before more (last ∷ []) (sym e ∙ are) (omega (arith, less, ap length are, length-append before (last ∷ []))) in
       each-prefix open_at [] us f.rest (subst (λ (l : Units). EachPlace open_at [] l) f.whole_is stays)
 
-  pub replies_so : (us : Units) → StaysOpen m d role party us → Replies m d role party us None (said_so us) Open
+  pub replies_so : (us : Units) → StaysOpen m d role party us → Replies m d role party us None (sent_so us) Open
   replies_so us stays = record {
     in_order = ap (λ (l : Units). making m role party ++ l) (sym (append-nil (flat_places (answers_at m d role party) [] us)));
     ends = goes_on stays refl;
   }
 
   -- what it had said is a prefix of all that it said, in payloads and in bytes
-  pub said_more : (units us more answers : Units) (refusal : Option Refusal) (end : Ending) → units ≡ us ++ more → Replies m d role party units refusal answers end → IsPrefix (said_so us) answers
-  said_more units us more answers refusal end e r =
+  pub sent_more : (units us more answers : Units) (refusal : Option Refusal) (end : EndData) → units ≡ us ++ more → Replies m d role party units refusal answers end → IsPrefix (sent_so us) answers
+  sent_more units us more answers refusal end e r =
       let first : Units = flat_places (answers_at m d role party) [] us in
       let later : Units = flat_places (answers_at m d role party) us more in
       let last : Units = (refusal_reply refusal).answers in
@@ -61,18 +61,18 @@ module _ (m : Meaning) (d : Policy) (role : Role) (party : Party) where
             ∙ sym (append_assoc (making m role party) first (later ++ last));
       }
 
-  pub bytes_so : (units us more answers : Units) (s : List ℕ) → units ≡ us ++ more → IsPrefix (said_so us) answers → (switched_out (said_so us) ≡ true → IsReady role party (payloads_in us))
-      → Said (spells m role party units) s (party.version ∷ answers) → IsPrefix (flat_places (spells m role party us) [] (party.version ∷ said_so us)) s
-  bytes_so units us more answers s e f ready said =
-      let now : List ℕ = flat_places (spells m role party us) [] (party.version ∷ said_so us) in
-      let still : Said (spells m role party (us ++ more)) now (party.version ∷ said_so us) = said_stays m role party us more (said_so us) now ready (record { spelled = refl }) in
-      let later : List ℕ = flat_places (spells m role party (us ++ more)) (party.version ∷ said_so us) f.rest in
+  pub bytes_so : (units us more answers : Units) (s : List ℕ) → units ≡ us ++ more → IsPrefix (sent_so us) answers → (switched_out (sent_so us) ≡ true → IsReady role party (payloads_in us))
+      → Sent (spells m role party units) s (party.version ∷ answers) → IsPrefix (flat_places (spells m role party us) [] (party.version ∷ sent_so us)) s
+  bytes_so units us more answers s e f ready sent =
+      let now : List ℕ = flat_places (spells m role party us) [] (party.version ∷ sent_so us) in
+      let still : Sent (spells m role party (us ++ more)) now (party.version ∷ sent_so us) = sent_stays m role party us more (sent_so us) now ready (record { spelled = refl }) in
+      let later : List ℕ = flat_places (spells m role party (us ++ more)) (party.version ∷ sent_so us) f.rest in
       record {
         rest = later;
-        whole_is = said.spelled
+        whole_is = sent.spelled
             ∙ ap (λ (l : Units). flat_places (spells m role party l) [] (party.version ∷ answers)) e
             ∙ ap (λ (l : Units). flat_places (spells m role party (us ++ more)) [] (party.version ∷ l)) f.whole_is
-            ∙ flat-append (spells m role party (us ++ more)) [] (party.version ∷ said_so us) f.rest
+            ∙ flat-append (spells m role party (us ++ more)) [] (party.version ∷ sent_so us) f.rest
             ∙ ap (λ (b : List ℕ). b ++ later) (sym still.spelled);
       }
 
@@ -90,7 +90,7 @@ module _ (m : Meaning) (d : Policy) (role : Role) (party : Party) where
               (sym (switched_append (answers_at m d role party (version ∷ before) u) (flat_places (answers_at m d role party) (version ∷ (before ++ u ∷ [])) us) ∙ rw off refl) ∙ on)
         ])
 
-    pub ready_so : (us : Units) → StaysOpen m d role party us → switched_out (said_so us) ≡ true → IsReady role party (payloads_in us)
+    pub ready_so : (us : Units) → StaysOpen m d role party us → switched_out (sent_so us) ≡ true → IsReady role party (payloads_in us)
     ready_so us stays on = by us stays (sym (switched_append (making m role party) (flat_places (answers_at m d role party) [] us) ∙ rw (still_making m role party) refl) ∙ on)
       where
         by : (us : Units) → StaysOpen m d role party us → switched_out (flat_places (answers_at m d role party) [] us) ≡ true → IsReady role party (payloads_in us)

@@ -4,7 +4,7 @@ use Rattle.std.proofs.Common.{◌≡◌, ℕ, ◌+◌, ◌==◌, Bool, true, fal
 use Rattle.std.proofs.lemmas.Bool.{and_from, and_parts, and_right, true≢false}
 use Rattle.std.proofs.lemmas.Slice.Eq.{bytes_eq-Decides}
 use Rattle.sshwire.specs.declared.share_form.ShareForm.TheVariants.{Mpint}
-use Rattle.sshmsg.specs.Content.{Content, KexInit, Offer}
+use Rattle.sshmsg.specs.MessageData.{KexInit, KexInitData, MessageData}
 use Rattle.sshmsg.specs.Messages.{message_in}
 use Rattle.sshmsg.specs.Numbers.{kind, number_of}
 use Rattle.sshmsg.proofs.NumberLemmas.{kind_tells, reads_alike}
@@ -14,7 +14,7 @@ use Rattle.sshneg.specs.ExchangeEnd.{client_of, exchange_hash, offer_by, server_
 use Rattle.sshneg.specs.Markers.{IsRightGuess, first_name, methods, same_name}
 use Rattle.sshneg.specs.Strictness.{is_right_guess}
 use Rattle.sshpacket.specs.Stream.{Units}
-use Rattle.sshpacket.specs.Suite.{Meaning}
+use Rattle.sshpacket.specs.Suite.{SuiteData}
 use Rattle.sshcore.specs.declared.end.Fault.TheVariants as fault
 use Rattle.sshcore.specs.declared.table.Line.{Line}
 use Rattle.sshcore.specs.declared.table.Line.TheVariants as line
@@ -22,17 +22,17 @@ use Rattle.sshcore.specs.declared.table.Phase.{Phase}
 use Rattle.sshcore.specs.declared.table.Phase.TheVariants as phase
 use Rattle.sshcore.specs.Before.{strict_towards, wrong_guess}
 use Rattle.sshcore.specs.Counting.{number_in}
-use Rattle.sshcore.specs.Ending.{fails, goes}
+use Rattle.sshcore.specs.EndData.{fails, goes}
 use Rattle.sshcore.specs.Exchange.{exchange_with}
 use Rattle.sshcore.specs.Known.{Known}
-use Rattle.sshcore.specs.Party.{Party, Policy}
-use Rattle.sshcore.specs.Phases.{behind, leaving, past_exchange}
-use Rattle.sshcore.specs.ConfigData.{Attempt}
-use Rattle.sshcore.specs.Plan.{confirmed, is_answer, is_waiting, listed_by, listed_in, next_behind}
+use Rattle.sshcore.specs.EndpointParts.{ConfigData, DecisionsData}
+use Rattle.sshcore.specs.Phases.{leaving, next_phase, past_exchange}
+use Rattle.sshcore.specs.ConfigParts.{AttemptData}
+use Rattle.sshcore.specs.Plan.{confirmed, is_answer, is_waiting, listed_by, listed_in, next_after}
 use Rattle.sshcore.specs.Reached.{reached_after}
 use Rattle.sshcore.specs.Tries.{tried_by, tried_in}
 use Rattle.sshcore.specs.Replies.{line_reply, read_reply, reply_at}
-use Rattle.sshcore.specs.Standing.{LeavesNone, Sits, behind_offer, behind_payload, nothing_known}
+use Rattle.sshcore.specs.Standing.{LeavesNone, Sits, after_offer, after_payload, nothing_known}
 use Rattle.sshcore.specs.Table.{line_by}
 use Rattle.sshcore.specs.Work.{chosen_reply, kexinit_reply, work}
 use Rattle.sshcore.proofs.Below.{Below}
@@ -52,14 +52,14 @@ same_sound None b e = absurd (true≢false (sym e))
 same_complete : (a b : Option (List ℕ)) (x : List ℕ) → a ≡ Some x → b ≡ Some x → same_name a b ≡ true
 same_complete a b x e f = rw (e, f) ((bytes_eq-Decides x x).1 refl)
 
-pub right_sound : (client server : Offer) → is_right_guess client server ≡ true → IsRightGuess client server
+pub right_sound : (client server : KexInitData) → is_right_guess client server ≡ true → IsRightGuess client server
 right_sound client server e =
     let p = and_parts (same_name (first_name (methods client.kex_algorithms)) (first_name (methods server.kex_algorithms))) (same_name (first_name client.server_host_key_algorithms) (first_name server.server_host_key_algorithms)) e in
     let k = same_sound (first_name (methods client.kex_algorithms)) (first_name (methods server.kex_algorithms)) p.0 in
     let h = same_sound (first_name client.server_host_key_algorithms) (first_name server.server_host_key_algorithms) p.1 in
     record { kex = k.name; client_kex = k.left; server_kex = k.right; host_key = h.name; client_host_key = h.left; server_host_key = h.right }
 
-right_complete : (client server : Offer) → IsRightGuess client server → is_right_guess client server ≡ true
+right_complete : (client server : KexInitData) → IsRightGuess client server → is_right_guess client server ≡ true
 right_complete client server r =
     and_from _ _ (same_complete (first_name (methods client.kex_algorithms)) (first_name (methods server.kex_algorithms)) r.kex r.client_kex r.server_kex)
     (same_complete (first_name client.server_host_key_algorithms) (first_name server.server_host_key_algorithms) r.host_key r.client_host_key r.server_host_key)
@@ -68,30 +68,30 @@ pub below : Below
 below = record { numbers = kind_tells; alike = reads_alike; right = λ client server. (right_sound client server, right_complete client server) }
 
 -- what a message changes that is neither dropped nor the first KEXINIT nor the exchange message
-abbrev pub left_by : List Attempt → Content → List Attempt
-left_by left content = if number_of content == 60 then confirmed left else next_behind (listed_by (Ok content)) left
+abbrev pub left_by : List AttemptData → MessageData → List AttemptData
+left_by left content = if number_of content == 60 then confirmed left else next_after (listed_by (Ok content)) left
 
-abbrev pub behind_content : Meaning → Policy → Party → Known → Content → Known
-behind_content m d party x content = record x {
+abbrev pub after_content : SuiteData → DecisionsData → ConfigData → Known → MessageData → Known
+after_content m d party x content = record x {
   request = if number_of content == 50 then x.request + 1 else x.request;
   left = if is_answer (number_of content) then left_by x.left content else x.left;
   reached = if number_of content == 50 then reached_after x.reached (tried_by m d party x.session x.request (Ok content)) else x.reached;
   first = false;
 }
 
-behind_read : (m : Meaning) (d : Policy) (party : Party) (x : Known) (payload : List ℕ) (content : Content) → message_in Mpint payload ≡ Ok content
-    → behind_payload m d party x payload ≡ behind_content m d party x content
+after_read : (m : SuiteData) (d : DecisionsData) (party : ConfigData) (x : Known) (payload : List ℕ) (content : MessageData) → message_in Mpint payload ≡ Ok content
+    → after_payload m d party x payload ≡ after_content m d party x content
 unfolding listed_in tried_in
-behind_read m d party x payload content e =
+after_read m d party x payload content e =
     ap (λ (n : ℕ). record x {
       request = if n == 50 then x.request + 1 else x.request;
-      left = if is_answer n then (if n == 60 then confirmed x.left else next_behind (listed_in payload) x.left) else x.left;
+      left = if is_answer n then (if n == 60 then confirmed x.left else next_after (listed_in payload) x.left) else x.left;
       reached = if n == 50 then reached_after x.reached (tried_in m d party x.session x.request payload) else x.reached;
       first = false;
     }) (kind_tells Mpint payload content e)
     ∙ ap (λ r. record x {
       request = if number_of content == 50 then x.request + 1 else x.request;
-      left = if is_answer (number_of content) then (if number_of content == 60 then confirmed x.left else next_behind (listed_by r) x.left) else x.left;
+      left = if is_answer (number_of content) then (if number_of content == 60 then confirmed x.left else next_after (listed_by r) x.left) else x.left;
       reached = if number_of content == 50 then reached_after x.reached (tried_by m d party x.session x.request r) else x.reached;
       first = false;
     }) e
@@ -100,9 +100,9 @@ first_line : (role : Role) (b waits : Bool) → line_by role phase.KexInit b fal
 unfolding line_by
 first_line role b waits = refl
 
-module _ (m : Meaning) (d : Policy) (role : Role) (party : Party) (version : List ℕ) where
+module _ (m : SuiteData) (d : DecisionsData) (role : Role) (party : ConfigData) (version : List ℕ) where
   -- a message that has a place is worked on
-  pub reads : (before : Units) (payload : List ℕ) (p : Phase) (guess : Bool) (x : Known) (content : Content) → Sits m d role party version before p guess x
+  pub reads : (before : Units) (payload : List ℕ) (p : Phase) (guess : Bool) (x : Known) (content : MessageData) → Sits m d role party version before p guess x
       → message_in x.shares payload ≡ Ok content → line_by role p x.strict guess (is_waiting x.left) (number_of content) ≡ line.Reads
       → reply_at m d role party version before payload ≡ work m d role party x content
   unfolding line_reply
@@ -120,11 +120,11 @@ module _ (m : Meaning) (d : Policy) (role : Role) (party : Party) (version : Lis
       ∙ ap (λ (l : Line). line_reply m d role party x (number_in role party before) l payload) is
 
   -- the peer's KEXINIT, the first payload
-  pub begins : (payload : List ℕ) (peer : Offer) → message_in Mpint payload ≡ Ok (KexInit peer)
-      → Sits m d role party version (payload ∷ []) phase.Exchange (wrong_guess role party.offer (Some peer)) (behind_offer m role party (nothing_known party version) payload peer)
+  pub begins : (payload : List ℕ) (peer : KexInitData) → message_in Mpint payload ≡ Ok (KexInit peer)
+      → Sits m d role party version (payload ∷ []) phase.Exchange (wrong_guess role party.offer (Some peer)) (after_offer m role party (nothing_known party version) payload peer)
   begins payload peer e = standing.offers m d role party version [] payload below peer (nothing_known party version) (standing.begins m d role party version) (ap offer_by e)
 
-  pub replies_first : (payload : List ℕ) (peer : Offer) → message_in Mpint payload ≡ Ok (KexInit peer)
+  pub replies_first : (payload : List ℕ) (peer : KexInitData) → message_in Mpint payload ≡ Ok (KexInit peer)
       → reply_at m d role party version [] payload ≡ chosen_reply m role party peer (choice m (client_of role party.offer peer) (server_of role party.offer peer))
   unfolding work kexinit_reply
   replies_first payload peer e =
@@ -137,20 +137,20 @@ module _ (m : Meaning) (d : Policy) (role : Role) (party : Party) (version : Lis
   goes_dropped before payload p x s one = standing.drops m d role party version before payload p x s one
 
   -- a message behind the exchange
-  pub goes_leaving : (before : Units) (payload : List ℕ) (p : Phase) (x : Known) (content : Content) → Sits m d role party version before p false x → past_exchange p ≡ true
-      → message_in Mpint payload ≡ Ok content → number_of content ≡ leaving role p → Sits m d role party version (before ++ payload ∷ []) (behind p) false (behind_content m d party x content)
+  pub goes_leaving : (before : Units) (payload : List ℕ) (p : Phase) (x : Known) (content : MessageData) → Sits m d role party version before p false x → past_exchange p ≡ true
+      → message_in Mpint payload ≡ Ok content → number_of content ≡ leaving role p → Sits m d role party version (before ++ payload ∷ []) (next_phase p) false (after_content m d party x content)
   goes_leaving before payload p x content s past e n =
-      subst (λ (k : Known). Sits m d role party version (before ++ payload ∷ []) (behind p) false k) (behind_read m d party x payload content e)
+      subst (λ (k : Known). Sits m d role party version (before ++ payload ∷ []) (next_phase p) false k) (after_read m d party x payload content e)
       (standing.leaves m d role party version before payload p x s past (kind_tells Mpint payload content e ∙ n))
 
-  pub goes_staying : (before : Units) (payload : List ℕ) (p : Phase) (x : Known) (content : Content) → Sits m d role party version before p false x
-      → message_in Mpint payload ≡ Ok content → LeavesNone role (number_of content) → Sits m d role party version (before ++ payload ∷ []) p false (behind_content m d party x content)
+  pub goes_staying : (before : Units) (payload : List ℕ) (p : Phase) (x : Known) (content : MessageData) → Sits m d role party version before p false x
+      → message_in Mpint payload ≡ Ok content → LeavesNone role (number_of content) → Sits m d role party version (before ++ payload ∷ []) p false (after_content m d party x content)
   goes_staying before payload p x content s e l =
-      subst (λ (k : Known). Sits m d role party version (before ++ payload ∷ []) p false k) (behind_read m d party x payload content e)
+      subst (λ (k : Known). Sits m d role party version (before ++ payload ∷ []) p false k) (after_read m d party x payload content e)
       (standing.stays m d role party version before payload p x s (subst (λ (n : ℕ). LeavesNone role n) (sym (kind_tells Mpint payload content e)) l))
 
   -- the exchange message gives the session
-  pub goes_exchanged : (before : Units) (payload : List ℕ) (x : Known) (content : Content) → Sits m d role party version before phase.Exchange false x → message_in x.shares payload ≡ Ok content
+  pub goes_exchanged : (before : Units) (payload : List ℕ) (x : Known) (content : MessageData) → Sits m d role party version before phase.Exchange false x → message_in x.shares payload ≡ Ok content
       → number_of content ≡ leaving role phase.Exchange
       → Sits m d role party version (before ++ payload ∷ []) phase.NewKeys false
       (record x { session = exchange_hash m x.algorithms.kex (exchange_with m role party x.algorithms x.version x.kexinit (Ok content)) })

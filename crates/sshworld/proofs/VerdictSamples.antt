@@ -4,20 +4,20 @@ use Rattle.std.proofs.Common.{◌≡◌, ℕ, ◌==◌, Bool, true, false, List,
 use Rattle.std.specs.Prelude.{◌&&◌, ◌||◌, not}
 use Rattle.std.specs.Str.{bytes_eq}
 use Rattle.sshmsg.specs.Written.{written_message}
-use Rattle.sshpacket.specs.Suite.{Meaning}
-use Rattle.sshcore.specs.ConfigData.{Attempt, ByKey, ByNothing, ByPassword, ClientData, Proving, ServerData}
-use Rattle.sshcore.specs.Party.{KeyProof, NoProof, PasswordProof, Policy, ProofData}
+use Rattle.sshpacket.specs.Suite.{SuiteData}
+use Rattle.sshcore.specs.ConfigParts.{AttemptData, ByKey, ByNothing, ByPassword, ClientData, CredentialData, ServerData}
+use Rattle.sshcore.specs.EndpointParts.{DecisionsData, KeyProof, NoProof, PasswordProof, ProofData}
 use Rattle.sshworld.specs.Course.{Requests, client_part, server_part}
 use Rattle.sshworld.specs.Guesses.{NoGuess}
 use Rattle.sshworld.specs.Outcome.{BothEnds}
-use Rattle.sshworld.specs.Rounds.{after_rounds, all_heard}
+use Rattle.sshworld.specs.Rounds.{after_rounds, all_received}
 use Rattle.sshworld.specs.Verdicts.{Exhausted, Limit, Success, verdict}
 use Rattle.sshworld.specs.Wording.{Wording}
 use Rattle.sshworld.specs.Wordings.{answer_to}
 
 -- a suite, a client and a server of which only what stands here matters
-module _ (suite : Meaning) (anyone : ClientData) (any : ServerData) where
-  m : Meaning
+module _ (suite : SuiteData) (anyone : ClientData) (any : ServerData) where
+  m : SuiteData
   m = record suite { blob = λ algorithm secret. 66 ∷ secret }
 
   service : List ℕ
@@ -29,10 +29,10 @@ module _ (suite : Meaning) (anyone : ClientData) (any : ServerData) where
   knows user (PasswordProof password) = (bytes_eq user (codes "al") || bytes_eq user (codes "bo")) && bytes_eq password (0 ∷ [])
   knows user (KeyProof algorithm key) = bytes_eq user (codes "al") && (bytes_eq algorithm (codes "h") && bytes_eq key (66 ∷ 0 ∷ []))
 
-  denying : ℕ → Policy
+  denying : ℕ → DecisionsData
   denying denied = record { host_key = λ algorithm blob. true; user = λ number user service proof. not (number == denied) && knows user proof }
 
-  attempt : List ℕ → Proving → Attempt
+  attempt : List ℕ → CredentialData → AttemptData
   attempt user proving = record { user = user; service = service; proving = proving }
 
   server : List (List ℕ) → List (List ℕ) → ℕ → ServerData
@@ -41,14 +41,14 @@ module _ (suite : Meaning) (anyone : ClientData) (any : ServerData) where
   both : List (List ℕ)
   both = codes "password" ∷ codes "publickey" ∷ []
 
-  client : List Attempt → ClientData
+  client : List AttemptData → ClientData
   client plan = record anyone { plan = plan }
 
   -- one attempt that asks first
-  asking : List Attempt
+  asking : List AttemptData
   asking = attempt (codes "al") (ByKey (codes "h") (0 ∷ []) true) ∷ []
 
-  itself : Attempt
+  itself : AttemptData
   itself = attempt (codes "al") (ByKey (codes "h") (0 ∷ []) false)
 
   -- It succeeds at its second request; where request 1 or 2 is denied, or publickey isn't listed, none is left; of two requests the
@@ -58,13 +58,13 @@ module _ (suite : Meaning) (anyone : ClientData) (any : ServerData) where
   queries = (refl, refl, refl, refl, refl, refl)
 
   -- plans of more than one attempt
-  al_password : Attempt
+  al_password : AttemptData
   al_password = attempt (codes "al") (ByPassword (0 ∷ []))
 
-  bo_password : Attempt
+  bo_password : AttemptData
   bo_password = attempt (codes "bo") (ByPassword (0 ∷ []))
 
-  al_nothing : Attempt
+  al_nothing : AttemptData
   al_nothing = attempt (codes "al") ByNothing
 
   -- Both methods are required: they succeed at the second request, also as the last that is granted; of one request the first was the
@@ -87,7 +87,7 @@ module _ (suite : Meaning) (anyone : ClientData) (any : ServerData) where
   -- An attempt that asks, and succeeds: five rounds are enough, and four are not.
   rounds : (w : Wording) (ends : BothEnds)
       → (after_rounds (client_part (record w { banner = [] }) NoGuess (Requests (record { requests = 2; how = Success itself })) ends) (server_part (record w { banner = [] }) NoGuess (Requests (record { requests = 2; how = Success itself })) ends) 5
-      ≡ all_heard (client_part (record w { banner = [] }) NoGuess (Requests (record { requests = 2; how = Success itself })) ends) (server_part (record w { banner = [] }) NoGuess (Requests (record { requests = 2; how = Success itself })) ends))
+      ≡ all_received (client_part (record w { banner = [] }) NoGuess (Requests (record { requests = 2; how = Success itself })) ends) (server_part (record w { banner = [] }) NoGuess (Requests (record { requests = 2; how = Success itself })) ends))
       × (after_rounds (client_part (record w { banner = [] }) NoGuess (Requests (record { requests = 2; how = Success itself })) ends) (server_part (record w { banner = [] }) NoGuess (Requests (record { requests = 2; how = Success itself })) ends) 4
       ≡ record { client = 6; server = 6 })
   rounds w ends = (refl, refl)

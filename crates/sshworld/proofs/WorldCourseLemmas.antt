@@ -4,95 +4,95 @@ use Rattle.std.proofs.Common.{◌≡◌, ℕ, suc, ◌+◌, ◌-◌, ◌≤◌, 
 use Rattle.std.specs.Result.{IfOk}
 use Rattle.sshwire.specs.declared.fault.Memory.{Memory}
 use Rattle.sshneg.specs.declared.role.Role.TheVariants as role
-use Rattle.sshpacket.specs.Suite.{IsLawful, Meaning}
-use Rattle.sshcore.specs.ConfigData.{ClientData, ServerData}
+use Rattle.sshpacket.specs.Suite.{IsLawful, SuiteData}
+use Rattle.sshcore.specs.ConfigParts.{ClientData, ServerData}
 use Rattle.sshcore.specs.ConfigRules.{IsClient, IsServer}
-use Rattle.sshcore.specs.Ending.{Authenticated, Closed, Disconnected, Ending, Failed, Open, by_owner}
-use Rattle.sshcore.specs.Endpoints.{ending_of}
-use Rattle.sshcore.specs.Party.{Policy, client_party, server_party}
+use Rattle.sshcore.specs.EndData.{Authenticated, Closed, Disconnected, EndData, Failed, Open, by_owner}
+use Rattle.sshcore.specs.Endpoints.{endpoint_end}
+use Rattle.sshcore.specs.EndpointParts.{DecisionsData, config_of_client, config_of_server}
 use Rattle.sshworld.specs.Offered.{most_requests}
 use Rattle.sshworld.specs.declared.node.Node.{Node}
 use Rattle.sshworld.specs.declared.side.Side.{Side}
 use Rattle.sshworld.specs.declared.side.Side.TheVariants.{Client, Server}
 use Rattle.sshworld.specs.Conversed.{IsNew}
-use Rattle.sshworld.specs.CourseHeard.{BothHear, client_partner, server_partner}
+use Rattle.sshworld.specs.CourseReceived.{BothReceive, client_partner, server_partner}
 use Rattle.sshworld.specs.Deliveries.{Delivered, TakesIn}
-use Rattle.sshworld.specs.Halves.{BothOnCourse, Partner}
+use Rattle.sshworld.specs.Partners.{BothOnCourse, Partner}
 use Rattle.sshworld.specs.Laws.{Laws}
-use Rattle.sshworld.specs.Rounds.{UnitsHeard, after_rounds}
-use Rattle.sshworld.specs.Stands.{IsFresh, NodesStand, Receives, half_of, seen}
+use Rattle.sshworld.specs.Rounds.{UnitsReceived, after_rounds}
+use Rattle.sshworld.specs.Nodes.{IsFresh, NodesStand, Receives, node_data, seen}
 use Rattle.sshworld.specs.Understood.{AreUnderstood}
 use Rattle.sshworld.specs.Wordings.{wording_of}
-use Rattle.sshworld.specs.WorldCourse.{AreUnderstoodIn, HearsAll, IsOnCourse, KeepsCourse, KeepsHeadline, WorldStands}
-use Rattle.sshworld.specs.WorldRounds.{HaveHeardIn, HearsRound, Settles, part_of_client_in, part_of_server_in, turn}
-use Rattle.sshworld.specs.Worlds.{Complete, HadMemory, Half, IsSameSetup, WorldData, waiting, waiting_at, waiting_for}
-use Rattle.sshworld.proofs.CourseHeardLemmas.{course_heard, headline_of}
-use Rattle.sshworld.proofs.DeliveryLemmas.{StandAt, received, seen_at}
-use Rattle.sshworld.proofs.HalfLemmas.{begins}
+use Rattle.sshworld.specs.WorldCourse.{AreUnderstoodIn, IsOnCourse, KeepsCourse, KeepsHeadline, ReceivesAll, WorldStands}
+use Rattle.sshworld.specs.WorldRounds.{HaveReceivedIn, ReceivesRound, Settles, part_of_client_in, part_of_server_in, turn}
+use Rattle.sshworld.specs.Worlds.{Complete, HadMemory, IsSameSetup, NodeData, WorldData, waiting, waiting_at, waiting_for}
+use Rattle.sshworld.proofs.CourseReceivedLemmas.{course_received, headline_of}
+use Rattle.sshworld.proofs.DeliveryLemmas.{StandAt, nodes_received, seen_at}
+use Rattle.sshworld.proofs.PartnerLemmas.{begins}
 use Rattle.sshworld.proofs.NodeLemmas.{node_history, stays_on_course}
 use Rattle.sshworld.proofs.OwnedLemmas.{there}
 use Rattle.sshworld.proofs.StandsLemmas.{made_stands, side_begins}
 use Rattle.sshworld.proofs.TurnLemmas.{HasTakenAll, client_turn, server_turn, settled}
 
-pub flip_course : (m : Meaning) (d : Policy) (own their : Partner) (half opposite : Half) → BothOnCourse m d own their half opposite → BothOnCourse m d their own opposite half
-flip_course m d own their half opposite on = record { own_side = on.their_side; their_side = on.own_side }
+pub flip_course : (m : SuiteData) (d : DecisionsData) (own their : Partner) (node opposite : NodeData) → BothOnCourse m d own their node opposite → BothOnCourse m d their own opposite node
+flip_course m d own their node opposite on = record { own_side = on.their_side; their_side = on.own_side }
 
 -- Where all that waited was moved, nothing waits.
-module _ (old new opposite : Half) (takes : TakesIn (waiting old opposite) old new) (within : old.moved ≤ length opposite.sent) where
-  none_at : (e : Ending) (sent moved : ℕ) → moved ≡ sent → waiting_at e sent moved ≡ 0
+module _ (old new opposite : NodeData) (takes : TakesIn (waiting old opposite) old new) (within : old.moved ≤ length opposite.sent) where
+  none_at : (e : EndData) (sent moved : ℕ) → moved ≡ sent → waiting_at e sent moved ≡ 0
   none_at Open sent moved h = omega (arith, h)
   none_at (Authenticated a) sent moved h = refl
   none_at (Failed f) sent moved h = refl
   none_at (Closed reason) sent moved h = refl
   none_at (Disconnected reason) sent moved h = refl
 
-  by_end : (e : Ending) → old.end ≡ e → waiting new opposite ≡ 0
+  by_end : (e : EndData) → old.end ≡ e → waiting new opposite ≡ 0
   by_end Open h =
-      let all : waiting old opposite ≡ length opposite.sent - old.moved = ap (λ (q : Ending). waiting_at q (length opposite.sent) old.moved) h in
+      let all : waiting old opposite ≡ length opposite.sent - old.moved = ap (λ (q : EndData). waiting_at q (length opposite.sent) old.moved) h in
       none_at new.end (length opposite.sent) new.moved (omega (arith, takes.moved_on, all, within))
   by_end (Authenticated a) h =
-      let none : waiting old opposite ≡ 0 = ap (λ (q : Ending). waiting_at q (length opposite.sent) old.moved) h in
-      ap (λ (q : Half). waiting q opposite) (takes.by_none none) ∙ none
+      let none : waiting old opposite ≡ 0 = ap (λ (q : EndData). waiting_at q (length opposite.sent) old.moved) h in
+      ap (λ (q : NodeData). waiting q opposite) (takes.by_none none) ∙ none
   by_end (Failed f) h =
-      let none : waiting old opposite ≡ 0 = ap (λ (q : Ending). waiting_at q (length opposite.sent) old.moved) h in
-      ap (λ (q : Half). waiting q opposite) (takes.by_none none) ∙ none
+      let none : waiting old opposite ≡ 0 = ap (λ (q : EndData). waiting_at q (length opposite.sent) old.moved) h in
+      ap (λ (q : NodeData). waiting q opposite) (takes.by_none none) ∙ none
   by_end (Closed reason) h =
-      let none : waiting old opposite ≡ 0 = ap (λ (q : Ending). waiting_at q (length opposite.sent) old.moved) h in
-      ap (λ (q : Half). waiting q opposite) (takes.by_none none) ∙ none
+      let none : waiting old opposite ≡ 0 = ap (λ (q : EndData). waiting_at q (length opposite.sent) old.moved) h in
+      ap (λ (q : NodeData). waiting q opposite) (takes.by_none none) ∙ none
   by_end (Disconnected reason) h =
-      let none : waiting old opposite ≡ 0 = ap (λ (q : Ending). waiting_at q (length opposite.sent) old.moved) h in
-      ap (λ (q : Half). waiting q opposite) (takes.by_none none) ∙ none
+      let none : waiting old opposite ≡ 0 = ap (λ (q : EndData). waiting_at q (length opposite.sent) old.moved) h in
+      ap (λ (q : NodeData). waiting q opposite) (takes.by_none none) ∙ none
 
   pub taken_all : HasTakenAll old new opposite
   taken_all = record { more_sent = takes.more_sent; none_waits = by_end old.end refl }
 
-module _ {S D : Type 0} (meaning : S → Meaning) (policy : D → Policy) (client_config : ClientData) (server_config : ServerData) (suite : S) (decisions : D) where
+module _ {S D : Type 0} (meaning : S → SuiteData) (policy : D → DecisionsData) (client_config : ClientData) (server_config : ServerData) (suite : S) (decisions : D) where
   -- Two nodes that are made are on their course.
   pub made_on_course : Laws → (client server : Node S D) → NodesStand meaning policy client_config server_config suite decisions client server → client.used ≡ 0 → server.used ≡ 0
-      → by_owner (ending_of client.endpoint) ≡ false → by_owner (ending_of server.endpoint) ≡ false → IsOnCourse meaning policy (seen client_config server_config suite decisions client server)
-  made_on_course laws client server s none other_none whole other_whole hear =
+      → by_owner (endpoint_end client.endpoint) ≡ false → by_owner (endpoint_end server.endpoint) ≡ false → IsOnCourse meaning policy (seen client_config server_config suite decisions client server)
+  made_on_course laws client server s none other_none whole other_whole receive =
       begins laws (meaning suite) (policy decisions)
       (client_partner (meaning suite) (policy decisions) client_config server_config (wording_of (meaning suite) (policy decisions) client_config server_config))
       (server_partner (meaning suite) (policy decisions) client_config server_config (wording_of (meaning suite) (policy decisions) client_config server_config))
-      (half_of client) (half_of server) none other_none
-      (node_history meaning policy role.Client (client_party client_config) suite decisions client server s.client_stands whole)
-      (node_history meaning policy role.Server (server_party server_config) suite decisions server client s.server_stands other_whole)
+      (node_data client) (node_data server) none other_none
+      (node_history meaning policy role.Client (config_of_client client_config) suite decisions client server s.client_stands whole)
+      (node_history meaning policy role.Server (config_of_server server_config) suite decisions server client s.server_stands other_whole)
 
   -- They stay on it, whatever one of them receives.
   pub received_on_course : Laws → IsLawful (meaning suite) → (to : Side) (own their next : Node S D) → StandAt meaning policy client_config server_config suite decisions to own their
-      → IsOnCourse meaning policy (seen_at meaning policy client_config server_config suite decisions to own their) → by_owner (ending_of next.endpoint) ≡ false
+      → IsOnCourse meaning policy (seen_at meaning policy client_config server_config suite decisions to own their) → by_owner (endpoint_end next.endpoint) ≡ false
       → Receives meaning policy their.sent.items own next → IsOnCourse meaning policy (seen_at meaning policy client_config server_config suite decisions to next their)
-  received_on_course laws lawful Client own their next s on whole r hear =
+  received_on_course laws lawful Client own their next s on whole r receive =
       stays_on_course meaning policy laws suite decisions lawful
       (client_partner (meaning suite) (policy decisions) client_config server_config (wording_of (meaning suite) (policy decisions) client_config server_config))
       (server_partner (meaning suite) (policy decisions) client_config server_config (wording_of (meaning suite) (policy decisions) client_config server_config))
-      hear.to_client own next their (on hear) (received meaning policy client_config server_config suite decisions Client own their next s r).client_stands whole r
-  received_on_course laws lawful Server own their next s on whole r hear =
+      receive.to_client own next their (on receive) (nodes_received meaning policy client_config server_config suite decisions Client own their next s r).client_stands whole r
+  received_on_course laws lawful Server own their next s on whole r receive =
       let cp : Partner = client_partner (meaning suite) (policy decisions) client_config server_config (wording_of (meaning suite) (policy decisions) client_config server_config) in
       let sp : Partner = server_partner (meaning suite) (policy decisions) client_config server_config (wording_of (meaning suite) (policy decisions) client_config server_config) in
-      flip_course (meaning suite) (policy decisions) sp cp (half_of next) (half_of their)
-      (stays_on_course meaning policy laws suite decisions lawful sp cp hear.to_server own next their (flip_course (meaning suite) (policy decisions) cp sp (half_of their) (half_of own) (on hear))
-      (received meaning policy client_config server_config suite decisions Server own their next s r).server_stands whole r)
+      flip_course (meaning suite) (policy decisions) sp cp (node_data next) (node_data their)
+      (stays_on_course meaning policy laws suite decisions lawful sp cp receive.to_server own next their (flip_course (meaning suite) (policy decisions) cp sp (node_data their) (node_data own) (on receive))
+      (nodes_received meaning policy client_config server_config suite decisions Server own their next s r).server_stands whole r)
 
 module _ {S D : Type 0} where
   -- so many bytes were moved to a side as waited for it
@@ -107,68 +107,68 @@ module _ {S D : Type 0} where
   same_world : (old new : WorldData S D) → IsSameSetup old new → new ≡ record { client_config = old.client_config; server_config = old.server_config; suite = old.suite; decisions = old.decisions; client = new.client; server = new.server }
   same_world old new same = rw (sym same.same_client_config, sym same.same_server_config, sym same.same_suite, sym same.same_decisions) refl
 
-module _ {S D : Type 0} (meaning : S → Meaning) (policy : D → Policy) (laws : Laws) where
+module _ {S D : Type 0} (meaning : S → SuiteData) (policy : D → DecisionsData) (laws : Laws) where
   -- the clauses on a world
-  module _ (w : WorldData S D) (lawful : IsLawful (meaning w.suite)) (understands : AreUnderstood (meaning w.suite) (policy w.decisions) w.client_config w.server_config → HearsAll meaning policy w)
+  module _ (w : WorldData S D) (lawful : IsLawful (meaning w.suite)) (understands : AreUnderstood (meaning w.suite) (policy w.decisions) w.client_config w.server_config → ReceivesAll meaning policy w)
       (on : IsOnCourse meaning policy w) where
     pub keeps_course : KeepsCourse meaning policy w
     keeps_course u had =
-        let hear = understands u in
-        course_heard laws (meaning w.suite) (policy w.decisions) lawful w.client_config w.server_config (wording_of (meaning w.suite) (policy w.decisions) w.client_config w.server_config) hear w.client w.server (on hear) had.client_had had.server_had
+        let receive = understands u in
+        course_received laws (meaning w.suite) (policy w.decisions) lawful w.client_config w.server_config (wording_of (meaning w.suite) (policy w.decisions) w.client_config w.server_config) receive w.client w.server (on receive) had.client_had had.server_had
 
     pub keeps_headline : KeepsHeadline meaning policy w
     keeps_headline u had =
-        let hear = understands u in
-        headline_of laws (meaning w.suite) (policy w.decisions) lawful w.client_config w.server_config (wording_of (meaning w.suite) (policy w.decisions) w.client_config w.server_config) hear w.client w.server (on hear) had.client_had had.server_had
+        let receive = understands u in
+        headline_of laws (meaning w.suite) (policy w.decisions) lawful w.client_config w.server_config (wording_of (meaning w.suite) (policy w.decisions) w.client_config w.server_config) receive w.client w.server (on receive) had.client_had had.server_had
         (Complete w) (λ k. (k.for_client, k.for_server))
 
     -- few rounds are enough
-    pub settles : HearsAll meaning policy w → HadMemory w → (r : ℕ) → most_requests w.client_config.plan + 4 ≤ r
-        → HaveHeardIn meaning policy w (after_rounds (part_of_client_in meaning policy w) (part_of_server_in meaning policy w) r) → Complete w
-    settles hear had r few counts =
-        let both = settled laws (meaning w.suite) (policy w.decisions) lawful w.client_config w.server_config (wording_of (meaning w.suite) (policy w.decisions) w.client_config w.server_config) hear w.client w.server r (on hear) had.client_had had.server_had few counts in
+    pub settles : ReceivesAll meaning policy w → HadMemory w → (r : ℕ) → most_requests w.client_config.plan + 4 ≤ r
+        → HaveReceivedIn meaning policy w (after_rounds (part_of_client_in meaning policy w) (part_of_server_in meaning policy w) r) → Complete w
+    settles receive had r few counts =
+        let both = settled laws (meaning w.suite) (policy w.decisions) lawful w.client_config w.server_config (wording_of (meaning w.suite) (policy w.decisions) w.client_config w.server_config) receive w.client w.server r (on receive) had.client_had had.server_had few counts in
         record { for_client = both.0; for_server = both.1 }
 
   -- one turn, between worlds of one setup
-  module _ (c : ClientData) (s : ServerData) (suite : S) (decisions : D) (client client_new server server_new : Half) where
-    abbrev w : Half → Half → WorldData S D
+  module _ (c : ClientData) (s : ServerData) (suite : S) (decisions : D) (client client_new server server_new : NodeData) where
+    abbrev w : NodeData → NodeData → WorldData S D
     w one other = record { client_config = c; server_config = s; suite = suite; decisions = decisions; client = one; server = other }
 
-    turned_so : IsLawful (meaning suite) → (to : Side) → HearsAll meaning policy (w client server) → IsOnCourse meaning policy (w client server) → IsOnCourse meaning policy (w client_new server_new)
-        → HadMemory (w client server) → HadMemory (w client_new server_new) → DeliveredAll to (w client server) (w client_new server_new) → (heard : UnitsHeard) → HaveHeardIn meaning policy (w client server) heard
-        → HaveHeardIn meaning policy (w client_new server_new) (turn (part_of_client_in meaning policy (w client server)) (part_of_server_in meaning policy (w client server)) to heard)
-    turned_so lawful Client hear on later had had_new all heard counts =
-        let on_old = on hear in
+    turned_so : IsLawful (meaning suite) → (to : Side) → ReceivesAll meaning policy (w client server) → IsOnCourse meaning policy (w client server) → IsOnCourse meaning policy (w client_new server_new)
+        → HadMemory (w client server) → HadMemory (w client_new server_new) → DeliveredAll to (w client server) (w client_new server_new) → (received : UnitsReceived) → HaveReceivedIn meaning policy (w client server) received
+        → HaveReceivedIn meaning policy (w client_new server_new) (turn (part_of_client_in meaning policy (w client server)) (part_of_server_in meaning policy (w client server)) to received)
+    turned_so lawful Client receive on later had had_new all received counts =
+        let on_old = on receive in
         let same : server_new ≡ server = all.sender in
-        let on_new = subst (λ (q : Half). BothOnCourse (meaning suite) (policy decisions) (client_partner (meaning suite) (policy decisions) c s (wording_of (meaning suite) (policy decisions) c s)) (server_partner (meaning suite) (policy decisions) c s (wording_of (meaning suite) (policy decisions) c s)) client_new q) same (later hear) in
-        subst (λ (q : Half). HaveHeardIn meaning policy (w client_new q) (turn (part_of_client_in meaning policy (w client server)) (part_of_server_in meaning policy (w client server)) Client heard)) (sym same)
-        (client_turn laws (meaning suite) (policy decisions) lawful c s (wording_of (meaning suite) (policy decisions) c s) hear client client_new server heard on_old on_new had_new.client_had had.server_had
+        let on_new = subst (λ (q : NodeData). BothOnCourse (meaning suite) (policy decisions) (client_partner (meaning suite) (policy decisions) c s (wording_of (meaning suite) (policy decisions) c s)) (server_partner (meaning suite) (policy decisions) c s (wording_of (meaning suite) (policy decisions) c s)) client_new q) same (later receive) in
+        subst (λ (q : NodeData). HaveReceivedIn meaning policy (w client_new q) (turn (part_of_client_in meaning policy (w client server)) (part_of_server_in meaning policy (w client server)) Client received)) (sym same)
+        (client_turn laws (meaning suite) (policy decisions) lawful c s (wording_of (meaning suite) (policy decisions) c s) receive client client_new server received on_old on_new had_new.client_had had.server_had
         (taken_all client client_new server all.receiver on_old.own_side.replies.moved_within) counts)
-    turned_so lawful Server hear on later had had_new all heard counts =
-        let on_old = on hear in
+    turned_so lawful Server receive on later had had_new all received counts =
+        let on_old = on receive in
         let same : client_new ≡ client = all.sender in
-        let on_new = subst (λ (q : Half). BothOnCourse (meaning suite) (policy decisions) (client_partner (meaning suite) (policy decisions) c s (wording_of (meaning suite) (policy decisions) c s)) (server_partner (meaning suite) (policy decisions) c s (wording_of (meaning suite) (policy decisions) c s)) q server_new) same (later hear) in
-        subst (λ (q : Half). HaveHeardIn meaning policy (w q server_new) (turn (part_of_client_in meaning policy (w client server)) (part_of_server_in meaning policy (w client server)) Server heard)) (sym same)
-        (server_turn laws (meaning suite) (policy decisions) lawful c s (wording_of (meaning suite) (policy decisions) c s) hear client server server_new heard on_old on_new had.client_had had_new.server_had
+        let on_new = subst (λ (q : NodeData). BothOnCourse (meaning suite) (policy decisions) (client_partner (meaning suite) (policy decisions) c s (wording_of (meaning suite) (policy decisions) c s)) (server_partner (meaning suite) (policy decisions) c s (wording_of (meaning suite) (policy decisions) c s)) q server_new) same (later receive) in
+        subst (λ (q : NodeData). HaveReceivedIn meaning policy (w q server_new) (turn (part_of_client_in meaning policy (w client server)) (part_of_server_in meaning policy (w client server)) Server received)) (sym same)
+        (server_turn laws (meaning suite) (policy decisions) lawful c s (wording_of (meaning suite) (policy decisions) c s) receive client server server_new received on_old on_new had.client_had had_new.server_had
         (taken_all server server_new client all.receiver on_old.their_side.replies.moved_within) counts)
 
   -- All that waits to one side: both have heard what that turn brings.
-  pub turned : (old new : WorldData S D) → IsSameSetup old new → IsLawful (meaning old.suite) → (to : Side) → HearsAll meaning policy old → IsOnCourse meaning policy old → IsOnCourse meaning policy new
-      → HadMemory old → HadMemory new → DeliveredAll to old new → (heard : UnitsHeard) → HaveHeardIn meaning policy old heard
-      → HaveHeardIn meaning policy new (turn (part_of_client_in meaning policy old) (part_of_server_in meaning policy old) to heard)
-  turned old new same lawful to hear on later had had_new all heard counts =
+  pub turned : (old new : WorldData S D) → IsSameSetup old new → IsLawful (meaning old.suite) → (to : Side) → ReceivesAll meaning policy old → IsOnCourse meaning policy old → IsOnCourse meaning policy new
+      → HadMemory old → HadMemory new → DeliveredAll to old new → (received : UnitsReceived) → HaveReceivedIn meaning policy old received
+      → HaveReceivedIn meaning policy new (turn (part_of_client_in meaning policy old) (part_of_server_in meaning policy old) to received)
+  turned old new same lawful to receive on later had had_new all received counts =
       let e = same_world old new same in
-      subst (λ (v : WorldData S D). HaveHeardIn meaning policy v (turn (part_of_client_in meaning policy old) (part_of_server_in meaning policy old) to heard)) (sym e)
-      (turned_so old.client_config old.server_config old.suite old.decisions old.client new.client old.server new.server lawful to hear on
+      subst (λ (v : WorldData S D). HaveReceivedIn meaning policy v (turn (part_of_client_in meaning policy old) (part_of_server_in meaning policy old) to received)) (sym e)
+      (turned_so old.client_config old.server_config old.suite old.decisions old.client new.client old.server new.server lawful to receive on
       (subst (λ (v : WorldData S D). IsOnCourse meaning policy v) e later) had (record { client_had = had_new.client_had; server_had = had_new.server_had })
-      (subst (λ (v : WorldData S D). DeliveredAll to old v) e all) heard counts)
+      (subst (λ (v : WorldData S D). DeliveredAll to old v) e all) received counts)
 
 -- what two accepted configs of which the ends understand each other give
-abbrev pub HearLaw : Type 0
-HearLaw = (m : Meaning) (d : Policy) (client : ClientData) (server : ServerData) → IsLawful m → AreUnderstood m d client server → IsClient client → IsServer server
-    → BothHear m d client server (wording_of m d client server)
+abbrev pub ReceiveLaw : Type 0
+ReceiveLaw = (m : SuiteData) (d : DecisionsData) (client : ClientData) (server : ServerData) → IsLawful m → AreUnderstood m d client server → IsClient client → IsServer server
+    → BothReceive m d client server (wording_of m d client server)
 
-module _ {S D : Type 0} (meaning : S → Meaning) (policy : D → Policy) (client_config : ClientData) (server_config : ServerData) (suite : S) (decisions : D) where
+module _ {S D : Type 0} (meaning : S → SuiteData) (policy : D → DecisionsData) (client_config : ClientData) (server_config : ServerData) (suite : S) (decisions : D) where
   -- a world of the node of this side, and the other one
   abbrev pub WorldAt : Side → Node S D → Node S D → Type 0
   WorldAt Client own their = WorldStands meaning policy client_config server_config suite decisions own their
@@ -176,12 +176,12 @@ module _ {S D : Type 0} (meaning : S → Meaning) (policy : D → Policy) (clien
 
   -- A new world stands.
   made_world : Laws → (client server : Node S D) → IsClient client_config → IsServer server_config
-      → IsFresh meaning policy role.Client (client_party client_config) suite decisions client → IsFresh meaning policy role.Server (server_party server_config) suite decisions server
+      → IsFresh meaning policy role.Client (config_of_client client_config) suite decisions client → IsFresh meaning policy role.Server (config_of_server server_config) suite decisions server
       → WorldStands meaning policy client_config server_config suite decisions client server
   made_world laws client server is_client is_server one other =
       let s : NodesStand meaning policy client_config server_config suite decisions client server = record {
-        client_stands = made_stands meaning policy role.Client (client_party client_config) suite decisions client server.sent.items one;
-        server_stands = made_stands meaning policy role.Server (server_party server_config) suite decisions server client.sent.items other;
+        client_stands = made_stands meaning policy role.Client (config_of_client client_config) suite decisions client server.sent.items one;
+        server_stands = made_stands meaning policy role.Server (config_of_server server_config) suite decisions server client.sent.items other;
       } in
       record {
         client_accepted = is_client;
@@ -193,35 +193,35 @@ module _ {S D : Type 0} (meaning : S → Meaning) (policy : D → Policy) (clien
   -- Nodes that were made of these configs, beside them.
   module _ (laws : Laws) (client server : Node S D) (c : ClientData) (s : ServerData) (same : ◌≡◌ {A = ClientData × ServerData} (client_config, server_config) (c, s)) (is_client : IsClient c) (is_server : IsServer s)
       (nodes : Result (Node S D × Node S D) Memory) (are : nodes ≡ Ok (client, server))
-      (one : IfOk nodes (λ two. IsFresh meaning policy role.Client (client_party c) suite decisions two.0))
-      (other : IfOk nodes (λ two. IsFresh meaning policy role.Server (server_party s) suite decisions two.1)) where
+      (one : IfOk nodes (λ two. IsFresh meaning policy role.Client (config_of_client c) suite decisions two.0))
+      (other : IfOk nodes (λ two. IsFresh meaning policy role.Server (config_of_server s) suite decisions two.1)) where
     same_client : c ≡ client_config
     same_client = sym (ap (λ (two : ClientData × ServerData). two.0) same)
 
     same_server : s ≡ server_config
     same_server = sym (ap (λ (two : ClientData × ServerData). two.1) same)
 
-    pub fresh_client : IsFresh meaning policy role.Client (client_party client_config) suite decisions client
-    fresh_client = subst (λ (d : ClientData). IsFresh meaning policy role.Client (client_party d) suite decisions client) same_client
-        (there nodes (λ two. IsFresh meaning policy role.Client (client_party c) suite decisions two.0) (client, server) are one)
+    pub fresh_client : IsFresh meaning policy role.Client (config_of_client client_config) suite decisions client
+    fresh_client = subst (λ (d : ClientData). IsFresh meaning policy role.Client (config_of_client d) suite decisions client) same_client
+        (there nodes (λ two. IsFresh meaning policy role.Client (config_of_client c) suite decisions two.0) (client, server) are one)
 
-    pub fresh_server : IsFresh meaning policy role.Server (server_party server_config) suite decisions server
-    fresh_server = subst (λ (d : ServerData). IsFresh meaning policy role.Server (server_party d) suite decisions server) same_server
-        (there nodes (λ two. IsFresh meaning policy role.Server (server_party s) suite decisions two.1) (client, server) are other)
+    pub fresh_server : IsFresh meaning policy role.Server (config_of_server server_config) suite decisions server
+    fresh_server = subst (λ (d : ServerData). IsFresh meaning policy role.Server (config_of_server d) suite decisions server) same_server
+        (there nodes (λ two. IsFresh meaning policy role.Server (config_of_server s) suite decisions two.1) (client, server) are other)
 
     pub fresh_world : WorldStands meaning policy client_config server_config suite decisions client server
     fresh_world = made_world laws client server (subst (λ (d : ClientData). IsClient d) same_client is_client) (subst (λ (d : ServerData). IsServer d) same_server is_server) fresh_client fresh_server
 
     pub fresh_new : IsNew meaning policy (seen client_config server_config suite decisions client server)
     fresh_new = record {
-      client = side_begins meaning policy role.Client (client_party client_config) suite decisions client fresh_client;
-      server = side_begins meaning policy role.Server (server_party server_config) suite decisions server fresh_server;
+      client = side_begins meaning policy role.Client (config_of_client client_config) suite decisions client fresh_client;
+      server = side_begins meaning policy role.Server (config_of_server server_config) suite decisions server fresh_server;
     }
 
   -- It stands behind a delivery.
   pub received_world : Laws → IsLawful (meaning suite) → (to : Side) (own their next : Node S D) → WorldAt to own their → Receives meaning policy their.sent.items own next → WorldAt to next their
   received_world laws lawful Client own their next w r =
-      let s = received meaning policy client_config server_config suite decisions Client own their next w.nodes r in
+      let s = nodes_received meaning policy client_config server_config suite decisions Client own their next w.nodes r in
       record {
         client_accepted = w.client_accepted;
         server_accepted = w.server_accepted;
@@ -229,7 +229,7 @@ module _ {S D : Type 0} (meaning : S → Meaning) (policy : D → Policy) (clien
         on_course = received_on_course meaning policy client_config server_config suite decisions laws lawful Client own their next w.nodes w.on_course s.client_stands.uncut r;
       }
   received_world laws lawful Server own their next w r =
-      let s = received meaning policy client_config server_config suite decisions Server own their next w.nodes r in
+      let s = nodes_received meaning policy client_config server_config suite decisions Server own their next w.nodes r in
       record {
         client_accepted = w.client_accepted;
         server_accepted = w.server_accepted;
@@ -238,9 +238,9 @@ module _ {S D : Type 0} (meaning : S → Meaning) (policy : D → Policy) (clien
       }
 
   -- What callers see of a world that stands.
-  module _ (laws : Laws) (hear_law : HearLaw) (lawful : IsLawful (meaning suite)) (client server : Node S D) (w : WorldStands meaning policy client_config server_config suite decisions client server) where
-    pub understands_in : AreUnderstood (meaning suite) (policy decisions) client_config server_config → HearsAll meaning policy (seen client_config server_config suite decisions client server)
-    understands_in u = hear_law (meaning suite) (policy decisions) client_config server_config lawful u w.client_accepted w.server_accepted
+  module _ (laws : Laws) (receive_law : ReceiveLaw) (lawful : IsLawful (meaning suite)) (client server : Node S D) (w : WorldStands meaning policy client_config server_config suite decisions client server) where
+    pub understands_in : AreUnderstood (meaning suite) (policy decisions) client_config server_config → ReceivesAll meaning policy (seen client_config server_config suite decisions client server)
+    understands_in u = receive_law (meaning suite) (policy decisions) client_config server_config lawful u w.client_accepted w.server_accepted
 
     pub course_in : KeepsCourse meaning policy (seen client_config server_config suite decisions client server)
     course_in = keeps_course meaning policy laws (seen client_config server_config suite decisions client server) lawful understands_in w.on_course
@@ -251,29 +251,29 @@ module _ {S D : Type 0} (meaning : S → Meaning) (policy : D → Policy) (clien
     pub settles_in : Settles meaning policy (seen client_config server_config suite decisions client server)
     settles_in u = settles meaning policy laws (seen client_config server_config suite decisions client server) lawful understands_in w.on_course (understands_in u)
 
-module _ {S D : Type 0} (meaning : S → Meaning) (policy : D → Policy) where
+module _ {S D : Type 0} (meaning : S → SuiteData) (policy : D → DecisionsData) where
   -- Where both hear all that the other says in the course, and neither wanted memory, they have heard what so many rounds bring that
   -- end at the new world.
-  abbrev pub HeardAfter : WorldData S D → WorldData S D → ℕ → Type 0
-  HeardAfter old new n = HearsAll meaning policy old → HadMemory old
-      → HaveHeardIn meaning policy new (after_rounds (part_of_client_in meaning policy old) (part_of_server_in meaning policy old) n)
+  abbrev pub ReceivedAfter : WorldData S D → WorldData S D → ℕ → Type 0
+  ReceivedAfter old new n = ReceivesAll meaning policy old → HadMemory old
+      → HaveReceivedIn meaning policy new (after_rounds (part_of_client_in meaning policy old) (part_of_server_in meaning policy old) n)
 
   -- what both have heard behind one round more
-  pub heard_more : (old mid new : WorldData S D) (n : ℕ) → IsSameSetup old mid → (HadMemory old → HadMemory mid) → HeardAfter old mid n → HearsRound meaning policy mid new → HeardAfter old new (n + 1)
-  heard_more old mid new n same still before round =
+  pub received_more : (old mid new : WorldData S D) (n : ℕ) → IsSameSetup old mid → (HadMemory old → HadMemory mid) → ReceivedAfter old mid n → ReceivesRound meaning policy mid new → ReceivedAfter old new (n + 1)
+  received_more old mid new n same still before round =
       let e = same_world old mid same in
       let one : suc n ≡ n + 1 = omega arith in
-      subst (λ (k : ℕ). HeardAfter old new k) one
-      (subst (λ (v : WorldData S D). (HadMemory old → HadMemory v) → HeardAfter old v n → HearsRound meaning policy v new → HeardAfter old new (suc n)) (sym e)
-      (λ still before round hear had. round hear (still had) (after_rounds (part_of_client_in meaning policy old) (part_of_server_in meaning policy old) n) (before hear had))
+      subst (λ (k : ℕ). ReceivedAfter old new k) one
+      (subst (λ (v : WorldData S D). (HadMemory old → HadMemory v) → ReceivedAfter old v n → ReceivesRound meaning policy v new → ReceivedAfter old new (suc n)) (sym e)
+      (λ still before round receive had. round receive (still had) (after_rounds (part_of_client_in meaning policy old) (part_of_server_in meaning policy old) n) (before receive had))
       still before round)
 
   -- So few rounds leave nothing that waits.
-  pub bound : (old new : WorldData S D) (r : ℕ) → IsSameSetup old new → (HadMemory old → HadMemory new) → HeardAfter old new r
-      → (AreUnderstoodIn meaning policy new → HearsAll meaning policy new) → Settles meaning policy new
+  pub bound : (old new : WorldData S D) (r : ℕ) → IsSameSetup old new → (HadMemory old → HadMemory new) → ReceivedAfter old new r
+      → (AreUnderstoodIn meaning policy new → ReceivesAll meaning policy new) → Settles meaning policy new
       → AreUnderstoodIn meaning policy old → HadMemory old → most_requests old.client_config.plan + 4 ≤ r → Complete new
   bound old new r same =
       let e = same_world old new same in
-      subst (λ (v : WorldData S D). (HadMemory old → HadMemory v) → HeardAfter old v r → (AreUnderstoodIn meaning policy v → HearsAll meaning policy v) → Settles meaning policy v
+      subst (λ (v : WorldData S D). (HadMemory old → HadMemory v) → ReceivedAfter old v r → (AreUnderstoodIn meaning policy v → ReceivesAll meaning policy v) → Settles meaning policy v
       → AreUnderstoodIn meaning policy old → HadMemory old → most_requests old.client_config.plan + 4 ≤ r → Complete v) (sym e)
-      (λ still heard understands settles u had few. settles u (still had) r few (heard (understands u) had))
+      (λ still received understands settles u had few. settles u (still had) r few (received (understands u) had))

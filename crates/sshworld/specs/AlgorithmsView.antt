@@ -1,13 +1,13 @@
 -- The algorithms of a choice, without where their names lie in memory.
 
 use Rattle.std.specs.Prelude.{ℕ, Bool, List, string_bytes}
-use Rattle.sshneg.specs.Fields.{Algorithms}
+use Rattle.sshneg.specs.Fields.{AlgorithmsData}
 use Rattle.sshcore.specs.declared.config_parts.Attempt.{Attempt}
-use Rattle.sshcore.specs.Ending.{AgreedData}
+use Rattle.sshcore.specs.EndData.{AgreedData}
 use Rattle.sshworld.specs.declared.algorithms.AlgorithmNames.{AlgorithmNames}
 use Rattle.sshworld.specs.declared.algorithms.Copies.{Copies}
 
-abbrev pub algorithms_named : AlgorithmNames → Algorithms
+abbrev pub algorithms_named : AlgorithmNames → AlgorithmsData
 algorithms_named names = record {
   kex = names.kex.now;
   host_key = names.host_key.now;
@@ -19,7 +19,7 @@ algorithms_named names = record {
   compression_server_to_client = names.compression_server_to_client.now;
 }
 
-abbrev pub algorithms_copied : Copies → Algorithms
+abbrev pub algorithms_copied : Copies → AlgorithmsData
 algorithms_copied copies = record {
   kex = string_bytes copies.exchange.first;
   host_key = string_bytes copies.exchange.second;

@@ -7,12 +7,12 @@ use Rattle.std.specs.Prelude.{◌+◌, ◌==◌, ◌++◌, ℕ, zero, suc, List,
 use Rattle.sshmsg.specs.declared.numbers.TheConstants.{SSH_DISCONNECT_HOST_KEY_NOT_VERIFIABLE, SSH_DISCONNECT_KEY_EXCHANGE_FAILED, SSH_DISCONNECT_NO_MORE_AUTH_METHODS_AVAILABLE, SSH_DISCONNECT_SERVICE_NOT_AVAILABLE}
 use Rattle.sshneg.specs.declared.choice.NoCommon.{NoCommon}
 use Rattle.sshneg.specs.ChoiceReadings.{choice}
-use Rattle.sshneg.specs.Fields.{Algorithms}
+use Rattle.sshneg.specs.Fields.{AlgorithmsData}
 use Rattle.sshpacket.specs.Stream.{Units}
-use Rattle.sshpacket.specs.Suite.{Meaning}
-use Rattle.sshcore.specs.ConfigData.{ClientData, ServerData, client_offer, server_offer}
-use Rattle.sshcore.specs.Ending.{Ending}
-use Rattle.sshcore.specs.Party.{Policy}
+use Rattle.sshpacket.specs.Suite.{SuiteData}
+use Rattle.sshcore.specs.ConfigParts.{ClientData, ServerData, client_offer, server_offer}
+use Rattle.sshcore.specs.EndData.{EndData}
+use Rattle.sshcore.specs.EndpointParts.{DecisionsData}
 use Rattle.sshworld.specs.Agreement.{host_key_of_server}
 use Rattle.sshworld.specs.Guesses.{Guess, NoGuess, RightGuess, WrongGuess}
 use Rattle.sshworld.specs.Outcome.{BothEnds}
@@ -24,8 +24,8 @@ use Rattle.sshworld.specs.Wording.{Wording}
 pub record Part : Type 0 where
   pub first : Units
   pub group : ℕ → Units
-  pub hears : ℕ
-  pub final : Ending
+  pub receives : ℕ
+  pub final : EndData
 
 -- what answers the first n units
 abbrev pub answers_to : (ℕ → Units) → ℕ → Units
@@ -33,14 +33,14 @@ answers_to group zero = []
 answers_to group (suc n) = answers_to group n ++ group n
 
 -- The payloads that a side has said when it has heard n units.
-abbrev pub said_after : Part → ℕ → Units
-said_after part n = part.first ++ answers_to part.group n
+abbrev pub sent_after : Part → ℕ → Units
+sent_after part n = part.first ++ answers_to part.group n
 
 -- these groups, and those that come behind them
 abbrev pub group_at : List Units → (ℕ → Units) → ℕ → Units
-group_at [] behind n = behind n
-group_at (group ∷ groups) behind zero = group
-group_at (group ∷ groups) behind (suc n) = group_at groups behind n
+group_at [] after n = after n
+group_at (group ∷ groups) after zero = group
+group_at (group ∷ groups) after (suc n) = group_at groups after n
 
 abbrev pub nothing : ℕ → Units
 nothing n = []
@@ -75,29 +75,29 @@ unanswered WrongGuess = [] ∷ []
 abbrev pub no_choice_groups : Wording → List Units
 no_choice_groups w = [] ∷ (w.disconnect SSH_DISCONNECT_KEY_EXCHANGE_FAILED ∷ []) ∷ []
 
-abbrev pub client_no_choice : Wording → Guess → Ending → Part
-client_no_choice w guess end = record { first = client_first w guess; group = group_at (no_choice_groups w) nothing; hears = 2; final = end }
+abbrev pub client_no_choice : Wording → Guess → EndData → Part
+client_no_choice w guess end = record { first = client_first w guess; group = group_at (no_choice_groups w) nothing; receives = 2; final = end }
 
-abbrev pub server_no_choice : Wording → Ending → Part
-server_no_choice w end = record { first = server_first w; group = group_at (no_choice_groups w) nothing; hears = 2; final = end }
+abbrev pub server_no_choice : Wording → EndData → Part
+server_no_choice w end = record { first = server_first w; group = group_at (no_choice_groups w) nothing; receives = 2; final = end }
 
 -- Where the client doesn't trust the host key, it hears the server's version line, KEXINIT and KEXDH_REPLY, and answers the
 -- KEXDH_REPLY by a DISCONNECT (RFC 4253 section 8).
-abbrev pub client_no_trust : Wording → Guess → Ending → Part
+abbrev pub client_no_trust : Wording → Guess → EndData → Part
 client_no_trust w guess end = record {
   first = client_first w guess;
   group = group_at ([] ∷ init_anew w guess ∷ (w.disconnect SSH_DISCONNECT_HOST_KEY_NOT_VERIFIABLE ∷ []) ∷ []) nothing;
-  hears = 3;
+  receives = 3;
   final = end;
 }
 
 -- The server hears the version line, KEXINIT, a wrong guess, KEXDH_INIT and that DISCONNECT. It answers the KEXDH_INIT by
 -- KEXDH_REPLY and NEWKEYS.
-abbrev pub server_no_trust : Wording → Guess → Ending → Part
+abbrev pub server_no_trust : Wording → Guess → EndData → Part
 server_no_trust w guess end = record {
   first = server_first w;
   group = group_at ([] ∷ [] ∷ unanswered guess ++ (w.reply ∷ w.new_keys ∷ []) ∷ []) nothing;
-  hears = 4 + length (unanswered guess);
+  receives = 4 + length (unanswered guess);
   final = end;
 }
 
@@ -138,32 +138,32 @@ abbrev pub server_early : Wording → Guess → List Units
 server_early w guess = [] ∷ [] ∷ unanswered guess ++ (w.reply ∷ w.new_keys ∷ []) ∷ [] ∷ (w.service_accept ∷ w.banner) ∷ []
 
 -- How many units the client hears: where no request is made, up to SERVICE_ACCEPT; else up to the answer to the last one.
-abbrev pub client_hears : Wording → ℕ → ℕ
-client_hears w zero = 5
-client_hears w (suc n) = 5 + length w.banner + suc n
+abbrev pub client_receives : Wording → ℕ → ℕ
+client_receives w zero = 5
+client_receives w (suc n) = 5 + length w.banner + suc n
 
 -- How many payloads the server hears behind the last request: the client's DISCONNECT, where it has no more to offer.
-abbrev pub heard_last : How → ℕ
-heard_last Unknown = 0
-heard_last (Success attempt) = 0
-heard_last Limit = 0
-heard_last Exhausted = 1
+abbrev pub received_last : How → ℕ
+received_last Unknown = 0
+received_last (Success attempt) = 0
+received_last Limit = 0
+received_last Exhausted = 1
 
-abbrev pub client_requests : Wording → Guess → Verdict → Ending → Part
+abbrev pub client_requests : Wording → Guess → Verdict → EndData → Part
 client_requests w guess v end = record {
   first = client_first w guess;
   group = group_at (client_early w guess v) (λ i. client_next w v (i + 1));
-  hears = client_hears w v.requests;
+  receives = client_receives w v.requests;
   final = end;
 }
 
 -- The server hears the version line, KEXINIT, a wrong guess, KEXDH_INIT, NEWKEYS, SERVICE_REQUEST, all requests, and a
 -- DISCONNECT if the client has no more to offer.
-abbrev pub server_requests : Wording → Guess → Verdict → Ending → Part
+abbrev pub server_requests : Wording → Guess → Verdict → EndData → Part
 server_requests w guess v end = record {
   first = server_first w;
   group = group_at (server_early w guess) (server_next w v);
-  hears = 5 + length (unanswered guess) + v.requests + heard_last v.how;
+  receives = 5 + length (unanswered guess) + v.requests + received_last v.how;
   final = end;
 }
 
@@ -185,12 +185,12 @@ server_part w guess NoTrust ends = server_no_trust w guess ends.server
 server_part w guess (Requests v) ends = server_requests w guess v ends.server
 
 -- The way by the choice of algorithms, and then by whether the client trusts the server's host key.
-abbrev pub way_by : Meaning → Policy → ClientData → ServerData → Result Algorithms NoCommon → Way
+abbrev pub way_by : SuiteData → DecisionsData → ClientData → ServerData → Result AlgorithmsData NoCommon → Way
 way_by m d client server (Err field) = NoChoice
 way_by m d client server (Ok algorithms) =
     if d.host_key algorithms.host_key (host_key_of_server m server algorithms.host_key) then Requests (verdict m d client server)
     else NoTrust
 
 -- The way of two configs.
-abbrev pub way_of : Meaning → Policy → ClientData → ServerData → Way
+abbrev pub way_of : SuiteData → DecisionsData → ClientData → ServerData → Way
 way_of m d client server = way_by m d client server (choice m (client_offer client) (server_offer server))

@@ -3,21 +3,21 @@
 use Rattle.std.specs.Prelude.{◌≡◌, ◌≢◌, ◌+◌, ◌≤◌, ◌⊎◌, ℕ, zero, suc, List, [], ◌∷◌, min, take}
 use Rattle.sshneg.specs.declared.role.Role.{Role}
 use Rattle.sshpacket.specs.Places.{IsPrefix}
-use Rattle.sshpacket.specs.Suite.{Meaning}
+use Rattle.sshpacket.specs.Suite.{SuiteData}
 use Rattle.sshcore.specs.declared.end.Fault.TheVariants as fault
-use Rattle.sshcore.specs.Ending.{Failed, Open}
+use Rattle.sshcore.specs.EndData.{Failed, Open}
 use Rattle.sshcore.specs.History.{BrokenOff}
-use Rattle.sshcore.specs.Party.{Party, Policy}
+use Rattle.sshcore.specs.EndpointParts.{ConfigData, DecisionsData}
 use Rattle.sshworld.specs.declared.side.Delivery.{Delivery}
 use Rattle.sshworld.specs.declared.side.Side.{Side}
 use Rattle.sshworld.specs.declared.side.Side.TheVariants.{Client, Server}
 use Rattle.sshworld.specs.Conversed.{EachReplies}
 use Rattle.sshworld.specs.WorldCourse.{KeepsHeadline}
-use Rattle.sshworld.specs.Worlds.{Half, IsSameSetup, WorldData, half_at, half_opposite, party_at, role_at, waiting_for}
+use Rattle.sshworld.specs.Worlds.{IsSameSetup, NodeData, WorldData, config_at, node_at, node_opposite, role_at, waiting_for}
 
 -- The next n bytes were moved to a side: it used all of them, or those up to its end, and what it said stands behind what it had
 -- sent; and memory wasn't wanting. Where none were moved, nothing changed.
-pub record TakesIn (n : ℕ) (old new : Half) : Type 0 where
+pub record TakesIn (n : ℕ) (old new : NodeData) : Type 0 where
   pub moved_on : new.moved ≡ old.moved + n
   pub used_on : old.used ≤ new.used
   pub used_within : new.used ≤ new.moved
@@ -28,12 +28,12 @@ pub record TakesIn (n : ℕ) (old new : Half) : Type 0 where
 
 -- A delivery of n bytes to a side; the other doesn't change.
 pub record Delivered {S D : Type 0} (to : Side) (n : ℕ) (old new : WorldData S D) : Type 0 where
-  pub receiver : TakesIn n (half_at to old) (half_at to new)
-  pub sender : half_opposite to new ≡ half_opposite to old
+  pub receiver : TakesIn n (node_at to old) (node_at to new)
+  pub sender : node_opposite to new ≡ node_opposite to old
 
 -- The next n bytes were moved to a side, and memory was wanting: it has failed by that. It doesn't count those that it used of
 -- them. Behind what it had sent stands what it said, so that it has sent whole packets, a prefix of those that it would have sent.
-pub record BreaksOff (m : Meaning) (d : Policy) (role : Role) (party : Party) (n : ℕ) (old new opposite : Half) : Type 0 where
+pub record BreaksOff (m : SuiteData) (d : DecisionsData) (role : Role) (party : ConfigData) (n : ℕ) (old new opposite : NodeData) : Type 0 where
   pub failed : new.end ≡ Failed fault.Memory
   pub moved_on : new.moved ≡ old.moved + n
   pub same_used : new.used ≡ old.used
@@ -42,7 +42,7 @@ pub record BreaksOff (m : Meaning) (d : Policy) (role : Role) (party : Party) (n
   pub used_within : used ≤ n
   pub broken_off : BrokenOff m d role party (take (old.used + used) opposite.sent) new.sent
 
-module _ {S D : Type 0} (meaning : S → Meaning) (policy : D → Policy) where
+module _ {S D : Type 0} (meaning : S → SuiteData) (policy : D → DecisionsData) where
   -- A delivery of n bytes was done: the configs, the suite and the decisions are the same, both sides of the new world have
   -- replied to what was moved to them, and the headline holds of it.
   pub record Done (to : Side) (n : ℕ) (old new : WorldData S D) : Type 0 where
@@ -75,8 +75,8 @@ module _ {S D : Type 0} (meaning : S → Meaning) (policy : D → Policy) where
 
   -- A delivery of n bytes for which memory was wanting; the side that doesn't receive doesn't change.
   pub record Refused (to : Side) (n : ℕ) (old new : WorldData S D) : Type 0 where
-    pub receiver : BreaksOff (meaning old.suite) (policy old.decisions) (role_at to) (party_at to old) n (half_at to old) (half_at to new) (half_opposite to old)
-    pub sender : half_opposite to new ≡ half_opposite to old
+    pub receiver : BreaksOff (meaning old.suite) (policy old.decisions) (role_at to) (config_at to old) n (node_at to old) (node_at to new) (node_opposite to old)
+    pub sender : node_opposite to new ≡ node_opposite to old
 
   -- a delivery of so many bytes as wait for which it was
   abbrev pub RefusedAll : Side → WorldData S D → WorldData S D → Type 0

@@ -5,50 +5,50 @@ use Rattle.sshneg.specs.declared.role.Role.{Role}
 use Rattle.sshneg.specs.declared.role.Role.TheVariants.{Client, Server}
 use Rattle.sshpacket.specs.Places.{IsPrefix}
 use Rattle.sshpacket.specs.Stream.{Units}
-use Rattle.sshpacket.specs.Suite.{Meaning}
-use Rattle.sshcore.specs.ConfigData.{ClientData, ServerData}
-use Rattle.sshcore.specs.Ending.{Ending, Open}
-use Rattle.sshcore.specs.Party.{Party, Policy, client_party, server_party}
+use Rattle.sshpacket.specs.Suite.{SuiteData}
+use Rattle.sshcore.specs.ConfigParts.{ClientData, ServerData}
+use Rattle.sshcore.specs.EndData.{EndData, Open}
+use Rattle.sshcore.specs.EndpointParts.{ConfigData, DecisionsData, config_of_client, config_of_server}
 use Rattle.sshcore.specs.Replies.{Replies, answers_at, end_at}
 use Rattle.sshcore.specs.Work.{making}
-use Rattle.sshworld.specs.Course.{Part, client_part, said_after, server_part, way_of}
+use Rattle.sshworld.specs.Course.{Part, client_part, sent_after, server_part, way_of}
 use Rattle.sshworld.specs.Guesses.{guess_of}
 use Rattle.sshworld.specs.Outcome.{outcome}
 use Rattle.sshworld.specs.Wording.{Wording}
 
 -- How a side stands that has heard n units: it is open until it has heard all that it hears.
-abbrev pub end_after : Part → ℕ → Ending
-end_after part n = if n == part.hears then part.final else Open
+abbrev pub end_after : Part → ℕ → EndData
+end_after part n = if n == part.receives then part.final else Open
 
 -- The units that a side sends in a course: its version line, and all payloads that it says.
-abbrev pub units_of : Party → Part → Units
-units_of own part = own.version ∷ said_after part part.hears
+abbrev pub units_of : ConfigData → Part → Units
+units_of own part = own.version ∷ sent_after part part.receives
 
 -- At this place an endpoint answers and stands as its part has it.
-pub record IsAsPart (m : Meaning) (d : Policy) (role : Role) (own : Party) (part : Part) (before : Units) (unit : List ℕ) : Type 0 where
+pub record IsAsPart (m : SuiteData) (d : DecisionsData) (role : Role) (own : ConfigData) (part : Part) (before : Units) (unit : List ℕ) : Type 0 where
   pub answer : answers_at m d role own before unit ≡ part.group (length before)
   pub end : end_at m d role own before unit ≡ end_after part (suc (length before))
 
 -- An endpoint follows its part, while it hears units of this stream: it says first what the part has first, and at each place up
 -- to the part's end it answers and stands as the part has it.
-pub record FollowsPart (m : Meaning) (d : Policy) (role : Role) (own : Party) (part : Part) (stream : Units) : Type 0 where
+pub record FollowsPart (m : SuiteData) (d : DecisionsData) (role : Role) (own : ConfigData) (part : Part) (stream : Units) : Type 0 where
   pub making_is : making m role own ≡ part.first
-  pub places : (before : Units) (unit : List ℕ) → IsPrefix (before ++ unit ∷ []) stream → length before < part.hears
+  pub places : (before : Units) (unit : List ℕ) → IsPrefix (before ++ unit ∷ []) stream → length before < part.receives
       → IsAsPart m d role own part before unit
 
 -- A side that has heard these units, has said these answers and has this end stands in its part: it has heard no more than the part
 -- hears, and has said and stands as the part has it then.
-pub record IsInPart (part : Part) (units answers : Units) (end : Ending) : Type 0 where
-  pub within : length units ≤ part.hears
-  pub said : answers ≡ said_after part (length units)
+pub record IsInPart (part : Part) (units answers : Units) (end : EndData) : Type 0 where
+  pub within : length units ≤ part.receives
+  pub sent : answers ≡ sent_after part (length units)
   pub ends : end ≡ end_after part (length units)
 
 -- Whatever prefix of this stream an endpoint has heard, and whatever it replied, it stands in its part.
-abbrev pub KeepsPart : Meaning → Policy → Role → Party → Part → Units → Type 0
+abbrev pub KeepsPart : SuiteData → DecisionsData → Role → ConfigData → Part → Units → Type 0
 KeepsPart m d role own part stream =
-    (units answers : Units) (end : Ending) → IsPrefix units stream → Replies m d role own units None answers end → IsInPart part units answers end
+    (units answers : Units) (end : EndData) → IsPrefix units stream → Replies m d role own units None answers end → IsInPart part units answers end
 
-module _ (m : Meaning) (d : Policy) (client : ClientData) (server : ServerData) (w : Wording) where
+module _ (m : SuiteData) (d : DecisionsData) (client : ClientData) (server : ServerData) (w : Wording) where
   -- the parts of two configs, in these words
   abbrev pub part_of_client : Part
   part_of_client = client_part w (guess_of client server) (way_of m d client server) (outcome m d client server)
@@ -58,10 +58,10 @@ module _ (m : Meaning) (d : Policy) (client : ClientData) (server : ServerData) 
 
   -- Each of two endpoints with these configs follows its part, while it hears what the other says in the course.
   pub record BothFollow : Type 0 where
-    pub client_follows : FollowsPart m d Client (client_party client) part_of_client (units_of (server_party server) part_of_server)
-    pub server_follows : FollowsPart m d Server (server_party server) part_of_server (units_of (client_party client) part_of_client)
+    pub client_follows : FollowsPart m d Client (config_of_client client) part_of_client (units_of (config_of_server server) part_of_server)
+    pub server_follows : FollowsPart m d Server (config_of_server server) part_of_server (units_of (config_of_client client) part_of_client)
 
   -- Each stands in its part then.
   pub record BothKeep : Type 0 where
-    pub client_keeps : KeepsPart m d Client (client_party client) part_of_client (units_of (server_party server) part_of_server)
-    pub server_keeps : KeepsPart m d Server (server_party server) part_of_server (units_of (client_party client) part_of_client)
+    pub client_keeps : KeepsPart m d Client (config_of_client client) part_of_client (units_of (config_of_server server) part_of_server)
+    pub server_keeps : KeepsPart m d Server (config_of_server server) part_of_server (units_of (config_of_client client) part_of_client)

@@ -7,8 +7,8 @@ use Rattle.sshwire.specs.Meaning.{BeginsPreamble, IsLineRefused}
 use Rattle.sshworld.specs.declared.side.Side.{Side}
 use Rattle.sshworld.specs.declared.side.Side.TheVariants.{Client, Server}
 use Rattle.sshworld.specs.declared.side.Delivery.{Delivery}
-use Rattle.sshworld.specs.declared.greetings.Hearing.{Hearing}
-use Rattle.sshworld.specs.declared.greetings.Hearing.TheVariants.{Got, Refused, Waiting}
+use Rattle.sshworld.specs.declared.greetings.Reception.{Reception}
+use Rattle.sshworld.specs.declared.greetings.Reception.TheVariants.{Got, Refused, Waiting}
 use Rattle.sshworld.specs.declared.greetings.Greeting.{Greeting}
 use Rattle.sshwire.specs.declared.limits.TheConstants.{OTHER_LINE_LIMIT}
 
@@ -28,21 +28,21 @@ abbrev pub moved : Side → List Delivery → List ℕ → List ℕ
 moved side schedule sent = take (asked side schedule) sent
 
 -- what a side that accepts k other lines makes of the bytes
-pub record Hears (k : ℕ) (bytes : List ℕ) (hearing : Hearing) : Type 0 where
-  pub got : (text : List ℕ) → (hearing ≡ Got text) ↔ BeginsPreamble k text bytes
-  pub refused : (code : WireFault) → (hearing ≡ Refused code) ↔ IsLineRefused k bytes code
-  pub waiting : (n : ℕ) → hearing ≡ Waiting n → n ≡ length bytes
+pub record IsReception (k : ℕ) (bytes : List ℕ) (reception : Reception) : Type 0 where
+  pub got : (text : List ℕ) → (reception ≡ Got text) ↔ BeginsPreamble k text bytes
+  pub refused : (code : WireFault) → (reception ≡ Refused code) ↔ IsLineRefused k bytes code
+  pub waiting : (n : ℕ) → reception ≡ Waiting n → n ≡ length bytes
 
 -- nothing waits for a side: it has ended, or was given all bytes
-abbrev pub NothingWaits : List ℕ → List ℕ → Hearing → Type 0
+abbrev pub NothingWaits : List ℕ → List ℕ → Reception → Type 0
 NothingWaits bytes sent (Waiting n) = bytes ≡ sent
 NothingWaits bytes sent _ = Unit {0}
 
 -- Each side has heard what the bytes moved to it say, and both have each other's version line
 -- once the schedule is complete, if they sent one.
 pub record Greets (client server : List ℕ) (schedule : List Delivery) (greeting : Greeting) : Type 0 where
-  pub to_client : Hears OTHER_LINE_LIMIT (moved Client schedule server) greeting.client
-  pub to_server : Hears 0 (moved Server schedule client) greeting.server
+  pub to_client : IsReception OTHER_LINE_LIMIT (moved Client schedule server) greeting.client
+  pub to_server : IsReception 0 (moved Server schedule client) greeting.server
   pub complete : IsTrue greeting.complete
       ↔ (NothingWaits (moved Client schedule server) server greeting.client
       × NothingWaits (moved Server schedule client) client greeting.server)

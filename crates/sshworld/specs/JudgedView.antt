@@ -1,12 +1,12 @@
 -- How the requests of a plan end, and what is kept of them, without where the attempts lie in memory.
 
 use Rattle.std.specs.Prelude.{◌≡◌, Bool, List, [], ◌∷◌, ◌++◌, length, Option, None, Some, if◌then◌else◌}
-use Rattle.sshpacket.specs.Suite.{Meaning}
-use Rattle.sshcore.specs.ConfigData.{Attempt, ServerData}
-use Rattle.sshcore.specs.ConfigView.{attempt_of}
-use Rattle.sshcore.specs.Party.{Policy}
-use Rattle.sshcore.specs.Plan.{behind_query, proving_name}
-use Rattle.sshcore.specs.Reached.{Reached, Tried, nothing_reached, reached_after}
+use Rattle.sshpacket.specs.Suite.{SuiteData}
+use Rattle.sshcore.specs.ConfigParts.{AttemptData, ServerData}
+use Rattle.sshcore.specs.ConfigView.{attempt_data}
+use Rattle.sshcore.specs.EndpointParts.{DecisionsData}
+use Rattle.sshcore.specs.Plan.{after_query, proving_name}
+use Rattle.sshcore.specs.Reached.{ReachedData, Tried, nothing_reached, reached_after}
 use Rattle.sshworld.specs.declared.judge.Judged.{Judged}
 use Rattle.sshworld.specs.declared.judge.Judged.TheVariants as judged
 use Rattle.sshworld.specs.declared.progress.Progress.{Progress}
@@ -15,7 +15,7 @@ use Rattle.sshworld.specs.Verdicts.{Exhausted, How, Limit, Success, Unknown, tri
 -- A request that lets the user in is no query, so it is the attempt itself.
 abbrev pub how_of : Judged → How
 how_of judged.Unknown = Unknown
-how_of (judged.Success attempt) = Success (behind_query (attempt_of attempt.now))
+how_of (judged.Success attempt) = Success (after_query (attempt_data attempt.now))
 how_of judged.Limit = Limit
 how_of judged.Exhausted = Exhausted
 
@@ -31,22 +31,22 @@ module _ {R : Type 0} where
   ends_among ends made (request ∷ later) = first_end (ends made request) (ends_among ends (made ++ request ∷ []) later)
 
 -- the methods that are reached
-abbrev pub reached_of : Progress → Reached
-reached_of p = record { user = p.user.now; service = p.service.now; password = p.password; publickey = p.publickey }
+abbrev pub progress_reached : Progress → ReachedData
+progress_reached p = record { user = p.user.now; service = p.service.now; password = p.password; publickey = p.publickey }
 
 -- what a request of this attempt came to
-abbrev pub tried_as : Attempt → Bool → Tried
-tried_as attempt good = record {
+abbrev pub tried_as : AttemptData → Bool → Tried
+tried_as attempt successful = record {
   user = attempt.user;
   service = attempt.service;
-  good = if good then Some (proving_name attempt.proving) else None;
+  successful = if successful then Some (proving_name attempt.proving) else None;
 }
 
 -- These requests were made, and came to what is kept.
-pub record IsSoFar (m : Meaning) (d : Policy) (server : ServerData) (made : List Attempt) (p : Progress) : Type 0 where
+pub record IsSoFar (m : SuiteData) (d : DecisionsData) (server : ServerData) (made : List AttemptData) (p : Progress) : Type 0 where
   pub counted : p.requests ≡ length made
-  pub reached : reached_of p ≡ reached_after nothing_reached (tried_of m d server made)
+  pub reached : progress_reached p ≡ reached_after nothing_reached (tried_of m d server made)
 
 -- Where none of these requests ends those made, all of them are made now.
-abbrev pub IsBehind : Meaning → Policy → ServerData → List Attempt → List Attempt → Option Judged → Progress → Type 0
-IsBehind m d server made requests judged p = judged ≡ None → IsSoFar m d server (made ++ requests) p
+abbrev pub IsAfter : SuiteData → DecisionsData → ServerData → List AttemptData → List AttemptData → Option Judged → Progress → Type 0
+IsAfter m d server made requests judged p = judged ≡ None → IsSoFar m d server (made ++ requests) p

@@ -21,9 +21,9 @@ pub mod Headline
 pub mod Worlds
 pub mod Conversed
 pub mod Deliveries
-pub mod Stands
-pub mod Halves
-pub mod CourseHeard
+pub mod Nodes
+pub mod Partners
+pub mod CourseReceived
 pub mod Joined
 pub mod WorldCourse
 pub mod WorldRounds

@@ -8,15 +8,15 @@ use Rattle.sshneg.specs.declared.role.Role.{Role}
 use Rattle.sshneg.specs.Markers.{other}
 use Rattle.sshpacket.specs.Places.{EachPlace}
 use Rattle.sshpacket.specs.Stream.{Units}
-use Rattle.sshpacket.specs.Suite.{Meaning}
+use Rattle.sshpacket.specs.Suite.{SuiteData}
 use Rattle.sshcore.specs.Counting.{switched_out}
 use Rattle.sshcore.specs.Directions.{others_of, preamble_of}
-use Rattle.sshcore.specs.Party.{Party}
+use Rattle.sshcore.specs.EndpointParts.{ConfigData}
 use Rattle.sshworld.specs.Placed.{HaveSameKeys, IsInPlace}
 
 -- All that is said in one direction can be heard: the two roles differ; the lines that are said first are a preamble of the version
 -- that is said; each payload is in its place; and where NEWKEYS is said at all, both come to the same keys.
-pub record CanBeHeard (m : Meaning) (role peer : Role) (own their : Party) (ours theirs : Units) : Type 0 where
+pub record CanBeReceived (m : SuiteData) (role peer : Role) (own their : ConfigData) (ours theirs : Units) : Type 0 where
   pub is_other : other role ≡ peer
   pub preamble : Preamble (others_of role) their.version (preamble_of their)
   pub places : EachPlace (IsInPlace role own) [] theirs

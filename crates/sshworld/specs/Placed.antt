@@ -7,40 +7,40 @@ use Rattle.sshneg.specs.declared.role.Role.{Role}
 use Rattle.sshneg.specs.declared.role.Role.TheVariants.{Client, Server}
 use Rattle.sshpacket.specs.Places.{EachPlace}
 use Rattle.sshpacket.specs.Stream.{Units}
-use Rattle.sshpacket.specs.Suite.{Meaning}
+use Rattle.sshpacket.specs.Suite.{SuiteData}
 use Rattle.sshcore.specs.Before.{kept, strict_at}
-use Rattle.sshcore.specs.ConfigData.{ClientData, ServerData}
+use Rattle.sshcore.specs.ConfigParts.{ClientData, ServerData}
 use Rattle.sshcore.specs.Counting.{switched_out}
 use Rattle.sshcore.specs.Exchange.{exchange_at, keys_at}
 use Rattle.sshcore.specs.History.{IsReady}
-use Rattle.sshcore.specs.Party.{Party, Policy, client_party, server_party}
-use Rattle.sshworld.specs.Course.{said_after}
+use Rattle.sshcore.specs.EndpointParts.{ConfigData, DecisionsData, config_of_client, config_of_server}
+use Rattle.sshworld.specs.Course.{sent_after}
 use Rattle.sshworld.specs.Follows.{part_of_client, part_of_server}
 use Rattle.sshworld.specs.Wordings.{wording_of}
 
 -- NEWKEYS is never dropped, and what the other side says behind its NEWKEYS finds that the exchange was heard (RFC 4253 sections 7
 -- and 7.3).
-pub record IsInPlace (role : Role) (own : Party) (before : Units) (payload : List ℕ) : Type 0 where
+pub record IsInPlace (role : Role) (own : ConfigData) (before : Units) (payload : List ℕ) : Type 0 where
   pub switch : kept role own.offer SSH_MSG_NEWKEYS before payload ≡ (kind payload == SSH_MSG_NEWKEYS)
   pub ready : switched_out before ≡ true → IsReady role own before
 
 -- All payloads that each side says in the course of two configs.
-abbrev pub said_by_client : Meaning → Policy → ClientData → ServerData → Units
-said_by_client m d client server =
-    said_after (part_of_client m d client server (wording_of m d client server)) (part_of_client m d client server (wording_of m d client server)).hears
+abbrev pub sent_by_client : SuiteData → DecisionsData → ClientData → ServerData → Units
+sent_by_client m d client server =
+    sent_after (part_of_client m d client server (wording_of m d client server)) (part_of_client m d client server (wording_of m d client server)).receives
 
-abbrev pub said_by_server : Meaning → Policy → ClientData → ServerData → Units
-said_by_server m d client server =
-    said_after (part_of_server m d client server (wording_of m d client server)) (part_of_server m d client server (wording_of m d client server)).hears
+abbrev pub sent_by_server : SuiteData → DecisionsData → ClientData → ServerData → Units
+sent_by_server m d client server =
+    sent_after (part_of_server m d client server (wording_of m d client server)) (part_of_server m d client server (wording_of m d client server)).receives
 
 -- All that either side says is in its place where the other hears it.
-pub record BothInPlace (m : Meaning) (d : Policy) (client : ClientData) (server : ServerData) : Type 0 where
-  pub heard_by_client : EachPlace (IsInPlace Client (client_party client)) [] (said_by_server m d client server)
-  pub heard_by_server : EachPlace (IsInPlace Server (server_party server)) [] (said_by_client m d client server)
+pub record BothInPlace (m : SuiteData) (d : DecisionsData) (client : ClientData) (server : ServerData) : Type 0 where
+  pub received_by_client : EachPlace (IsInPlace Client (config_of_client client)) [] (sent_by_server m d client server)
+  pub received_by_server : EachPlace (IsInPlace Server (config_of_server server)) [] (sent_by_client m d client server)
 
 -- Of two endpoints own hears theirs, and the other hears ours: by that both hash the same, come to the same keys of each direction and
 -- are strict alike (RFC 4253 section 7.2, OpenSSH PROTOCOL section 1.10).
-pub record HaveSameKeys (m : Meaning) (role peer : Role) (own their : Party) (ours theirs : Units) : Type 0 where
+pub record HaveSameKeys (m : SuiteData) (role peer : Role) (own their : ConfigData) (ours theirs : Units) : Type 0 where
   pub exchange : exchange_at m role own their.version theirs ≡ exchange_at m peer their own.version ours
   pub keys : (sender : Role) → keys_at m role own their.version theirs sender ≡ keys_at m peer their own.version ours sender
   pub strict : strict_at role own theirs ≡ strict_at peer their ours

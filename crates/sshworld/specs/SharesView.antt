@@ -1,13 +1,13 @@
 -- What the two sides have given and come to, as it is hashed.
 
 use Rattle.std.specs.Prelude.{◌≡◌, ◌≤◌, length}
-use Rattle.sshmsg.specs.Content.{KexInit}
+use Rattle.sshmsg.specs.MessageData.{KexInit}
 use Rattle.sshmsg.specs.Written.{written_message}
 use Rattle.sshneg.specs.Derivations.{ExchangeData}
-use Rattle.sshneg.specs.Fields.{Algorithms}
+use Rattle.sshneg.specs.Fields.{AlgorithmsData}
 use Rattle.sshpacket.specs.declared.limits.TheConstants.{BLOB_LIMIT, SHARE_LIMIT}
-use Rattle.sshpacket.specs.Suite.{Meaning, response_data}
-use Rattle.sshcore.specs.ConfigData.{ClientData, ServerData, client_offer, server_offer, version_of}
+use Rattle.sshpacket.specs.Suite.{SuiteData, response_data}
+use Rattle.sshcore.specs.ConfigParts.{ClientData, ServerData, client_offer, server_offer, version_of}
 use Rattle.sshworld.specs.declared.session.SharesGiven.{SharesGiven}
 use Rattle.sshworld.specs.Agreement.{answer_of_server, host_key_of_server, share_of_client}
 
@@ -25,7 +25,7 @@ exchange_given client server shares = record {
 }
 
 -- they are those of two configs
-pub record AreBetween (m : Meaning) (client : ClientData) (server : ServerData) (algorithms : Algorithms) (shares : SharesGiven) : Type 0 where
+pub record AreBetween (m : SuiteData) (client : ClientData) (server : ServerData) (algorithms : AlgorithmsData) (shares : SharesGiven) : Type 0 where
   pub host_key : shares.host_key.now ≡ host_key_of_server m server algorithms.host_key
   pub client_share : shares.client_share.items ≡ share_of_client m client algorithms.kex
   pub answer : response_data shares.answer ≡ answer_of_server m client server algorithms.kex

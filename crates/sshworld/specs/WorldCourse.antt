@@ -1,27 +1,27 @@
 -- A world on the course of its configs.
 
-use Rattle.sshpacket.specs.Suite.{Meaning}
-use Rattle.sshcore.specs.ConfigData.{ClientData, ServerData}
+use Rattle.sshpacket.specs.Suite.{SuiteData}
+use Rattle.sshcore.specs.ConfigParts.{ClientData, ServerData}
 use Rattle.sshcore.specs.ConfigRules.{IsClient, IsServer}
-use Rattle.sshcore.specs.Party.{Policy}
+use Rattle.sshcore.specs.EndpointParts.{DecisionsData}
 use Rattle.sshworld.specs.declared.node.Node.{Node}
-use Rattle.sshworld.specs.CourseHeard.{BothHear, IsCourseHeard, client_partner, server_partner}
-use Rattle.sshworld.specs.Halves.{BothOnCourse}
+use Rattle.sshworld.specs.CourseReceived.{BothReceive, IsCourseReceived, client_partner, server_partner}
+use Rattle.sshworld.specs.Partners.{BothOnCourse}
 use Rattle.sshworld.specs.Headline.{Headline}
 use Rattle.sshworld.specs.Outcome.{outcome}
-use Rattle.sshworld.specs.Stands.{NodesStand, seen}
+use Rattle.sshworld.specs.Nodes.{NodesStand, seen}
 use Rattle.sshworld.specs.Understood.{AreUnderstood}
 use Rattle.sshworld.specs.Wordings.{wording_of}
 use Rattle.sshworld.specs.Worlds.{Complete, HadMemory, WorldData}
 
-module _ {S D : Type 0} (meaning : S → Meaning) (policy : D → Policy) (w : WorldData S D) where
+module _ {S D : Type 0} (meaning : S → SuiteData) (policy : D → DecisionsData) (w : WorldData S D) where
   -- both sides hear all that the other says in the course of the world's configs
-  abbrev pub HearsAll : Type 0
-  HearsAll = BothHear (meaning w.suite) (policy w.decisions) w.client_config w.server_config (wording_of (meaning w.suite) (policy w.decisions) w.client_config w.server_config)
+  abbrev pub ReceivesAll : Type 0
+  ReceivesAll = BothReceive (meaning w.suite) (policy w.decisions) w.client_config w.server_config (wording_of (meaning w.suite) (policy w.decisions) w.client_config w.server_config)
 
   -- where they do, both are on it
   abbrev pub IsOnCourse : Type 0
-  IsOnCourse = HearsAll → BothOnCourse (meaning w.suite) (policy w.decisions)
+  IsOnCourse = ReceivesAll → BothOnCourse (meaning w.suite) (policy w.decisions)
       (client_partner (meaning w.suite) (policy w.decisions) w.client_config w.server_config (wording_of (meaning w.suite) (policy w.decisions) w.client_config w.server_config))
       (server_partner (meaning w.suite) (policy w.decisions) w.client_config w.server_config (wording_of (meaning w.suite) (policy w.decisions) w.client_config w.server_config)) w.client w.server
 
@@ -32,14 +32,14 @@ module _ {S D : Type 0} (meaning : S → Meaning) (policy : D → Policy) (w : W
   -- Where the two ends understand each other, and neither wanted memory, both sides are in the course of their configs.
   abbrev pub KeepsCourse : Type 0
   KeepsCourse = AreUnderstoodIn → HadMemory w
-      → IsCourseHeard (meaning w.suite) (policy w.decisions) w.client_config w.server_config (wording_of (meaning w.suite) (policy w.decisions) w.client_config w.server_config) w.client w.server
+      → IsCourseReceived (meaning w.suite) (policy w.decisions) w.client_config w.server_config (wording_of (meaning w.suite) (policy w.decisions) w.client_config w.server_config) w.client w.server
 
   -- And each that has ended has the end that the outcome gives; and where nothing waits for either, both have ended.
   abbrev pub KeepsHeadline : Type 0
   KeepsHeadline = AreUnderstoodIn → HadMemory w
       → Headline (outcome (meaning w.suite) (policy w.decisions) w.client_config w.server_config) w.client.end w.server.end (Complete w)
 
-module _ {S D : Type 0} (meaning : S → Meaning) (policy : D → Policy) where
+module _ {S D : Type 0} (meaning : S → SuiteData) (policy : D → DecisionsData) where
   -- The invariant of a world: its configs were accepted, its nodes stand, and they are on the course of the configs.
   pub record WorldStands (client_config : ClientData) (server_config : ServerData) (suite : S) (decisions : D) (client server : Node S D) : Type 0 where
     pub client_accepted : IsClient client_config

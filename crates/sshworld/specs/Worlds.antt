@@ -4,23 +4,23 @@ use Rattle.std.specs.Prelude.{◌≡◌, ◌≢◌, ◌≤◌, ◌-◌, ℕ, Lis
 use Rattle.sshneg.specs.declared.role.Role.{Role}
 use Rattle.sshneg.specs.declared.role.Role.TheVariants as role
 use Rattle.sshcore.specs.declared.end.Fault.TheVariants as fault
-use Rattle.sshcore.specs.ConfigData.{ClientData, ServerData}
-use Rattle.sshcore.specs.Ending.{Authenticated, Closed, Disconnected, Ending, Failed, Open}
-use Rattle.sshcore.specs.Party.{Party, client_party, server_party}
+use Rattle.sshcore.specs.ConfigParts.{ClientData, ServerData}
+use Rattle.sshcore.specs.EndData.{Authenticated, Closed, Disconnected, EndData, Failed, Open}
+use Rattle.sshcore.specs.EndpointParts.{ConfigData, config_of_client, config_of_server}
 use Rattle.sshworld.specs.declared.side.Side.{Side}
 use Rattle.sshworld.specs.declared.side.Side.TheVariants as side
 
 -- One side: all that it has sent; how many of the other's bytes were moved to it, and how many of those it has used; and how it
 -- stands.
-pub record Half : Type 0 where
+pub record NodeData : Type 0 where
   pub sent : List ℕ
   pub moved : ℕ
   pub used : ℕ
-  pub end : Ending
+  pub end : EndData
 
 -- A side has used what was moved to it, or what of it stands before its end; and unless memory was wanting to it, this is true of
 -- the bytes that it used and those that it sent.
-pub record HasReplied (conversed : List ℕ → List ℕ → Type 0) (own their : Half) : Type 0 where
+pub record HasReplied (conversed : List ℕ → List ℕ → Type 0) (own their : NodeData) : Type 0 where
   pub used_within : own.used ≤ own.moved
   pub moved_within : own.moved ≤ length their.sent
   pub all_used : own.end ≡ Open → own.used ≡ own.moved
@@ -32,8 +32,8 @@ pub record WorldData (S D : Type 0) : Type 0 where
   pub server_config : ServerData
   pub suite : S
   pub decisions : D
-  pub client : Half
-  pub server : Half
+  pub client : NodeData
+  pub server : NodeData
 
 -- what never changes
 pub record IsSameSetup {S D : Type 0} (old new : WorldData S D) : Type 0 where
@@ -43,36 +43,36 @@ pub record IsSameSetup {S D : Type 0} (old new : WorldData S D) : Type 0 where
   pub same_decisions : new.decisions ≡ old.decisions
 
 -- This side's half, and the other's.
-abbrev pub half_at : {S D : Type 0} → Side → WorldData S D → Half
-half_at side.Client w = w.client
-half_at side.Server w = w.server
+abbrev pub node_at : {S D : Type 0} → Side → WorldData S D → NodeData
+node_at side.Client w = w.client
+node_at side.Server w = w.server
 
-abbrev pub half_opposite : {S D : Type 0} → Side → WorldData S D → Half
-half_opposite side.Client w = w.server
-half_opposite side.Server w = w.client
+abbrev pub node_opposite : {S D : Type 0} → Side → WorldData S D → NodeData
+node_opposite side.Client w = w.server
+node_opposite side.Server w = w.client
 
 -- A side's role, and what its endpoint is made of.
 abbrev pub role_at : Side → Role
 role_at side.Client = role.Client
 role_at side.Server = role.Server
 
-abbrev pub party_at : {S D : Type 0} → Side → WorldData S D → Party
-party_at side.Client w = client_party w.client_config
-party_at side.Server w = server_party w.server_config
+abbrev pub config_at : {S D : Type 0} → Side → WorldData S D → ConfigData
+config_at side.Client w = config_of_client w.client_config
+config_at side.Server w = config_of_server w.server_config
 
 -- How many bytes wait for a side, of those that the other has sent: those that weren't moved to it, or none once it has ended.
-abbrev pub waiting_at : Ending → ℕ → ℕ → ℕ
+abbrev pub waiting_at : EndData → ℕ → ℕ → ℕ
 waiting_at Open sent moved = sent - moved
 waiting_at (Authenticated a) sent moved = 0
 waiting_at (Failed f) sent moved = 0
 waiting_at (Closed reason) sent moved = 0
 waiting_at (Disconnected reason) sent moved = 0
 
-abbrev pub waiting : Half → Half → ℕ
+abbrev pub waiting : NodeData → NodeData → ℕ
 waiting own their = waiting_at own.end (length their.sent) own.moved
 
 abbrev pub waiting_for : {S D : Type 0} → Side → WorldData S D → ℕ
-waiting_for to w = waiting (half_at to w) (half_opposite to w)
+waiting_for to w = waiting (node_at to w) (node_opposite to w)
 
 -- nothing waits for either side
 pub record Complete {S D : Type 0} (w : WorldData S D) : Type 0 where

@@ -3,10 +3,10 @@
 ghost use Rattle.std.specs.Prelude.{◌≡◌, ◌<◌, IfOk, Some, length, string_bytes};
 ghost use Rattle.std.specs.List.{slice_get};
 ghost use Rattle.sshwire.specs.Types.{IsName};
-ghost use Rattle.sshmsg.specs.View.{offer_of};
+ghost use Rattle.sshmsg.specs.View.{kexinit_data};
 ghost use Rattle.sshneg.specs.Fields as fields;
 ghost use Rattle.sshcore.specs.Chosen.{AreAt, AreNamed, ArePlaced};
-ghost use Rattle.sshcore.specs.Ending.{agreed_of};
+ghost use Rattle.sshcore.specs.EndData.{agreed_data};
 ghost use Rattle.sshworld.specs.AlgorithmsView.{agreed_with, algorithms_copied, algorithms_named};
 
 use crate::owned::beside;
@@ -52,8 +52,8 @@ struct Copies {
 
 /// The names at these positions of the client's lists.
 pub(crate) fn algorithms_at<'a>(client: &'a KexInit<'_>, chosen: &Chosen) -> AlgorithmNames<'a>
-    requires { ArePlaced (offer_of client.now) chosen.now }
-    ensures at { (a : fields.Algorithms) → AreAt (offer_of client.now) chosen.now a → algorithms_named result ≡ a }
+    requires { ArePlaced (kexinit_data client.now) chosen.now }
+    ensures at { (a : fields.AlgorithmsData) → AreAt (kexinit_data client.now) chosen.now a → algorithms_named result ≡ a }
     ensures names { AreNamed (algorithms_named result) }
 {
     AlgorithmNames {
@@ -98,7 +98,7 @@ pub(crate) fn agreed(
     session: &[u8],
     attempt: &Attempt,
 ) -> Result<Agreed, Memory>
-    ensures { IfOk result (λ agreed. agreed_of agreed ≡ agreed_with names.now strict session.now attempt.now) }
+    ensures { IfOk result (λ agreed. agreed_data agreed ≡ agreed_with names.now strict session.now attempt.now) }
 {
     let copies = copies_of(alloc, names)?;
     let asked = copy_pair(alloc, &attempt.user, &attempt.service);

@@ -2,15 +2,15 @@
 
 ghost use Rattle.std.specs.Prelude.{◌≡◌, ◌≤◌, [], IfOk, length};
 ghost use Rattle.sshwire.specs.declared.limits.TheConstants.{PAYLOAD_LIMIT};
-ghost use Rattle.sshmsg.specs.Content as content;
-ghost use Rattle.sshmsg.specs.View.{offer_of};
+ghost use Rattle.sshmsg.specs.MessageData as content;
+ghost use Rattle.sshmsg.specs.View.{kexinit_data};
 ghost use Rattle.sshmsg.specs.Written.{written_message};
 ghost use Rattle.sshneg.specs.declared.role.Role.TheVariants as role;
-ghost use Rattle.sshcore.specs.ConfigData.{client_offer, server_offer, version_of};
+ghost use Rattle.sshcore.specs.ConfigParts.{client_offer, server_offer, version_of};
 ghost use Rattle.sshcore.specs.ConfigRules.{IsClient, IsServer};
 ghost use Rattle.sshcore.specs.ConfigView.{side_data};
-ghost use Rattle.sshcore.specs.Endpoints.{Made};
-ghost use Rattle.sshcore.specs.Party.{client_party, server_party};
+ghost use Rattle.sshcore.specs.Endpoints.{EndpointMade};
+ghost use Rattle.sshcore.specs.EndpointParts.{config_of_client, config_of_server};
 ghost use Rattle.sshcore.specs.Redrawn.{draws_of, redrawn_client, redrawn_server};
 
 use sshcore::{ClientConfig, Decisions, Draws, Endpoint, ServerConfig, SideParts};
@@ -41,7 +41,7 @@ pub(crate) struct DrawnClient<'a> {
 }
 
 impl<'a> Model for DrawnClient<'a> {
-    ghost use Rattle.sshcore.specs.ConfigData.{ClientData};
+    ghost use Rattle.sshcore.specs.ConfigParts.{ClientData};
     ghost use Rattle.sshcore.specs.ConfigRules.{IsClient};
     ghost use Rattle.sshcore.specs.Redrawn.{redrawn_client};
 
@@ -89,7 +89,7 @@ impl<'a> DrawnClient<'a> {
 
     /// The KEXINIT that is sent. Answers `Memory` for want of memory, as the next one.
     pub(crate) fn kexinit(&self) -> Result<KexInit<'_>, Memory>
-        ensures offer { IfOk result (λ kexinit. offer_of kexinit ≡ client_offer self.now) }
+        ensures offer { IfOk result (λ kexinit. kexinit_data kexinit ≡ client_offer self.now) }
         ensures fits { length (written_message (content.KexInit (client_offer self.now))) ≤ PAYLOAD_LIMIT }
     {
         self.config.kexinit_with(&self.draws)
@@ -103,7 +103,7 @@ impl<'a> DrawnClient<'a> {
         decisions: &'a D,
         out: &mut Vec<u8>,
     ) -> Result<Endpoint<'a, S, D>, Memory>
-        ensures { IfOk result (λ e. Made S.meaning D.policy role.Client (client_party self.now) suite.now decisions.now e out.old.items out.new.items) }
+        ensures { IfOk result (λ e. EndpointMade S.meaning D.policy role.Client (config_of_client self.now) suite.now decisions.now e out.old.items out.new.items) }
     {
         let draws = again(&self.draws);
         Endpoint::client_with(alloc, self.config, draws, suite, decisions, out)
@@ -120,7 +120,7 @@ pub(crate) struct DrawnServer<'a> {
 }
 
 impl<'a> Model for DrawnServer<'a> {
-    ghost use Rattle.sshcore.specs.ConfigData.{ServerData};
+    ghost use Rattle.sshcore.specs.ConfigParts.{ServerData};
     ghost use Rattle.sshcore.specs.ConfigRules.{IsServer};
     ghost use Rattle.sshcore.specs.Redrawn.{redrawn_server};
 
@@ -168,7 +168,7 @@ impl<'a> DrawnServer<'a> {
 
     /// The KEXINIT that is sent. Answers `Memory` for want of memory, as the next one.
     pub(crate) fn kexinit(&self) -> Result<KexInit<'_>, Memory>
-        ensures offer { IfOk result (λ kexinit. offer_of kexinit ≡ server_offer self.now) }
+        ensures offer { IfOk result (λ kexinit. kexinit_data kexinit ≡ server_offer self.now) }
         ensures fits { length (written_message (content.KexInit (server_offer self.now))) ≤ PAYLOAD_LIMIT }
     {
         self.config.kexinit_with(&self.draws)
@@ -182,7 +182,7 @@ impl<'a> DrawnServer<'a> {
         decisions: &'a D,
         out: &mut Vec<u8>,
     ) -> Result<Endpoint<'a, S, D>, Memory>
-        ensures { IfOk result (λ e. Made S.meaning D.policy role.Server (server_party self.now) suite.now decisions.now e out.old.items out.new.items) }
+        ensures { IfOk result (λ e. EndpointMade S.meaning D.policy role.Server (config_of_server self.now) suite.now decisions.now e out.old.items out.new.items) }
     {
         let draws = again(&self.draws);
         Endpoint::server_with(alloc, self.config, draws, suite, decisions, out)

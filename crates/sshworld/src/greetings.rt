@@ -2,7 +2,7 @@
 
 ghost use Rattle.std.specs.Prelude.{◌≡◌, ◌≢◌, ◌+◌, ◌≤◌, ◌++◌, ◌↔◌, ℕ, IfOk, IsTrue, List, OnOk, length, min, take};
 ghost use Rattle.sshwire.specs.Feeding.{StandsOpen};
-ghost use Rattle.sshwire.specs.LineState.{Finished};
+ghost use Rattle.sshwire.specs.LineReaderData.{Finished};
 ghost use Rattle.sshworld.specs.Receivers.{Follows, HasAll, MayRead};
 ghost use Rattle.sshworld.specs.Greetings.{Greets};
 
@@ -16,7 +16,7 @@ const SERVER_OTHERS: u32 = 0;
 
 /// What one side has heard of the other.
 #[derive(Debug, Drop)]
-pub enum Hearing {
+pub enum Reception {
     /// The other's version line.
     Got(VersionLine),
     /// Bytes that no version line can follow: `Line`, `TooLong` or `TooManyLines`.
@@ -25,12 +25,12 @@ pub enum Hearing {
     Waiting(usize),
 }
 
-impl fmt::Display for Hearing {
+impl fmt::Display for Reception {
     fn fmt<W: fmt::Write>(&self, f: &mut fmt::Formatter<W>) -> fmt::Result {
         match self {
-            Hearing::Got(version) => write!(f, "got {version}"),
-            Hearing::Refused(fault) => write!(f, "refused: {fault}"),
-            Hearing::Waiting(count) => write!(f, "waiting {count}"),
+            Reception::Got(version) => write!(f, "got {version}"),
+            Reception::Refused(fault) => write!(f, "refused: {fault}"),
+            Reception::Waiting(count) => write!(f, "waiting {count}"),
         }
     }
 }
@@ -39,9 +39,9 @@ impl fmt::Display for Hearing {
 #[derive(Debug, Drop)]
 pub struct Greeting {
     /// What the client has heard of the server.
-    pub client: Hearing,
+    pub client: Reception,
     /// What the server has heard of the client.
-    pub server: Hearing,
+    pub server: Reception,
     /// Whether no bytes wait for a side that still hears.
     pub complete: bool,
 }
@@ -82,16 +82,16 @@ pub fn greet(
     let complete = is_complete(&at_client, &at_server, client, server);
     sshwire::reading_law();
     Ok(Greeting {
-        client: at_client.into_hearing(),
-        server: at_server.into_hearing(),
+        client: at_client.into_reception(),
+        server: at_server.into_reception(),
         complete,
     })
 }
 
 /// Whether nothing waits for either side.
 fn is_complete(at_client: &Receiver, at_server: &Receiver, client: &[u8], server: &[u8]) -> bool
-    ensures { IsTrue result ↔ (HasAll at_client.now.hearing (length server.now)
-        × HasAll at_server.now.hearing (length client.now)) }
+    ensures { IsTrue result ↔ (HasAll at_client.now.reception (length server.now)
+        × HasAll at_server.now.reception (length client.now)) }
 {
     at_client.nothing_waits(server) && at_server.nothing_waits(client)
 }
@@ -100,23 +100,23 @@ fn is_complete(at_client: &Receiver, at_server: &Receiver, client: &[u8], server
 #[derive(Drop)]
 struct Receiver {
     reader: LineReader,
-    hearing: Hearing,
+    reception: Reception,
     /// The bytes that were moved to it, those after its end included.
     moved: usize,
 }
 
 impl Receiver {
     ghost use Rattle.std.specs.Prelude.{◌<◌, ◌^◌, [], true};
-    ghost use Rattle.sshworld.specs.Receivers.{Stands};
+    ghost use Rattle.sshworld.specs.Receivers.{ReceiverStands};
 
     fn new(alloc: Global, others: u32) -> Receiver
         ensures nothing { result.moved ≡ 0 }
-        ensures may_read { MayRead result.hearing result.reader.progress }
-        ensures stands { Stands others [] result }
+        ensures may_read { MayRead result.reception result.reader.progress }
+        ensures stands { ReceiverStands others [] result }
     {
         Receiver {
             reader: LineReader::new(alloc, others),
-            hearing: Hearing::Waiting(0),
+            reception: Reception::Waiting(0),
             moved: 0,
         }
     }
@@ -124,11 +124,11 @@ impl Receiver {
     /// Moves the lesser of `count` and what it hasn't been given of `sent`.
     fn deliver(&mut self, sent: &[u8], count: u32) -> Result<(), Memory>
         requires within { self.old.moved ≤ length sent.now }
-        requires may_read { MayRead self.old.hearing self.old.reader.progress }
-        ensures may_read { OnOk result (MayRead self.new.hearing self.new.reader.progress) }
+        requires may_read { MayRead self.old.reception self.old.reader.progress }
+        ensures may_read { OnOk result (MayRead self.new.reception self.new.reader.progress) }
         ensures moved { OnOk result (self.new.moved ≡ min (self.old.moved + count) (length sent.now)) }
-        ensures stands { OnOk result ((k : ℕ) → Stands k (take self.old.moved sent.now) self.old
-            → Stands k (take self.new.moved sent.now) self.new) }
+        ensures stands { OnOk result ((k : ℕ) → ReceiverStands k (take self.old.moved sent.now) self.old
+            → ReceiverStands k (take self.new.moved sent.now) self.new) }
     {
         let end = self.moved + (sent.len() - self.moved).min(count as usize);
         self.receive(&sent[self.moved..end])?;
@@ -138,52 +138,52 @@ impl Receiver {
     /// Takes the next bytes, and reads them unless it has ended.
     fn receive(&mut self, piece: &[u8]) -> Result<(), Memory>
         requires fits { self.old.moved + length piece.now < 2 ^ 64 }
-        requires may_read { MayRead self.old.hearing self.old.reader.progress }
-        ensures may_read { OnOk result (MayRead self.new.hearing self.new.reader.progress) }
+        requires may_read { MayRead self.old.reception self.old.reader.progress }
+        ensures may_read { OnOk result (MayRead self.new.reception self.new.reader.progress) }
         ensures moved { OnOk result (self.new.moved ≡ self.old.moved + length piece.now) }
-        ensures stands { OnOk result ((k : ℕ) (heard : List ℕ) → Stands k heard self.old
-            → Stands k (heard ++ piece.now) self.new) }
+        ensures stands { OnOk result ((k : ℕ) (received : List ℕ) → ReceiverStands k received self.old
+            → ReceiverStands k (received ++ piece.now) self.new) }
     {
         sshwire::reading_law();
         self.moved += piece.len();
-        if let Hearing::Waiting(_) = self.hearing {
-            self.hearing = hearing_of(&mut self.reader, piece, self.moved)?;
+        if let Reception::Waiting(_) = self.reception {
+            self.reception = reception_of(&mut self.reader, piece, self.moved)?;
         }
         Ok(())
     }
 
     /// Whether it has ended, or was given all of `sent`.
     fn nothing_waits(&self, sent: &[u8]) -> bool
-        ensures { (result ≡ true) ↔ HasAll self.now.hearing (length sent.now) }
+        ensures { (result ≡ true) ↔ HasAll self.now.reception (length sent.now) }
     {
-        match self.hearing {
-            Hearing::Waiting(count) => count == sent.len(),
+        match self.reception {
+            Reception::Waiting(count) => count == sent.len(),
             _ => true,
         }
     }
 
-    fn into_hearing(self) -> Hearing
-        ensures { result ≡ self.hearing }
+    fn into_reception(self) -> Reception
+        ensures { result ≡ self.reception }
     {
-        let Receiver { hearing, .. } = self;
-        hearing
+        let Receiver { reception, .. } = self;
+        reception
     }
 }
 
 /// What a side has heard once its reader is fed the piece, with which so many bytes were moved.
-fn hearing_of(reader: &mut LineReader, piece: &[u8], moved: usize) -> Result<Hearing, Memory>
+fn reception_of(reader: &mut LineReader, piece: &[u8], moved: usize) -> Result<Reception, Memory>
     requires { reader.old.progress ≢ Finished }
-    ensures may_read { IfOk result (λ hearing. MayRead hearing reader.new.progress) }
-    ensures follows { IfOk result (λ hearing. (k : ℕ) (heard : List ℕ) → moved ≡ length (heard ++ piece.now)
-        → StandsOpen k heard reader.old.progress
-        → Follows k (heard ++ piece.now) reader.new.progress hearing) }
+    ensures may_read { IfOk result (λ reception. MayRead reception reader.new.progress) }
+    ensures follows { IfOk result (λ reception. (k : ℕ) (received : List ℕ) → moved ≡ length (received ++ piece.now)
+        → StandsOpen k received reader.old.progress
+        → Follows k (received ++ piece.now) reader.new.progress reception) }
 {
     match reader.feed(piece) {
-        Ok(LineStep::More) => Ok(Hearing::Waiting(moved)),
-        Ok(LineStep::Done { version, .. }) => Ok(Hearing::Got(version)),
+        Ok(LineStep::More) => Ok(Reception::Waiting(moved)),
+        Ok(LineStep::Done { version, .. }) => Ok(Reception::Got(version)),
         Err(fault) => match fault {
             WireFault::Memory => Err(Memory),
-            _ => Ok(Hearing::Refused(fault)),
+            _ => Ok(Reception::Refused(fault)),
         },
     }
 }

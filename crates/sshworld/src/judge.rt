@@ -5,10 +5,10 @@ ghost use Rattle.std.specs.List.{AllByRecursion, list_any};
 ghost use Rattle.std.specs.Str.{bytes_eq};
 ghost use Rattle.sshneg.specs.ChoiceReadings.{is_in};
 ghost use Rattle.sshcore.specs.declared.config_parts.TheConstants.{PLAN_LIMIT};
-ghost use Rattle.sshcore.specs.ConfigData as config_data;
+ghost use Rattle.sshcore.specs.ConfigParts as config_parts;
 ghost use Rattle.sshcore.specs.ConfigRules.{IsAttempt};
-ghost use Rattle.sshcore.specs.ConfigView.{attempt_of, proving_of};
-ghost use Rattle.sshworld.specs.JudgedView.{IsBehind, IsSoFar, ends_among, how_of};
+ghost use Rattle.sshcore.specs.ConfigView.{attempt_data, credential_data};
+ghost use Rattle.sshworld.specs.JudgedView.{IsAfter, IsSoFar, ends_among, how_of};
 ghost use Rattle.sshworld.specs.Judging.{is_proved, is_usable, proved_by};
 ghost use Rattle.sshworld.specs.Offered.{requests_for};
 ghost use Rattle.sshworld.specs.Verdicts.{ends_by, verdict};
@@ -58,8 +58,8 @@ pub(crate) fn judge<'a, S: Suite, D: Decisions>(
 
 /// The attempts of a client's plan.
 fn plan_of(client: &ClientConfig) -> &[Attempt]
-    ensures plan { map attempt_of result.now ≡ client.now.plan }
-    ensures accepted { AllByRecursion IsAttempt (map attempt_of result.now) }
+    ensures plan { map attempt_data result.now ≡ client.now.plan }
+    ensures accepted { AllByRecursion IsAttempt (map attempt_data result.now) }
     ensures few { length result.now ≤ PLAN_LIMIT }
 {
     &client.parts().plan
@@ -75,16 +75,16 @@ fn judge_attempt<'a, S: Suite, D: Decisions>(
     progress: &mut Progress<'a>,
     attempt: &'a Attempt,
 ) -> Result<Option<Judged<'a>>, Memory>
-    requires attempt { IsAttempt (attempt_of attempt.now) }
+    requires attempt { IsAttempt (attempt_data attempt.now) }
     requires few { progress.old.requests ≤ 126 }
-    ensures ends { IfOk result (λ judged. (made : List config_data.Attempt)
+    ensures ends { IfOk result (λ judged. (made : List config_parts.AttemptData)
         → IsSoFar (S.meaning suite.now) (D.policy decisions.now) server.now made progress.old
         → option_map how_of judged ≡ ends_among (ends_by (S.meaning suite.now) (D.policy decisions.now) server.now) made
-        (requests_for (S.meaning suite.now) (D.policy decisions.now) server.now made (attempt_of attempt.now))) }
-    ensures behind { IfOk result (λ judged. (made : List config_data.Attempt)
+        (requests_for (S.meaning suite.now) (D.policy decisions.now) server.now made (attempt_data attempt.now))) }
+    ensures after { IfOk result (λ judged. (made : List config_parts.AttemptData)
         → IsSoFar (S.meaning suite.now) (D.policy decisions.now) server.now made progress.old
-        → IsBehind (S.meaning suite.now) (D.policy decisions.now) server.now made
-        (requests_for (S.meaning suite.now) (D.policy decisions.now) server.now made (attempt_of attempt.now)) judged progress.new) }
+        → IsAfter (S.meaning suite.now) (D.policy decisions.now) server.now made
+        (requests_for (S.meaning suite.now) (D.policy decisions.now) server.now made (attempt_data attempt.now)) judged progress.new) }
     ensures few { progress.new.requests ≤ progress.old.requests + 2 }
 {
     let proved = is_proved(
@@ -123,8 +123,8 @@ fn is_proved<S: Suite, D: Decisions>(
     number: u32,
     attempt: &Attempt,
 ) -> Result<bool, Memory>
-    requires { IsAttempt (attempt_of attempt.now) }
-    ensures { IfOk result (λ proved. proved ≡ is_proved (S.meaning suite.now) (D.policy decisions.now) server.now number (attempt_of attempt.now)) }
+    requires { IsAttempt (attempt_data attempt.now) }
+    ensures { IfOk result (λ proved. proved ≡ is_proved (S.meaning suite.now) (D.policy decisions.now) server.now number (attempt_data attempt.now)) }
 {
     if !is_usable(server, &attempt.credential) {
         return Ok(false);
@@ -135,7 +135,7 @@ fn is_proved<S: Suite, D: Decisions>(
 /// Whether a request that proves this may let a user in: `none` always, any other where the server lists
 /// its method.
 fn is_usable(server: &ServerConfig, credential: &Credential) -> bool
-    ensures { result ≡ is_usable server.now.methods (proving_of credential.now) }
+    ensures { result ≡ is_usable server.now.methods (credential_data credential.now) }
 {
     match credential {
         Credential::None => true,
@@ -152,9 +152,9 @@ fn decide<S: Suite, D: Decisions>(
     number: u32,
     attempt: &Attempt,
 ) -> Result<bool, Memory>
-    requires { IsAttempt (attempt_of attempt.now) }
-    ensures { IfOk result (λ yes. yes ≡ (D.policy decisions.now).user number (attempt_of attempt.now).user (attempt_of attempt.now).service
-        (proved_by (S.meaning suite.now) (attempt_of attempt.now).proving)) }
+    requires { IsAttempt (attempt_data attempt.now) }
+    ensures { IfOk result (λ yes. yes ≡ (D.policy decisions.now).user number (attempt_data attempt.now).user (attempt_data attempt.now).service
+        (proved_by (S.meaning suite.now) (attempt_data attempt.now).proving)) }
 {
     let (user, service) = (&attempt.user, &attempt.service);
     match &attempt.credential {

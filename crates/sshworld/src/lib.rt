@@ -22,7 +22,7 @@ mod world;
 
 pub use course_laws::course_law;
 pub use following::{follows_law, keeps_law};
-pub use greetings::{Greeting, Hearing, greet};
+pub use greetings::{Greeting, Reception, greet};
 pub use headline_laws::headline_law;
 pub use law::verdict_law;
 pub use prediction::{predict, predict_with};

@@ -1,10 +1,10 @@
 //! What worlds and the law of sessions rest on.
 
-ghost use Rattle.sshpacket.specs.Suite.{IsLawful, Meaning};
-ghost use Rattle.sshcore.specs.ConfigData.{ClientData, ServerData};
+ghost use Rattle.sshpacket.specs.Suite.{IsLawful, SuiteData};
+ghost use Rattle.sshcore.specs.ConfigParts.{ClientData, ServerData};
 ghost use Rattle.sshcore.specs.ConfigRules.{IsClient, IsServer};
-ghost use Rattle.sshcore.specs.Party.{Policy};
-ghost use Rattle.sshworld.specs.CourseHeard.{BothHear};
+ghost use Rattle.sshcore.specs.EndpointParts.{DecisionsData};
+ghost use Rattle.sshworld.specs.CourseReceived.{BothReceive};
 ghost use Rattle.sshworld.specs.Laws.{Laws};
 ghost use Rattle.sshworld.specs.Understood.{AreUnderstood};
 ghost use Rattle.sshworld.specs.Wordings.{wording_of};
@@ -23,9 +23,9 @@ pub(crate) fn below_law()
 
 /// The law of hearing: of two accepted configs whose ends understand each other, each hears all that
 /// the other says in their course. Takes no memory.
-pub(crate) fn course_hearing_law()
-    ensures hear { (m : Meaning) (d : Policy) (client : ClientData) (server : ServerData) → IsLawful m → AreUnderstood m d client server
-        → IsClient client → IsServer server → BothHear m d client server (wording_of m d client server) }
+pub(crate) fn course_receiving_law()
+    ensures receive { (m : SuiteData) (d : DecisionsData) (client : ClientData) (server : ServerData) → IsLawful m → AreUnderstood m d client server
+        → IsClient client → IsServer server → BothReceive m d client server (wording_of m d client server) }
 {
     follows_law();
     keeps_law();

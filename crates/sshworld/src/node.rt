@@ -3,10 +3,10 @@
 ghost use Rattle.std.specs.Prelude.{◌≡◌, ◌≢◌, ◌≤◌, ◌+◌, IfOk, Ok, OnErr, OnOk, length, min, take};
 ghost use Rattle.sshneg.specs.declared.role.Role.TheVariants as role;
 ghost use Rattle.sshcore.specs.declared.end.Fault.TheVariants as fault;
-ghost use Rattle.sshcore.specs.Ending.{Failed, Open};
-ghost use Rattle.sshcore.specs.Endpoints.{Breaks, Fed, ending_of};
-ghost use Rattle.sshcore.specs.Party.{client_party, server_party};
-ghost use Rattle.sshworld.specs.Stands.{BrokenWith, IsFed, IsFresh, Takes};
+ghost use Rattle.sshcore.specs.EndData.{Failed, Open};
+ghost use Rattle.sshcore.specs.Endpoints.{Breaks, Fed, endpoint_end};
+ghost use Rattle.sshcore.specs.EndpointParts.{config_of_client, config_of_server};
+ghost use Rattle.sshworld.specs.Nodes.{BrokenWith, IsFed, IsFresh, Takes};
 ghost use Rattle.sshworld.specs.Worlds.{waiting_at};
 
 use crate::drawn::{DrawnClient, DrawnServer};
@@ -34,8 +34,8 @@ pub(crate) fn nodes<'a, S: Suite, D: Decisions>(
     suite: &'a S,
     decisions: &'a D,
 ) -> Result<(Node<'a, S, D>, Node<'a, S, D>), Memory>
-    ensures client { IfOk result (λ two. IsFresh S.meaning D.policy role.Client (client_party client.now) suite.now decisions.now two.0) }
-    ensures server { IfOk result (λ two. IsFresh S.meaning D.policy role.Server (server_party server.now) suite.now decisions.now two.1) }
+    ensures client { IfOk result (λ two. IsFresh S.meaning D.policy role.Client (config_of_client client.now) suite.now decisions.now two.0) }
+    ensures server { IfOk result (λ two. IsFresh S.meaning D.policy role.Server (config_of_server server.now) suite.now decisions.now two.1) }
 {
     let client = Node::client(alloc, client, suite, decisions)?;
     let server = Node::server(alloc, server, suite, decisions);
@@ -50,7 +50,7 @@ impl<'a, S: Suite, D: Decisions> Node<'a, S, D> {
         suite: &'a S,
         decisions: &'a D,
     ) -> Result<Node<'a, S, D>, Memory>
-        ensures { IfOk result (λ n. IsFresh S.meaning D.policy role.Client (client_party config.now) suite.now decisions.now n) }
+        ensures { IfOk result (λ n. IsFresh S.meaning D.policy role.Client (config_of_client config.now) suite.now decisions.now n) }
     {
         let mut sent = Vec::new(alloc);
         let endpoint = config.endpoint(alloc, suite, decisions, &mut sent);
@@ -70,7 +70,7 @@ impl<'a, S: Suite, D: Decisions> Node<'a, S, D> {
         suite: &'a S,
         decisions: &'a D,
     ) -> Result<Node<'a, S, D>, Memory>
-        ensures { IfOk result (λ n. IsFresh S.meaning D.policy role.Server (server_party config.now) suite.now decisions.now n) }
+        ensures { IfOk result (λ n. IsFresh S.meaning D.policy role.Server (config_of_server config.now) suite.now decisions.now n) }
     {
         let mut sent = Vec::new(alloc);
         let endpoint = config.endpoint(alloc, suite, decisions, &mut sent);
@@ -87,7 +87,7 @@ impl<'a, S: Suite, D: Decisions> Node<'a, S, D> {
     /// Takes no memory.
     pub(crate) fn waiting(&self, their_sent: &[u8]) -> usize
         requires { self.now.moved ≤ length their_sent.now }
-        ensures { result ≡ waiting_at (ending_of self.now.endpoint) (length their_sent.now) self.now.moved }
+        ensures { result ≡ waiting_at (endpoint_end self.now.endpoint) (length their_sent.now) self.now.moved }
     {
         match self.endpoint.end() {
             End::Open => their_sent.len() - self.moved,
@@ -100,8 +100,8 @@ impl<'a, S: Suite, D: Decisions> Node<'a, S, D> {
     pub(crate) fn receive(&mut self, their_sent: &[u8], count: usize) -> Result<usize, Memory>
         requires { self.old.moved ≤ length their_sent.now }
         ensures takes { IfOk result (λ n. Takes S.meaning D.policy their_sent.now n self.old self.new) }
-        ensures count { IfOk result (λ n. n ≡ min count (waiting_at (ending_of self.old.endpoint) (length their_sent.now) self.old.moved)) }
-        ensures broken { OnErr result (BrokenWith S.meaning D.policy their_sent.now (min count (waiting_at (ending_of self.old.endpoint) (length their_sent.now) self.old.moved)) self.old self.new) }
+        ensures count { IfOk result (λ n. n ≡ min count (waiting_at (endpoint_end self.old.endpoint) (length their_sent.now) self.old.moved)) }
+        ensures broken { OnErr result (BrokenWith S.meaning D.policy their_sent.now (min count (waiting_at (endpoint_end self.old.endpoint) (length their_sent.now) self.old.moved)) self.old self.new) }
     {
         let count = count.min(self.waiting(their_sent));
         if count > 0 {
@@ -112,7 +112,7 @@ impl<'a, S: Suite, D: Decisions> Node<'a, S, D> {
 
     /// Receives so many bytes while it is open.
     fn take_in(&mut self, their_sent: &[u8], count: usize) -> Result<(), Memory>
-        requires open { ending_of self.old.endpoint ≡ Open }
+        requires open { endpoint_end self.old.endpoint ≡ Open }
         requires within { self.old.moved + count ≤ length their_sent.now }
         ensures fed { OnOk result (IsFed S.meaning D.policy their_sent.now count self.old self.new) }
         ensures broken { OnErr result (BrokenWith S.meaning D.policy their_sent.now count self.old self.new) }
@@ -136,9 +136,9 @@ fn feed<S: Suite, D: Decisions>(
     out: &mut Vec<u8>,
 ) -> Result<usize, Memory>
     ensures fed { IfOk result (λ used. Fed S.meaning D.policy endpoint.old endpoint.new (take used piece.now) out.old.items out.new.items) }
-    ensures used { IfOk result (λ used. (used ≤ length piece.now) × (ending_of endpoint.new ≡ Open → used ≡ length piece.now)) }
-    ensures memory { OnErr result ((ending_of endpoint.new ≡ Failed fault.Memory) × Breaks S.meaning D.policy endpoint.old endpoint.new piece.now out.old.items out.new.items) }
-    ensures kept { OnOk result (ending_of endpoint.new ≡ Failed fault.Memory → ending_of endpoint.old ≡ Failed fault.Memory) }
+    ensures used { IfOk result (λ used. (used ≤ length piece.now) × (endpoint_end endpoint.new ≡ Open → used ≡ length piece.now)) }
+    ensures memory { OnErr result ((endpoint_end endpoint.new ≡ Failed fault.Memory) × Breaks S.meaning D.policy endpoint.old endpoint.new piece.now out.old.items out.new.items) }
+    ensures kept { OnOk result (endpoint_end endpoint.new ≡ Failed fault.Memory → endpoint_end endpoint.old ≡ Failed fault.Memory) }
 {
     endpoint.feed(piece, out)
 }

@@ -1,18 +1,18 @@
 //! What comes of two configs, without messages.
 
 ghost use Rattle.std.specs.Prelude.{◌≡◌, ◌≤◌, IfOk, Ok, length, map};
-ghost use Rattle.sshmsg.specs.View.{offer_of};
+ghost use Rattle.sshmsg.specs.View.{kexinit_data};
 ghost use Rattle.sshcore.specs.declared.config_parts.TheConstants.{PRIVATE_KEY_LIMIT};
 ghost use Rattle.sshcore.specs.Chosen.{AreNamed};
-ghost use Rattle.sshcore.specs.ConfigData.{client_offer, server_offer};
-ghost use Rattle.sshcore.specs.ConfigView.{attempt_of, host_key_of};
-ghost use Rattle.sshcore.specs.Ending.{Authenticated, ending};
+ghost use Rattle.sshcore.specs.ConfigParts.{client_offer, server_offer};
+ghost use Rattle.sshcore.specs.ConfigView.{attempt_data, host_key_data};
+ghost use Rattle.sshcore.specs.EndData.{Authenticated, end_data};
 ghost use Rattle.sshcore.specs.Exchange.{secret_of};
 ghost use Rattle.sshcore.specs.Redrawn.{redrawn_client, redrawn_server};
 ghost use Rattle.sshworld.specs.Agreement.{agreed, host_key_of_server};
 ghost use Rattle.sshworld.specs.JudgedView.{how_of};
 ghost use Rattle.sshworld.specs.AlgorithmsView.{agreed_with, algorithms_named};
-ghost use Rattle.sshworld.specs.Outcome.{case_of_choice, case_of_how, outcome, table};
+ghost use Rattle.sshworld.specs.Outcome.{case_of_choice, case_of_how, ends_of_case, outcome};
 ghost use Rattle.sshworld.specs.Verdicts.{verdict};
 
 use crate::algorithms::{AlgorithmNames, agreed, algorithms_at};
@@ -51,8 +51,8 @@ pub fn predict<S: Suite, D: Decisions>(
     suite: &S,
     decisions: &D,
 ) -> Result<(End, End), Memory>
-    ensures outcome { IfOk result (λ ends. (ending ends.0 ≡ (outcome (S.meaning suite.now) (D.policy decisions.now) client.now server.now).client)
-        × (ending ends.1 ≡ (outcome (S.meaning suite.now) (D.policy decisions.now) client.now server.now).server)) }
+    ensures outcome { IfOk result (λ ends. (end_data ends.0 ≡ (outcome (S.meaning suite.now) (D.policy decisions.now) client.now server.now).client)
+        × (end_data ends.1 ≡ (outcome (S.meaning suite.now) (D.policy decisions.now) client.now server.now).server)) }
 {
     let (client_draws, server_draws) = (client.draws(), server.draws());
     predict_with(
@@ -76,8 +76,8 @@ pub fn predict_with<S: Suite, D: Decisions>(
     suite: &S,
     decisions: &D,
 ) -> Result<(End, End), Memory>
-    ensures outcome { IfOk result (λ ends. (ending ends.0 ≡ (outcome (S.meaning suite.now) (D.policy decisions.now) (redrawn_client client_draws.now client.now) (redrawn_server server_draws.now server.now)).client)
-        × (ending ends.1 ≡ (outcome (S.meaning suite.now) (D.policy decisions.now) (redrawn_client client_draws.now client.now) (redrawn_server server_draws.now server.now)).server)) }
+    ensures outcome { IfOk result (λ ends. (end_data ends.0 ≡ (outcome (S.meaning suite.now) (D.policy decisions.now) (redrawn_client client_draws.now client.now) (redrawn_server server_draws.now server.now)).client)
+        × (end_data ends.1 ≡ (outcome (S.meaning suite.now) (D.policy decisions.now) (redrawn_client client_draws.now client.now) (redrawn_server server_draws.now server.now)).server)) }
 {
     let client = DrawnClient::new(client, again(client_draws));
     let server = DrawnServer::new(server, again(server_draws));
@@ -92,8 +92,8 @@ fn predict_drawn<S: Suite, D: Decisions>(
     suite: &S,
     decisions: &D,
 ) -> Result<(End, End), Memory>
-    ensures outcome { IfOk result (λ ends. (ending ends.0 ≡ (outcome (S.meaning suite.now) (D.policy decisions.now) client.now server.now).client)
-        × (ending ends.1 ≡ (outcome (S.meaning suite.now) (D.policy decisions.now) client.now server.now).server)) }
+    ensures outcome { IfOk result (λ ends. (end_data ends.0 ≡ (outcome (S.meaning suite.now) (D.policy decisions.now) client.now server.now).client)
+        × (end_data ends.1 ≡ (outcome (S.meaning suite.now) (D.policy decisions.now) client.now server.now).server)) }
 {
     let of_client = client.kexinit()?;
     let ends = predict_offered(alloc, client, server, suite, decisions, &of_client);
@@ -110,9 +110,9 @@ fn predict_offered<S: Suite, D: Decisions>(
     decisions: &D,
     of_client: &KexInit<'_>,
 ) -> Result<(End, End), Memory>
-    requires { offer_of of_client.now ≡ client_offer client.now }
-    ensures outcome { IfOk result (λ ends. (ending ends.0 ≡ (outcome (S.meaning suite.now) (D.policy decisions.now) client.now server.now).client)
-        × (ending ends.1 ≡ (outcome (S.meaning suite.now) (D.policy decisions.now) client.now server.now).server)) }
+    requires { kexinit_data of_client.now ≡ client_offer client.now }
+    ensures outcome { IfOk result (λ ends. (end_data ends.0 ≡ (outcome (S.meaning suite.now) (D.policy decisions.now) client.now server.now).client)
+        × (end_data ends.1 ≡ (outcome (S.meaning suite.now) (D.policy decisions.now) client.now server.now).server)) }
 {
     let of_server = server.kexinit()?;
     let ends = predict_between(
@@ -132,10 +132,10 @@ fn predict_between<S: Suite, D: Decisions>(
     of_client: &KexInit<'_>,
     of_server: &KexInit<'_>,
 ) -> Result<(End, End), Memory>
-    requires client { offer_of of_client.now ≡ client_offer client.now }
-    requires server { offer_of of_server.now ≡ server_offer server.now }
-    ensures outcome { IfOk result (λ ends. (ending ends.0 ≡ (outcome (S.meaning suite.now) (D.policy decisions.now) client.now server.now).client)
-        × (ending ends.1 ≡ (outcome (S.meaning suite.now) (D.policy decisions.now) client.now server.now).server)) }
+    requires client { kexinit_data of_client.now ≡ client_offer client.now }
+    requires server { kexinit_data of_server.now ≡ server_offer server.now }
+    ensures outcome { IfOk result (λ ends. (end_data ends.0 ≡ (outcome (S.meaning suite.now) (D.policy decisions.now) client.now server.now).client)
+        × (end_data ends.1 ≡ (outcome (S.meaning suite.now) (D.policy decisions.now) client.now server.now).server)) }
 {
     sshneg::choice_law();
     match choose(of_client, of_server, suite) {
@@ -160,8 +160,8 @@ fn predict_chosen<S: Suite, D: Decisions>(
     names: &AlgorithmNames<'_>,
 ) -> Result<(End, End), Memory>
     requires { AreNamed (algorithms_named names.now) }
-    ensures client { IfOk result (λ ends. ending ends.0 ≡ (table (case_of_choice (S.meaning suite.now) (D.policy decisions.now) client.now server.now (Ok (algorithms_named names.now)))).client) }
-    ensures server { IfOk result (λ ends. ending ends.1 ≡ (table (case_of_choice (S.meaning suite.now) (D.policy decisions.now) client.now server.now (Ok (algorithms_named names.now)))).server) }
+    ensures client { IfOk result (λ ends. end_data ends.0 ≡ (ends_of_case (case_of_choice (S.meaning suite.now) (D.policy decisions.now) client.now server.now (Ok (algorithms_named names.now)))).client) }
+    ensures server { IfOk result (λ ends. end_data ends.1 ≡ (ends_of_case (case_of_choice (S.meaning suite.now) (D.policy decisions.now) client.now server.now (Ok (algorithms_named names.now)))).server) }
 {
     let host_key = host_key(alloc, server, suite, names)?;
     if !decisions.host_key(names.host_key, &host_key) {
@@ -184,8 +184,8 @@ fn predict_judged<S: Suite>(
 ) -> Result<(End, End), Memory>
     requires names { AreNamed (algorithms_named names.now) }
     requires host_key { host_key.now ≡ host_key_of_server (S.meaning suite.now) server.now names.now.host_key.now }
-    ensures client { IfOk result (λ ends. ending ends.0 ≡ (table (case_of_how (S.meaning suite.now) client.now server.now (algorithms_named names.now) (how_of judged.now))).client) }
-    ensures server { IfOk result (λ ends. ending ends.1 ≡ (table (case_of_how (S.meaning suite.now) client.now server.now (algorithms_named names.now) (how_of judged.now))).server) }
+    ensures client { IfOk result (λ ends. end_data ends.0 ≡ (ends_of_case (case_of_how (S.meaning suite.now) client.now server.now (algorithms_named names.now) (how_of judged.now))).client) }
+    ensures server { IfOk result (λ ends. end_data ends.1 ≡ (ends_of_case (case_of_how (S.meaning suite.now) client.now server.now (algorithms_named names.now) (how_of judged.now))).server) }
 {
     match *judged {
         Judged::Unknown => {
@@ -218,8 +218,8 @@ fn authenticated<S: Suite>(
 ) -> Result<(End, End), Memory>
     requires names { AreNamed (algorithms_named names.now) }
     requires host_key { host_key.now ≡ host_key_of_server (S.meaning suite.now) server.now names.now.host_key.now }
-    ensures client { IfOk result (λ ends. ending ends.0 ≡ Authenticated (agreed (S.meaning suite.now) client.now server.now (algorithms_named names.now) (attempt_of attempt.now))) }
-    ensures server { IfOk result (λ ends. ending ends.1 ≡ Authenticated (agreed (S.meaning suite.now) client.now server.now (algorithms_named names.now) (attempt_of attempt.now))) }
+    ensures client { IfOk result (λ ends. end_data ends.0 ≡ Authenticated (agreed (S.meaning suite.now) client.now server.now (algorithms_named names.now) (attempt_data attempt.now))) }
+    ensures server { IfOk result (λ ends. end_data ends.1 ≡ Authenticated (agreed (S.meaning suite.now) client.now server.now (algorithms_named names.now) (attempt_data attempt.now))) }
 {
     let session = session(alloc, client, server, suite, names, host_key)?;
     let strict = client.side().strict && server.side().strict;
@@ -234,8 +234,8 @@ fn both_agreed(
     session: &[u8],
     attempt: &Attempt,
 ) -> Result<(End, End), Memory>
-    ensures client { IfOk result (λ ends. ending ends.0 ≡ Authenticated (agreed_with names.now strict session.now attempt.now)) }
-    ensures server { IfOk result (λ ends. ending ends.1 ≡ Authenticated (agreed_with names.now strict session.now attempt.now)) }
+    ensures client { IfOk result (λ ends. end_data ends.0 ≡ Authenticated (agreed_with names.now strict session.now attempt.now)) }
+    ensures server { IfOk result (λ ends. end_data ends.1 ≡ Authenticated (agreed_with names.now strict session.now attempt.now)) }
 {
     let of_client = agreed(alloc, names, strict, session, attempt)?;
     let of_server = agreed(alloc, names, strict, session, attempt);
@@ -280,7 +280,7 @@ fn secret<'a>(server: &'a ServerConfig, algorithm: &str) -> &'a [u8]
 
 /// The private key of the first of these keys that has this algorithm, or no bytes.
 fn secret_in<'a>(keys: &'a [HostKey], algorithm: &str) -> &'a [u8]
-    ensures { result.now ≡ secret_of (map host_key_of keys.now) algorithm.now }
+    ensures { result.now ≡ secret_of (map host_key_data keys.now) algorithm.now }
 {
     match keys.iter().find(|key| algorithm == key.algorithm.as_str()) {
         Some(key) => &key.private_key,

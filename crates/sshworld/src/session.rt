@@ -3,15 +3,15 @@
 ghost use Rattle.std.specs.Prelude.{◌≡◌, ◌≤◌, ◌<◌, ◌^◌, IfOk, length};
 ghost use Rattle.sshwire.specs.declared.limits.TheConstants.{LINE_LIMIT, PAYLOAD_LIMIT};
 ghost use Rattle.sshwire.specs.Types.{IsName};
-ghost use Rattle.sshmsg.specs.Content as content;
-ghost use Rattle.sshmsg.specs.View.{content_of, offer_of};
+ghost use Rattle.sshmsg.specs.MessageData as content;
+ghost use Rattle.sshmsg.specs.View.{kexinit_data, message_data};
 ghost use Rattle.sshmsg.specs.Written.{written_message};
 ghost use Rattle.sshneg.specs.Derivations.{exchange_text};
-ghost use Rattle.sshneg.specs.ExchangeView.{exchange_of};
+ghost use Rattle.sshneg.specs.ExchangeView.{exchange_data};
 ghost use Rattle.sshpacket.specs.declared.limits.TheConstants.{SHARE_LIMIT};
 ghost use Rattle.sshpacket.specs.Suite.{response_data};
 ghost use Rattle.sshcore.specs.Chosen.{AreNamed};
-ghost use Rattle.sshcore.specs.ConfigData.{client_offer, server_offer, version_of};
+ghost use Rattle.sshcore.specs.ConfigParts.{client_offer, server_offer, version_of};
 ghost use Rattle.sshcore.specs.ConfigView.{side_data};
 ghost use Rattle.sshcore.specs.Exchange.{answer_or};
 ghost use Rattle.sshworld.specs.Agreement.{host_key_of_server, session_between};
@@ -191,8 +191,8 @@ fn version_line(alloc: Global, side: &SideParts) -> Result<VersionLine, Memory>
 
 /// The payload of a KEXINIT (RFC 4253 section 7.1).
 fn payload(alloc: Global, kexinit: KexInit<'_>) -> Result<Vec<u8>, Memory>
-    requires { length (written_message (content.KexInit (offer_of kexinit))) ≤ PAYLOAD_LIMIT }
-    ensures { IfOk result (λ payload. payload.items ≡ written_message (content.KexInit (offer_of kexinit.entry))) }
+    requires { length (written_message (content.KexInit (kexinit_data kexinit))) ≤ PAYLOAD_LIMIT }
+    ensures { IfOk result (λ payload. payload.items ≡ written_message (content.KexInit (kexinit_data kexinit.entry))) }
 {
     let message = Message::KexInit(Box::new(alloc, kexinit)?);
     written(alloc, &message)
@@ -200,8 +200,8 @@ fn payload(alloc: Global, kexinit: KexInit<'_>) -> Result<Vec<u8>, Memory>
 
 /// The payload of a message.
 fn written(alloc: Global, message: &Message<'_>) -> Result<Vec<u8>, Memory>
-    requires { length (written_message (content_of message.now)) ≤ PAYLOAD_LIMIT }
-    ensures { IfOk result (λ payload. payload.items ≡ written_message (content_of message.now)) }
+    requires { length (written_message (message_data message.now)) ≤ PAYLOAD_LIMIT }
+    ensures { IfOk result (λ payload. payload.items ≡ written_message (message_data message.now)) }
 {
     let mut payload = Vec::new(alloc);
     write(message, &mut payload)?;

@@ -2,18 +2,18 @@
 
 ghost use Rattle.std.specs.Prelude.{◌≡◌, ℕ, List, take};
 ghost use Rattle.sshcore.specs.declared.session.Session.{Session};
-ghost use Rattle.sshcore.specs.ConfigData.{ClientData, ServerData};
+ghost use Rattle.sshcore.specs.ConfigParts.{ClientData, ServerData};
 ghost use Rattle.sshcore.specs.ConfigRules.{IsClient, IsServer};
-ghost use Rattle.sshcore.specs.Ending.{AgreedData, Authenticated};
+ghost use Rattle.sshcore.specs.EndData.{AgreedData, Authenticated};
 ghost use Rattle.sshcore.specs.EndpointData.{EndpointData};
-ghost use Rattle.sshcore.specs.Endpoints.{ending_of};
+ghost use Rattle.sshcore.specs.Endpoints.{endpoint_end};
 ghost use Rattle.sshcore.specs.Sessions.{IsSession};
 ghost use Rattle.sshworld.specs.Conversed.{EachReplies};
 ghost use Rattle.sshworld.specs.Joined.{AreCrosswise, AreJoined};
 ghost use Rattle.sshworld.specs.Understood.{AreUnderstood};
 ghost use Rattle.sshworld.specs.Worlds.{WorldData};
 
-use crate::link_laws::{below_law, course_hearing_law};
+use crate::link_laws::{below_law, course_receiving_law};
 use sshcore::Decisions;
 use sshpacket::Suite;
 
@@ -22,25 +22,25 @@ use sshpacket::Suite;
 /// crosswise. Takes no memory.
 pub fn session_law<S: Suite, D: Decisions>()
     // Each has heard all that the other has said, and both agreed on the same.
-    ensures heard { (client_config : ClientData) (server_config : ServerData) (client server : EndpointData S D) (client_heard client_said server_heard server_said : List ℕ)
+    ensures received { (client_config : ClientData) (server_config : ServerData) (client server : EndpointData S D) (client_received client_sent server_received server_sent : List ℕ)
         → IsClient client_config → IsServer server_config → AreUnderstood (S.meaning client.suite) (D.policy client.decisions) client_config server_config
-        → AreJoined S.meaning D.policy client_config server_config client server client_heard client_said server_heard server_said
-        → (a b : AgreedData) → ending_of client ≡ Authenticated a → ending_of server ≡ Authenticated b
-        → (client_heard ≡ server_said) × (server_heard ≡ client_said) × (a ≡ b) }
+        → AreJoined S.meaning D.policy client_config server_config client server client_received client_sent server_received server_sent
+        → (a b : AgreedData) → endpoint_end client ≡ Authenticated a → endpoint_end server ≡ Authenticated b
+        → (client_received ≡ server_sent) × (server_received ≡ client_sent) × (a ≡ b) }
     // The sessions of what both have heard and said match crosswise.
-    ensures crosswise { (client_config : ClientData) (server_config : ServerData) (client server : EndpointData S D) (client_heard client_said server_heard server_said : List ℕ)
+    ensures crosswise { (client_config : ClientData) (server_config : ServerData) (client server : EndpointData S D) (client_received client_sent server_received server_sent : List ℕ)
         → IsClient client_config → IsServer server_config → AreUnderstood (S.meaning client.suite) (D.policy client.decisions) client_config server_config
-        → (j : AreJoined S.meaning D.policy client_config server_config client server client_heard client_said server_heard server_said)
-        → (a b : AgreedData) → ending_of client ≡ Authenticated a → ending_of server ≡ Authenticated b
+        → (j : AreJoined S.meaning D.policy client_config server_config client server client_received client_sent server_received server_sent)
+        → (a b : AgreedData) → endpoint_end client ≡ Authenticated a → endpoint_end server ≡ Authenticated b
         → (one other : Session) → IsSession (S.meaning client.suite) (D.policy client.decisions) client.role client.party j.client_after.units j.client_after.answers a one
         → IsSession (S.meaning server.suite) (D.policy server.decisions) server.role server.party j.server_after.units j.server_after.answers b other → AreCrosswise one other }
     // The two endpoints of a world that ended authenticated are joined so.
     ensures worlds { (w : WorldData S D) (a b : AgreedData) → EachReplies S.meaning D.policy w → w.client.end ≡ Authenticated a → w.server.end ≡ Authenticated b
-        → (client : EndpointData S D) × (server : EndpointData S D) × (ending_of client ≡ w.client.end) × (ending_of server ≡ w.server.end) × (client.suite ≡ w.suite) × (client.decisions ≡ w.decisions)
+        → (client : EndpointData S D) × (server : EndpointData S D) × (endpoint_end client ≡ w.client.end) × (endpoint_end server ≡ w.server.end) × (client.suite ≡ w.suite) × (client.decisions ≡ w.decisions)
         × AreJoined S.meaning D.policy w.client_config w.server_config client server (take w.client.used w.server.sent) w.client.sent (take w.server.used w.client.sent) w.server.sent }
 {
     below_law();
-    course_hearing_law();
+    course_receiving_law();
     sshmsg::numbers_law();
     sshneg::markers_law();
 }

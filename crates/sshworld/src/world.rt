@@ -2,18 +2,18 @@
 
 ghost use Rattle.std.specs.Prelude.{◌≡◌, ◌≢◌, ◌↔◌, ◌+◌, ◌≤◌, IfOk, IsTrue, None, Ok, OnErr, OnOk, min};
 ghost use Rattle.sshcore.specs.ConfigRules.{IsClient, IsServer};
-ghost use Rattle.sshcore.specs.Ending.{AgreedData, Authenticated, Open, ending};
+ghost use Rattle.sshcore.specs.EndData.{AgreedData, Authenticated, Open, end_data};
 ghost use Rattle.sshcore.specs.Redrawn.{redrawn_client, redrawn_server};
 ghost use Rattle.sshworld.specs.Conversed.{EachReplies, IsNew};
 ghost use Rattle.sshworld.specs.Offered.{most_requests};
 ghost use Rattle.sshworld.specs.Deliveries.{Delivered, DoneAll, Refused, RefusedAll, Round, RoundInto, Rounds, RoundsInto, Runs, RunsInto};
 ghost use Rattle.sshworld.specs.Joined.{HandOver};
-ghost use Rattle.sshworld.specs.WorldCourse.{AreUnderstoodIn, HearsAll, KeepsCourse, KeepsHeadline};
-ghost use Rattle.sshworld.specs.WorldRounds.{HearsRound, HearsTurn, Keeps, Moves, Settles};
-ghost use Rattle.sshworld.specs.Worlds.{Complete, HadMemory, IsSameSetup, half_at, waiting_for};
+ghost use Rattle.sshworld.specs.WorldCourse.{AreUnderstoodIn, KeepsCourse, KeepsHeadline, ReceivesAll};
+ghost use Rattle.sshworld.specs.WorldRounds.{Keeps, Moves, ReceivesRound, ReceivesTurn, Settles};
+ghost use Rattle.sshworld.specs.Worlds.{Complete, HadMemory, IsSameSetup, node_at, waiting_for};
 
 use crate::drawn::{DrawnClient, DrawnServer};
-use crate::link_laws::{below_law, course_hearing_law};
+use crate::link_laws::{below_law, course_receiving_law};
 use crate::node::{Node, nodes};
 use crate::owned::beside;
 use crate::session_laws::session_law;
@@ -43,7 +43,7 @@ pub struct World<'a, S: Suite, D: Decisions> {
 }
 
 impl<'a, S: Suite, D: Decisions> Model for World<'a, S, D> {
-    ghost use Rattle.sshworld.specs.Stands.{half_of};
+    ghost use Rattle.sshworld.specs.Nodes.{node_data};
     ghost use Rattle.sshworld.specs.WorldCourse.{WorldStands};
     ghost use Rattle.sshworld.specs.Worlds.{WorldData};
 
@@ -54,8 +54,8 @@ impl<'a, S: Suite, D: Decisions> Model for World<'a, S, D> {
       server_config = w.server_config;
       suite = w.suite.now;
       decisions = w.decisions.now;
-      client = half_of w.client;
-      server = half_of w.server;
+      client = node_data w.client;
+      server = node_data w.server;
     } };
 
     ghost invariant = { λ w. WorldStands S.meaning D.policy w.client_config w.server_config w.suite.now w.decisions.now w.client w.server };
@@ -112,7 +112,7 @@ impl<'a, S: Suite, D: Decisions> World<'a, S, D> {
         ensures headline { IfOk result (λ w. KeepsHeadline S.meaning D.policy w) }
     {
         below_law();
-        course_hearing_law();
+        course_receiving_law();
         let client_config = DrawnClient::new(client, client_draws);
         let server_config = DrawnServer::new(server, server_draws);
         let nodes = nodes(alloc, &client_config, &server_config, suite, decisions);
@@ -136,11 +136,11 @@ impl<'a, S: Suite, D: Decisions> World<'a, S, D> {
         ensures replies { EachReplies S.meaning D.policy self.now }
         ensures course { KeepsCourse S.meaning D.policy self.now }
         ensures headline { KeepsHeadline S.meaning D.policy self.now }
-        ensures understands { AreUnderstoodIn S.meaning D.policy self.now → HearsAll S.meaning D.policy self.now }
+        ensures understands { AreUnderstoodIn S.meaning D.policy self.now → ReceivesAll S.meaning D.policy self.now }
         ensures settles { Settles S.meaning D.policy self.now }
     {
         below_law();
-        course_hearing_law();
+        course_receiving_law();
         // Where a field is read the prover sees what every world holds.
         let _ = &self.client;
     }
@@ -159,11 +159,11 @@ impl<'a, S: Suite, D: Decisions> World<'a, S, D> {
     fn move_bytes(&mut self, to: Side, count: usize) -> Result<usize, Memory>
         ensures moves { IfOk result (λ n. Moves to count n self.old self.new) }
         ensures refused { OnErr result (Refused S.meaning D.policy to (min count (waiting_for to self.old)) self.old self.new) }
-        ensures ended { (half_at to self.old).end ≢ Open → (result ≡ Ok 0) × (self.new ≡ self.old) }
+        ensures ended { (node_at to self.old).end ≢ Open → (result ≡ Ok 0) × (self.new ≡ self.old) }
         ensures keeps { Keeps S.meaning D.policy self.old self.new }
     {
         below_law();
-        course_hearing_law();
+        course_receiving_law();
         match to {
             Side::Client => self.client.receive(&self.server.sent, count),
             Side::Server => self.server.receive(&self.client.sent, count),
@@ -180,7 +180,7 @@ impl<'a, S: Suite, D: Decisions> World<'a, S, D> {
         ensures delivered { IfOk result (λ n. Delivered to n self.old self.new) }
         ensures refused { OnErr result (Refused S.meaning D.policy to (min count (waiting_for to self.old)) self.old self.new) }
         ensures still { OnOk result (HadMemory self.old → HadMemory self.new) }
-        ensures ended { (half_at to self.old).end ≢ Open → (result ≡ Ok 0) × (self.new ≡ self.old) }
+        ensures ended { (node_at to self.old).end ≢ Open → (result ≡ Ok 0) × (self.new ≡ self.old) }
         ensures setup { IsSameSetup self.old self.new }
         ensures replies { EachReplies S.meaning D.policy self.new }
         ensures course { KeepsCourse S.meaning D.policy self.new }
@@ -196,7 +196,7 @@ impl<'a, S: Suite, D: Decisions> World<'a, S, D> {
         ensures refused { OnErr result (RefusedAll S.meaning D.policy to self.old self.new) }
         ensures still { OnOk result (HadMemory self.old → HadMemory self.new) }
         ensures keeps { Keeps S.meaning D.policy self.old self.new }
-        ensures turn { OnOk result (HearsTurn S.meaning D.policy to self.old self.new) }
+        ensures turn { OnOk result (ReceivesTurn S.meaning D.policy to self.old self.new) }
     {
         below_law();
         let all = self.waiting(to);
@@ -228,7 +228,7 @@ impl<'a, S: Suite, D: Decisions> World<'a, S, D> {
         ensures stopped { OnErr result (RoundInto S.meaning D.policy self.old self.new) }
         ensures still { OnOk result (HadMemory self.old → HadMemory self.new) }
         ensures keeps { Keeps S.meaning D.policy self.old self.new }
-        ensures hears { OnOk result (HearsRound S.meaning D.policy self.old self.new) }
+        ensures receives { OnOk result (ReceivesRound S.meaning D.policy self.old self.new) }
     {
         self.move_all(Side::Server)?;
         self.move_all(Side::Client)?;
@@ -270,8 +270,8 @@ impl<'a, S: Suite, D: Decisions> World<'a, S, D> {
 
     /// How the two endpoints stand, the client's end first. Takes no memory.
     pub fn ends(&self) -> (&End, &End)
-        ensures client { ending result.0.now ≡ self.now.client.end }
-        ensures server { ending result.1.now ≡ self.now.server.end }
+        ensures client { end_data result.0.now ≡ self.now.client.end }
+        ensures server { end_data result.1.now ≡ self.now.server.end }
         ensures accepted { IsClient self.now.client_config × IsServer self.now.server_config }
         ensures replies { EachReplies S.meaning D.policy self.now }
         ensures course { KeepsCourse S.meaning D.policy self.now }

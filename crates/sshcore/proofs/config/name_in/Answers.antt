@@ -2,7 +2,7 @@ use Rattle.std.proofs.Common.{Global, String, ap, rules, string_bytes, Some, tes
 use Rattle.std.specs.Str.{bytes_eq}
 use Rattle.std.proofs.lemmas.Iterator.{YieldsList-from_slice}
 use Rattle.std.proofs.lemmas.Iterator.Search.{find_from_yields_List}
-use Rattle.sshcore.proofs.PartyLemmas.{name_found, name_missed}
+use Rattle.sshcore.proofs.EndpointPartsLemmas.{name_found, name_missed}
 use Rattle.sshcore.proofs.config.name_in.Goals as goal
 
 pub returns-in-Some : goal.returns-in-Some

@@ -1,12 +1,12 @@
-use Rattle.sshcore.specs.ConfigParty.{party_of}
+use Rattle.sshcore.specs.EndpointConfig.{config_data}
 use Rattle.sshcore.proofs.ExchangeLemmas.{shared_short}
 use Rattle.sshcore.proofs.exchange.answer_law.Goals as goal
 
 pub returns-clause-share : goal.returns-clause-share
 returns-clause-share g c = λ kex share r given.
-    ((g.met.S.Suite.lawful c.args.suite.now).response_fits kex (party_of c.args.config.now).random share r c.exchange_random.ensures.random_length given).0
+    ((g.met.S.Suite.lawful c.args.suite.now).response_fits kex (config_data c.args.config.now).random share r c.exchange_random.ensures.random_length given).0
 
 pub returns-clause-shared : goal.returns-clause-shared
 returns-clause-shared g c = λ kex share r given.
     shared_short ((g.S.Suite.meaning c.args.suite.now).share_form kex) r.shared
-    ((g.met.S.Suite.lawful c.args.suite.now).response_fits kex (party_of c.args.config.now).random share r c.exchange_random.ensures.random_length given).1
+    ((g.met.S.Suite.lawful c.args.suite.now).response_fits kex (config_data c.args.config.now).random share r c.exchange_random.ensures.random_length given).1

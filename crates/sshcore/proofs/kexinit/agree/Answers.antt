@@ -1,4 +1,4 @@
-use Rattle.sshmsg.specs.View.{offer_of}
+use Rattle.sshmsg.specs.View.{kexinit_data}
 use Rattle.sshneg.specs.ChoiceReadings.{answer, choice}
 use Rattle.sshneg.specs.Strictness.{is_right_guess}
 use Rattle.sshcore.proofs.AgreeLemmas.{answered, named, same_test}
@@ -7,8 +7,8 @@ use Rattle.sshcore.proofs.kexinit.agree.Goals as goal
 pub returns-in_ok-algorithms-in-Ok : goal.returns-in_ok-algorithms-in-Ok
 returns-in_ok-algorithms-in-Ok g c =
     let m = g.S.Suite.meaning c.args.suite.now in
-    let client = offer_of c.args.client.now in
-    let server = offer_of c.args.server.now in
+    let client = kexinit_data c.args.client.now in
+    let server = kexinit_data c.args.server.now in
     let chosen = c.in-Ok.chosen in
     let found = (c.choice_law.ensures.answers m client server chosen).0 (answered c.choose.result (answer m client server) chosen c.choose.ensures.exact c.in-Ok.is) in
     let is = (c.choice_law.ensures.names m client server found.0).0 found.1 in (

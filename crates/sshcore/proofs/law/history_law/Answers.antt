@@ -13,13 +13,13 @@ returns c =
       packets = c.parser_law.ensures.packets;
       lines = c.parser_law.ensures.lines;
       nothing = c.stream_law.ensures.nothing;
-      unit = c.stream_law.ensures.heard_unit;
-      refusal = c.stream_law.ensures.heard_refusal;
-      part = c.stream_law.ensures.heard_part;
+      unit = c.stream_law.ensures.received_unit;
+      refusal = c.stream_law.ensures.received_refusal;
+      part = c.stream_law.ensures.received_part;
       one = c.stream_law.ensures.one;
       front = c.stream_law.ensures.prefix;
       more = c.stream_law.ensures.read_more;
-      said = c.stream_law.ensures.said_append;
+      sent = c.stream_law.ensures.sent_append;
     } in
     record {
       parsers = history.each streams;
@@ -31,6 +31,6 @@ returns c =
       breaks = history.breaks below streams;
       one = λ m d role party units other_units rest other_rest r other_r answers other_answers end other_end h s t a b.
           one_by m d role party units other_units r other_r rest other_rest answers other_answers end other_end h s t
-          (c.stream_law.ensures.one (parsers m role party) h units other_units rest other_rest r other_r a.heard b.heard) a b;
+          (c.stream_law.ensures.one (parsers m role party) h units other_units rest other_rest r other_r a.received b.received) a b;
       joined = joined streams;
     }

@@ -1,9 +1,9 @@
 use Rattle.std.proofs.Common.{◌≡◌, ◌∙◌, ap}
 use Rattle.std.proofs.lemmas.Result.{err_from_is_err_and}
-use Rattle.sshlab.specs.ScenarioDrafts.{Drafted, drafted}
+use Rattle.sshlab.specs.ScenarioDrafts.{DraftData, drafted}
 use Rattle.sshlab.specs.ScenarioFaults.{IsLineCause}
 use Rattle.sshlab.specs.ScenarioParts.{some_or}
-use Rattle.sshlab.specs.ScenarioText.{said}
+use Rattle.sshlab.specs.ScenarioText.{statements_in}
 use Rattle.sshlab.specs.TextLines.{lines}
 use Rattle.sshlab.proofs.OwnedLemmas.{done_ok, told}
 use Rattle.sshlab.proofs.ScenarioPartLemmas.{client_drafted, rules_drafted, server_drafted, steps_drafted}
@@ -20,25 +20,25 @@ returns-clause-read c = done_ok c.read_lines-read.result tt c.in_ok-whole.ensure
 
 pub returns-clause-client : goal.returns-clause-client
 returns-clause-client c =
-    let is : c.in_ok-whole.whole ≡ drafted (said (lines c.args.text.now)) =
+    let is : c.in_ok-whole.whole ≡ drafted (statements_in (lines c.args.text.now)) =
     c.in_ok-whole.ensures.value ∙ done_ok c.read_lines-read.result tt c.in_ok-whole.ensures.done c.read_lines-read.ensures.draft in
-    c.finish.ensures.client ∙ (ap (λ (d : Drafted). d.client) is ∙ client_drafted (said (lines c.args.text.now)))
+    c.finish.ensures.client ∙ (ap (λ (d : DraftData). d.client) is ∙ client_drafted (statements_in (lines c.args.text.now)))
 
 pub returns-clause-server : goal.returns-clause-server
 returns-clause-server c =
-    let is : c.in_ok-whole.whole ≡ drafted (said (lines c.args.text.now)) =
+    let is : c.in_ok-whole.whole ≡ drafted (statements_in (lines c.args.text.now)) =
     c.in_ok-whole.ensures.value ∙ done_ok c.read_lines-read.result tt c.in_ok-whole.ensures.done c.read_lines-read.ensures.draft in
     c.finish.ensures.server
-    ∙ (ap (λ (d : Drafted). record d.server { host_keys = some_or d.server.host_keys d.host_keys }) is ∙ server_drafted (said (lines c.args.text.now)))
+    ∙ (ap (λ (d : DraftData). record d.server { host_keys = some_or d.server.host_keys d.host_keys }) is ∙ server_drafted (statements_in (lines c.args.text.now)))
 
 pub returns-clause-decisions : goal.returns-clause-decisions
 returns-clause-decisions c =
-    let is : c.in_ok-whole.whole ≡ drafted (said (lines c.args.text.now)) =
+    let is : c.in_ok-whole.whole ≡ drafted (statements_in (lines c.args.text.now)) =
     c.in_ok-whole.ensures.value ∙ done_ok c.read_lines-read.result tt c.in_ok-whole.ensures.done c.read_lines-read.ensures.draft in
-    c.finish.ensures.decisions ∙ (ap (λ (d : Drafted). d.rules) is ∙ rules_drafted (said (lines c.args.text.now)))
+    c.finish.ensures.decisions ∙ (ap (λ (d : DraftData). d.rules) is ∙ rules_drafted (statements_in (lines c.args.text.now)))
 
 pub returns-clause-steps : goal.returns-clause-steps
 returns-clause-steps c =
-    let is : c.in_ok-whole.whole ≡ drafted (said (lines c.args.text.now)) =
+    let is : c.in_ok-whole.whole ≡ drafted (statements_in (lines c.args.text.now)) =
     c.in_ok-whole.ensures.value ∙ done_ok c.read_lines-read.result tt c.in_ok-whole.ensures.done c.read_lines-read.ensures.draft in
-    c.finish.ensures.steps ∙ (ap (λ (d : Drafted). d.steps) is ∙ steps_drafted (said (lines c.args.text.now)))
+    c.finish.ensures.steps ∙ (ap (λ (d : DraftData). d.steps) is ∙ steps_drafted (statements_in (lines c.args.text.now)))

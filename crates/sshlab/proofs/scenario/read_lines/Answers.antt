@@ -4,7 +4,7 @@ use Rattle.std.proofs.lemmas.Iterator.Consumers.{YieldsList-end, YieldsList-turn
 use Rattle.std.proofs.lemmas.Iterator.Splits.{YieldsList-from_slice_split}
 use Rattle.std.proofs.lemmas.List.{length_push}
 use Rattle.sshlab.specs.ScenarioDrafts.{drafted}
-use Rattle.sshlab.specs.ScenarioText.{CanBeRead, said}
+use Rattle.sshlab.specs.ScenarioText.{CanBeRead, statements_in}
 use Rattle.sshlab.specs.TextLines.{lines}
 use Rattle.sshlab.proofs.ScenarioReadLemmas.{IsLineAt, drafts_on, line_at, lines_end, lines_few, none_bad, none_given, reads_on, stops_here}
 use Rattle.sshlab.proofs.scenario.read_lines.Goals as goal
@@ -58,6 +58,6 @@ returns c =
     let all = lines_end c.args.text.now c.loop-line.number (c.loop-line.invariant.counted ∙ end.1) in
     record {
       read = subst (λ (ls : List (List ℕ)). CanBeRead ls) all c.loop-line.invariant.read;
-      draft = c.loop-line.invariant.draft ∙ ap (λ (ls : List (List ℕ)). drafted (said ls)) all;
+      draft = c.loop-line.invariant.draft ∙ ap (λ (ls : List (List ℕ)). drafted (statements_in ls)) all;
       refused = tt;
     }

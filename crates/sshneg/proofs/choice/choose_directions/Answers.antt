@@ -1,6 +1,6 @@
 use Rattle.std.proofs.Common.{refl, sym, ◌∙◌}
 use Rattle.std.proofs.lemmas.Result.{err_from_is_err_and}
-use Rattle.sshmsg.specs.View.{offer_of}
+use Rattle.sshmsg.specs.View.{kexinit_data}
 use Rattle.sshneg.specs.ChoiceReadings.{choice_of_directions}
 use Rattle.sshneg.proofs.PositionLemmas.{all_positions, found_err, found_ok}
 use Rattle.sshneg.proofs.choice.choose_directions.Goals as goal
@@ -71,7 +71,7 @@ returns c = λ method algorithm at_kex at_host_key.
     let s4 = found_ok _ _ _ _ (sym c.choose_common-4.ensures ∙ c.in_ok-choose_common-4.was) in
     let s5 = found_ok _ _ _ _ (sym c.choose_common-5.ensures ∙ c.in_ok-choose_common-5.was) in
     let s6 = found_ok _ _ _ _ (sym c.choose_common-6.ensures ∙ c.in_ok-choose_common-6.was) in
-    rw (s1.is, s2.is, s3.is, s4.is, s5.is, s6.is) (all_positions (offer_of c.args.client.now) record {
+    rw (s1.is, s2.is, s3.is, s4.is, s5.is, s6.is) (all_positions (kexinit_data c.args.client.now) record {
       kex = method;
       host_key = algorithm;
       encryption_client_to_server = s1.name;

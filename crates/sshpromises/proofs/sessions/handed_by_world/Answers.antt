@@ -1,7 +1,7 @@
 use Rattle.std.proofs.Common.{◌≡◌, Option, None, Some, refl}
 use Rattle.sshcore.specs.declared.session.Session.{Session}
-use Rattle.sshcore.specs.ConfigData.{ClientData, ServerData}
-use Rattle.sshcore.specs.Ending.{AgreedData}
+use Rattle.sshcore.specs.ConfigParts.{ClientData, ServerData}
+use Rattle.sshcore.specs.EndData.{AgreedData}
 use Rattle.sshworld.specs.Joined.{AreCrosswise, HandOver}
 use Rattle.sshpromises.proofs.sessions.handed_by_world.Goals as goal
 

@@ -1,5 +1,5 @@
 use Rattle.std.proofs.Common.{◌≡◌}
-use Rattle.sshcore.specs.Ending.{ending}
+use Rattle.sshcore.specs.EndData.{end_data}
 use Rattle.sshworld.specs.Outcome.{outcome}
 use Rattle.sshworld.specs.Worlds.{Complete}
 use Rattle.sshpromises.proofs.OwnedLemmas.{beside_ok}
@@ -10,14 +10,14 @@ pub returns-clause-client : goal.returns-clause-client
 returns-clause-client g c =
     let told = c.in_ok-told in
     let world = c.schedule_ends-world in
-    beside_ok c.beside.result (λ told w. Complete w → w.client.end ≡ ending told.0) world.result told.told c.beside.ensures.first c.beside.ensures.other
+    beside_ok c.beside.result (λ told w. Complete w → w.client.end ≡ end_data told.0) world.result told.told c.beside.ensures.first c.beside.ensures.other
     (told_client world.result (outcome (g.S.Suite.meaning c.args.suite.now) (g.D.Decisions.policy c.args.decisions.now) c.args.client.now c.args.server.now) world.ensures.ends
-    (ending told.told.0) told.ensures.outcome.0)
+    (end_data told.told.0) told.ensures.outcome.0)
 
 pub returns-clause-server : goal.returns-clause-server
 returns-clause-server g c =
     let told = c.in_ok-told in
     let world = c.schedule_ends-world in
-    beside_ok c.beside.result (λ told w. Complete w → w.server.end ≡ ending told.1) world.result told.told c.beside.ensures.first c.beside.ensures.other
+    beside_ok c.beside.result (λ told w. Complete w → w.server.end ≡ end_data told.1) world.result told.told c.beside.ensures.first c.beside.ensures.other
     (told_server world.result (outcome (g.S.Suite.meaning c.args.suite.now) (g.D.Decisions.policy c.args.decisions.now) c.args.client.now c.args.server.now) world.ensures.ends
-    (ending told.told.1) told.ensures.outcome.1)
+    (end_data told.told.1) told.ensures.outcome.1)

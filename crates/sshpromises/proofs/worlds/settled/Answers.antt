@@ -1,6 +1,6 @@
 use Rattle.std.proofs.Common.{length, ap, arith}
 use Rattle.sshcore.specs.declared.config_fault.ConfigFault.TheVariants as fault
-use Rattle.sshcore.specs.ConfigData.{ClientData}
+use Rattle.sshcore.specs.ConfigParts.{ClientData}
 use Rattle.sshworld.specs.Outcome.{outcome}
 use Rattle.sshworld.specs.Worlds.{Complete}
 use Rattle.sshpromises.specs.Claims.{EndsWellOnce}

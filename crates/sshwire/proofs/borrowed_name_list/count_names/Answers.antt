@@ -1,6 +1,6 @@
 use Rattle.std.proofs.Common.{refl, sym, ◌∙◌}
 use Rattle.std.proofs.lemmas.Bool.{eqb-false, eqb-true}
-use Rattle.sshwire.proofs.NamesLeft.{body_empty, body_refused, body_taken, comma_behind_none, ends_in_name, ends_in_none, no_name_byte, past_limit}
+use Rattle.sshwire.proofs.NamesLeft.{body_empty, body_refused, body_taken, comma_after_none, ends_in_name, ends_in_none, no_name_byte, past_limit}
 use Rattle.sshwire.proofs.borrowed_name_list.count_names.Goals.{then-len-eq-NAME_LIMIT-via-then-len-eq-NAME_LIMIT, then-len-eq-NAME_LIMIT-via-else-len-eq-NAME_LIMIT+then-not-is_name_byte}
 use Rattle.sshwire.proofs.borrowed_name_list.count_names.Goals as goal
 
@@ -11,7 +11,7 @@ returns-then-is_empty c =
 pub returns-then-len-eq0 : goal.returns-then-len-eq0
 returns-then-len-eq0 c =
     body_refused c.args.body.now (eqb-false _ _ (sym c.is_empty.ensures ∙ c.if-is_empty.false))
-    (comma_behind_none _ _ _ _ c.loop-b.invariant _ c.loop-b-test.true refl c.if-b-eq44.true c.if-len-eq0.true)
+    (comma_after_none _ _ _ _ c.loop-b.invariant _ c.loop-b-test.true refl c.if-b-eq44.true c.if-len-eq0.true)
 
 pub returns-then-len-eq-NAME_LIMIT : goal.returns-then-len-eq-NAME_LIMIT
 returns-then-len-eq-NAME_LIMIT c =

@@ -1,6 +1,6 @@
 use Rattle.std.proofs.Common.{[]}
 use Rattle.sshwire.proofs.Readings.{reading-append, preamble_read}
-use Rattle.sshwire.proofs.Refusals.{reading_sound, reading_complete, one_meaning, refused_within, preamble_behind, refused_stays, refused_used}
+use Rattle.sshwire.proofs.Refusals.{reading_sound, reading_complete, one_meaning, refused_within, preamble_after, refused_stays, refused_used}
 use Rattle.sshwire.proofs.law.reading_law.Goals as goal
 
 pub returns-clause-cut : goal.returns-clause-cut
@@ -21,8 +21,8 @@ returns-clause-one c = one_meaning
 pub returns-clause-within : goal.returns-clause-within
 returns-clause-within c = refused_within
 
-pub returns-clause-behind : goal.returns-clause-behind
-returns-clause-behind c = preamble_behind
+pub returns-clause-after : goal.returns-clause-after
+returns-clause-after c = preamble_after
 
 pub returns-clause-stays : goal.returns-clause-stays
 returns-clause-stays c = refused_stays

@@ -1,5 +1,5 @@
 use Rattle.std.proofs.Common.{arith}
-use Rattle.sshwire.proofs.EndLemmas.{cut_behind, cut_first}
+use Rattle.sshwire.proofs.EndLemmas.{cut_after, cut_first}
 use Rattle.sshwire.proofs.name_list.name_between.Goals as goal
 
 pub range-requires-clause-end_boundary : goal.range-requires-clause-end_boundary
@@ -16,22 +16,22 @@ returns-then-position-eq0-clause-sound c =
 
 pub range-requires-else-position-eq0-clause-start_le_end : goal.range-requires-else-position-eq0-clause-start_le_end
 range-requires-else-position-eq0-clause-start_le_end c =
-    (cut_behind c.args.text.now c.args.ends.now c.args.position c.requires.table c.requires.within (omega (arith, c.if-position-eq0.false))).ordered
+    (cut_after c.args.text.now c.args.ends.now c.args.position c.requires.table c.requires.within (omega (arith, c.if-position-eq0.false))).ordered
 
 pub range-requires-else-position-eq0-clause-start_boundary : goal.range-requires-else-position-eq0-clause-start_boundary
 range-requires-else-position-eq0-clause-start_boundary c = λ _.
-    (cut_behind c.args.text.now c.args.ends.now c.args.position c.requires.table c.requires.within (omega (arith, c.if-position-eq0.false))).at_start
+    (cut_after c.args.text.now c.args.ends.now c.args.position c.requires.table c.requires.within (omega (arith, c.if-position-eq0.false))).at_start
 
 pub range-requires-else-position-eq0-clause-end_boundary : goal.range-requires-else-position-eq0-clause-end_boundary
 range-requires-else-position-eq0-clause-end_boundary c =
-    (cut_behind c.args.text.now c.args.ends.now c.args.position c.requires.table c.requires.within (omega (arith, c.if-position-eq0.false))).at_end
+    (cut_after c.args.text.now c.args.ends.now c.args.position c.requires.table c.requires.within (omega (arith, c.if-position-eq0.false))).at_end
 
 pub returns-else-position-eq0-clause-exact : goal.returns-else-position-eq0-clause-exact
 returns-else-position-eq0-clause-exact c =
-    (cut_behind c.args.text.now c.args.ends.now c.args.position c.requires.table c.requires.within (omega (arith, c.if-position-eq0.false))).gets
+    (cut_after c.args.text.now c.args.ends.now c.args.position c.requires.table c.requires.within (omega (arith, c.if-position-eq0.false))).gets
     _ c.range-else-position-eq0.ensures.value
 
 pub returns-else-position-eq0-clause-sound : goal.returns-else-position-eq0-clause-sound
 returns-else-position-eq0-clause-sound c =
-    (cut_behind c.args.text.now c.args.ends.now c.args.position c.requires.table c.requires.within (omega (arith, c.if-position-eq0.false))).named
+    (cut_after c.args.text.now c.args.ends.now c.args.position c.requires.table c.requires.within (omega (arith, c.if-position-eq0.false))).named
     _ c.range-else-position-eq0.ensures.value

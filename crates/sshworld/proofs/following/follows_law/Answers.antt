@@ -1,9 +1,9 @@
-use Rattle.sshpacket.specs.Suite.{IsLawful, Meaning}
+use Rattle.sshpacket.specs.Suite.{IsLawful, SuiteData}
 use Rattle.sshworld.proofs.AcceptedLemmas.{Below, accepted_follow, accepted_placed, accepted_same_keys, understood_by}
 use Rattle.sshworld.proofs.following.follows_law.Goals as goal
 use Rattle.sshworld.proofs.following.follows_law.Goals.{After-config_law}
 
-below_by : After-config_law → (m : Meaning) → IsLawful m → Below m
+below_by : After-config_law → (m : SuiteData) → IsLawful m → Below m
 below_by c m law = record {
   again = c.written_law.ensures.again;
   share = c.shares_law.ensures.share m law;

@@ -37,7 +37,7 @@ loop-delivery-preserved c = elim c.match-delivery.branch [
 pub returns : goal.returns
 returns c =
     let law : IsLaw = record { one = c.reading_law.ensures.one; stays = c.reading_law.ensures.stays } in
-    rw (c.into_hearing.ensures, c.into_hearing-2.ensures)
+    rw (c.into_reception.ensures, c.into_reception-2.ensures)
     (greets law c.args.client.now c.args.server.now c.args.schedule.now c.loop-delivery.at_client c.loop-delivery.at_server c.is_complete-complete.result
     (done Client c.args.schedule.now c.loop-delivery.delivery-index OTHER_LINE_LIMIT c.args.server.now c.loop-delivery.at_client c.loop-delivery-test.false c.loop-delivery.invariant.to_client)
     (done Server c.args.schedule.now c.loop-delivery.delivery-index 0 c.args.client.now c.loop-delivery.at_server c.loop-delivery-test.false c.loop-delivery.invariant.to_server)

@@ -1,5 +1,5 @@
 use Rattle.sshworld.proofs.headline_laws.headline_law.Goals as goal
-use Rattle.sshworld.proofs.InCourseLemmas.{all_of_part, begins, client_hears_more, server_hears_more}
+use Rattle.sshworld.proofs.InCourseLemmas.{all_of_part, begins, client_receives_more, server_receives_more}
 use Rattle.sshworld.proofs.HeadlineLemmas.{both_authenticated, both_ended, end_as, more_groups, most_groups, one}
 
 pub returns-clause-ends : goal.returns-clause-ends
@@ -23,11 +23,11 @@ returns-clause-few c = most_groups
 pub returns-clause-begins : goal.returns-clause-begins
 returns-clause-begins c = begins
 
-pub returns-clause-client_hears : goal.returns-clause-client_hears
-returns-clause-client_hears c m d client server w of_client of_server new both are = client_hears_more m d client server w both of_client of_server are new
+pub returns-clause-client_receives : goal.returns-clause-client_receives
+returns-clause-client_receives c m d client server w of_client of_server new both are = client_receives_more m d client server w both of_client of_server are new
 
-pub returns-clause-server_hears : goal.returns-clause-server_hears
-returns-clause-server_hears c m d client server w of_client of_server new both are = server_hears_more m d client server w both of_client of_server are new
+pub returns-clause-server_receives : goal.returns-clause-server_receives
+returns-clause-server_receives c m d client server w of_client of_server new both are = server_receives_more m d client server w both of_client of_server are new
 
 pub returns-clause-all : goal.returns-clause-all
 returns-clause-all c = all_of_part

@@ -1,7 +1,7 @@
 use Rattle.std.proofs.Common.{◌≤◌, ◌+◌, drop, map}
 use Rattle.std.specs.List.{AllByRecursion}
 use Rattle.sshcore.specs.ConfigRules.{IsAttempt}
-use Rattle.sshcore.specs.ConfigView.{attempt_of}
+use Rattle.sshcore.specs.ConfigView.{attempt_data}
 use Rattle.sshworld.specs.Verdicts.{verdict}
 use Rattle.sshworld.proofs.JudgeLemmas.{Left}
 use Rattle.sshworld.proofs.judge.judge.Given as goal
@@ -10,8 +10,8 @@ use Rattle.sshworld.proofs.judge.judge.Given as goal
 abbrev pub invariant-loop-attempt : goal.invariant-loop-attempt
 invariant-loop-attempt g l = record {
   count : l.progress.requests ≤ l.attempt-index + l.attempt-index;
-  accepted : AllByRecursion IsAttempt (map attempt_of (drop l.attempt-index l.attempt-items));
+  accepted : AllByRecursion IsAttempt (map attempt_data (drop l.attempt-index l.attempt-items));
   left : Left (g.S.Suite.meaning l.suite) (g.D.Decisions.policy l.decisions) l.server
       (verdict (g.S.Suite.meaning l.suite) (g.D.Decisions.policy l.decisions) l.client l.server)
-      l.progress (map attempt_of (drop l.attempt-index l.attempt-items));
+      l.progress (map attempt_data (drop l.attempt-index l.attempt-items));
 }

@@ -1,4 +1,4 @@
-use Rattle.sshcore.proofs.PartyLemmas.{client_attempts}
+use Rattle.sshcore.proofs.EndpointPartsLemmas.{client_attempts}
 use Rattle.sshworld.proofs.JudgeLemmas.{few_attempts}
 use Rattle.sshworld.proofs.judge.plan_of.Goals as goal
 

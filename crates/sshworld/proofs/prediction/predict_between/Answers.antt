@@ -1,5 +1,5 @@
 use Rattle.std.proofs.Common.{◌∙◌, Err, Ok, ap, sym}
-use Rattle.sshmsg.specs.View.{offer_of}
+use Rattle.sshmsg.specs.View.{kexinit_data}
 use Rattle.sshneg.specs.ChoiceReadings.{answer, choice}
 use Rattle.sshcore.proofs.AgreeLemmas.{answered, named}
 use Rattle.sshworld.specs.AlgorithmsView.{algorithms_named}
@@ -11,8 +11,8 @@ pub returns-in-Err : goal.returns-in-Err
 returns-in-Err g c =
     let m = g.S.Suite.meaning c.args.suite.now in
     let d = g.D.Decisions.policy c.args.decisions.now in
-    let client = offer_of c.args.of_client.now in
-    let server = offer_of c.args.of_server.now in
+    let client = kexinit_data c.args.of_client.now in
+    let server = kexinit_data c.args.of_server.now in
     let is = outcome_by m d c.args.client.now c.args.server.now client server (Err c.in-Err.field) c.requires.client c.requires.server
     ((c.choice_law.ensures.refuses m client server c.in-Err.field).0 (sym c.choose.ensures.exact ∙ c.in-Err.is)) in
     record { outcome = (ap (λ (e : BothEnds). e.client) (sym is), ap (λ (e : BothEnds). e.server) (sym is)) }
@@ -21,8 +21,8 @@ pub returns-in-Ok : goal.returns-in-Ok
 returns-in-Ok g c =
     let m = g.S.Suite.meaning c.args.suite.now in
     let d = g.D.Decisions.policy c.args.decisions.now in
-    let client = offer_of c.args.of_client.now in
-    let server = offer_of c.args.of_server.now in
+    let client = kexinit_data c.args.of_client.now in
+    let server = kexinit_data c.args.of_server.now in
     let chosen = c.in-Ok.chosen in
     let names = algorithms_named c.algorithms_at-names.result in
     let found = (c.choice_law.ensures.answers m client server chosen).0 (answered c.choose.result (answer m client server) chosen c.choose.ensures.exact c.in-Ok.is) in

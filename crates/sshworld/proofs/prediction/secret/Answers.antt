@@ -1,4 +1,4 @@
-use Rattle.sshcore.proofs.PartyLemmas.{server_secret}
+use Rattle.sshcore.proofs.EndpointPartsLemmas.{server_secret}
 use Rattle.sshworld.proofs.prediction.secret.Goals as goal
 
 pub returns-clause-short : goal.returns-clause-short

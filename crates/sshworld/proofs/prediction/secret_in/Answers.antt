@@ -3,7 +3,7 @@ use Rattle.std.specs.Str.{bytes_eq}
 use Rattle.std.proofs.lemmas.Iterator.{YieldsList-from_slice}
 use Rattle.std.proofs.lemmas.Iterator.Search.{find_from_yields_List}
 use Rattle.sshcore.specs.declared.config_parts.HostKey.{HostKey}
-use Rattle.sshcore.proofs.PartyLemmas.{secret_found, secret_missed}
+use Rattle.sshcore.proofs.EndpointPartsLemmas.{secret_found, secret_missed}
 use Rattle.sshworld.proofs.prediction.secret_in.Goals as goal
 
 pub returns-in-Some : goal.returns-in-Some

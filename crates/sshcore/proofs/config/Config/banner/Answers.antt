@@ -1,4 +1,4 @@
-use Rattle.sshcore.proofs.PartyLemmas.{banner_short}
+use Rattle.sshcore.proofs.EndpointPartsLemmas.{banner_short}
 use Rattle.sshcore.proofs.config.Config.banner.Goals as goal
 
 pub returns-in-Server-clause-short : goal.returns-in-Server-clause-short

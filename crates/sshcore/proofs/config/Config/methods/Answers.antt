@@ -1,4 +1,4 @@
-use Rattle.sshcore.proofs.PartyLemmas.{methods_named, methods_short}
+use Rattle.sshcore.proofs.EndpointPartsLemmas.{methods_named, methods_short}
 use Rattle.sshcore.proofs.config.Config.methods.Goals as goal
 
 pub returns-in-Server-clause-names : goal.returns-in-Server-clause-names

@@ -1,4 +1,4 @@
-use Rattle.sshcore.proofs.PartyLemmas.{client_attempts}
+use Rattle.sshcore.proofs.EndpointPartsLemmas.{client_attempts}
 use Rattle.sshcore.proofs.config.Config.plan.Goals as goal
 
 pub returns-in-Client-clause-accepted : goal.returns-in-Client-clause-accepted

@@ -1,4 +1,4 @@
-use Rattle.sshcore.proofs.PartyLemmas.{no_secret, server_secret}
+use Rattle.sshcore.proofs.EndpointPartsLemmas.{no_secret, server_secret}
 use Rattle.sshcore.proofs.config.Config.secret.Goals as goal
 
 pub returns-in-Client-clause-secret : goal.returns-in-Client-clause-secret

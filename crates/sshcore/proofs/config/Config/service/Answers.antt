@@ -1,5 +1,5 @@
 use Rattle.std.proofs.Common.{ap, map, string_bytes}
-use Rattle.sshcore.proofs.PartyLemmas.{service_short}
+use Rattle.sshcore.proofs.EndpointPartsLemmas.{service_short}
 use Rattle.sshcore.proofs.config.Config.service.Goals as goal
 
 pub returns-in-Server-clause-short : goal.returns-in-Server-clause-short

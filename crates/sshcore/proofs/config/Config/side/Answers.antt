@@ -1,4 +1,4 @@
-use Rattle.sshcore.proofs.PartyLemmas.{client_parts_methods, client_parts_names, client_parts_some, server_parts_methods, server_parts_names, server_parts_some}
+use Rattle.sshcore.proofs.EndpointPartsLemmas.{client_parts_methods, client_parts_names, client_parts_some, server_parts_methods, server_parts_names, server_parts_some}
 use Rattle.sshcore.proofs.config.Config.side.Goals as goal
 
 pub returns-in-Client-clause-methods : goal.returns-in-Client-clause-methods

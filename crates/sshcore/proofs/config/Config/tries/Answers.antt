@@ -1,4 +1,4 @@
-use Rattle.sshcore.proofs.PartyLemmas.{tries_short}
+use Rattle.sshcore.proofs.EndpointPartsLemmas.{tries_short}
 use Rattle.sshcore.proofs.config.Config.tries.Goals as goal
 
 pub returns-in-Server-clause-bound : goal.returns-in-Server-clause-bound

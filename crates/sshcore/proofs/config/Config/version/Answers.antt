@@ -1,4 +1,4 @@
-use Rattle.sshcore.proofs.PartyLemmas.{client_line, server_line}
+use Rattle.sshcore.proofs.EndpointPartsLemmas.{client_line, server_line}
 use Rattle.sshcore.proofs.config.Config.version.Goals as goal
 
 pub returns-in-Client-clause-short : goal.returns-in-Client-clause-short

@@ -1,12 +1,12 @@
 use Rattle.std.proofs.Common.{◌≡◌, true, [], refl, ap, ◌∙◌, subst}
-use Rattle.sshpacket.specs.KeyData.{KeyData}
-use Rattle.sshcore.specs.ConfigParty.{party_of, role_of}
+use Rattle.sshpacket.specs.KeysData.{KeysData}
+use Rattle.sshcore.specs.EndpointConfig.{config_data, role_of}
 use Rattle.sshcore.specs.Brings.{Gives}
 use Rattle.sshneg.specs.declared.role.Role.{Role}
 use Rattle.sshcore.specs.Directions.{preamble_of}
-use Rattle.sshcore.specs.Ending.{goes}
+use Rattle.sshcore.specs.EndData.{goes}
 use Rattle.sshcore.specs.Inputs.{Begins}
-use Rattle.sshcore.specs.Kept.{Kept, begun, kept_of}
+use Rattle.sshcore.specs.StateData.{StateData, begun, state_data}
 use Rattle.sshcore.specs.Work.{making}
 use Rattle.sshcore.proofs.Below.{Below}
 use Rattle.sshcore.proofs.BeginLemmas.{begins_stands}
@@ -20,31 +20,31 @@ returns-clause-made g c =
       packets = c.parser_law.ensures.packets;
       lines = c.parser_law.ensures.lines;
       nothing = c.stream_law.ensures.nothing;
-      unit = c.stream_law.ensures.heard_unit;
-      refusal = c.stream_law.ensures.heard_refusal;
-      part = c.stream_law.ensures.heard_part;
+      unit = c.stream_law.ensures.received_unit;
+      refusal = c.stream_law.ensures.received_refusal;
+      part = c.stream_law.ensures.received_part;
       one = c.stream_law.ensures.one;
       front = c.stream_law.ensures.prefix;
       more = c.stream_law.ensures.read_more;
-      said = c.stream_law.ensures.said_append;
+      sent = c.stream_law.ensures.sent_append;
     } in
     let m = g.S.Suite.meaning c.args.suite.now in
     let d = g.D.Decisions.policy c.args.decisions.now in
     let role = role_of c.args.config in
-    let party = party_of c.args.config in
-    let new = kept_of c.say_greeting.new.self in
+    let party = config_data c.args.config in
+    let new = state_data c.send_greeting.new.self in
     let first = c.new-state.ensures in
-    let next : KeyData = record { cipher = []; mac = []; iv = []; enc = []; mac_key = [] } in
-    let said = c.in_ok-say_greeting.ensures.gives in
-    let gives = subst (λ (k : Kept). Gives m party.seed true next k new (preamble_of party) said.0 (goes (making m role party))) first (said.2 true next) in
-    let stays : new ≡ record (begun party) { sending = new.sending } = c.in_ok-say_greeting.ensures.stays ∙ ap (λ (k : Kept). record k { sending = new.sending }) first in
+    let next : KeysData = record { cipher = []; mac = []; iv = []; enc = []; mac_key = [] } in
+    let sent = c.in_ok-send_greeting.ensures.gives in
+    let gives = subst (λ (k : StateData). Gives m party.seed true next k new (preamble_of party) sent.0 (goes (making m role party))) first (sent.2 true next) in
+    let stays : new ≡ record (begun party) { sending = new.sending } = c.in_ok-send_greeting.ensures.stays ∙ ap (λ (k : StateData). record k { sending = new.sending }) first in
     record {
-      added = said.0;
-      appended = said.1;
-      begins = begins_stands below streams m d role party new c.new.result (preamble_of party) said.0 true next stays gives refl (subst (λ (r : Role). Begins r c.new.result) c.role.ensures c.new.ensures);
-      is_open = ap (λ (k : Kept). k.end) stays;
+      added = sent.0;
+      appended = sent.1;
+      begins = begins_stands below streams m d role party new c.new.result (preamble_of party) sent.0 true next stays gives refl (subst (λ (r : Role). Begins r c.new.result) c.role.ensures c.new.ensures);
+      is_open = ap (λ (k : StateData). k.end) stays;
       is_role = refl;
-      is_party = refl;
+      is_config = refl;
       is_suite = refl;
       is_decisions = refl;
     }

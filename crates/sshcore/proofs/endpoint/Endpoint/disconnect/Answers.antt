@@ -1,20 +1,20 @@
 use Rattle.std.proofs.Common.{[], false, refl}
-use Rattle.sshpacket.specs.KeyData.{KeyData}
-use Rattle.sshcore.specs.ConfigParty.{party_of, role_of}
+use Rattle.sshpacket.specs.KeysData.{KeysData}
+use Rattle.sshcore.specs.EndpointConfig.{config_data, role_of}
 use Rattle.sshcore.proofs.CallLemmas.{breaks_same, leaves_by}
 use Rattle.sshcore.proofs.endpoint.Endpoint.disconnect.Goals as goal
 
 pub returns-in-Ok-clause-leaves : goal.returns-in-Ok-clause-leaves
 returns-in-Ok-clause-leaves g c =
-    let next : KeyData = record { cipher = []; mac = []; iv = []; enc = []; mac_key = [] } in
-    rw (← c.self.view_is) (λ is. leaves_by g.S.Suite.meaning g.D.Decisions.policy c.stream_law.ensures.said_append (role_of c.self.inside.config) (party_of c.self.inside.config)
-    c.self.inside.suite.now c.self.inside.decisions.now c.self.inside.input c.self.inside.state c.disconnect-said.new.self c.args.reason c.args.description.now
-    c.args.out.now.items c.disconnect-said.new.out.items false next is (c.in-Ok.ensures.gives false next))
+    let next : KeysData = record { cipher = []; mac = []; iv = []; enc = []; mac_key = [] } in
+    rw (← c.self.view_is) (λ is. leaves_by g.S.Suite.meaning g.D.Decisions.policy c.stream_law.ensures.sent_append (role_of c.self.inside.config) (config_data c.self.inside.config)
+    c.self.inside.suite.now c.self.inside.decisions.now c.self.inside.input c.self.inside.state c.disconnect-sent.new.self c.args.reason c.args.description.now
+    c.args.out.now.items c.disconnect-sent.new.out.items false next is (c.in-Ok.ensures.gives false next))
 
 pub returns-in-Err-clause-memory : goal.returns-in-Err-clause-memory
 returns-in-Err-clause-memory g c = (
   refl,
   c.in-Err.ensures.memory,
-  breaks_same g.S.Suite.meaning g.D.Decisions.policy c.args.self.now _ [] c.args.out.now.items c.disconnect-said.new.out.items
-      (rw (← c.self.view_is) (record { same_role = refl; same_party = refl; same_suite = refl; same_decisions = refl })) c.in-Err.ensures.memory,
+  breaks_same g.S.Suite.meaning g.D.Decisions.policy c.args.self.now _ [] c.args.out.now.items c.disconnect-sent.new.out.items
+      (rw (← c.self.view_is) (record { same_role = refl; same_config = refl; same_suite = refl; same_decisions = refl })) c.in-Err.ensures.memory,
 )

@@ -1,8 +1,8 @@
 use Rattle.std.proofs.Common.{◌≡◌, ◌+◌, ◌≤◌, ◌-◌, length, take, drop, ◌++◌, sym, ap, ◌∙◌, subst, arith}
 use Rattle.std.proofs.lemmas.List.{length-drop}
 use Rattle.std.proofs.Math.Seq.{take-add}
-use Rattle.sshcore.specs.Ending.{Open}
-use Rattle.sshcore.specs.Endpoints.{Breaks, Fed, ending_of}
+use Rattle.sshcore.specs.EndData.{Open}
+use Rattle.sshcore.specs.Endpoints.{Breaks, Fed, endpoint_end}
 use Rattle.sshcore.proofs.CallLemmas.{breaks_then, fed_as, fed_then, on_err, tail_is}
 use Rattle.sshcore.proofs.endpoint.Endpoint.feed.Goals as goal
 
@@ -19,14 +19,14 @@ loop-used-preserved g c =
     let low : n ≤ length piece = c.loop-used.invariant.within in
     let left : k ≤ length (drop n piece) = subst (λ x. k ≤ length x) (tail_is n piece) c.in_ok-used.ensures.used in
     let size : length (drop n piece) ≡ length piece - n = length-drop n piece in
-    let is_open : ending_of mid ≡ Open = c.is_open.ensures.0 c.if-is_open.true in
+    let is_open : endpoint_end mid ≡ Open = c.is_open.ensures.0 c.if-is_open.true in
     record {
       fed = fed_as m v old new (take n piece ++ take k (drop n piece)) (take (n + k) piece) c.args.out.now.items c.take.new.out.items (sym (take-add n k piece))
           (fed_then m v old mid new (take n piece) (take k (drop n piece)) c.args.out.now.items c.loop-used.out.items c.take.new.out.items c.loop-used.invariant.fed
           (subst (λ x. Fed m v mid new (take k x) c.loop-used.out.items c.take.new.out.items) (tail_is n piece) c.in_ok-used.ensures.fed));
       within = omega arith;
       kept = λ e. absurd (c.in_ok-used.ensures.kept e);
-      ended = λ shut. absurd (shut (ap (λ e. ending_of e) (sym (c.loop-used.invariant.ended shut).1) ∙ is_open));
+      ended = λ shut. absurd (shut (ap (λ e. endpoint_end e) (sym (c.loop-used.invariant.ended shut).1) ∙ is_open));
     }
 
 pub returns-in_err-used-clause-memory : goal.returns-in_err-used-clause-memory

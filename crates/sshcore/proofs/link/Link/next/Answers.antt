@@ -1,7 +1,7 @@
 use Rattle.std.proofs.Common.{◌≡◌, ℕ, ◌+◌, Err, IfSome, Ok, Result, refl, arith, ap, sym, subst}
 use Rattle.sshpacket.specs.declared.fault.PacketFault.{PacketFault}
 use Rattle.sshpacket.specs.declared.reader.PacketStep.{PacketStep}
-use Rattle.sshpacket.specs.ReaderState.{ReaderLeaves, last_used, state}
+use Rattle.sshpacket.specs.PacketReaderData.{ReaderLeaves, last_used, packet_reader_data}
 use Rattle.sshcore.specs.declared.link_fault.LinkFault.{LinkFault}
 use Rattle.sshcore.specs.Linked.{Incoming, LinkLeaves, OnlyOpenAnswer, OpenAnswer, fault_by, incoming_of, outgoing_of, packet_ended}
 use Rattle.sshcore.proofs.LinkLemmas.{again_of, leaves_of, only_of, tells_of}
@@ -22,16 +22,16 @@ returns-in-Ok g c =
           refl,
           λ up. absurd (omega (arith, up, c.opened-opened.ensures, c.if-opened.false)),
           λ low waits. leaves_of m i piece answer new
-              (subst (λ (r : Result PacketStep PacketFault). ReaderLeaves m (state i.reader) piece r new.reader) c.in-Ok.is (c.next.follows.holds-at-none.0 waits))
+              (subst (λ (r : Result PacketStep PacketFault). ReaderLeaves m (packet_reader_data i.reader) piece r new.reader) c.in-Ok.is (c.next.follows.holds-at-none.0 waits))
               c.in-Ok.ensures.uses
-              (ap (λ (n : ℕ). n + packet_ended (state new.reader).held (last_used new.reader)) c.opened-opened.ensures),
+              (ap (λ (n : ℕ). n + packet_ended (packet_reader_data new.reader).held (last_used new.reader)) c.opened-opened.ensures),
         ),
       ),
       record {
         used_up = λ up. absurd (omega (arith, up, c.opened-opened.ensures, c.if-opened.false));
         tells = λ low waits. tells_of m i piece answer (c.in-Ok.ensures.tells waits);
         only = λ low waits. only_of m i piece answer (c.in-Ok.ensures.only waits);
-        again = λ low. again_of (state c.args.self.now.reader).fault answer c.in-Ok.ensures.again;
+        again = λ low. again_of (packet_reader_data c.args.self.now.reader).fault answer c.in-Ok.ensures.again;
         uses = c.in-Ok.ensures.uses;
         after = tt;
       },
@@ -53,17 +53,17 @@ returns-in-Err g c =
           refl,
           λ up. absurd (omega (arith, up, c.opened-opened.ensures, c.if-opened.false)),
           λ low waits. subst (λ (f : LinkFault). LinkLeaves m i piece (Err f) new) told (leaves_of m i piece answer new
-              (subst (λ (r : Result PacketStep PacketFault). ReaderLeaves m (state i.reader) piece r new.reader) c.in-Err.is (c.next.follows.holds-at-none.0 waits))
+              (subst (λ (r : Result PacketStep PacketFault). ReaderLeaves m (packet_reader_data i.reader) piece r new.reader) c.in-Err.is (c.next.follows.holds-at-none.0 waits))
               tt
-              (ap (λ (n : ℕ). n + packet_ended (state new.reader).held (last_used new.reader)) c.opened-opened.ensures)),
+              (ap (λ (n : ℕ). n + packet_ended (packet_reader_data new.reader).held (last_used new.reader)) c.opened-opened.ensures)),
         ),
       ),
       record {
         used_up = λ up. absurd (omega (arith, up, c.opened-opened.ensures, c.if-opened.false));
         tells = λ low waits. subst (λ (f : LinkFault). OpenAnswer m i piece (Err f)) told (tells_of m i piece answer (c.in-Err.ensures.tells waits));
         only = λ low waits. subst (λ (f : LinkFault). OnlyOpenAnswer m i piece (Err f)) told (only_of m i piece answer (c.in-Err.ensures.only waits));
-        again = λ low. subst (λ (f : LinkFault). IfSome (state c.args.self.now.reader).fault (λ e. ◌≡◌ {A = Result PacketStep LinkFault} (Err f) (Err (fault_by e)))) told
-            (again_of (state c.args.self.now.reader).fault answer c.in-Err.ensures.again);
+        again = λ low. subst (λ (f : LinkFault). IfSome (packet_reader_data c.args.self.now.reader).fault (λ e. ◌≡◌ {A = Result PacketStep LinkFault} (Err f) (Err (fault_by e)))) told
+            (again_of (packet_reader_data c.args.self.now.reader).fault answer c.in-Err.ensures.again);
         uses = tt;
         after = tt;
       },

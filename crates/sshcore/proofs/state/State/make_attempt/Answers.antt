@@ -1,7 +1,7 @@
 use Rattle.std.proofs.Common.{List, ℕ, sym, ap, subst}
 use Rattle.std.proofs.lemmas.Result.{on_ok_weaker}
 use Rattle.sshcore.specs.Attempts.{attempt_reply, request_of}
-use Rattle.sshcore.specs.ConfigView.{attempt_of}
+use Rattle.sshcore.specs.ConfigView.{attempt_data}
 use Rattle.sshcore.specs.Made.{IsMade}
 use Rattle.sshcore.specs.Plan.{first_made}
 use Rattle.sshcore.proofs.AttemptLemmas.{first_none, first_some, left_none, left_some, quiet_request}
@@ -17,10 +17,10 @@ pub returns-in_ok-request-in-Some-clause-gives : goal.returns-in_ok-request-in-S
 returns-in_ok-request-in-Some-clause-gives g c =
     let m = g.S.Suite.meaning c.args.suite.now in
     let session : List ℕ = c.args.self.now.session.items in
-    let made = first_made c.args.self.now.confirmed (attempt_of c.in-Some.attempt.now) in
+    let made = first_made c.args.self.now.confirmed (attempt_data c.in-Some.attempt.now) in
     let is : IsMade (request_of m session made) c.in_ok-request-in-Some.request.items =
     subst (λ (s : List ℕ). IsMade (request_of m s made) c.in_ok-request-in-Some.request.items) c.deref.ensures.value c.in_ok-request-in-Some.ensures in
-    on_both c.say.result c.say.ensures.spells c.say.ensures.counts (λ s k strict next.
+    on_both c.send.result c.send.ensures.spells c.send.ensures.counts (λ s k strict next.
     gives_by _ _ strict next _ _ _ _ _ _ (ap (attempt_reply m session)
     (sym (left_some c.args.self.now.confirmed _ _ _ (first_some c.args.self.now.left.now c.first.result c.in-Some.attempt c.first.ensures.value c.in-Some.is))))
     (gives_one _ _ strict next _ _ _ _ (request_of m session made) _ _ _ (quiet_request m session made) is c.deref-in-Some.ensures.value c.requires.open s k))

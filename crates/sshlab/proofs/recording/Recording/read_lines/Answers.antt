@@ -16,7 +16,7 @@ returns-then-not-branch-clause-refused c =
     let turn = YieldsList-turn (YieldsList-from_slice_split _ (λ x. x == 10) c.args.text.now (search rules) (search rules) c.split-line-items.ensures.closure (λ x b q k. search (rules, tests)))
     c.loop-line.yielded _ c.loop-line.yielded_by _ _ c.in-Some.line c.in-Some.is c.next.ensures.steps in
     let bad : IsFirstBadLine (c.loop-line.number + 1) (slice_split (λ x. x == 10) c.args.text.now)
-    = bad_at _ _ _ _ _ before turn.0 turn.1 c.loop-line.invariant.number (length-map c.loop-line.yielded _) c.loop-line.invariant.good (search rules) in
+    = bad_at _ _ _ _ _ before turn.0 turn.1 c.loop-line.invariant.number (length-map c.loop-line.yielded _) c.loop-line.invariant.readable (search rules) in
     rw (parts_are 10 c.args.text.now) at bad
 
 pub returns-clause-client : goal.returns-clause-client
@@ -37,4 +37,4 @@ pub returns-clause-taken : goal.returns-clause-taken
 returns-clause-taken c =
     let end = YieldsList-end (YieldsList-from_slice_split _ (λ x. x == 10) c.args.text.now (search rules) (search rules) c.split-line-items.ensures.closure (λ x b q k. search (rules, tests)))
     c.loop-line.yielded _ c.loop-line.yielded_by _ _ c.in-None.is c.next.ensures.steps in
-    ap (list_all is_recorded) (sym (end.0 ∙ parts_are 10 c.args.text.now)) ∙ c.loop-line.invariant.good
+    ap (list_all is_recorded) (sym (end.0 ∙ parts_are 10 c.args.text.now)) ∙ c.loop-line.invariant.readable

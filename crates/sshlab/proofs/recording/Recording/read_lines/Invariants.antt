@@ -9,5 +9,5 @@ invariant-loop-line l = record {
   number : l.number ≡ length l.yielded;
   client : l.self.client.items ≡ l.fn.self.client.items ++ flat_map (sent Client) (map (λ line. line.now) l.yielded);
   server : l.self.server.items ≡ l.fn.self.server.items ++ flat_map (sent Server) (map (λ line. line.now) l.yielded);
-  good : list_all is_recorded (map (λ line. line.now) l.yielded) ≡ true;
+  readable : list_all is_recorded (map (λ line. line.now) l.yielded) ≡ true;
 }

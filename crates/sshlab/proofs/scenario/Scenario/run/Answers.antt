@@ -2,14 +2,14 @@ use Rattle.std.proofs.Common.{◌≡◌, ◌∙◌, ◌+◌, List, subst, sym}
 use Rattle.std.proofs.lemmas.Result.{IfOk-weaker}
 use Rattle.sshworld.specs.Offered.{most_requests}
 use Rattle.sshworld.specs.Conversed.{EachReplies}
-use Rattle.sshworld.specs.CourseHeard.{IsCourseHeard}
+use Rattle.sshworld.specs.CourseReceived.{IsCourseReceived}
 use Rattle.sshworld.specs.Headline.{Headline}
 use Rattle.sshworld.specs.Outcome.{outcome}
 use Rattle.sshworld.specs.Wordings.{wording_of}
 use Rattle.sshworld.specs.Worlds.{Complete}
 use Rattle.sshsuites.specs.Lab.{lab}
 use Rattle.sshsuites.specs.LabLaws.{lab_agreeing}
-use Rattle.sshsuites.specs.LabRules.{lab_policy}
+use Rattle.sshsuites.specs.LabDecisionsData.{lab_policy}
 use Rattle.sshlab.specs.declared.scenario_line.Step.{Step}
 use Rattle.sshlab.specs.Steps.{EndsSettling, StepsDone, StepsLeadTo}
 use Rattle.sshlab.proofs.OwnedLemmas.{once_ok, where_all, where_ok}
@@ -62,7 +62,7 @@ returns-clause-course c =
     let done = c.do_steps-done in
     let before = c.in_ok-world.ensures in
     let self = c.args.self.now in
-    once_ok c.once.result (λ w. IsCourseHeard lab (lab_policy self.decisions) self.client self.server (wording_of lab (lab_policy self.decisions) self.client self.server) w.client w.server)
+    once_ok c.once.result (λ w. IsCourseReceived lab (lab_policy self.decisions) self.client self.server (wording_of lab (lab_policy self.decisions) self.client self.server) w.client w.server)
     tt done.result done.new.world c.once.ensures.value c.once.ensures.done
     (where_all done.result done.ensures.setup done.ensures.still done.ensures.course (λ setup still course.
     course_of lab lab_policy self.client self.server self.decisions done.new.world

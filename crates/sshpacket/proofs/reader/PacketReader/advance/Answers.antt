@@ -1,10 +1,10 @@
 use Rattle.std.proofs.Common.{refl}
-use Rattle.sshpacket.specs.ReaderState.{last_used, state, wanted}
+use Rattle.sshpacket.specs.PacketReaderData.{last_used, packet_reader_data, target_len}
 use Rattle.sshpacket.proofs.WaitLemmas.{finished, waits_empty}
 use Rattle.sshpacket.proofs.reader.PacketReader.advance.Goals as goal
 
 pub returns-in-Ok-Whole-clause-advances : goal.returns-in-Ok-Whole-clause-advances
-unfolding state last_used wanted
+unfolding packet_reader_data last_used target_len
 returns-in-Ok-Whole-clause-advances g c = λ waits.
     let old = c.args.self.now in
     let read = rw (c.in-Ok-Whole.is, c.in-Ok-Whole.field-0-is) at (c.read_on-taken.ensures.reads waits.unfinished_is waits.knows) in

@@ -1,14 +1,14 @@
 use Rattle.std.proofs.Common.{rules, refl, Err, Ok, None, Some, drop, take}
 use Rattle.sshpacket.specs.declared.reader.PacketStep.TheVariants.{More}
-use Rattle.sshpacket.specs.ReaderState.{Advances, ParseAnswer, ReaderWaits, last_used, state, wanted}
+use Rattle.sshpacket.specs.PacketReaderData.{Advances, ParseAnswer, ReaderWaits, last_used, packet_reader_data, target_len}
 use Rattle.sshpacket.proofs.AnswerLemmas.{only_of, step_answer, step_holds, step_keeps, step_leaves, step_uses, tells_of}
 use Rattle.sshpacket.proofs.reader.PacketReader.next.Goals as goal
 
 pub returns-in-Err : goal.returns-in-Err
-unfolding state wanted
+unfolding packet_reader_data target_len
 returns-in-Err g c =
     let m = g.S.Suite.meaning c.args.suite.now in
-    let s = state c.args.self.now in
+    let s = packet_reader_data c.args.self.now in
     let piece = c.args.piece.now in
     let answer : ReaderWaits m c.args.self.now → ParseAnswer m s piece (Err c.in-Err.fault)
     = λ waits other. (last_used c.advance.new.self, c.advance.ensures.taken, (c.in-Err.ensures.advances (record { no_fault = waits.no_fault; unfinished_is = waits.unfinished_is; knows = waits.knows })).1 other) in (
@@ -25,10 +25,10 @@ returns-in-Err g c =
     )
 
 pub returns-in-Ok-None : goal.returns-in-Ok-None
-unfolding state wanted
+unfolding packet_reader_data target_len
 returns-in-Ok-None g c =
     let m = g.S.Suite.meaning c.args.suite.now in
-    let s = state c.args.self.now in
+    let s = packet_reader_data c.args.self.now in
     let piece = c.args.piece.now in
     let told : ReaderWaits m c.args.self.now → Advances m s piece (Ok None) c.advance.new.self
     = λ waits. rw c.in-Ok-None.field-0-is at (c.in-Ok-None.ensures.advances (record { no_fault = waits.no_fault; unfinished_is = waits.unfinished_is; knows = waits.knows })) in
@@ -46,10 +46,10 @@ returns-in-Ok-None g c =
     )
 
 pub returns-in-Ok-Some : goal.returns-in-Ok-Some
-unfolding state last_used wanted
+unfolding packet_reader_data last_used target_len
 returns-in-Ok-Some g c =
     let m = g.S.Suite.meaning c.args.suite.now in
-    let s = state c.args.self.now in
+    let s = packet_reader_data c.args.self.now in
     let piece = c.args.piece.now in
     let new = c.advance.new.self in
     let payload = take c.in-Ok-Some.payload_len (drop 5 new.packet.items) in
@@ -65,7 +65,7 @@ returns-in-Ok-Some g c =
           (λ waits. let a = told waits in step_leaves m s piece payload new.taken c.step.result new c.step.ensures a.0 refl a.2),
           search rules,
           c.advance.ensures.taken,
-          step_holds c.step.result (state new) used.1,
+          step_holds c.step.result (packet_reader_data new) used.1,
           tt,
           step_keeps payload _ _ c.step.result new c.step.ensures used.2,
         ),

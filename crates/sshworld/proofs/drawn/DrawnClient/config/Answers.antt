@@ -1,5 +1,5 @@
 use Rattle.std.proofs.Common.{◌≡◌, refl, subst}
-use Rattle.sshcore.specs.ConfigData.{ClientData}
+use Rattle.sshcore.specs.ConfigParts.{ClientData}
 use Rattle.sshcore.specs.Redrawn.{draws_of, redrawn_client}
 use Rattle.sshworld.proofs.drawn.DrawnClient.config.Goals as goal
 

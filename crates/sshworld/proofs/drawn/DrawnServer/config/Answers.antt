@@ -1,5 +1,5 @@
 use Rattle.std.proofs.Common.{◌≡◌, refl, subst}
-use Rattle.sshcore.specs.ConfigData.{ServerData}
+use Rattle.sshcore.specs.ConfigParts.{ServerData}
 use Rattle.sshcore.specs.Redrawn.{draws_of, redrawn_server}
 use Rattle.sshworld.proofs.drawn.DrawnServer.config.Goals as goal
 

@@ -4,12 +4,12 @@ use Rattle.sshworld.proofs.ReceiverLemmas.{IsLaw, ended_follows, waiting_stands}
 use Rattle.sshworld.proofs.greetings.Receiver.receive.Goals as goal
 
 pub returns-in_ok-self-clause-stands : goal.returns-in_ok-self-clause-stands
-returns-in_ok-self-clause-stands c = λ k heard s.
-    let counted = ap (λ (n : ℕ). n + length c.args.piece.now) s.counted ∙ sym (length-append heard c.args.piece.now) in
+returns-in_ok-self-clause-stands c = λ k received s.
+    let counted = ap (λ (n : ℕ). n + length c.args.piece.now) s.counted ∙ sym (length-append received c.args.piece.now) in
     record {
       counted = counted;
-      follows = c.in_ok-self.ensures.follows k heard counted
-          (waiting_stands k heard c.args.self.now.reader.progress c.args.self.now.hearing c.in-Waiting.field-0 c.in-Waiting.is s.follows);
+      follows = c.in_ok-self.ensures.follows k received counted
+          (waiting_stands k received c.args.self.now.reader.progress c.args.self.now.reception c.in-Waiting.field-0 c.in-Waiting.is s.follows);
     }
 
 pub returns-in_default : goal.returns-in_default
@@ -18,8 +18,8 @@ returns-in_default c =
     record {
       may_read = c.requires.may_read;
       moved = refl;
-      stands = λ k heard s. record {
-        counted = ap (λ (n : ℕ). n + length c.args.piece.now) s.counted ∙ sym (length-append heard c.args.piece.now);
-        follows = ended_follows law k heard c.args.piece.now c.args.self.now.reader.progress c.args.self.now.hearing c.in_default.not-Waiting s.follows;
+      stands = λ k received s. record {
+        counted = ap (λ (n : ℕ). n + length c.args.piece.now) s.counted ∙ sym (length-append received c.args.piece.now);
+        follows = ended_follows law k received c.args.piece.now c.args.self.now.reader.progress c.args.self.now.reception c.in_default.not-Waiting s.follows;
       };
     }

@@ -1,4 +1,4 @@
-use Rattle.sshcore.specs.Endpoints.{ending_of}
+use Rattle.sshcore.specs.Endpoints.{endpoint_end}
 use Rattle.sshworld.proofs.HandedLemmas.{client_after, handed, nodes_joined, not_both, server_after}
 use Rattle.sshworld.proofs.world.World.into_sessions.Goals as goal
 
@@ -24,4 +24,4 @@ returns-clause-none g c =
     let one = c.into_session-of_client in
     let other = c.into_session-of_server in
     rw (c.zip.ensures, ← c.self.view_is) (λ off.
-    (not_both (ending_of i.client.endpoint) (ending_of i.server.endpoint) one.result other.result one.ensures.none other.ensures.none off))
+    (not_both (endpoint_end i.client.endpoint) (endpoint_end i.server.endpoint) one.result other.result one.ensures.none other.ensures.none off))

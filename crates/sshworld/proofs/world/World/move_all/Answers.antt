@@ -13,11 +13,11 @@ returns-clause-done g c =
     (all_moved c.args.to c.in_ok-move_bytes.field-0 c.waiting-all.result old c.waiting-all.ensures e.moves.counted) e.moves.delivered e.keeps.setup e.keeps.replies e.keeps.headline
 
 pub returns-clause-turn : goal.returns-clause-turn
-returns-clause-turn g c = λ hear had heard counts.
+returns-clause-turn g c = λ receive had received counts.
     let old = c.args.self.now in
     let e = c.in_ok-move_bytes.ensures in
-    turned g.S.Suite.meaning g.D.Decisions.policy c.below_law.ensures.laws old c.move_bytes.new.self e.keeps.setup (g.met.S.Suite.lawful old.suite) c.args.to hear e.keeps.was_on e.keeps.on_course had (e.moves.still had)
-    (returns-clause-done g c).delivered heard counts
+    turned g.S.Suite.meaning g.D.Decisions.policy c.below_law.ensures.laws old c.move_bytes.new.self e.keeps.setup (g.met.S.Suite.lawful old.suite) c.args.to receive e.keeps.was_on e.keeps.on_course had (e.moves.still had)
+    (returns-clause-done g c).delivered received counts
 
 pub returns-in_err-move_bytes-clause-refused : goal.returns-in_err-move_bytes-clause-refused
 returns-in_err-move_bytes-clause-refused g c =

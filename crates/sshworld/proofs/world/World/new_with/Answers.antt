@@ -24,9 +24,9 @@ returns-clause-replies g c =
 pub returns-clause-course : goal.returns-clause-course
 returns-clause-course g c =
     let n = c.in_ok-client_config in
-    course_in g.S.Suite.meaning g.D.Decisions.policy n.client_config n.server_config c.args.suite.now c.args.decisions.now c.below_law.ensures.laws c.course_hearing_law.ensures.hear (g.met.S.Suite.lawful c.args.suite.now) n.client n.server (invariant_of-result g c)
+    course_in g.S.Suite.meaning g.D.Decisions.policy n.client_config n.server_config c.args.suite.now c.args.decisions.now c.below_law.ensures.laws c.course_receiving_law.ensures.receive (g.met.S.Suite.lawful c.args.suite.now) n.client n.server (invariant_of-result g c)
 
 pub returns-clause-headline : goal.returns-clause-headline
 returns-clause-headline g c =
     let n = c.in_ok-client_config in
-    headline_in g.S.Suite.meaning g.D.Decisions.policy n.client_config n.server_config c.args.suite.now c.args.decisions.now c.below_law.ensures.laws c.course_hearing_law.ensures.hear (g.met.S.Suite.lawful c.args.suite.now) n.client n.server (invariant_of-result g c)
+    headline_in g.S.Suite.meaning g.D.Decisions.policy n.client_config n.server_config c.args.suite.now c.args.decisions.now c.below_law.ensures.laws c.course_receiving_law.ensures.receive (g.met.S.Suite.lawful c.args.suite.now) n.client n.server (invariant_of-result g c)

@@ -1,6 +1,6 @@
 use Rattle.std.proofs.Common.{◌+◌, ◌≤◌, arith}
 use Rattle.sshworld.proofs.DeliveryLemmas.{at_err, round_more, rounds_into, same_then}
-use Rattle.sshworld.proofs.WorldCourseLemmas.{bound, heard_more}
+use Rattle.sshworld.proofs.WorldCourseLemmas.{bound, received_more}
 use Rattle.sshworld.specs.Offered.{most_requests}
 use Rattle.sshworld.proofs.world.World.settle.Goals as goal
 
@@ -12,7 +12,7 @@ loop-preserved g c =
       rounds = round_more g.S.Suite.meaning g.D.Decisions.policy c.loop.counter c.args.self.now c.loop.self c.round.new.self i.rounds e.round;
       still = λ m. e.still (i.still m);
       setup = same_then c.args.self.now c.loop.self c.round.new.self i.setup e.keeps.setup;
-      heard = heard_more g.S.Suite.meaning g.D.Decisions.policy c.args.self.now c.loop.self c.round.new.self c.loop.counter i.setup i.still i.heard e.hears;
+      received = received_more g.S.Suite.meaning g.D.Decisions.policy c.args.self.now c.loop.self c.round.new.self c.loop.counter i.setup i.still i.received e.receives;
     }
 
 pub returns-in_err-round-clause-stopped : goal.returns-in_err-round-clause-stopped
@@ -23,4 +23,4 @@ pub returns-clause-bound : goal.returns-clause-bound
 returns-clause-bound g c = λ understood had few.
     let i = c.loop.invariant in
     let enough : most_requests c.args.self.now.client_config.plan + 4 ≤ c.loop.counter = omega (arith, c.loop-test.false, few) in
-    bound g.S.Suite.meaning g.D.Decisions.policy c.args.self.now c.loop.self c.loop.counter i.setup i.still i.heard c.holds.ensures.understands c.holds.ensures.settles understood had enough
+    bound g.S.Suite.meaning g.D.Decisions.policy c.args.self.now c.loop.self c.loop.counter i.setup i.still i.received c.holds.ensures.understands c.holds.ensures.settles understood had enough

@@ -1,6 +1,6 @@
 use Rattle.sshworld.specs.Deliveries.{Rounds}
 use Rattle.sshworld.specs.Worlds.{HadMemory, IsSameSetup}
-use Rattle.sshworld.proofs.WorldCourseLemmas.{HeardAfter}
+use Rattle.sshworld.proofs.WorldCourseLemmas.{ReceivedAfter}
 use Rattle.sshworld.proofs.world.World.settle.Given as goal
 
 -- so many rounds were done, and both have heard what those bring
@@ -9,5 +9,5 @@ invariant-loop g l = record {
   rounds : Rounds g.S.Suite.meaning g.D.Decisions.policy l.counter l.fn.self l.self;
   still : HadMemory l.fn.self → HadMemory l.self;
   setup : IsSameSetup l.fn.self l.self;
-  heard : HeardAfter g.S.Suite.meaning g.D.Decisions.policy l.fn.self l.self l.counter;
+  received : ReceivedAfter g.S.Suite.meaning g.D.Decisions.policy l.fn.self l.self l.counter;
 }

@@ -1,0 +1,57 @@
+-- What is known behind a payload, by its number.
+
+use Rattle.std.proofs.Common.{◌≡◌, ◌≢◌, ℕ, ◌==◌, false, List, Ok, refl}
+use Rattle.std.proofs.lemmas.Bool.{ne_eqb}
+use Rattle.sshwire.specs.declared.share_form.ShareForm.TheVariants.{Mpint}
+use Rattle.sshmsg.specs.MessageData.{MethodData, UserauthRequest}
+use Rattle.sshmsg.specs.Messages.{message_in}
+use Rattle.sshmsg.specs.Numbers.{kind}
+use Rattle.sshpacket.specs.Suite.{SuiteData}
+use Rattle.sshcore.specs.Authenticating.{confirmed_attempt, counted_request, failed_attempt, tried_key}
+use Rattle.sshcore.specs.Brings.{carried_after, received_one}
+use Rattle.sshcore.specs.StateData.{Carried}
+use Rattle.sshcore.specs.Known.{Known}
+use Rattle.sshcore.specs.EndpointParts.{ConfigData, DecisionsData}
+use Rattle.sshcore.specs.Plan.{listed_in}
+use Rattle.sshcore.specs.Requests.{is_successful}
+use Rattle.sshcore.specs.Standing.{after_payload}
+use Rattle.sshcore.specs.Tries.{successful_key_in, tried_in, tried_with}
+
+module _ (m : SuiteData) (d : DecisionsData) (party : ConfigData) (known : Known) (payload : List ℕ) where
+  -- a payload that is neither a request nor an answer to one changes nothing
+  pub after_received : kind payload ≢ 50 → kind payload ≢ 51 → kind payload ≢ 60 → after_payload m d party known payload ≡ received_one known
+  after_received request failure confirmation =
+      let r : (kind payload == 50) ≡ false = ne_eqb (kind payload) 50 request in
+      let f : (kind payload == 51) ≡ false = ne_eqb (kind payload) 51 failure in
+      let c : (kind payload == 60) ≡ false = ne_eqb (kind payload) 60 confirmation in
+      rw (r, f, c) refl
+
+  -- the same, by the number that it has
+  pub received_number : (n : ℕ) → kind payload ≡ n → n ≢ 50 → n ≢ 51 → n ≢ 60 → after_payload m d party known payload ≡ received_one known
+  received_number n is request failure confirmation = after_received (rw is request) (rw is failure) (rw is confirmation)
+
+  -- a request counts, and may reach a method
+  pub request_after : (user service : List ℕ) (method : MethodData) → kind payload ≡ 50 → message_in Mpint payload ≡ Ok (UserauthRequest user service method)
+      → after_payload m d party known payload ≡ counted_request known (tried_with user service method (is_successful m d party known user service method))
+  unfolding tried_in
+  request_after user service method is read = rw (is, read) refl
+
+  -- behind a FAILURE the plan goes on to the next attempt that is listed
+  pub failure_after : (listed : List (List ℕ)) → kind payload ≡ 51 → listed_in payload ≡ listed → after_payload m d party known payload ≡ failed_attempt known listed
+  failure_after listed is lists = rw (is, lists) refl
+
+  -- and behind a PK_OK to the attempt itself
+  pub pk_ok_after : kind payload ≡ 60 → after_payload m d party known payload ≡ confirmed_attempt known
+  pk_ok_after is = rw is refl
+
+  -- what is carried along changes behind requests alone
+  pub carried_stays : (c : Carried) → kind payload ≢ 50 → carried_after m d party known c payload ≡ c
+  carried_stays c request = let r : (kind payload == 50) ≡ false = ne_eqb (kind payload) 50 request in rw r refl
+
+  pub carried_number : (c : Carried) (n : ℕ) → kind payload ≡ n → n ≢ 50 → carried_after m d party known c payload ≡ c
+  carried_number c n is request = carried_stays c (rw is request)
+
+  pub carried_request : (c : Carried) (user service : List ℕ) (method : MethodData) → kind payload ≡ 50 → message_in Mpint payload ≡ Ok (UserauthRequest user service method)
+      → carried_after m d party known c payload ≡ tried_key c method (is_successful m d party known user service method)
+  unfolding successful_key_in
+  carried_request c user service method is read = rw (is, read) refl

@@ -1,6 +1,0 @@
-use Rattle.std.proofs.Common.{◌≡◌, ◌++◌, flat_map, map, take}
-use Rattle.sshwire.specs.Lines.{version_line}
-use Rattle.sshcore.proofs.greeting.say_lines.Given as goal
-
-abbrev pub invariant-loop-line : goal.invariant-loop-line
-invariant-loop-line l = l.said.items ≡ l.fn.said.items ++ flat_map version_line (map (λ line. line.items) (take l.line-index l.line-items))

@@ -1,0 +1,47 @@
+use Rattle.std.proofs.Common.{◌≡◌, ℕ, Bool, true, false, List, [], ◌∷◌, refl, sym, ap, ◌∙◌, cond}
+use Rattle.std.specs.Prelude.{◌&&◌, not}
+use Rattle.std.proofs.lemmas.Bool.{true≢false}
+use Rattle.sshneg.specs.declared.role.Role.{Role}
+use Rattle.sshneg.specs.declared.role.Role.TheVariants.{Client, Server}
+use Rattle.sshpacket.specs.Stream.{Units}
+use Rattle.sshpacket.specs.Suite.{SuiteData}
+use Rattle.sshcore.specs.EndpointConfig.{config_data, role_of}
+use Rattle.sshcore.specs.Negotiated.{sends_init}
+use Rattle.sshcore.specs.EndpointParts.{ConfigData}
+use Rattle.sshcore.specs.Work.{init_for}
+use Rattle.sshcore.proofs.GivesLemmas.{gives_as, gives_nothing, gives_one, on_both, quiet_init}
+use Rattle.sshcore.proofs.state.State.send_init.Goals as goal
+
+unsent_by : (b : Bool) (xs : Units) → not b ≡ false → [] ≡ cond b [] xs
+unsent_by true xs e = refl
+unsent_by false xs e = absurd cc
+
+sent_by : (b : Bool) (xs : Units) → not b ≡ true → xs ≡ cond b [] xs
+sent_by true xs e = absurd cc
+sent_by false xs e = refl
+
+module _ (m : SuiteData) (party : ConfigData) (right : Bool) (kex : List ℕ) (opens : Bool) where
+  unsent : (role : Role) → (role ≡ Client → opens ≡ not (party.offer.first_kex_packet_follows && right)) → opens ≡ false → [] ≡ sends_init m role party right kex
+  unsent Server client e = refl
+  unsent Client client e = unsent_by (party.offer.first_kex_packet_follows && right) (init_for m party kex ∷ []) (sym (client refl) ∙ e)
+
+  sent : (role : Role) → (role ≡ Client → opens ≡ not (party.offer.first_kex_packet_follows && right)) → (role ≡ Server → opens ≡ false) → opens ≡ true
+      → init_for m party kex ∷ [] ≡ sends_init m role party right kex
+  sent Server client server e = absurd (true≢false (sym e ∙ server refl))
+  sent Client client server e = sent_by (party.offer.first_kex_packet_follows && right) (init_for m party kex ∷ []) (sym (client refl) ∙ e)
+
+pub returns-then-not-opens-clause-gives : goal.returns-then-not-opens-clause-gives
+returns-then-not-opens-clause-gives g c = λ strict next.
+    gives_as _ _ strict next _ _ _ _ _ _ _
+    (unsent (g.S.Suite.meaning c.args.suite.now) (config_data c.args.config.now) c.args.negotiated.now.right c.args.negotiated.now.algorithms.kex
+    c.opens.result (role_of c.args.config.now) c.opens.ensures.client c.if-not-opens.true)
+    (gives_nothing _ _ strict next _ _ _ _ _ c.requires.open refl refl)
+
+pub returns-clause-gives : goal.returns-clause-gives
+returns-clause-gives g c = on_both c.send.result c.send.ensures.spells c.send.ensures.counts (λ s k strict next.
+    gives_as _ _ strict next _ _ _ _ (init_for (g.S.Suite.meaning c.args.suite.now) (config_data c.args.config.now) c.kex.result.now ∷ []) _ _
+    (ap (λ (kex : List ℕ). init_for (g.S.Suite.meaning c.args.suite.now) (config_data c.args.config.now) kex ∷ []) c.kex.ensures.kex
+    ∙ sent (g.S.Suite.meaning c.args.suite.now) (config_data c.args.config.now) c.args.negotiated.now.right c.args.negotiated.now.algorithms.kex
+    c.opens.result (role_of c.args.config.now) c.opens.ensures.client c.opens.ensures.server c.if-not-opens.false)
+    (gives_one _ _ strict next _ _ _ _ _ _ _ _ (quiet_init (g.S.Suite.meaning c.args.suite.now) (config_data c.args.config.now) c.kex.result.now)
+    c.in_ok-init.ensures c.deref.ensures.value c.requires.open s k))

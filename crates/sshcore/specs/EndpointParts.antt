@@ -1,0 +1,73 @@
+-- What an endpoint is made of and whom it asks, as plain data.
+
+use Rattle.std.specs.Prelude.{ℕ, Bool, List, [], Option, None}
+use Rattle.sshmsg.specs.MessageData.{KexInitData}
+use Rattle.sshcore.specs.ConfigParts.{AttemptData, ClientData, HostKeyData, ServerData, client_offer, server_offer, version_of}
+
+-- What an endpoint is made of. What its role doesn't have is empty: notices, host keys, services, methods, required
+-- methods and banner are a server's, the plan is a client's.
+pub record ConfigData : Type 0 where
+  pub version : List ℕ
+  pub notices : List (List ℕ)
+  pub offer : KexInitData
+  pub strict : Bool
+  pub random : List ℕ
+  pub seed : List ℕ
+  pub plan : List AttemptData
+  pub host_keys : List HostKeyData
+  pub services : List (List ℕ)
+  pub methods : List (List ℕ)
+  pub required : List (List ℕ)
+  pub tries : ℕ
+  pub banner : Option (List ℕ)
+
+abbrev pub config_of_client : ClientData → ConfigData
+config_of_client client = record {
+  version = version_of client.side;
+  notices = [];
+  offer = client_offer client;
+  strict = client.side.strict;
+  random = client.side.random;
+  seed = client.side.seed;
+  plan = client.plan;
+  host_keys = [];
+  services = [];
+  methods = [];
+  required = [];
+  tries = 0;
+  banner = None;
+}
+
+abbrev pub config_of_server : ServerData → ConfigData
+config_of_server server = record {
+  version = version_of server.side;
+  notices = server.notices;
+  offer = server_offer server;
+  strict = server.side.strict;
+  random = server.side.random;
+  seed = server.side.seed;
+  plan = [];
+  host_keys = server.host_keys;
+  services = server.services;
+  methods = server.methods;
+  required = server.required;
+  tries = server.tries;
+  banner = server.banner;
+}
+
+-- what a request proves: nothing, a password, or a key by its algorithm and blob
+pub data ProofData : Type 0 where
+  NoProof : ProofData
+  PasswordProof : List ℕ → ProofData
+  KeyProof : List ℕ → List ℕ → ProofData
+
+-- a user's public key, by its algorithm and blob (RFC 4252 section 7)
+pub record UserKeyData : Type 0 where
+  pub algorithm : List ℕ
+  pub blob : List ℕ
+
+-- the decisions of whoever runs an endpoint: on a host key (algorithm and blob), and on a request (its number from 1, user,
+-- service and proof)
+pub record DecisionsData : Type 0 where
+  pub host_key : List ℕ → List ℕ → Bool
+  pub user : ℕ → List ℕ → List ℕ → ProofData → Bool

@@ -1,0 +1,10 @@
+-- The keys of one direction, as contracts see them: byte lists, so equal keys are equal lists.
+
+use Rattle.std.specs.Prelude.{ℕ, List}
+
+pub record KeysData : Type 0 where
+  pub cipher : List ℕ
+  pub mac : List ℕ
+  pub iv : List ℕ
+  pub enc : List ℕ
+  pub mac_key : List ℕ
