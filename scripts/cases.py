@@ -76,7 +76,7 @@ def expanded(text, values):
 
 
 def named(text, values):
-    """The text with the value of its first word, where that is a name and others stand behind it."""
+    """The text with the value of its first word, where that is a name and others stand after it."""
     found = re.match(r"([a-z_]+)(?=[ +-])", text)
     if found and found[1] in values:
         return values[found[1]] + text[found.end():]
@@ -99,7 +99,7 @@ def bytes_of(text):
 
 
 def numbers(fields):
-    """The numbers from one to another, without those behind `but`."""
+    """The numbers from one to another, without those after `but`."""
     low, high, but = int(fields[0]), int(fields[1]), fields[2:]
     if but and but[0] != "but":
         raise Bad("no range")

@@ -3,7 +3,7 @@
        MEMORY_TO=FILE [MEMORY_REFUSE=N [MEMORY_ONWARDS=1]] LD_PRELOAD=memory.so PROGRAM ..
 
    A request is a call of malloc, calloc or realloc, which are all that a program of this repository calls. The Nth is
-   refused, or the Nth and all behind it. FILE gets a line before each write to standard output and one when the program
+   refused, or the Nth and all after it. FILE gets a line before each write to standard output and one when the program
    ends: which it is, the requests so far, the bytes in use, the most that were since the line before, and the blocks in
    use. The bytes are those of the allocator's blocks, which are a little longer than what was asked for. A block that is
    freed twice ends the program by the allocator's own check. No header is read, so the toolchain's clang compiles it on

@@ -1,6 +1,6 @@
-"""Rows that the rows program judges while each of its requests for memory is refused, and what may stand behind a refusal.
+"""Rows that the rows program judges while each of its requests for memory is refused, and what may stand after a refusal.
 
-A row is given to the program alone, behind the lines of its file that stand before the first row. Where the program's own
+A row is given to the program alone, after the lines of its file that stand before the first row. Where the program's own
 request is refused, it says nothing and ends. Where a call that it judges is refused, it says how that stands, and tries the
 next call: `row NAME: line N: STANDS; said BYTES`, or `row NAME: no value` where the call would have made a value."""
 import os
@@ -62,14 +62,14 @@ class Row:
                 yield '' if word == '-' else word
 
     def may_be_said(self, number, said):
-        """Whether these are whole packets of those that the row wants behind this line, from the first on."""
+        """Whether these are whole packets of those that the row wants after this line, from the first on."""
         wanted = next((line for line in self.lines[number:] if line.startswith('says ')), 'says -')
         front = ''
         fronts = [front] + [front := front + packet for packet in self.packets(wanted)]
         return said in fronts
 
     def stand_after(self, answer):
-        """What the answer tells that stands behind a refused call: '' where nothing was judged, None where it may not be."""
+        """What the answer tells that stands after a refused call: '' where nothing was judged, None where it may not be."""
         if answer == UNJUDGED:
             return ''
         status, out, err = answer

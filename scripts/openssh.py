@@ -43,7 +43,7 @@ def version():
 
 
 class Room:
-    """A scratch folder with keys, and a user whom one of them lets in."""
+    """A scratch folder with keys, and a user whom one of them accepts."""
 
     def __init__(self, folder):
         self.folder = folder
@@ -80,7 +80,7 @@ def too_long(_signal, _frame):
 
 class Processes:
     """Runs processes to their end, and tells the processor time of each that was started, and of all that these left
-    behind."""
+    after."""
 
     def __init__(self, processor):
         os.sched_setaffinity(0, {processor})
@@ -94,7 +94,7 @@ class Processes:
 
     @staticmethod
     def ended(started):
-        """Waits until nothing runs, and answers the seconds of each, and behind them those of all others; and the statuses."""
+        """Waits until nothing runs, and answers the seconds of each, and after them those of all others; and the statuses."""
         seconds, status, pids = {}, {}, [process.pid for process in started]
         signal.alarm(SECONDS)
         try:

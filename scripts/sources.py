@@ -41,7 +41,7 @@ def braces(text, start):
     raise SystemExit('unbalanced')
 
 
-# A word that is no field: behind no dot.
+# A word that is no field: after no dot.
 TOKEN = re.compile(r"(?<![^\s(){}\[\],;:])[^\s(){}\[\],;.:]+")
 
 

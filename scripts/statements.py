@@ -9,7 +9,7 @@ import glob
 import os
 import re
 
-# A word that is no field: behind no dot. It may have parts behind dots of its own.
+# A word that is no field: after no dot. It may have parts after dots of its own.
 WORD = re.compile(r'(?<![^\s(){}\[\],;:])[^\s(){}\[\],;:"]+')
 START = re.compile(r'(?:(?:abbrev|unfoldable|foldable|irreducible|opaque)\s+)?(?:pub\s+(?:(record|data|abbrev|unfoldable)\s+)?|(?=[^\s:({]+ : ))([^\s:({]+)')
 USE = re.compile(r'\s*(?:ghost )?use (Rattle\.[^\s;{]+?)(?:\.\{([^}]*)\})?(?: as (\w+))?;?\s*$')

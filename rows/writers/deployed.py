@@ -172,7 +172,7 @@ def mixed(data, mask):
 
 
 def seal(keys, seq, packet):
-    """The key of the payload stands first, that of the length behind it."""
+    """The key of the payload stands first, that of the length after it."""
     main, head = keys[:32], keys[32:]
     covered = mixed(packet[:4], chacha20(head, seq, 0, 4)) + mixed(packet[4:], chacha20(main, seq, 1, len(packet) - 4))
     return covered + poly1305(chacha20(main, seq, 0, 32), covered)
@@ -286,7 +286,7 @@ def signatures(calls):
 
 
 def refused(calls, key, data, signature):
-    """Changes of a good signature, none of which is good."""
+    """Changes of a valid signature, none of which is valid."""
     s = number_of(signature[32:])
     for more in range(1, 16):
         if s + more * L < 2 ** 256:
@@ -308,7 +308,7 @@ def refused(calls, key, data, signature):
 
 
 def small_orders(calls):
-    """Keys and points of small order, and y not below 2^255 - 19. s is 0, so a signature is good where R is -k times the key."""
+    """Keys and points of small order, and y not below 2^255 - 19. s is 0, so a signature is valid where R is -k times the key."""
     points = [le(1), le(P - 1), le(0), le(2 ** 255)]
     eighth = 0x7a03ac9277fdc74ec6cc392cfa53202a0f67100d760b3cba4fd83d3d706a17c7
     points += [le(eighth), le(eighth | 2 ** 255), le(P - eighth), le(P - eighth | 2 ** 255)]

@@ -1,5 +1,5 @@
-"""Hostile use of a session over the algorithms that are deployed: packets put in before NEWKEYS, the input that ends behind each byte,
-each cut into two pieces, and bits flipped: each bit behind NEWKEYS, and one of each byte before. receiver.py works out what has to come of
+"""Hostile use of a session over the algorithms that are deployed: packets put in before NEWKEYS, the input that ends after each byte,
+each cut into two pieces, and bits flipped: each bit after NEWKEYS, and one of each byte before. receiver.py works out what has to come of
 it, with the suite of deployed.py."""
 import functools
 
@@ -78,7 +78,7 @@ class DeployedReceiver(Receiver):
 
     @staticmethod
     def is_signed(key, h, signature):
-        """A changed key, hash or signature isn't good: whether another is would need another signature to be found."""
+        """A changed key, hash or signature isn't valid: whether another is would need another signature to be found."""
         return key == KEY and signature == deployed.wrapped(signature_by(HOST, h))
 
     @staticmethod
@@ -106,7 +106,7 @@ class DeployedTalk:
 
 
 class DeployedCourse:
-    """The simplest session: a user without a proof, who is let in."""
+    """The simplest session: a user without a proof, who is accepted."""
 
     def __init__(self):
         t = self.t = DeployedTalk()
@@ -121,7 +121,7 @@ class DeployedCourse:
 
 
 class DeployedSession(Session):
-    """The session as one role hears it."""
+    """The session as one role receives it."""
     receiver = DeployedReceiver
 
     def __init__(self, file, role, course):
@@ -142,7 +142,7 @@ def rows(file):
 
 
 def all_fronts(file, s):
-    """The input ends behind each byte up to where truncated of hostile.py begins, and from there on."""
+    """The input ends after each byte up to where truncated of hostile.py begins, and from there on."""
     for count in range(sum(len(unit) for unit, _, _ in s.turns[:4 if s.role == SERVER else 3]) + 1):
         ear = DeployedReceiver(s.role, True, s.received[:count])
         file.row("%s %s, the input ends behind %d" % (s.role, s.name, count), s.begin, "feed %s:0:%d" % (s.receives, count),
@@ -151,7 +151,7 @@ def all_fronts(file, s):
 
 
 def flips(file, s):
-    """Nothing but a length that the stream doesn't reach leaves the side open behind NEWKEYS; before, padding alone means nothing."""
+    """Nothing but a length that the stream doesn't reach leaves the side open after NEWKEYS; before, padding alone means nothing."""
     sealed, nothing, at = sum(len(unit) for unit, _, _ in s.turns[:3]), set(), len(LINE)
     while at < sealed:
         end = at + 4 + int.from_bytes(s.received[at:at + 4], "big")

@@ -1,5 +1,5 @@
 """Endpoints that are told to disconnect: what they say, by the keys and the number at hand, and that they have ended. A description of
-more than 1024 bytes isn't said."""
+more than 1024 bytes isn't sent."""
 from lab import *
 from deployed_sessions import DeployedCourse, packet_of
 from requests import half
@@ -25,7 +25,7 @@ def ended(reason, more):
 
 
 def client_places(t):
-    """Up to where a client has come, what it has heard for that, what it has said to it, how it goes on to say, and what it is asked."""
+    """Up to where a client has come, what it has received for that, what it has sent to it, how it goes on to say, and what it is asked."""
     c = Half(CLIENT)
     c.send(t.ci)
     if t.guess:
@@ -105,7 +105,7 @@ def reasons(file):
 
 
 def descriptions(file):
-    """A description up to its limit, in clear and sealed; a longer one isn't said. It is counted in bytes, and any text is taken."""
+    """A description up to its limit, in clear and sealed; a longer one isn't sent. It is counted in bytes, and any text is taken."""
     texts = {"of %d bytes" % n: bytes([97 + n % 26]) * n for n in (0, 1, LIMIT - 1, LIMIT, LIMIT + 1, LIMIT + 2, 4096, 32768, 70000)}
     texts.update({"with control characters": b"\x00\x07\r\n\x1b[0m\x7f", "of two lines": b"a\r\nb", "beyond ASCII": "\u00e4\u20ac\U0001f512".encode(),
                   "of 1024 bytes, two for each character": "\u00e4".encode() * 512, "of 1025 bytes, two for most characters": b"x" + "\u00e4".encode() * 512})
@@ -118,7 +118,7 @@ def descriptions(file):
 
 
 def over(file):
-    """An endpoint that has ended says nothing, and stands as it did."""
+    """An endpoint that has ended sends nothing, and stands as it did."""
     t = Talk()
     for role, own, start in both(file, t, True):
         peer = half(t.s if role == CLIENT else t.c)
@@ -145,7 +145,7 @@ def over(file):
 
 
 def closing(t, role):
-    """What a side says that is told to disconnect where its peer goes on to hear."""
+    """What a side sends that is told to disconnect where its peer goes on to receive."""
     if role == CLIENT:
         return half(t.c).send(disconnect(11, BYE))
     s = half(t.s)
@@ -161,7 +161,7 @@ def deployed(file):
     for role, received, sent, own, questions in (
             (CLIENT, [t.s_first, t.s_reply, t.s_newkeys, t.s_accept], [t.c_first, t.c_init, t.c_newkeys, t.c_service, request_], t.c, ["host_key"]),
             (SERVER, [t.c_first, t.c_init, t.c_newkeys, t.c_service], [t.s_first, t.s_reply, t.s_newkeys, t.s_accept], t.s, [])):
-        # the server of the course has said SUCCESS besides
+        # the server of the course has sent SUCCESS besides
         number = own.seq if role == CLIENT else own.seq - 1
         for text in (b"", BYE, b"x" * LIMIT, b"x" * (LIMIT + 1)):
             sent_text = text if len(text) <= LIMIT else b""
@@ -171,7 +171,7 @@ def deployed(file):
 
 
 def words(file):
-    """Of two words the first holds. Behind packets that are told one by one memory may be wanting (scripts/memory_rows.py)."""
+    """Of two words the first holds. After packets that are told one by one memory may be wanting (scripts/memory_rows.py)."""
     t = Talk()
     for role, own, start in both(file, t, False):
         file.row("a %s is told twice" % role, AL, start, told(11, BYE), told(2), says(own.send(disconnect(11, BYE))), "end disconnected 11")

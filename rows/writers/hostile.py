@@ -8,7 +8,7 @@ from limits import accepted
 # the numbers that UNIMPLEMENTED answers (RFC 4253 section 11.4; which these are is profile)
 UNKNOWN = {*range(8, 20), *range(22, 30), *range(32, 50), *range(54, 60), *range(61, 80)}
 # A flipped bit means nothing in the padding of the three packets in clear: it may be any bytes (RFC 4253 section 6), no MAC covers it
-# before NEWKEYS (section 6.4), and it isn't hashed (section 8). Its places in the stream that a side hears:
+# before NEWKEYS (section 6.4), and it isn't hashed (section 8). Its places in the stream that a side receives:
 PADDING = {(SERVER, "strict"): [(125, 135), (178, 183), (189, 199)], (SERVER, "loose"): [(96, 103), (146, 151), (157, 167)],
            (CLIENT, "strict"): [(125, 135), (259, 263), (269, 279)], (CLIENT, "loose"): [(125, 135), (259, 263), (269, 279)]}
 
@@ -22,7 +22,7 @@ COUNTS = {(SERVER, "strict"): (88, 737, 12, 1094, 437, 7, 16, 102, 7, 0, 44, 200
 
 
 class Session:
-    """A whole session as one role hears it: each unit, what is said for it, and what that asks."""
+    """A whole session as one role receives it: each unit, what is sent for it, and what that asks."""
     receiver = Receiver
 
     def __init__(self, file, role, name, course):
@@ -44,7 +44,7 @@ class Session:
         self.begin = lines + ["begin " + role]
 
     def by(self, count):
-        """What is said and asked by the first bytes, past the first unit, and how many of them are held."""
+        """What is sent and asked by the first bytes, past the first unit, and how many of them are held."""
         sent, asks, rest = self.first, [], count
         for unit, answer, questions in self.turns:
             if rest < len(unit):
@@ -56,7 +56,7 @@ class Session:
         return ["says " + self.own, asked(*self.by(len(self.received))[1]), "end " + LET_IN]
 
     def sent(self, data):
-        """Terms for what is said: answers as the session has them by the name, and what stands behind those."""
+        """Terms for what is sent: answers as the session has them by the name, and what stands after those."""
         same = max(n for n in self.marks if data[:n] == self.says[:n])
         return says(self.own if same == len(self.says) else "%s:0:%d" % (self.own, same), data[same:])
 
@@ -79,7 +79,7 @@ def rows(file):
 
 
 def judged(file, name, session, terms_, data):
-    """A row of a stream that is heard as far as it goes. Where the end is open, the input ends behind it."""
+    """A row of a stream that is received as far as it goes. Where the end is open, the input ends after it."""
     ear = session.receiver(session.role, session.is_willing, data)
     if ear.end == LET_IN:
         assert ear.own.sent == session.says
@@ -102,7 +102,7 @@ def end_of(n, place, strict, share_number):
 
 
 def injected(file, s):
-    """A packet of each number alone, with a padding of ten bytes 00, stands in front of packet 0, 1 or 2, and the stream ends behind
+    """A packet of each number alone, with a padding of ten bytes 00, stands in front of packet 0, 1 or 2, and the stream ends after
     NEWKEYS; then IGNORE, UNIMPLEMENTED and DEBUG that are whole."""
     first, second, third = (len(unit) for unit, _, _ in s.turns[:3])
     share_number = 30 if s.role == SERVER else 31
@@ -121,7 +121,7 @@ def injected(file, s):
 
 
 def flips(file, s):
-    """Each bit of the stream; of a loose one each up to NEWKEYS, since nothing changes behind it but numbers."""
+    """Each bit of the stream; of a loose one each up to NEWKEYS, since nothing changes after it but numbers."""
     ends = []
     nothing = {place for start, end in PADDING[s.role, s.name] for place in range(start, end)}
     sealed = sum(len(unit) for unit, _, _ in s.turns[:3])
@@ -129,7 +129,7 @@ def flips(file, s):
         for bit in range(8):
             end = flipped(file, s, "%s %s, bit %d of byte %d" % (s.role, s.name, bit, place), s.received, place, bit)
             assert (end == LET_IN) == (place in nothing)
-            # behind NEWKEYS a packet is refused by its length or its tag; byte 262 of the client's is the last of its first tag
+            # after NEWKEYS a packet is refused by its length or its tag; byte 262 of the client's is the last of its first tag
             assert place < sealed or end in ("failed F2", "failed F4", "open")
             assert (s.role, place) != (SERVER, 262) or end == "failed F4"
             ends.append(end[:10].rstrip())
@@ -164,7 +164,7 @@ def unread(file, s):
 
 
 def truncated(file, s):
-    """The input ends behind each byte past the fronts that endpoint.py has, which are the same in each session: a server's up to
+    """The input ends after each byte past the fronts that endpoint.py has, which are the same in each session: a server's up to
     SERVICE_REQUEST, a client's up to NEWKEYS."""
     for count in range(sum(len(unit) for unit, _, _ in s.turns[:4 if s.role == SERVER else 3]) + 1, len(s.received)):
         sent, asks, held = s.by(count)

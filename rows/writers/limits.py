@@ -222,7 +222,7 @@ def offers(file):
 
 
 def accepted(file, name, role, theirs):
-    """The endpoint hears this KEXINIT, and all that follows."""
+    """The endpoint receives this KEXINIT, and all that follows."""
     t = Talk(offers=(None, theirs) if role == CLIENT else (theirs, None))
     c, s = half(t.c), half(t.s)
     request_, success = c.send(by_none()), s.send(SUCCESS)
@@ -301,7 +301,7 @@ def packets(file):
 
 
 def pieces(file):
-    """A whole session in one piece of more than a mebibyte; as much behind the end, of which nothing is used; a thousand answers
+    """A whole session in one piece of more than a mebibyte; as much after the end, of which nothing is used; a thousand answers
     to one piece; and other lines at their limits."""
     t = Talk(strict=False)
     big = raw(34996, 4, ignore(34996, 4))
@@ -327,7 +327,7 @@ def pieces(file):
 
 
 def session(t, role, more):
-    """All that a side hears and says up to its end, where so many packets stand behind the KEXINIT that it hears."""
+    """All that a side receives and sends up to its end, where so many packets stand after the KEXINIT that it receives."""
     c, s = Half(CLIENT), Half(SERVER)
     c.seq = s.seq = 1
     peer = s if role == CLIENT else c

@@ -188,7 +188,7 @@ def longest(file):
         return b"\x32" + string("u") + string("s") + string(name) + b"".join(strings)
 
     s = string
-    # form, what stands before the field, the field's length (none where the field goes on to the end), and what stands behind
+    # form, what stands before the field, the field's length (none where the field goes on to the end), and what stands after
     cases = [("mpint", "DISCONNECT, description", b"\x01" + u(2), True, s("en")), ("mpint", "DISCONNECT, language", b"\x01" + u(2) + s("x"), True, b""),
              ("mpint", "DEBUG, text", b"\x04\x01", True, s("en")), ("mpint", "DEBUG, language", b"\x04\x00" + s("x"), True, b""),
              ("mpint", "SERVICE_REQUEST", b"\x05", True, b""), ("mpint", "SERVICE_ACCEPT", b"\x06", True, b""),

@@ -1,4 +1,4 @@
-"""What an endpoint is told that its peer says to people: by a line before the version line, a DISCONNECT, a DEBUG with always_display, a
+"""What an endpoint is told that its peer tells people: by a line before the version line, a DISCONNECT, a DEBUG with always_display, a
 banner and a FAILURE; and nothing of a message that is refused, dropped, or says nothing to people."""
 from lab import *
 from deployed_sessions import DeployedCourse, packet_of
@@ -53,7 +53,7 @@ class Place:
 
 
 def peer_at(t, role, name):
-    """What the peer says with behind what the side has heard."""
+    """What the peer sends with after what the side has received."""
     peer = Half(other(role))
     if name in ("at its making", "behind the version line"):
         return peer
@@ -138,7 +138,7 @@ def lines_before(file, t):
 def everywhere(file, t, role, place, name):
     """DISCONNECT is told of in each place; DEBUG where it may be shown, and is no deviation from a strict key exchange."""
     if role == SERVER and place == "behind KEXINIT" and t.guess:
-        # the packet of the wrong guess stands before what is said here
+        # the packet of the wrong guess stands before what is sent here
         return
     Place(file, t, role, place).row(name + ": DISCONNECT", [disconnect(11, b"bye", b"en")], ["disconnect 11 627965 656e"], end="closed 11")
     ruled = t.strict and place in ("behind KEXINIT", "behind the reply", "behind the share")
@@ -165,7 +165,7 @@ def texts(file, t):
 
 
 def failures(file, t):
-    """The methods that can continue, and whether the request was good as one of several."""
+    """The methods that can continue, and whether the request was successful as one of several."""
     for names in ("", "password", "password,publickey", "publickey,password,x@example.com", "none"):
         for partial in (0, 1, 2, 255):
             answer, end = (by_none("bo"), "open") if names == "none" else (disconnect(14), "failed F14")
@@ -263,7 +263,7 @@ def deployed(file):
     course = DeployedCourse()
     t, names = course.t, [line for line in course.lines if not line.startswith("allow ")]
     received, sent = [t.s_first, t.s_reply, t.s_newkeys, t.s_accept], [t.c_first, t.c_init, t.c_newkeys, t.c_service, course.requests[0]]
-    # the server of the course has said SUCCESS besides
+    # the server of the course has sent SUCCESS besides
     number = t.s.seq - 1
     payloads = [banner_of(b"hi", b"en"), debug(0), debug(1, b"a"), disconnect(11, b"bye")]
     file.row("a deployed client", names, "deployed client", feed(*received), says(*sent), asked("host_key"),

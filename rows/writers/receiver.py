@@ -1,5 +1,5 @@
 """An endpoint in small: what one of the lab's ends says to a stream that may be any bytes, and its end, from the formats and the
-profile alone. Of what is sealed it knows what a packet has to be, and of messages behind NEWKEYS those of the simplest session."""
+profile alone. Of what is sealed it knows what a packet has to be, and of messages after NEWKEYS those of the simplest session."""
 import re
 
 from lab import *
@@ -9,13 +9,13 @@ from requests import is_name
 from table import PLACES, ranges
 
 VERSION = re.compile(rb"SSH-2\.0-[!-,.-~]+( [ -~]*)?\r\n")
-# what stands behind a number: one byte, 16 bytes, a uint32, a string, a name-list, an mpint, any bytes to the end
+# what stands after a number: one byte, 16 bytes, a uint32, a string, a name-list, an mpint, any bytes to the end
 FORMS = {1: "uss", 2: "s", 3: "u", 4: "bss", 5: "s", 6: "s", 20: "c" + 10 * "l" + "bu", 21: "", 30: "m", 31: "sms", 50: "*", 52: ""}
 TABLE = {place[:3]: ranges(place[4]) for place in PLACES if not place[3]}
 
 
 class Ends(Exception):
-    """The end, and the reason of the DISCONNECT that is said of it, or none."""
+    """The end, and the reason of the DISCONNECT that is sent of it, or none."""
 
 
 def is_shortest(body):
@@ -45,7 +45,7 @@ def lists_of(fields):
 
 
 class Receiver:
-    """One of the lab's ends: a client with the attempt `none`, or a server that grants it. It hears a stream up to its end, or as far
+    """One of the lab's ends: a client with the attempt `none`, or a server that grants it. It receives a stream up to its end, or as far
     as that goes. What is the lab suite's own is a method each, for another suite."""
 
     FORMS, TAG, INIT, BLOB = FORMS, 32, INIT, BLOB
@@ -176,7 +176,7 @@ class Receiver:
         return keys_of(sender, k, h)
 
     def exchange(self, e, f, key):
-        """The shared number and the exchange hash (RFC 4253 section 8)."""
+        """The shared secret and the exchange hash (RFC 4253 section 8)."""
         random, theirs = (RANDOM[CLIENT], f) if self.role == CLIENT else (RANDOM[SERVER], e)
         k, order = self.shared(random, theirs), 1 if self.role == CLIENT else -1
         if k is None:
@@ -185,7 +185,7 @@ class Receiver:
         return k, sha(*(string(x) for x in parts))
 
     def switch(self, k, h):
-        """Says NEWKEYS, and keeps the keys for what is heard behind the other's."""
+        """Sends NEWKEYS, and keeps the keys for what is received after the other's."""
         self.own.switch(self.keys_of(self.role, k, h), self.strict)
         self.coming, self.phase = self.keys_of(other(self.role), k, h), "newkeys"
 
@@ -206,7 +206,7 @@ class Receiver:
         self.keys, self.phase, self.number = self.coming, "service", 0 if self.strict else self.number
 
     def after(self, payload, _):
-        """Behind NEWKEYS a changed packet is refused by its length or its tag, so each that comes here is as it was sent."""
+        """After NEWKEYS a changed packet is refused by its length or its tag, so each that comes here is as it was sent."""
         answer = {service(5, "ssh-userauth"): service(6, "ssh-userauth"), service(6, "ssh-userauth"): by_none(), by_none(): SUCCESS,
                   SUCCESS: None}[payload]
         self.phase = "auth"

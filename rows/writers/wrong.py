@@ -113,7 +113,7 @@ def linked(file, t):
 
 
 def half_again(t):
-    """The server behind SUCCESS."""
+    """The server after SUCCESS."""
     s = half(t.s)
     s.send(SUCCESS)
     return s

@@ -7,7 +7,7 @@ use Rattle.std.specs.Str.{bytes_eq}
 use Rattle.std.proofs.lemmas.List.{append-nil, map-append}
 use Rattle.std.proofs.lemmas.List.Elements.{filter_map-append}
 
--- what a line gives stands behind what the lines before it give
+-- what a line gives stands after what the lines before it give
 given_more : {W : Type 0} (f : List ℕ → Option (List ℕ)) (now : W → List ℕ) (ls : List W) (l : W) (found : Option (List ℕ)) → f (now l) ≡ found
     → filter_map f (map now (ls ++ l ∷ [])) ≡ filter_map f (map now ls) ++ cons_option found []
 given_more f now ls l found e =

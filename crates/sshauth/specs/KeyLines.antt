@@ -14,7 +14,7 @@ use Rattle.sshauth.specs.declared.key_lines.KeyLine.TheVariants as line
 abbrev pub is_blank : ℕ → Bool
 is_blank byte = byte == 32 || byte == 9 || byte == 13
 
--- what a text is behind its first blanks
+-- what a text is after its first blanks
 unfoldable pub unblanked : List ℕ → List ℕ
 unblanked text = drop (position_or_len (λ byte. not (is_blank byte)) text) text
 
@@ -22,7 +22,7 @@ unblanked text = drop (position_or_len (λ byte. not (is_blank byte)) text) text
 unfoldable pub first_word : List ℕ → List ℕ
 first_word text = before_first is_blank (unblanked text)
 
--- what stands behind it
+-- what stands after it
 unfoldable pub after_word : List ℕ → List ℕ
 after_word text = drop (position_or_len is_blank (unblanked text)) (unblanked text)
 
@@ -38,7 +38,7 @@ is_named names host = not (list_any is_mark names) && list_any (λ name. bytes_e
 abbrev pub digits_after : List ℕ → Option (List ℕ)
 digits_after text = if bytes_eq (first_word text) (codes "ssh-ed25519") then Some (first_word (after_word text)) else None
 
--- the digits of a line that is looked for: a key alone, a key behind names that have the host, or one behind `@revoked`
+-- the digits of a line that is looked for: a key alone, a key after names that have the host, or one after `@revoked`
 -- and names
 abbrev pub digits_in : KeyLine → List ℕ → Option (List ℕ)
 digits_in line.Authorized text = digits_after text

@@ -21,14 +21,14 @@ proves trust NoProof = false
 proves trust (PasswordProof password) = is_own (option_map (λ v. v.items) trust.password) password
 proves trust (KeyProof algorithm blob) = is_trusted trust blob
 
--- a host key is trusted that is one of the keys; one user is let in, by the password or by one of the keys
+-- a host key is trusted that is one of the keys; one user is accepted, by the password or by one of the keys
 abbrev pub trust_policy : Trust → DecisionsData
 trust_policy trust = record {
   host_key = λ algorithm blob. is_trusted trust blob;
   user = λ number user service proof. bytes_eq (string_bytes trust.user) user && proves trust proof;
 }
 
--- any host key will do, and no user is let in
+-- any host key will do, and no user is accepted
 abbrev pub any_host_policy : {A : Type 0} → A → DecisionsData
 any_host_policy looking = record {
   host_key = λ algorithm blob. true;

@@ -11,7 +11,7 @@ use std::io::Write;
 /// The most bytes of a command.
 const COMMAND_LIMIT: usize = 1000;
 
-/// What a server says to whatever it is asked to do.
+/// What a server answers to whatever it is asked to do.
 const GREETING: &[u8] = b"authenticated by rezdolin\n";
 
 /// How many bytes the peer may send, and how many in one message.
@@ -63,7 +63,7 @@ pub(crate) fn ask(
     receive_server(rt, &mut stream, command)
 }
 
-/// Hears what a server says until its channel is closed, or its input ends.
+/// Receives what a server sends until its channel is closed, or its input ends.
 fn receive_server(
     rt: &HostRuntime,
     stream: &mut SessionStream,
@@ -84,7 +84,7 @@ fn receive_server(
     Ok(())
 }
 
-/// What a client says to a message of the server, if it says something.
+/// What a client answers a message of the server, if it answers.
 fn reply_to_server(
     rt: &HostRuntime,
     payload: &[u8],
@@ -113,7 +113,7 @@ fn reply_to_server(
     }
 }
 
-/// What either side says to a message beside its channel: that a global request isn't done.
+/// What either side answers a message beside its channel: that a global request isn't done.
 fn reply_besides(
     rt: &HostRuntime,
     number: u8,
@@ -144,7 +144,7 @@ fn tell_status(rt: &HostRuntime, reader: &mut Reader<'_>) -> Result<(), Fault> {
     Ok(())
 }
 
-/// A server's: takes one session, says a line to whatever it is asked to do, and closes.
+/// A server's: takes one session, answers by a line whatever it is asked to do, and closes.
 pub(crate) fn answer(rt: &HostRuntime, session: Box<Session>, after: Vec<u8>) -> Result<(), Fault> {
     let mut stream = SessionStream::new(rt, session, after)?;
     let mut theirs = 0;
@@ -206,7 +206,7 @@ fn receive_request(
     }
 }
 
-/// Says a line, the exit status 0 and the end of the channel.
+/// Sends a line, the exit status 0 and the end of the channel.
 fn finish(rt: &HostRuntime, stream: &mut SessionStream, theirs: u32) -> Result<(), Fault> {
     let alloc = rt.alloc();
     stream.send(rt, &data(alloc, theirs)?)?;
@@ -215,7 +215,7 @@ fn finish(rt: &HostRuntime, stream: &mut SessionStream, theirs: u32) -> Result<(
     stream.send(rt, &of_channel(alloc, CHANNEL_CLOSE, theirs)?)
 }
 
-/// A message that has the number of the peer's channel, and whatever is put behind.
+/// A message that has the number of the peer's channel, and whatever is put after it.
 fn of_channel(alloc: Global, number: u8, theirs: u32) -> Result<Vec<u8>, Memory> {
     let mut payload = Vec::from_slice(alloc, &[number])?;
     put_u32(&mut payload, theirs)?;
@@ -253,7 +253,7 @@ fn exec(alloc: Global, theirs: u32, command: &str) -> Result<Vec<u8>, Fault> {
     Ok(payload)
 }
 
-/// CHANNEL_DATA with the line that a server says.
+/// CHANNEL_DATA with the line that a server sends.
 fn data(alloc: Global, theirs: u32) -> Result<Vec<u8>, Memory> {
     let mut payload = of_channel(alloc, DATA, theirs)?;
     put_string(&mut payload, GREETING)?;

@@ -1,4 +1,4 @@
-//! What one side of a connection says in clear.
+//! What one side of a connection sends in clear.
 
 use crate::fault::Fault;
 use sshmsg::{Message, MsgFault, read_exchange};
@@ -7,7 +7,7 @@ use sshsuite::DeployedSuite;
 use sshwire::{LineReader, LineStep, ShareForm, VersionLine, WireFault};
 use std::alloc::Global;
 
-/// Reads what one side says, from its first byte to its NEWKEYS. Of what came it holds what is told of it, and an
+/// Reads what one side sends, from its first byte to its NEWKEYS. Of what came it holds what is told of it, and an
 /// unfinished line or packet.
 #[derive(Drop)]
 pub(crate) struct ClearStream {
@@ -16,7 +16,7 @@ pub(crate) struct ClearStream {
     pub(crate) sent: Sent,
 }
 
-/// What a side has said in clear.
+/// What a side has sent in clear.
 #[derive(Drop)]
 pub(crate) struct Sent {
     /// Its version line.
@@ -25,7 +25,7 @@ pub(crate) struct Sent {
     pub(crate) kexinit: Option<Vec<u8>>,
     /// The public host key in its last reply of a key exchange.
     pub(crate) host_key: Option<Vec<u8>>,
-    /// Whether NEWKEYS came. What stands behind it is sealed.
+    /// Whether NEWKEYS came. What stands after it is sealed.
     pub(crate) new_keys: bool,
 }
 
@@ -58,7 +58,7 @@ impl ClearStream {
     }
 
     /// Reads of a piece the lines up to the version line, or one packet, and answers how many bytes these are: all
-    /// where more is to come, behind NEWKEYS, and where they are refused.
+    /// where more is to come, after NEWKEYS, and where they are refused.
     pub(crate) fn receive(&mut self, alloc: Global, piece: &[u8]) -> Result<usize, Fault> {
         if !self.lines.is_done() {
             return self.receive_lines(piece);

@@ -10,7 +10,7 @@ use std::fmt;
 pub(crate) enum Fault {
     /// Words that it doesn't know, or that don't fit each other.
     Words,
-    /// A growth was refused.
+    /// An allocation failed.
     Memory,
     /// Standard input can't be read.
     Read,
@@ -24,12 +24,12 @@ pub(crate) enum Fault {
     Form(&'static str),
     /// The parts are refused.
     Config(ConfigFault),
-    /// What the peer sent behind authentication can't be read.
+    /// What the peer sent after authentication can't be read.
     Session,
 }
 
 impl Fault {
-    /// The exit status: 2 for words, files and parts, 3 for want of memory, 4 for a failed read or write.
+    /// The exit status: 2 for words, files and parts, 3 for out of memory, 4 for a failed read or write.
     pub(crate) fn status(&self) -> u8 {
         match self {
             Fault::Memory => 3,

@@ -27,7 +27,7 @@ pub(crate) struct Findings<'a> {
     pub(crate) theirs: &'a Sent,
     /// The server's public host key, whose signature was verified.
     pub(crate) host_key: &'a Option<Vec<u8>>,
-    /// What the server has said to people, a line for each.
+    /// What the server has told people, a line for each.
     pub(crate) notices: &'a str,
     /// How the endpoint ended.
     pub(crate) end: &'a End,
@@ -50,7 +50,7 @@ pub(crate) fn report_of(alloc: Global, findings: &Findings<'_>) -> Result<String
     Ok(text)
 }
 
-/// Puts the lines of what the server has said to people.
+/// Puts the lines of what the server has told people.
 fn put_notices(text: &mut String, notices: &str) -> Result<(), AllocError> {
     for line in notices.lines() {
         writeln!(text, "# {line}")?;

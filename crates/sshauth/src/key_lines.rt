@@ -149,7 +149,7 @@ fn is_mark(byte: u8) -> bool
     byte == b'@' || byte == b'#' || byte == b'|' || byte == b'!'
 }
 
-/// The first word of a text, and what stands behind it. No word is an empty one.
+/// The first word of a text, and what stands after it. No word is an empty one.
 #[tactic(auto, unfolding(crate::specs::KeyLines::first_word, crate::specs::KeyLines::after_word))]
 fn cut_word(text: &[u8]) -> (&[u8], &[u8])
     ensures word { result.0.now ≡ first_word text.now }
@@ -162,7 +162,7 @@ fn cut_word(text: &[u8]) -> (&[u8], &[u8])
     }
 }
 
-/// What a text is behind its first blanks.
+/// What a text is after its first blanks.
 #[tactic(auto, unfolding(crate::specs::KeyLines::unblanked))]
 fn unblanked(text: &[u8]) -> &[u8]
     ensures { result.now ≡ unblanked text.now }

@@ -1,4 +1,4 @@
-//! What the peer says to people, kept as text until it is told.
+//! What the peer tells people, kept as text until it is told.
 
 use sshcore::{Decisions, Notice, Proof};
 use sshwire::NameList;
@@ -6,11 +6,11 @@ use std::alloc::{AllocError, Global};
 use std::cell::RefCell;
 use std::fmt::Write;
 
-/// What the peer has said to people, a line for each: `line TEXT` before its version line, `banner TEXT` for each line of
+/// What the peer has told people, a line for each: `line TEXT` before its version line, `banner TEXT` for each line of
 /// one, `debug TEXT`, `disconnect TEXT`, and after a FAILURE `methods NAMES` for those that can continue, or `partial success, methods NAMES`.
 ///
 /// A byte that is no printable character of ASCII stands as `\xNN` in them, so none of them moves a terminal's
-/// cursor (RFC 4251 section 9.2). A notice for which memory is wanting is left out.
+/// cursor (RFC 4251 section 9.2). A notice for which memory runs out is left out.
 #[derive(Drop)]
 pub(crate) struct Notices {
     lines: RefCell<String>,
@@ -50,7 +50,7 @@ impl Notices {
     }
 }
 
-/// Decisions that keep what the peer says to people.
+/// Decisions that keep what the peer tells people.
 #[derive(Drop)]
 pub(crate) struct Listening<'a, D: Decisions> {
     pub(crate) decisions: &'a D,
@@ -114,7 +114,7 @@ fn put_line(lines: &mut String, word: &str, text: &[u8]) -> Result<(), AllocErro
     lines.push('\n')
 }
 
-/// Puts the names of the methods that can continue, and whether the request was good as one of several.
+/// Puts the names of the methods that can continue, and whether the request was successful as one of several.
 fn put_methods(
     lines: &mut String,
     methods: &NameList,

@@ -1,5 +1,5 @@
 //! A client that looks at a server: it trusts whatever host key it meets, asks by the method `none` alone, and tells what
-//! the server has said.
+//! the server has sent.
 
 ghost use Rattle.sshauth.specs.Trust.{any_host_policy};
 
@@ -38,7 +38,7 @@ impl Decisions for AnyHost {
 /// An endpoint of a probe.
 type Prober<'a> = Endpoint<'a, DeployedSuite, Listening<'a, AnyHost>>;
 
-/// What both sides have said.
+/// What both sides have sent.
 #[derive(Drop)]
 struct Looked {
     ours: ClearStream,
@@ -76,7 +76,7 @@ fn begin(rt: &HostRuntime, settings: &Settings<'_>, config: &ClientConfig) -> Re
     look(rt, settings, endpoint, out, notices)
 }
 
-/// The same by an endpoint that has said these bytes so far.
+/// The same by an endpoint that has sent these bytes so far.
 fn look(
     rt: &HostRuntime,
     settings: &Settings<'_>,
@@ -96,7 +96,7 @@ fn look(
     Ok(looked.theirs.sent.kexinit.is_some())
 }
 
-/// Tells what both sides have said, and how the endpoint ended.
+/// Tells what both sides have sent, and how the endpoint ended.
 fn found(
     rt: &HostRuntime,
     settings: &Settings<'_>,
@@ -144,7 +144,7 @@ fn carry(
         let sent = send(rt, &out);
         out.clear();
         if !matches!(endpoint.end(), End::Open) {
-            return Ok(()); // a server that has gone hears no farewell
+            return Ok(()); // a server that has gone receives no farewell
         }
         sent?;
         let count = receive(rt, &mut chunk)?;
@@ -157,8 +157,8 @@ fn carry(
     Ok(())
 }
 
-/// Gives the endpoint a piece, lines or packet by packet, so that the packet is known at which the client says NEWKEYS:
-/// it is the reply whose signature was verified.
+/// Gives the endpoint a piece, lines or packet by packet, so that the packet is known at which the client sends
+/// NEWKEYS: it is the reply whose signature was verified.
 fn give(
     rt: &HostRuntime,
     endpoint: &mut Prober<'_>,

@@ -21,19 +21,19 @@ impl fmt::Display for Ended<'_> {
     }
 }
 
-/// Says what the peer has said to people since the last call.
+/// Prints what the peer has told people since the last call.
 pub(crate) fn notices(rt: &HostRuntime, notices: &Notices) {
     let _ = rt.stderr().write_all(notices.taken().as_bytes());
 }
 
-/// Says how an endpoint ended that isn't authenticated.
+/// Prints how an endpoint ended that isn't authenticated.
 pub(crate) fn end(rt: &HostRuntime, end: &End) {
     if !matches!(end, End::Authenticated(_)) {
         let _ = writeln!(rt.stderr(), "{}", Ended(end));
     }
 }
 
-/// Says who was authenticated, at a server how, and by which algorithms.
+/// Prints who was authenticated, at a server how, and by which algorithms.
 pub(crate) fn authenticated(rt: &HostRuntime, session: &Session) {
     let agreed = &session.agreed;
     let (user, kex, host_key) = (&agreed.user, &agreed.kex, &agreed.host_key);
@@ -63,12 +63,12 @@ fn methods_of(accepted: &Option<Accepted>) -> &'static str {
     }
 }
 
-/// Says a line.
+/// Prints a line.
 pub(crate) fn tell(rt: &HostRuntime, text: &str) {
     let _ = writeln!(rt.stderr(), "{text}");
 }
 
-/// Says a line with a number.
+/// Prints a line with a number.
 pub(crate) fn tell_number(rt: &HostRuntime, text: &str, number: u32) {
     let _ = writeln!(rt.stderr(), "{text} {number}");
 }

@@ -22,7 +22,7 @@ pub(crate) struct Settings<'a> {
     /// A client's file of host keys that are trusted, and the name by which they stand there, which a probe has too.
     pub(crate) known_hosts: Option<&'a str>,
     pub(crate) host: Option<&'a str>,
-    /// A server's private host key, and the file of the keys by which the user may come in.
+    /// A server's private host key, and the file of the keys by which the user is accepted.
     pub(crate) host_key: Option<&'a str>,
     pub(crate) authorized_keys: Option<&'a str>,
     /// A file whose bytes a server sends as BANNER.

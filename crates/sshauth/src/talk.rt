@@ -16,10 +16,10 @@ pub(crate) const CHUNK: usize = 16384;
 /// An endpoint of this program.
 type SuiteEndpoint<'a> = Endpoint<'a, DeployedSuite, Listening<'a, Trust>>;
 
-/// A session, and the bytes that came behind the packet that ended the endpoint.
+/// A session, and the bytes that came after the packet that ended the endpoint.
 type Handed = Option<(Box<Session>, Vec<u8>)>;
 
-/// A client, and what it asks for behind SUCCESS. Answers whether the user was authenticated.
+/// A client, and what it asks for after SUCCESS. Answers whether the user was authenticated.
 pub(crate) fn client(rt: &HostRuntime, settings: &Settings<'_>) -> Result<bool, Fault> {
     let config = client_config(rt, settings)?;
     let trust = client_trust(rt, settings)?;
@@ -32,7 +32,7 @@ pub(crate) fn client(rt: &HostRuntime, settings: &Settings<'_>) -> Result<bool, 
     }
 }
 
-/// A server, and what it answers behind SUCCESS. Answers whether the user was authenticated.
+/// A server, and what it answers after SUCCESS. Answers whether the user was authenticated.
 pub(crate) fn server(rt: &HostRuntime, settings: &Settings<'_>) -> Result<bool, Fault> {
     let config = server_config(rt, settings)?;
     let trust = server_trust(rt, settings)?;
@@ -85,7 +85,7 @@ fn server_session(rt: &HostRuntime, config: &ServerConfig, trust: &Trust) -> Res
     hand_over(rt, endpoint, out, notices)
 }
 
-/// What an endpoint hands over that has said these bytes so far.
+/// What an endpoint hands over that has sent these bytes so far.
 fn hand_over(
     rt: &HostRuntime,
     endpoint: SuiteEndpoint<'_>,
@@ -104,7 +104,7 @@ fn hand_over(
     }
 }
 
-/// Gives the endpoint what comes until it has ended, and tells what the peer says to people.
+/// Gives the endpoint what comes until it has ended, and tells what the peer tells people.
 fn carry(
     rt: &HostRuntime,
     endpoint: &mut SuiteEndpoint<'_>,
@@ -118,7 +118,7 @@ fn carry(
         let sent = send(rt, &out);
         out.clear();
         if !matches!(endpoint.end(), End::Open) {
-            return Ok(()); // a peer that has gone hears no farewell
+            return Ok(()); // a peer that has gone receives no farewell
         }
         sent?;
         let count = receive(rt, &mut chunk)?;

@@ -39,7 +39,7 @@ fn is_trusted(trust: &Trust, blob: &[u8]) -> bool
     trust.keys.iter().any(|key| key.as_slice() == blob)
 }
 
-/// Whether the proof lets the user in.
+/// Whether the proof is accepted.
 fn proves(trust: &Trust, proof: &Proof<'_>) -> bool
     ensures { result ≡ proves trust.now (proof_data proof.now) }
 {

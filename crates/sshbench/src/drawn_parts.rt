@@ -12,18 +12,18 @@ use sshcore::{
 use sshsuites::{lab_client_parts, lab_server_parts};
 use std::alloc::Global;
 
-/// Decisions that are drawn: whether the host key is trusted, and which requests are let in.
+/// Decisions that are drawn: whether the host key is trusted, and which requests are accepted.
 #[derive(Drop)]
 pub(crate) struct Whims {
     trusts: bool,
-    /// Whether requests are let in, but one.
+    /// Whether requests are accepted, but one.
     accepts: bool,
-    /// The number of the one request that isn't let in; 0 is none.
+    /// The number of the one request that isn't accepted; 0 is none.
     denied: u32,
 }
 
 impl Whims {
-    /// Of eight, one trusts no host key, and two let nobody in.
+    /// Of eight, one trusts no host key, and two accept nobody.
     pub(crate) fn drawn(rng: &mut SplitMix64) -> Whims {
         Whims {
             trusts: below(rng, 8) != 0,

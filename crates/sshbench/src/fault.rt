@@ -12,7 +12,7 @@ use std::{fmt, io};
 pub(crate) enum Fault {
     /// Other words than none, `time`, `stream` with a number, and `soak` with two.
     Words,
-    /// A growth was refused.
+    /// An allocation failed.
     Memory,
     /// A payload of this program's own wasn't read.
     Read,

@@ -1,4 +1,5 @@
-//! Streams of a whole session that are changed at random, each heard by a fresh endpoint, which may not be authenticated by it.
+//! Streams of a whole session that are changed at random, each received by a fresh endpoint, which may not be
+//! authenticated by it.
 
 use crate::drawn::{below, byte, flag};
 use crate::fault::{Fault, holds};
@@ -49,7 +50,7 @@ fn place_below(rng: &mut SplitMix64, count: usize) -> usize {
     usize::try_from(below(rng, count)).unwrap_or(0)
 }
 
-/// Hears so many changed streams, and answers how many were authenticated since what was changed means nothing.
+/// Receives so many changed streams, and answers how many were authenticated since what was changed means nothing.
 pub(crate) fn streams(alloc: Global, rng: &mut SplitMix64, count: u32) -> Result<u32, Fault> {
     let lab = Lab::new(alloc, Reach::User)?;
     let sent = talk(alloc, &lab, WHOLE)?;
@@ -65,7 +66,7 @@ pub(crate) fn streams(alloc: Global, rng: &mut SplitMix64, count: u32) -> Result
     Ok(unnoticed)
 }
 
-/// Has a fresh server hear the stream with one change.
+/// Has a fresh server receive the stream with one change.
 fn at_server(alloc: Global, rng: &mut SplitMix64, lab: &Lab, stream: &[u8]) -> Result<bool, Fault> {
     let mut endpoint = server_in(alloc, lab, &mut Vec::new(alloc))?;
     let received = receive(alloc, rng, &mut endpoint, stream);
@@ -81,7 +82,8 @@ fn at_client(alloc: Global, rng: &mut SplitMix64, lab: &Lab, stream: &[u8]) -> R
     received
 }
 
-/// Has the endpoint hear the stream with one change, and answers whether it was authenticated: only where that means nothing.
+/// Has the endpoint receive the stream with one change, and answers whether it was authenticated: only where that means
+/// nothing.
 fn receive(
     alloc: Global,
     rng: &mut SplitMix64,
@@ -99,7 +101,8 @@ fn receive(
     Ok(is_authenticated)
 }
 
-/// Whether all that is heard is as it was: the stream itself comes first, or a byte of padding in clear is another one.
+/// Whether all that is received is as it was: the stream itself comes first, or a byte of padding in clear is another
+/// one.
 fn means_nothing(stream: &[u8], changed: &[u8], place: usize, change: Change) -> bool {
     let is_padding = matches!(change, Change::Byte(_)) && is_padding(stream, place);
     is_padding || changed.starts_with(stream)

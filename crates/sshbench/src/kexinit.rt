@@ -38,7 +38,7 @@ fn put_list(payload: &mut Vec<u8>, names: &[u8]) -> Result<(), Fault> {
     Ok(())
 }
 
-/// Appends the empty list, no guess and the 0 behind it.
+/// Appends the empty list, no guess and the 0 after it.
 fn put_end(payload: &mut Vec<u8>) -> Result<(), Fault> {
     put_list(payload, b"")?;
     put_boolean(payload, false)?;
@@ -46,7 +46,7 @@ fn put_end(payload: &mut Vec<u8>) -> Result<(), Fault> {
     Ok(())
 }
 
-/// Reads the payload and writes what was read behind nothing.
+/// Reads the payload and writes what was read into an empty vector.
 pub(crate) fn read_and_write(
     alloc: Global,
     payload: &[u8],
@@ -58,7 +58,7 @@ pub(crate) fn read_and_write(
     written
 }
 
-/// Writes a message behind nothing.
+/// Writes a message into an empty vector.
 fn write_over(message: &Message<'_>, out: &mut Vec<u8>) -> Result<(), Fault> {
     out.clear();
     if message.fits() {

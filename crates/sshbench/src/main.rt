@@ -3,7 +3,7 @@
 //! Without words it does each row's work once and checks the result; with the word `time` it does
 //! it many times and prints a table of ratios; with `stream N` it reads N MB of packets that are made
 //! piece by piece, and prints how long the reading took; with `soak N SEED` it runs N sessions of configs and
-//! schedules that the seed draws, and hears ten times as many streams that it changed.
+//! schedules that the seed draws, and receives ten times as many streams that it changed.
 #![tactic(auto)]
 
 mod choices;

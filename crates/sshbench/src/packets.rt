@@ -109,8 +109,8 @@ impl Stream {
         Ok(count)
     }
 
-    /// Copies all bytes in pieces of so many, the first behind nothing: each other one behind the one before, or with
-    /// `over` behind nothing too, so that the last one is left.
+    /// Copies all bytes in pieces of so many, the first into an empty vector: each other one after the one before, or
+    /// with `over` after nothing too, so that the last one is left.
     pub(crate) fn copy(
         &self,
         piece_len: usize,

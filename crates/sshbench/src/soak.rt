@@ -12,13 +12,13 @@ use sshworld::{Side, World, predict};
 use std::alloc::Global;
 use std::io::Write;
 
-/// The most deliveries of a schedule that is drawn. Behind them both sides are given all that waits, in turn.
+/// The most deliveries of a schedule that is drawn. After them both sides are given all that waits, in turn.
 const DELIVERIES: u32 = 400;
 
 /// More rounds than any plan that is drawn needs.
 const ROUNDS: u32 = 200;
 
-/// How many changed streams are heard for each world.
+/// How many changed streams are received for each world.
 const STREAMS: u32 = 10;
 
 /// How sessions ended.
@@ -28,7 +28,7 @@ struct Tally {
     otherwise: u32,
 }
 
-/// Runs so many worlds, and hears ten times as many changed streams, and prints how they ended.
+/// Runs so many worlds, and receives ten times as many changed streams, and prints how they ended.
 pub(crate) fn print(rt: &HostRuntime, count: u32, seed: u32) -> Result<(), Fault> {
     let alloc = rt.alloc();
     let mut rng = SplitMix64::seed_from_u64(u64::from(seed));
@@ -105,7 +105,7 @@ fn run_to(
     ended
 }
 
-/// Delivers all that is said, by which the world has to end so. Answers whether the user was authenticated.
+/// Delivers all that is sent, by which the world has to end so. Answers whether the user was authenticated.
 fn ends_so(
     rng: &mut SplitMix64,
     world: &mut DrawnWorld<'_>,

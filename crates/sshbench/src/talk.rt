@@ -7,13 +7,13 @@ use sshcore::{
 use sshsuites::{LabDecisions, LabSuite, lab_client_parts, lab_server_parts};
 use std::alloc::Global;
 
-/// More bytes than either side says.
+/// More bytes than either side sends.
 pub(crate) const WHOLE: usize = 65536;
 
 /// How far both endpoints come.
 #[derive(Clone, Copy)]
 pub(crate) enum Reach {
-    /// The client hears SERVICE_ACCEPT. It has no attempt then, which is how it has to end; the server
+    /// The client receives SERVICE_ACCEPT. It has no attempt then, which is how it has to end; the server
     /// waits.
     Service,
     /// The user is authenticated without a proof at both, which is how they have to end.
@@ -21,7 +21,7 @@ pub(crate) enum Reach {
 }
 
 impl Reach {
-    /// How often each side is given what the other has said.
+    /// How often each side is given what the other has sent.
     fn turns(&self) -> u32 {
         match self {
             Reach::Service => 3,
@@ -63,7 +63,7 @@ fn is_user(end: &End) -> bool {
 }
 
 /// What both endpoints are made of: the lab's default parts, and for a user one attempt, which the server
-/// lets in.
+/// accepts.
 #[derive(Drop)]
 pub(crate) struct Lab {
     client: Box<ClientConfig>,
@@ -105,7 +105,7 @@ fn server_of(alloc: Global) -> Result<Box<ServerConfig>, Fault> {
     Ok(Box::new(alloc, config)?)
 }
 
-/// Decisions that let `al` in.
+/// Decisions that accept `al`.
 fn decisions_of(alloc: Global) -> Result<LabDecisions, Fault> {
     let mut decisions = LabDecisions::new(alloc);
     decisions.allow("al", &Credential::None)?;
@@ -126,7 +126,7 @@ impl Lab {
     }
 }
 
-/// What both sides said.
+/// What both sides sent.
 #[derive(Drop)]
 pub(crate) struct Sent {
     pub(crate) client: Vec<u8>,
@@ -136,7 +136,7 @@ pub(crate) struct Sent {
 /// An endpoint of the lab.
 pub(crate) type LabEndpoint<'a> = Endpoint<'a, LabSuite, LabDecisions>;
 
-/// The client at its making, and what it says then.
+/// The client at its making, and what it sends then.
 pub(crate) fn client_in<'a>(
     alloc: Global,
     lab: &'a Lab,
@@ -156,7 +156,7 @@ pub(crate) fn server_in<'a>(
     Ok(Box::new(alloc, endpoint)?)
 }
 
-/// An endpoint, all that it has said, and how many of the other's bytes it was given.
+/// An endpoint, all that it has sent, and how many of the other's bytes it was given.
 #[derive(Drop)]
 struct Talker<'a> {
     endpoint: Box<LabEndpoint<'a>>,
@@ -187,7 +187,7 @@ impl<'a> Talker<'a> {
         })
     }
 
-    /// Gives it what the other has said since, in pieces of so many bytes; it has to use all.
+    /// Gives it what the other has sent since, in pieces of so many bytes; it has to use all.
     fn receive(&mut self, other: &[u8], piece_len: usize) -> Result<(), Fault> {
         let rest = other.get(self.given..).unwrap_or(&[]);
         for piece in rest.chunks(piece_len.max(1)) {
@@ -237,7 +237,7 @@ fn check_in(alloc: Global, lab: &Lab) -> Result<(), Fault> {
     same
 }
 
-/// Whether this is said by single bytes.
+/// Whether this is sent by single bytes.
 fn is_sent(alloc: Global, lab: &Lab, whole: &Sent) -> Result<(), Fault> {
     let bytes = talk(alloc, lab, 1)?;
     holds(whole.client == bytes.client && whole.server == bytes.server)

@@ -32,7 +32,7 @@ pub(crate) enum Work<'a> {
 pub(crate) enum Act {
     /// It is read in pieces of so many bytes.
     Read(usize),
-    /// It is copied in such pieces, each behind the one before.
+    /// It is copied in such pieces, each after the one before.
     Copy(usize),
     /// It is copied in such pieces, each over the one before.
     CopyOver(usize),
@@ -51,7 +51,7 @@ impl Act {
         }
     }
 
-    /// Judges what is left behind the last time.
+    /// Judges what is left after the last time.
     fn judge(self, stream: &Stream, out: &[u8]) -> Result<(), Fault> {
         match self {
             Act::Copy(_) => holds(stream.bytes.as_slice() == out),
@@ -74,7 +74,7 @@ impl Work<'_> {
         }
     }
 
-    /// Judges what is left behind the last time.
+    /// Judges what is left after the last time.
     fn judge(self, out: &[u8]) -> Result<(), Fault> {
         match self {
             Work::Packets(stream, act) => act.judge(stream, out),

@@ -1,4 +1,4 @@
--- What is known behind a payload, by its number.
+-- What is known after a payload, by its number.
 
 use Rattle.std.proofs.Common.{◌≡◌, ◌≢◌, ℕ, ◌==◌, false, List, Ok, refl}
 use Rattle.std.proofs.lemmas.Bool.{ne_eqb}
@@ -36,15 +36,15 @@ module _ (m : SuiteData) (d : DecisionsData) (party : ConfigData) (known : Known
   unfolding tried_in
   request_after user service method is read = rw (is, read) refl
 
-  -- behind a FAILURE the plan goes on to the next attempt that is listed
+  -- after a FAILURE the plan goes on to the next attempt that is listed
   pub failure_after : (listed : List (List ℕ)) → kind payload ≡ 51 → listed_in payload ≡ listed → after_payload m d party known payload ≡ failed_attempt known listed
   failure_after listed is lists = rw (is, lists) refl
 
-  -- and behind a PK_OK to the attempt itself
+  -- and after a PK_OK to the attempt itself
   pub pk_ok_after : kind payload ≡ 60 → after_payload m d party known payload ≡ confirmed_attempt known
   pk_ok_after is = rw is refl
 
-  -- what is carried along changes behind requests alone
+  -- what is carried along changes after requests alone
   pub carried_stays : (c : Carried) → kind payload ≢ 50 → carried_after m d party known c payload ≡ c
   carried_stays c request = let r : (kind payload == 50) ≡ false = ne_eqb (kind payload) 50 request in rw r refl
 

@@ -18,8 +18,8 @@ pub data IsRefusal (d : DecisionsData) (party : ConfigData) (known : Known) (use
   Refused : (partial : Bool) → x ≡ UserauthFailure party.methods partial → IsRefusal d party known user service x
   Confirmed : (algorithm key : List ℕ) → would_do d party known user service algorithm key ≡ true → x ≡ UserauthPkOk algorithm key → IsRefusal d party known user service x
 
--- For a service that the server doesn't have; good, so that all required methods are reached; the last that is granted; or one
--- more, and it is told so.
+-- For a service that the server doesn't have; successful, so that all required methods are reached; the last that is granted;
+-- or one more, and it is told so.
 pub data IsAnswered (m : SuiteData) (d : DecisionsData) (party : ConfigData) (known : Known) (user service : List ℕ) (method : MethodData) (r : Reply) : Type 0 where
   Elsewhere : is_in party.services service ≡ false → r ≡ fails fault.Service → IsAnswered m d party known user service method r
   Succeeds : is_in party.services service ≡ true → is_successful m d party known user service method ≡ true → completes party known user service method true ≡ true

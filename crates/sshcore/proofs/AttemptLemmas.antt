@@ -72,7 +72,7 @@ module _ (listed : List (List ℕ)) (attempts : List attempt_parts.Attempt) (fou
   pub listed_nowhere : found ≡ None → ◌≡◌ {A = List AttemptData} [] (next_listed listed (map attempt_data attempts))
   listed_nowhere is = listed_none listed attempts (ltb-false _ _ (no_place _ (position_or_len (is_listed listed) attempts) (sym finds ∙ is)))
 
--- nothing stands behind no attempts
+-- nothing stands after no attempts
 pub none_after : (listed : List (List ℕ)) (attempts : List attempt_parts.Attempt) → length attempts ≡ 0
     → map attempt_data attempts ≡ next_listed listed (drop 1 (map attempt_data attempts))
 unfolding next_listed
@@ -124,7 +124,7 @@ pub left_some : (b : Bool) (attempts : List AttemptData) (a : AttemptData) (late
 left_some true attempts a later e = rw e refl
 left_some false attempts a later e = e
 
--- behind a FAILURE it is the same
+-- after a FAILURE it is the same
 pub left_next : (b : Bool) (listed : List (List ℕ)) (attempts : List AttemptData) → next_after listed attempts ≡ next_after listed (left_of b attempts)
 left_next true listed [] = refl
 left_next true listed (a ∷ later) = refl

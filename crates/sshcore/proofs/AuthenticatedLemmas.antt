@@ -1,4 +1,4 @@
--- How the reply to a message ends, and what an endpoint has heard that ended authenticated.
+-- How the reply to a message ends, and what an endpoint has received that ended authenticated.
 
 use Rattle.std.proofs.Common.{◌≡◌, ℕ, ◌+◌, Bool, true, false, if◌then◌else◌, List, [], ◌∷◌, ◌++◌, Option, None, Some, Result, Ok, Err, refl, sym, ap, ◌∙◌, subst, arith}
 use Rattle.std.specs.Prelude.{◌&&◌, not}
@@ -73,8 +73,8 @@ early_cond : (b : Bool) (r o : Reply) → IsEarly r.end → IsEarly o.end → Is
 early_cond true r o x y = x
 early_cond false r o x y = y
 
--- How the reply to a message ends: early; or authenticated, by a good request for a service that the server has, or by a SUCCESS
--- where an attempt was made.
+-- How the reply to a message ends: early; or authenticated, by a successful request for a service that the server has, or by a
+-- SUCCESS where an attempt was made.
 pub data WorkEnds (m : SuiteData) (d : DecisionsData) (party : ConfigData) (known : Known) (c : MessageData) (end : EndData) : Type 0 where
   Early : IsEarly end → WorkEnds m d party known c end
   Requested : (user service : List ℕ) (method : MethodData) → c ≡ UserauthRequest user service method → is_in party.services service ≡ true
@@ -119,7 +119,7 @@ module _ (m : SuiteData) (d : DecisionsData) (role : Role) (party : ConfigData) 
   early_attempt session [] = refl
   early_attempt session (a ∷ later) = refl
 
-  -- a request is answered by whether the service is unknown, the request good, and the try the last
+  -- a request is answered by whether the service is unknown, the request successful, and the try the last
   request_ends : (known : Known) (user service : List ℕ) (method : MethodData)
       → WorkEnds m d party known (UserauthRequest user service method) (request_reply m d party known user service method).end
   request_ends known user service method = by (answered m d party known user service method)
@@ -165,7 +165,7 @@ agrees_by known user service a e = subst (λ (x : AgreedData). x ≡ agreed_by k
 same_agreed : (x y : AgreedData) → Authenticated x ≡ Authenticated y → x ≡ y
 same_agreed x y e = cc
 
--- what lets in the user that is agreed on
+-- by what the user that is agreed on is accepted
 accepts : (m : SuiteData) (d : DecisionsData) (party : ConfigData) (known : Known) (tried : List Tried) (payload user service : List ℕ) (method : MethodData) (a : AgreedData) → agreed_by known user service ≡ a
     → message_in known.shares payload ≡ Ok (UserauthRequest user service method) → is_in party.services service ≡ true
     → is_successful m d party known user service method ≡ true → are_reached party.required user service (tried ++ tried_with user service method true ∷ []) ≡ true
@@ -191,7 +191,7 @@ none_refused None a e = cc
 none_refused (Some r) a e = cc
 
 module _ (below : Below) (m : SuiteData) (d : DecisionsData) (role : Role) (party : ConfigData) where
-  -- a good request is read at a server, and a SUCCESS at a client
+  -- a successful request is read at a server, and a SUCCESS at a client
   requested : (p : Phase) (guess : Bool) (known : Known) (tried : List Tried) (payload user service : List ℕ) (method : MethodData) (a : AgreedData) → Reads role p guess (kind payload)
       → message_in known.shares payload ≡ Ok (UserauthRequest user service method) → is_in party.services service ≡ true → is_successful m d party known user service method ≡ true
       → completes party known user service method true ≡ true → known.reached ≡ reached_after nothing_reached tried → agreed_by known user service ≡ a → Agrees m d role party p guess known tried payload a
@@ -257,7 +257,7 @@ module _ (below : Below) (m : SuiteData) (d : DecisionsData) (role : Role) (part
       → end_at m d role party (version ∷ before) last ≡ Authenticated a → Tied role party.offer before phase.Auth
   last_tied version before last p t a end = subst (Tied role party.offer before) (at_last version before last p t a end).at t
 
-  -- the phase stays behind the payload
+  -- the phase stays there the payload
   stays_tied : (version : List ℕ) (before : Units) (last : List ℕ) (p : Phase) → Tied role party.offer before p → (a : AgreedData)
       → end_at m d role party (version ∷ before) last ≡ Authenticated a → Tied role party.offer (before ++ last ∷ []) phase.Auth
   stays_tied version before last p t a end =
@@ -291,7 +291,7 @@ module _ (below : Below) (m : SuiteData) (d : DecisionsData) (role : Role) (part
       → tried_place m d role party version before payload ≡ tried_in m d party (session_known m role party version before) (count_kept role party.offer 50 before + 1) payload
   tried_here version before payload here = rw here refl
 
-  -- at a server, the requests end with the one that lets in
+  -- at a server, the requests end with the one that is accepted
   tried_last : (version : List ℕ) (before : Units) (last : List ℕ) (p : Phase) → Tied role party.offer before p → (a : AgreedData) → end_at m d role party (version ∷ before) last ≡ Authenticated a → role ≡ Server
       → (method : MethodData) × (tried_at m d role party version (before ++ last ∷ []) ≡ tried_at m d role party version before ++ tried_with a.user a.service method true ∷ [])
   tried_last version before last p t a end server =
@@ -316,6 +316,6 @@ module _ (below : Below) (m : SuiteData) (d : DecisionsData) (role : Role) (part
       let x = tried_last version before last f.0 f.1.tied a (sym is) server in
       (tried_at m d role party version before, x.0, ap (λ (l : Units). tried_at m d role party (version_in l) (payloads_in l)) units_are ∙ x.1)
 
--- an endpoint in phase auth has heard NEWKEYS
+-- an endpoint in phase auth has received NEWKEYS
 pub auth_switched : (role : Role) (own : KexInitData) (payloads : Units) → phase_at role own payloads ≡ phase.Auth → stood role own 21 payloads ≡ true
 auth_switched role own payloads at = (past_parts _ _ _ _ (ap past_newkeys at)).1

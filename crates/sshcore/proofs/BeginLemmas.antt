@@ -39,7 +39,7 @@ first_input : (m : SuiteData) (role : Role) (party : ConfigData) (i : Input) →
 first_input m role party (input.Lines reader) b = (refl, b.0)
 first_input m role party (input.Packets reader) b = absurd b
 
--- nothing was said, and nothing is sealed
+-- nothing was sent, and nothing is sealed
 speaks_first : (m : SuiteData) (role : Role) (party : ConfigData) → Speaks m role party [] [] (record { keys = None; number = 0 })
 speaks_first m role party =
     let none = sending_lemmas.none_sent (strict_at role party []) in

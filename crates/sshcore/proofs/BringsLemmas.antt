@@ -135,7 +135,7 @@ module _ (m : SuiteData) (d : DecisionsData) (role : Role) (party : ConfigData) 
       } in
       rw is works
 
--- the packet of a wrong guess is dropped, and nothing is said
+-- the packet of a wrong guess is dropped, and nothing is sent
 pub drops_brings : (m : SuiteData) (d : DecisionsData) (role : Role) (party : ConfigData) (old new : StateData) (packet : ℕ) (payload before : List ℕ)
     → line_by role old.phase old.known.strict old.guess (is_waiting old.known.left) (kind payload) ≡ line.Drops → old.end ≡ Open
     → new ≡ record old { guess = false; known = received_one old.known }

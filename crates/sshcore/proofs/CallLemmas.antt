@@ -22,7 +22,7 @@ use Rattle.sshcore.specs.EndpointParts.{ConfigData, DecisionsData}
 use Rattle.sshcore.proofs.FeedLemmas.{SentMore, sent_last, stands_left}
 use Rattle.sshcore.proofs.HistoryLemmas.{broken}
 
--- what is behind a place, as code cuts it out
+-- what follows a place, as code cuts it out
 pub tail_is : (n : ℕ) (piece : List ℕ) → take (length piece - n) (drop n piece) ≡ drop n piece
 tail_is n piece = ap (λ k. take k (drop n piece)) (sym (length-drop n piece)) ∙ take-length (drop n piece)
 
@@ -67,7 +67,7 @@ module _ {S D : Type 0} (meaning : S → SuiteData) (policy : D → DecisionsDat
   pub fed_as : (old new : EndpointData S D) (t u o0 o1 : List ℕ) → t ≡ u → Fed meaning policy old new t o0 o1 → Fed meaning policy old new u o0 o1
   fed_as old new t u o0 o1 e f = subst (λ (x : List ℕ). Fed meaning policy old new x o0 o1) e f
 
-  -- memory is wanted before anything is said
+  -- memory runs out before anything is sent
   pub breaks_none : (e new : EndpointData S D) (piece out : List ℕ) → IsSameEndpoint e new → Breaks meaning policy e new piece out out
   breaks_none e new piece out same = record {
     used = 0;
@@ -85,7 +85,7 @@ module _ {S D : Type 0} (meaning : S → SuiteData) (policy : D → DecisionsDat
       subst (λ (m : SuiteData). BrokenOff m c q o k t) em (subst (λ (d : DecisionsData). BrokenOff m d q o k t) ed (subst (λ (r : Role). BrokenOff m d r o k t) er
       (subst (λ (p : ConfigData). BrokenOff m d r p k t) ep (subst (λ (h : List ℕ). BrokenOff m d r p h t) eh (subst (λ (s : List ℕ). BrokenOff m d r p h s) es x)))))
 
-  -- memory is wanted behind what went well
+  -- memory runs out after what went well
   pub breaks_then : (old mid new : EndpointData S D) (piece : List ℕ) (n : ℕ) (o0 o1 o2 : List ℕ) → n ≤ length piece → Fed meaning policy old mid (take n piece) o0 o1
       → Breaks meaning policy mid new (drop n piece) o1 o2 → Breaks meaning policy old new piece o0 o2
   breaks_then old mid new piece n o0 o1 o2 low f b =
@@ -119,7 +119,7 @@ module _ {S D : Type 0} (meaning : S → SuiteData) (policy : D → DecisionsDat
     same = record { same_role = refl; same_config = refl; same_suite = refl; same_decisions = refl };
   }
 
-  -- what was said for its owner, at an endpoint that stood open, is a call that ended it
+  -- what was sent for its owner, at an endpoint that stood open, is a call that ended it
   pub leaves_by : SentMore → (role : Role) (party : ConfigData) (suite : S) (decisions : D) (i : Input) (x y : State) (reason : ℕ) (description before after : List ℕ) (strict : Bool) (next : KeysData)
       → end_data x.end ≡ Open → Gives (meaning suite) party.seed strict next (state_data x) (state_data y) before after (disconnects reason description)
       → Leaves meaning policy (record { role = role; party = party; suite = suite; decisions = decisions; input = i; state = x })
@@ -133,6 +133,6 @@ module _ {S D : Type 0} (meaning : S → SuiteData) (policy : D → DecisionsDat
     same = record { same_role = refl; same_config = refl; same_suite = refl; same_decisions = refl };
   }
 
-  -- and one that wanted memory said nothing
+  -- and one that ran out of memory sent nothing
   pub breaks_same : (e new : EndpointData S D) (piece before after : List ℕ) → IsSameEndpoint e new → after ≡ before → Breaks meaning policy e new piece before after
   breaks_same e new piece before after same is = subst (λ (l : List ℕ). Breaks meaning policy e new piece before l) (sym is) (breaks_none e new piece before same)

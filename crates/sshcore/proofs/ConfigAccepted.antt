@@ -21,7 +21,7 @@ users_utf8 : (plan : List attempt_parts.Attempt) → AllByRecursion (λ (a : Att
 users_utf8 [] = tt
 users_utf8 (a ∷ plan) = (IsUtf8-string_bytes a.user, users_utf8 plan)
 
--- want of memory isn't a rule's breach
+-- running out of memory isn't a rule's breach
 not_memory : (Rule : ConfigFault → Type 0) (code : ConfigFault) → Rule fault.Memory → IsLeastBroken Rule code → code ≡ fault.Memory → ⊥
 not_memory Rule code memory r is = r.broken (subst Rule (sym is) memory)
 

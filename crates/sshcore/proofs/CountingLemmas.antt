@@ -40,7 +40,7 @@ module _ (role : Role) (party : ConfigData) (before : Units) (payload : List ℕ
       let none : after_first (kept role party.offer 21) [] (before ++ payload ∷ []) ≡ [] = after-push (kept role party.offer 21) [] before payload ∙ rw off refl in
       ap (λ (l : Units). length l) none
 
-  -- the packet behind the key switch
+  -- the packet after the key switch
   pub number_switched : offered before ≡ true → stood role party.offer 21 before ≡ false → kept role party.offer 21 before payload ≡ true
       → number_in role party (before ++ payload ∷ []) ≡ cond (strict_at role party before) 0 ((number_in role party before + 1) % 2 ^ 32)
   number_switched is off here =

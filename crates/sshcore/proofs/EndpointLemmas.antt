@@ -1,4 +1,4 @@
--- How an endpoint ends, by what it heard.
+-- How an endpoint ends, by what it received.
 
 use Rattle.std.proofs.Common.{◌≡◌, ℕ, true, false, List, [], ◌++◌, Option, sym, ap, ◌∙◌, subst}
 use Rattle.std.proofs.lemmas.Bool.{true≢false}
@@ -21,7 +21,7 @@ use Rattle.sshcore.specs.StrictClause.{KeepsStrict}
 use Rattle.sshcore.specs.StrictSequence.{BeginsStrictly}
 use Rattle.sshcore.proofs.UncutLemmas.{uncut_received}
 
--- an endpoint that its owner didn't end stands as it heard
+-- an endpoint that its owner didn't end stands as what it received left it
 pub as_received : (received_end end : EndData) → StandsSo received_end end → by_owner end ≡ false → received_end ≡ end
 as_received received_end end (AsReceived e) uncut = sym e
 as_received received_end end (CutOff h e) uncut = absurd (true≢false (sym (ap by_owner e) ∙ uncut))
@@ -42,7 +42,7 @@ Joined = (m : SuiteData) (d : DecisionsData) (role : Role) (party : ConfigData) 
     → (h ≡ g) × IsOneHistory units other_units rest other_rest r other_r answers other_answers end other_end s t
 
 module _ {S D : Type 0} (meaning : S → SuiteData) (policy : D → DecisionsData) where
-  -- what another endpoint of the same config has heard and said is a history of this one's
+  -- what another endpoint of the same config has received and sent is a history of this one's
   same_history : (one other : EndpointData S D) → IsSameEndpoint one other → (units : Units) (rest : List ℕ) (r : Option Refusal) (answers : Units) (end : EndData) (h s : List ℕ)
       → History (meaning other.suite) (policy other.decisions) other.role other.party units rest r answers end h s
       → History (meaning one.suite) (policy one.decisions) one.role one.party units rest r answers end h s
@@ -52,7 +52,7 @@ module _ {S D : Type 0} (meaning : S → SuiteData) (policy : D → DecisionsDat
       (subst (λ (v : Role). History (meaning other.suite) (policy other.decisions) v one.party units rest r answers end h s) same.same_role
       (subst (λ (v : ConfigData). History (meaning other.suite) (policy other.decisions) other.role v units rest r answers end h s) same.same_config a)))
 
-  -- endpoints that were given one input used the same bytes of it, and said and came to the same by them
+  -- endpoints that were given one input used the same bytes of it, and sent and came to the same by them
   pub joined_received : Joined → (one other : EndpointData S D) → IsSameEndpoint one other → (h g s t x y : List ℕ) → (a : EndpointAfter meaning policy one h s) → (b : EndpointAfter meaning policy other g t)
       → h ++ x ≡ g ++ y → (a.received_end ≡ Open → x ≡ []) → (b.received_end ≡ Open → y ≡ []) → (h ≡ g) × (s ≡ t) × (a.received_end ≡ b.received_end)
   joined_received law one other same h g s t x y a b e f k =

@@ -35,7 +35,7 @@ use Rattle.sshcore.specs.Phases.{past_exchange, past_kexinit}
 use Rattle.sshcore.specs.Work.{answered_by, init_reply, reply_in, reply_reply, signed_by, userauth}
 use Rattle.sshcore.proofs.OutputLemmas.{sent_switch, sent_two}
 
--- a share and a shared number in their form are short
+-- a share and a shared secret in their form are short
 pub share_short : (form : ShareForm) (share : List ℕ) → FitsShare form share → length share ≤ SHARE_LIMIT
 share_short Mpint share h = h.short
 share_short OctetString share h = h
@@ -109,7 +109,7 @@ reply_kind Mpint host_key share signature = refl
 reply_kind OctetString host_key share signature = refl
 reply_kind Hybrid host_key share signature = refl
 
--- the keys of an exchange, by its shared number and its hash
+-- the keys of an exchange, by its shared secret and its hash
 keys_of_exchange : (m : SuiteData) (a : AlgorithmsData) (x : ExchangeData) (role : Role) → kex_keys m a x.shared (exchange_hash m a.kex x) role ≡ keys_by m a x role
 keys_of_exchange m a x Client = refl
 keys_of_exchange m a x Server = refl
@@ -145,7 +145,7 @@ module _ (m : SuiteData) (role : Role) (party : ConfigData) (old new : StateData
         stands = λ on. absurd (not_ongoing new.end f given.ends on);
       }
 
-  -- where it goes on it stands behind the exchange, with these answers said
+  -- where it goes on it stands after the exchange, with these answers sent
   receives_on : (x : ExchangeData) (hash : List ℕ) (o : Sending) (answers : Units) → exchange_of_message m role party old.known message ≡ x
       → hash ≡ exchange_hash m old.known.algorithms.kex x → old.end ≡ Open → StandsAfter m role party old new x.host_key x.shared hash o
       → after ≡ before ++ sent_from m party.seed old.known.strict (keys_by m old.known.algorithms x role) old.sending answers
@@ -165,7 +165,7 @@ module _ (m : SuiteData) (role : Role) (party : ConfigData) (old new : StateData
         known_is = ap (λ (k : StateData). k.known) stands.kept ∙ ap (λ (h : List ℕ). record old.known { session = h }) is;
       })
 
--- A server, that hears this share.
+-- A server, that receives this share.
 module _ (m : SuiteData) (party : ConfigData) (old new : StateData) (before after : List ℕ) (message : MessageData) (share : List ℕ) (read : share_read (Ok message) ≡ share) where
   -- what it hashes, once it has answered
   hashed_server : (answer : ResponseData) → m.respond old.known.algorithms.kex party.random share ≡ Some answer
@@ -179,7 +179,7 @@ module _ (m : SuiteData) (party : ConfigData) (old new : StateData) (before afte
   unfolding init_reply
   init_is answer given = rw (hashed_server answer given, read, given) refl
 
-  -- where there is no shared number it fails
+  -- where there is no shared secret it fails
   pub init_fails : m.respond old.known.algorithms.kex party.random share ≡ None
       → ((strict : Bool) (next : KeysData) → Gives m party.seed strict next old new before after (fails fault.Exchange))
       → ReceivesExchange m Server party old new before after message (init_reply m Server party old.known message)
@@ -223,10 +223,10 @@ module _ (m : SuiteData) (party : ConfigData) (old new : StateData) (before afte
       (subst (λ (l : List ℕ). AnswersInit m Server party old new host_key l hash reply before after) same
       (subst (λ (r : Role). AnswersInit m r party old new host_key shared hash reply before after) is sent))
 
--- A client, that hears this host key and share.
+-- A client, that receives this host key and share.
 module _ (m : SuiteData) (d : DecisionsData) (party : ConfigData) (old new : StateData) (before after : List ℕ) (message : MessageData) (host_key share signature : List ℕ)
     (read : share_read (Ok message) ≡ share) (told : host_key_read (Ok message) ≡ host_key) where
-  -- what it hashes, once it has made the shared number
+  -- what it hashes, once it has made the shared secret
   hashed_client : (shared : List ℕ) → m.shared old.known.algorithms.kex party.random share ≡ Some shared
       → exchange_of_message m Client party old.known message ≡ exchanged Client party old.known (client_shares m party old.known host_key share shared)
   unfolding exchange_with exchange_by
@@ -247,7 +247,7 @@ module _ (m : SuiteData) (d : DecisionsData) (party : ConfigData) (old new : Sta
   reply_distrusts off gives =
       receives_failure m Client party old new before after message fault.HostKey (reply_reply m d Client party old.known message signature) (rw (told, off) refl) gives
 
-  -- and where there is no shared number
+  -- and where there is no shared secret
   pub reply_fails : d.host_key old.known.algorithms.host_key host_key ≡ true → m.shared old.known.algorithms.kex party.random share ≡ None
       → ((strict : Bool) (next : KeysData) → Gives m party.seed strict next old new before after (fails fault.Exchange))
       → ReceivesExchange m Client party old new before after message (reply_reply m d Client party old.known message signature)

@@ -68,7 +68,7 @@ pub left_over : (reason : ℕ) (e : EndData) → e ≡ Disconnected reason → I
 left_over reason e is (inl o) = absurd cc
 left_over reason e is (inr a) = let same : e ≡ Authenticated a.0 = a.1 in absurd cc
 
--- of refused packets want of memory alone fails as that
+-- of refused packets running out of memory alone fails as that
 pub from_memory : (f : PacketFault) → Failed (fault_of (OfPacket f)) ≡ Failed fault.Memory → f ≡ packet.Memory
 from_memory packet.Length e = absurd cc
 from_memory packet.Padding e = absurd cc
@@ -76,7 +76,7 @@ from_memory packet.Empty e = absurd cc
 from_memory packet.Mac e = absurd cc
 from_memory packet.Memory e = refl
 
--- an endpoint that is open has come to that by what it heard, and nothing of it was refused
+-- an endpoint that is open has come to that by what it received, and nothing of it was refused
 pub received_open : (received_end end : EndData) → StandsSo received_end end → end ≡ Open → received_end ≡ Open
 received_open received_end end (AsReceived e) o = sym e ∙ o
 received_open received_end end (CutOff h e) o = absurd cc
@@ -86,7 +86,7 @@ pub none_refused : (m : SuiteData) (d : DecisionsData) (role : Role) (party : Co
 none_refused m d role party units r end o (goes_on stays e) = no_refusal r (sym e ∙ o)
 none_refused m d role party units r end o (ended before last is stays e shut none) = none
 
--- before the exchange was heard nothing is sealed
+-- before the exchange was received nothing is sealed
 clear_by : (b : Bool) (k : KeysData) → b ≡ false → cond b (Some k) None ≡ None
 clear_by b k e = rw e refl
 
@@ -111,13 +111,13 @@ quiet_parting : (reason : ℕ) (description : List ℕ) → (kind (parting reaso
 unfolding written_message
 quiet_parting reason description = refl
 
--- the law of streams on what is said behind what was said
+-- the law of streams on what is sent after what was sent
 abbrev pub SentMore : Type 0
 SentMore = (spelled : Units → List ℕ → List ℕ) (stream : List ℕ) (us more : Units) → Sent spelled stream us → Sent spelled (stream ++ flat_places spelled us more) (us ++ more)
 
 -- Its owner tells an endpoint that stands open to disconnect.
 module _ (m : SuiteData) (d : DecisionsData) (role : Role) (party : ConfigData) (kept : StateData) (i : Input) (h s : List ℕ) (is : kept.end ≡ Open) (a : EndpointStands m d role party kept i h s) where
-  -- it has heard and said the same before that
+  -- it has received and sent the same before that
   pub stands_left : (new : StateData) (reason : ℕ) → new.end ≡ Disconnected reason → EndpointStands m d role party new i h s
   stands_left new reason ends = record {
     units = a.units;
@@ -130,7 +130,7 @@ module _ (m : SuiteData) (d : DecisionsData) (role : Role) (party : ConfigData) 
     inside = λ o. absurd (left_over reason new.end ends o);
   }
 
-  -- and the DISCONNECT is spelled behind what it had said
+  -- and the DISCONNECT is spelled after what it had sent
   pub sent_last : SentMore → (reason : ℕ) (description : List ℕ) (strict : Bool) (next : KeysData)
       → Sent (spells m role party a.units) (s ++ sent_from m party.seed strict next kept.sending (parting reason description ∷ [])) (party.version ∷ (a.answers ++ parting reason description ∷ []))
   sent_last more reason description strict next =

@@ -1,4 +1,4 @@
--- What is said for the answers of a reply: none, one, and some behind others.
+-- What is sent for the answers of a reply: none, one, and some after others.
 
 use Rattle.std.proofs.Common.{◌≡◌, ℕ, ◌==◌, Bool, false, List, [], ◌∷◌, ◌++◌, refl, sym, ap, subst, ◌∙◌, append_assoc, OnOk, Result, Ok, Err}
 use Rattle.std.proofs.lemmas.List.{append-nil}
@@ -29,12 +29,12 @@ pub quiet_init : (m : SuiteData) (party : ConfigData) (kex : List ℕ) → (kind
 quiet_init m party kex = ap (λ (n : ℕ). n == 21) (init_kind (m.share_form kex) (m.share kex party.random))
 
 module _ (m : SuiteData) (seed : List ℕ) (strict : Bool) (next : KeysData) where
-  -- nothing is said, and no packet is counted
+  -- nothing is sent, and no packet is counted
   sent_none : (o : Sending) → (sent_from m seed strict next o [] ≡ []) × (sending_from strict next o [] ≡ o)
   unfolding sent_from sending_from
   sent_none o = (refl, refl)
 
-  -- what is said behind others goes on from them
+  -- what is sent after others goes on from them
   sent_then : (o : Sending) (xs ys : Units)
       → (sent_from m seed strict next o (xs ++ ys) ≡ sent_from m seed strict next o xs ++ sent_from m seed strict next (sending_from strict next o xs) ys)
       × (sending_from strict next o (xs ++ ys) ≡ sending_from strict next (sending_from strict next o xs) ys)
@@ -58,7 +58,7 @@ module _ (m : SuiteData) (seed : List ℕ) (strict : Bool) (next : KeysData) whe
     fits = tt;
   }
 
-  -- one answer that was made and said, which is no NEWKEYS
+  -- one answer that was made and sent, which is no NEWKEYS
   pub gives_one : (old new : StateData) (before after payload made bytes : List ℕ) (end : EndData) → (kind payload == 21) ≡ false → IsMade payload made → bytes ≡ made → old.end ≡ end
       → after ≡ before ++ spelled_by m old.sending.keys seed old.sending.number bytes → new ≡ record old { sending = with_packet old.sending }
       → Gives m seed strict next old new before after (record { answers = payload ∷ []; end = end })
@@ -71,7 +71,7 @@ module _ (m : SuiteData) (seed : List ℕ) (strict : Bool) (next : KeysData) whe
         fits = (subst FitsPacket is.same is.fits, tt);
       }
 
-  -- some answers behind others
+  -- some answers after others
   pub gives_then : (old mid new : StateData) (before between after : List ℕ) (xs ys : Units) (middle end : EndData)
       → Gives m seed strict next old mid before between (record { answers = xs; end = middle })
       → Gives m seed strict next mid new between after (record { answers = ys; end = end })
@@ -88,7 +88,7 @@ module _ (m : SuiteData) (seed : List ℕ) (strict : Bool) (next : KeysData) whe
         fits = fit_both xs ys a.fits b.fits;
       }
 
-  -- what was said behind nothing, behind what it is appended to
+  -- what was sent after nothing, after what it is appended to
   pub gives_onto : (old new : StateData) (none sent before after : List ℕ) (r : Reply) → none ≡ [] → after ≡ before ++ sent
       → Gives m seed strict next old new none sent r → Gives m seed strict next old new before after r
   gives_onto old new none sent before after r e f g = record {
@@ -107,7 +107,7 @@ module _ (m : SuiteData) (seed : List ℕ) (strict : Bool) (next : KeysData) whe
   pub gives_by : (old new : StateData) (before after : List ℕ) (r other : Reply) → r ≡ other → Gives m seed strict next old new before after r → Gives m seed strict next old new before after other
   gives_by old new before after r other e g = subst (λ (x : Reply). Gives m seed strict next old new before after x) e g
 
-  -- the answers depend on nothing else that is kept, and the end is what it is made behind them
+  -- the answers depend on nothing else that is kept, and the end is what it is made after them
   pub gives_moved : (old new other_old other_new : StateData) (before after : List ℕ) (answers : Units) (end other_end : EndData)
       → other_old.sending ≡ old.sending → other_new.sending ≡ new.sending → other_new.end ≡ other_end
       → Gives m seed strict next old new before after (record { answers = answers; end = end })

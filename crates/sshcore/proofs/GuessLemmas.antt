@@ -46,7 +46,7 @@ since_push before payload is =
     ap (λ (l : Units). length l == 0) (after-push is_kexinit [] before payload ∙ rw is refl)
     ∙ ne_eqb (length (xs ++ payload ∷ [])) 0 (λ e. let more : length (xs ++ payload ∷ []) ≡ length xs + 1 = length-append xs (payload ∷ []) in omega arith)
 
--- a guess is due right behind the KEXINIT alone
+-- a guess is due right after the KEXINIT alone
 pub no_guess : (role : Role) (own : KexInitData) (before : Units) (payload : List ℕ) → offered before ≡ true → expects_guess role own (before ++ payload ∷ []) ≡ false
 unfolding expects_guess
 no_guess role own before payload is = and_right _ _ (and_left _ _ (since_push before payload is))

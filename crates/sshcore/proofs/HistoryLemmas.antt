@@ -1,4 +1,4 @@
--- An endpoint that stands open, and a piece of what it hears.
+-- An endpoint that stands open, and a piece of what it receives.
 
 use Rattle.std.proofs.Common.{◌≡◌, ◌≢◌, ◌⊎◌, inl, inr, ℕ, ◌+◌, ◌≤◌, Bool, true, false, List, [], ◌∷◌, ◌++◌, length, take, Option, None, Some, refl, sym, ap, ◌∙◌, append_assoc}
 use Rattle.std.proofs.lemmas.Bool.{true≢false}
@@ -86,7 +86,7 @@ module _ (below : Below) (streams : Streams) (m : SuiteData) (d : DecisionsData)
     last = λ shut. absurd (shut refl);
   }
 
-  -- the packet behind an open history is answered by NEWKEYS only where the exchange is heard with it
+  -- the packet after an open history is answered by NEWKEYS only where the exchange is received with it
   keyed_unit : (units : Units) (u : List ℕ) → StaysOpen m d role party units → switched_out (answers_at m d role party units u) ≡ true → IsReady role party (payloads_in (units ++ u ∷ []))
   unfolding switched_out
   keyed_unit [] u stays on = absurd (true≢false (sym on))
@@ -165,7 +165,7 @@ module _ (below : Below) (streams : Streams) (m : SuiteData) (d : DecisionsData)
         keyed_by true e on = ready_units role party units (u ∷ []) (a.keyed e)
         keyed_by false e on = keyed_unit units u all_open (sym (switched_append answers (answers_at m d role party units u) ∙ rw e refl) ∙ on)
 
-    -- memory is wanted while the answers to a unit are said
+    -- memory runs out while the answers to a unit are sent
     pub breaks : (piece u : List ℕ) (used : ℕ) (some : Units) → used ≤ length piece → parsers m role party units (rest ++ piece) ≡ whole u (length rest + used) → IsPrefix some (answers_at m d role party units u)
         → BrokenOff m d role party (h ++ take used piece) (s ++ flat_places (spells m role party (units ++ u ∷ [])) (party.version ∷ answers) some)
     breaks piece u used some low e prefix =

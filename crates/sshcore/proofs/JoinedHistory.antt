@@ -35,7 +35,7 @@ none_front : (x z y : List ℕ) → x ≡ z ++ y → x ≡ [] → z ≡ []
 none_front x [] y e none = refl
 none_front x (b ∷ z) y e none = absurd cc
 
--- nothing stands behind a list that is no longer with it
+-- nothing stands after a list that is no longer with it
 none_longer : (rest z : List ℕ) → length (rest ++ z) ≡ length rest → z ≡ []
 none_longer rest [] e = refl
 none_longer rest (b ∷ z) e = let size : length (rest ++ b ∷ z) ≡ length rest + length (b ∷ z) = length-append rest (b ∷ z) in absurd (omega (arith, e, size))
@@ -51,7 +51,7 @@ before_last (x ∷ b) (y ∷ c) l u w ws e =
     subst (λ (v : List ℕ). IsPrefix (y ∷ (c ++ u ∷ [])) (v ∷ b)) (sym first) (prefix-cons y (c ++ u ∷ []) b (before_last b c l u w ws cc))
 
 module _ (parsers : Units → Parser) where
-  -- of what was read, the units behind the first ones
+  -- of what was read, the units after the first ones
   read_after : (before : Units) (bytes : List ℕ) (us w : Units) (x y : List ℕ) → Read parsers before bytes us x → Read parsers before bytes (us ++ w) y → Read parsers (before ++ us) x w y
   read_after before bytes [] w x y a b =
       subst (λ (c : Units). Read parsers c x w y) (sym (append-nil before)) (subst (λ (z : List ℕ). Read parsers before z w y) a b)
@@ -62,7 +62,7 @@ module _ (parsers : Units → Parser) where
       subst (λ (c : Units). Read parsers c x w y) (append_assoc before (u ∷ []) us) after
 
   module _ (each : (us : Units) → IsIncremental (parsers us)) where
-    -- nothing is heard behind a refusal
+    -- nothing is received after a refusal
     none_refused : (us w : Units) (rest z y : List ℕ) (f : Refusal) (q : Option Refusal)
         → parsers us rest ≡ refused f (length rest) → Read parsers us (rest ++ z) w y → IsRest (parsers (us ++ w)) y q → z ≡ []
     none_refused us [] rest z y f None k a last =
@@ -81,7 +81,7 @@ module _ (parsers : Units → Parser) where
         absurd cc
 
 module _ (m : SuiteData) (d : DecisionsData) (role : Role) (party : ConfigData) where
-  -- where more units were heard behind one, it left the endpoint open
+  -- where more units were received after one, it left the endpoint open
   open_within : (units before : Units) (u w : List ℕ) (ws : Units) (r : Option Refusal) (end : EndData)
       → Ends m d role party units r end → units ≡ before ++ u ∷ w ∷ ws → end_at m d role party before u ≡ Open
   open_within units before u w ws r end (goes_on stays e) are =

@@ -41,7 +41,7 @@ module _ (m : SuiteData) (role : Role) (party : ConfigData) (known : Known) (pee
       subst (λ (r : Result Negotiated NoCommon). IsNegotiated m (client_of role party.offer peer) (server_of role party.offer peer) r) e is in
       ap (chosen_reply m role party peer) (sym none) ∙ by_choice off
 
--- what is said by whether a guess is right
+-- what is sent by whether a guess is right
 opened : (m : SuiteData) (role : Role) (party : ConfigData) (peer : KexInitData) (right : Bool) (kex : List ℕ) → right ≡ is_right_guess (client_of role party.offer peer) (server_of role party.offer peer)
     → sends_init m role party right kex ≡ opening m role party peer kex
 opened m Server party peer right kex e = refl

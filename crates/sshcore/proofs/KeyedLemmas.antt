@@ -1,4 +1,4 @@
--- NEWKEYS is said in answer to the exchange message alone.
+-- NEWKEYS is sent in answer to the exchange message alone.
 
 use Rattle.std.proofs.Common.{◌≡◌, ◌≢◌, ◌⊎◌, inl, inr, ℕ, ◌==◌, Bool, true, false, cond, List, [], ◌∷◌, ◌++◌, Option, None, Some, Result, Ok, Err, refl, sym, ap, subst, ◌∙◌, arith}
 use Rattle.std.specs.Prelude.{◌&&◌, not}
@@ -47,7 +47,7 @@ use Rattle.sshcore.proofs.StreamLemmas.{newkeys_anywhere}
 use Rattle.sshcore.proofs.StrictSteps.{line_is}
 use Rattle.sshcore.proofs.TableLemmas.{Closing, Dropped, Leaving, OffGuess, OffPhase, Sees, Staying, Useless, sees}
 
--- no NEWKEYS is said
+-- no NEWKEYS is sent
 abbrev IsStill : Units → Type 0
 IsStill answers = switched_out answers ≡ false
 

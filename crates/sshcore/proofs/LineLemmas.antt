@@ -58,7 +58,7 @@ open_unfinished laws k bytes (Waits left line) o = laws.only k bytes unfinished 
 open_unfinished laws k bytes Finished o = absurd o
 open_unfinished laws k bytes (Refused code) o = absurd o
 
--- nothing said
+-- nothing sent
 gives_nothing : (m : SuiteData) (seed : List ℕ) (strict : Bool) (next : KeysData) (kept : StateData) (before : List ℕ)
     → Gives m seed strict next kept (record kept { end = Failed fault.Version }) before before (fails fault.Version)
 unfolding sent_from sending_from
@@ -70,7 +70,7 @@ number_none role party = rw ((tied_none role party.offer).newkeys) refl
 keys_none : (m : SuiteData) (role : Role) (party : ConfigData) (version : List ℕ) → keys_in m role party version [] ≡ None
 keys_none m role party version = rw ((tied_none role party.offer).newkeys) refl
 
--- where an endpoint stands that has heard no line
+-- where an endpoint stands that has received no line
 first_phase : (m : SuiteData) (d : DecisionsData) (role : Role) (party : ConfigData) (p : Phase) (g : Bool) (k : Known) → Sits m d role party [] [] p g k → p ≡ phase.KexInit
 first_phase m d role party p g k s = sym (tied_phase role party.offer [] p s.tied) ∙ tied_phase role party.offer [] phase.KexInit (tied_none role party.offer)
 

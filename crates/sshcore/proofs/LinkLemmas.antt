@@ -11,13 +11,13 @@ use Rattle.sshpacket.specs.Suite.{SuiteData}
 use Rattle.sshcore.specs.declared.link_fault.LinkFault.TheVariants as fault
 use Rattle.sshcore.specs.Linked.{Incoming, LinkLeaves, OnlyOpenAnswer, OpenAnswer, Opens, fault_by, packet_ended, told_by}
 
--- behind a piece nothing has come to its end, as long as all of it is held
+-- after a piece nothing has come to its end, as long as all of it is held
 pub none_ended : (held piece : List ℕ) → packet_ended (held ++ piece) (length piece) ≡ 0
 none_ended [] [] = refl
 none_ended [] (b ∷ piece) = refl
 none_ended (b ∷ held) piece = refl
 
--- behind a packet one has
+-- after a packet one has
 pub one_ended : (held : List ℕ) (used : ℕ) → held ≡ [] → 0 < used → packet_ended held used ≡ 1
 one_ended [] zero e some = absurd (omega (arith, some))
 one_ended [] (suc n) e some = refl
@@ -44,7 +44,7 @@ module _ (m : SuiteData) (i : Incoming) (piece : List ℕ) where
       → Opens payload seq used (told_by answer) ⊎ (told_by answer ≡ Err fault.Memory)
   told_payload payload seq used answer or = elim or [ inl is ↦ inl (opens_by payload seq used answer is) | inr e ↦ inr (ap told_by e) ]
 
-  -- want of memory isn't a refusal of bytes
+  -- running out of memory isn't a refusal of bytes
   told_refused : (f : PacketFault) (answer : Result PacketStep PacketFault) → (f ≢ Memory) → (answer ≡ Err f) ⊎ (answer ≡ Err Memory)
       → (told_by answer ≡ Err (fault.Packet f)) ⊎ (told_by answer ≡ Err fault.Memory)
   told_refused Length answer other or = elim or [ inl e ↦ inl (ap told_by e) | inr e ↦ inr (ap told_by e) ]

@@ -1,4 +1,4 @@
--- Where an endpoint stands behind a payload, by how the payload moves what it keeps.
+-- Where an endpoint stands after a payload, by how the payload moves what it keeps.
 
 use Rattle.std.proofs.Common.{◌≡◌, inl, inr, ℕ, ◌+◌, ◌==◌, Bool, true, false, cond, List, [], ◌∷◌, ◌++◌, Option, None, Some, refl, sym, ap, ◌∙◌, subst}
 use Rattle.std.specs.Prelude.{◌%◌, ◌^◌}
@@ -34,7 +34,7 @@ use Rattle.sshcore.proofs.PhaseLemmas.{kept_dropped, kept_free}
 use Rattle.sshcore.proofs.PlanLemmas.{key_more, key_stays, last_successful_key}
 use Rattle.sshcore.proofs.StandingLemmas as standing
 
--- the number of the next packet that is heard, by the keys that are set and strictness
+-- the number of the next packet that is received, by the keys that are set and strictness
 abbrev pub number_with : Option KeysData → Bool → ℕ → ℕ
 number_with None strict n = (n + 1) % 2 ^ 32
 number_with (Some keys) strict n = cond strict 0 ((n + 1) % 2 ^ 32)
@@ -53,7 +53,7 @@ exchange_request Client n e = rw e refl
 exchange_request Server n e = rw e refl
 
 module _ (below : Below) (m : SuiteData) (d : DecisionsData) (role : Role) (party : ConfigData) (version : List ℕ) (before : Units) (payload : List ℕ) where
-  -- the keys of what is heard from the peer: before, and behind the payload
+  -- the keys of what is received from the peer: before, and after the payload
   abbrev pub keys_so_far : KeysData
   keys_so_far = keys_at m role party version before (other role)
 
@@ -90,7 +90,7 @@ module _ (below : Below) (m : SuiteData) (d : DecisionsData) (role : Role) (part
         stands_new new old.phase false (after_payload m d party old.known payload) st
         (standing.stays m d role party version before payload old.phase old.known (as_known before old.phase old.phase old.guess false old.known old.known refl none refl s) calm)
 
-  -- what is set behind a payload, and what is left
+  -- what is set after a payload, and what is left
   pub record Turned (q : Phase) (pending : Option KeysData) (strict : Bool) : Type 0 where
     pub left : keys_left q pending ≡ pending_at q keys_after
     pub keys : keys_in m role party version (before ++ payload ∷ []) ≡ keys_with (keys_due q pending) (keys_in m role party version before)
@@ -131,7 +131,7 @@ module _ (below : Below) (m : SuiteData) (d : DecisionsData) (role : Role) (part
     number = standing.counts_on m d role party version before payload phase.Auth guess known s (inr none);
   }
 
-  -- a message that leaves a phase behind the exchange
+  -- a message that leaves a phase after the exchange
   leaving_turn : (p : Phase) (b : Bool) (known next : Known) → Sits m d role party version before p false known → Sits m d role party version (before ++ payload ∷ []) (next_phase p) b next
       → past_exchange p ≡ true → kind payload ≡ leaving role p → Turned (next_phase p) (pending_at p keys_so_far) known.strict
   leaving_turn phase.KexInit b known next s t past is = absurd (true≢false (sym past))
@@ -213,7 +213,7 @@ module _ (below : Below) (m : SuiteData) (d : DecisionsData) (role : Role) (part
     form_after form (Leaves none gone is same st) past = as_old old new (after_payload m d party old.known payload) form st.known_is refl refl (standing.past_past old.phase gone)
     form_after form (Stays none calm same st) past = as_old old new (after_payload m d party old.known payload) form st.known_is refl refl (ap past_kexinit (sym st.phase_is) ∙ past)
 
-  -- what is carried along behind a payload, the keys of what is heard apart
+  -- what is carried along after a payload, the keys of what is received apart
   pub record CarriesOn (q : Phase) (carried : Carried) : Type 0 where
     pub own_version : past_exchange q ≡ true → carried.own_version ≡ party.version
     pub host_key : past_exchange q ≡ true → carried.host_key ≡ (exchange_at m role party version (before ++ payload ∷ [])).host_key

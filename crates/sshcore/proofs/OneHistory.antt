@@ -1,4 +1,4 @@
--- The bytes that an endpoint heard decide what it has said and how it ends.
+-- The bytes that an endpoint received decide what it has sent and how it ends.
 
 use Rattle.std.proofs.Common.{◌≡◌, ℕ, List, [], ◌∷◌, ◌++◌, Option, refl, sym, ap, ◌∙◌, subst}
 use Rattle.sshneg.specs.declared.role.Role.{Role}

@@ -1,4 +1,4 @@
--- What an endpoint says packets with, with more heard and with more said.
+-- What an endpoint sends packets with, with more received and with more sent.
 
 use Rattle.std.proofs.Common.{◌≡◌, inl, inr, ℕ, ◌+◌, ◌==◌, Bool, true, false, cond, List, [], ◌∷◌, ◌++◌, Option, None, Some, refl, sym, ap, ◌∙◌, subst, append_assoc}
 use Rattle.std.specs.Prelude.{◌%◌, ◌^◌}
@@ -21,7 +21,7 @@ use Rattle.sshcore.proofs.SendingLemmas.{number_next, switched_push}
 use Rattle.sshcore.proofs.StreamLemmas.{keys_stay, ready_some, strict_stays, unready}
 
 module _ (strict : Bool) (next : KeysData) (o : Sending) (a : List ℕ) where
-  -- behind a payload that is no NEWKEYS one packet more is counted, whatever the keys are
+  -- after a payload that is no NEWKEYS one packet more is counted, whatever the keys are
   pub after_quiet : (kind a == 21) ≡ false → after_sending strict next o a ≡ with_packet o
   after_quiet none = ap (λ (b : Bool). sending_by o.keys b strict next o) none ∙ at o.keys
     where
@@ -57,7 +57,7 @@ module _ (m : SuiteData) (seed : List ℕ) (strict : Bool) (next : KeysData) (o 
     ap (λ (p : Sending). after_sending strict next p b) (after_quiet strict next o a none) ∙ after_switch strict next (with_packet o) b clear on,
   )
 
-  -- the first NEWKEYS, and one behind it
+  -- the first NEWKEYS, and one after it
   pub sent_switch : (a b : List ℕ) → (kind a == 21) ≡ true → (kind b == 21) ≡ false → o.keys ≡ None
       → (sent_from m seed strict next o (a ∷ b ∷ []) ≡ spelled_by m o.keys seed o.number a ++ spelled_by m (with_newkeys strict next o).keys seed (with_newkeys strict next o).number b)
       × (sending_from strict next o (a ∷ b ∷ []) ≡ with_packet (with_newkeys strict next o))
@@ -69,7 +69,7 @@ module _ (m : SuiteData) (seed : List ℕ) (strict : Bool) (next : KeysData) (o 
   )
 
 module _ (m : SuiteData) (role : Role) (party : ConfigData) where
-  -- what was said goes on with the same keys and number, whatever is heard behind
+  -- what was sent goes on with the same keys and number, whatever is received afterwards
   pub speaks_received : (units more sent : Units) (o : Sending) → (switched_out sent ≡ true → IsReady role party (payloads_in units))
       → Speaks m role party units sent o → Speaks m role party (units ++ more) sent o
   speaks_received units more sent o keyed s = elim (cases_Bool (switched_out sent)) [
@@ -146,7 +146,7 @@ module _ (m : SuiteData) (role : Role) (party : ConfigData) where
               number = ap (λ (n : ℕ). cond strict 0 ((n + 1) % 2 ^ 32)) s.number ∙ sym (number_next strict sent a ∙ rw (e, on) refl);
             })
 
-    -- what is said further is spelled behind what was said, and what is kept goes on
+    -- what is sent further is spelled after what was sent, and what is kept goes on
     pub sent_is : (strict : Bool) (next : KeysData) (sent answers : Units) (o : Sending)
         → strict ≡ strict_at role party (payloads_in units) → next ≡ keys_at m role party (version_in units) (payloads_in units) role → Speaks m role party units sent o
         → (sent_from m party.seed strict next o answers ≡ flat_places (spells m role party units) (party.version ∷ sent) answers)
@@ -161,7 +161,7 @@ module _ (m : SuiteData) (role : Role) (party : ConfigData) where
           subst (λ (l : Units). Speaks m role party units l (sending_from strict next (after_sending strict next o a) more)) (append_assoc sent (a ∷ []) more) after.1,
         )
 
-    -- the same where no NEWKEYS is said, whatever keys and strictness would come with it
+    -- the same where no NEWKEYS is sent, whatever keys and strictness would come with it
     quiet_at : (strict : Bool) (next : KeysData) (before sent answers : Units) (o : Sending)
         → EachPlace (λ before a. (kind a == 21) ≡ false) before answers → Speaks m role party units sent o
         → (sent_from m party.seed strict next o answers ≡ flat_places (spells m role party units) (party.version ∷ sent) answers)

@@ -72,7 +72,7 @@ module _ (role : Role) (own : KexInitData) (before : Units) (payload : List ℕ)
       → stood role own k (before ++ payload ∷ []) ≡ cond b true (leaving role p == k)
   leaves_by k p b e none is = stood_push k ∙ (rw (kept_free k none, e) refl ∙ ap (λ n. cond b true (n == k)) is)
 
--- the number that leaves a phase adds what the phase behind it has behind it
+-- the number that leaves a phase adds what is past in the phase after it
 record LeavesTo (role : Role) (p : Phase) : Type 0 where
   kexinit : cond (past_kexinit p) true (leaving role p == 20) ≡ past_kexinit (next_phase p)
   exchange : cond (past_exchange p) true (leaving role p == leaving role phase.Exchange) ≡ past_exchange (next_phase p)

@@ -128,7 +128,7 @@ module _ (m : SuiteData) (d : DecisionsData) (role : Role) (party : ConfigData) 
       by true = refl
       by false = refl
 
--- the key of the last request that was good by one
+-- the key of the last request that was successful by one
 last_push : (key : Option UserKeyData) (xs ys : List UserKeyData) → last_key key (xs ++ ys) ≡ last_key (last_key key xs) ys
 last_push key [] ys = refl
 last_push key (x ∷ xs) ys = last_push (Some x) xs ys

@@ -91,7 +91,7 @@ module _ (user service : List ℕ) where
         es : service ≡ t.service
         es = same_bytes service t.service (and_parts (bytes_eq user t.user) (bytes_eq service t.service) e).1
 
-        -- it is for those of the last good request exactly if these are
+        -- it is for those of the last successful request exactly if these are
         turn : is_for r.user r.service t ≡ (bytes_eq user r.user && bytes_eq service r.service)
         turn =
             ap (λ (x : List ℕ). bytes_eq r.user x && bytes_eq r.service t.service) (sym eu)
@@ -206,7 +206,7 @@ module _ (user service : List ℕ) where
           subst (λ (l : List Tried). IsRun user service l (run_of user service l)) (append_assoc xs (t ∷ []) later)
           (from (xs ++ t ∷ []) later (subst (IsRun user service (xs ++ t ∷ [])) (sym (run_push xs t)) (one xs (run_of user service xs) t r (is_for user service t) refl)))
 
--- Behind a good request all required methods are reached exactly if those of its run reach them.
+-- After a successful request all required methods are reached exactly if those of its run reach them.
 successful_user : (r : ReachedData) (t : Tried) (successful : List ℕ) → t.successful ≡ Some successful → ((reached_after_one r t).user ≡ t.user) × ((reached_after_one r t).service ≡ t.service)
 successful_user r t successful e = by t.successful e
   where

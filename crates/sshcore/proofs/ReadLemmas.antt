@@ -28,19 +28,19 @@ use Rattle.sshcore.proofs.HistoryLemmas.{Streams}
 use Rattle.sshcore.proofs.MoveLemmas.{keys_with, number_with}
 use Rattle.sshcore.proofs.UncutLemmas.{open_stays}
 
--- the reader behind a packet, once the keys that are due are set
+-- the reader after a packet, once the keys that are due are set
 abbrev pub reader_with : Option KeysData → Bool → PacketReaderData → PacketReaderData
 reader_with None strict r = r
 reader_with (Some keys) strict r = record r { keys = Some keys; seq = if strict then 0 else r.seq }
 
--- what is read behind these units is read as the reader reads
+-- what is read after these units is read as the reader reads
 read_as : (m : SuiteData) (role : Role) (party : ConfigData) (units : Units) (version : List ℕ) (before : Units) (rest piece : List ℕ) (r : PacketReaderData) → units ≡ version ∷ before
     → r ≡ record { keys = keys_in m role party version before; seq = number_in role party before; held = rest; fault = None }
     → parsers m role party units (rest ++ piece) ≡ ahead m r piece
 read_as m role party units version before rest piece r e f =
     ap (λ (us : Units). parsers m role party us (rest ++ piece)) e ∙ sym (ap (λ (t : PacketReaderData). ahead m t piece) f)
 
--- what is refused behind unfinished bytes, is refused for some bytes of the piece
+-- what is refused after unfinished bytes, is refused for some bytes of the piece
 pub refused_some : (parser : Parser) → IsIncremental parser → (rest piece : List ℕ) (used : ℕ) (r : Refusal) → parser rest ≡ unfinished → parser (rest ++ piece) ≡ refused r (length rest + used) → 0 < used
 refused_some parser inc rest piece zero r e f =
     let again : parser (take (length rest + zero) (rest ++ piece)) ≡ refused r (length rest + zero) = (inc.refused_again (rest ++ piece) r (length rest + zero) f).1 in

@@ -314,7 +314,7 @@ early role p n least (Failure side at is) = omega arith
 early role p n least (Banner side at is) = omega arith
 early role p n least (Confirmation side at is) = omega arith
 
--- no number behind those of the exchange leaves a phase before authentication
+-- no number after those of the exchange leaves a phase before authentication
 pub late_leaves : (role : Role) (n : ℕ) → 31 < n → LeavesNone role n
 late_leaves Client n late = record {
   kexinit = ne_eqb n 20 (λ q. omega arith);

@@ -127,7 +127,7 @@ module _ (d : DecisionsData) (party : ConfigData) (k other : Known) (reached : R
       let would : would_do d party k user service algorithm key ≡ true = ap (λ (x : Known). would_do d party x user service algorithm key) (sym same) ∙ on in
       ap (λ (x : Known). more_reply party x (UserauthPkOk name key)) same ∙ rw (would, e) refl
 
--- what is kept behind a good request
+-- what is kept after a successful request
 module _ (party : ConfigData) (k mid other : Known) (user service : List ℕ) (method : MethodData)
     (forgot : mid ≡ record k { reached = kept_reached k.reached (record { user = user; service = service; successful = None }) })
     (reached : other ≡ record mid { reached = successful_reached mid.reached (tried_with user service method true) (Some (method_name method)) }) where
@@ -166,7 +166,7 @@ no_key (message_method.TheVariants.PublicKey name blob signature) other = absurd
 no_key (message_method.TheVariants.PublicKeyQuery name blob) other = refl
 no_key (message_method.TheVariants.Other x) other = refl
 
--- no request by another method carries a key along, and none that wasn't good
+-- no request by another method carries a key along, and none that wasn't successful
 pub unkeyed : (c : Carried) (method : MethodData) → key_of method ≡ [] → (successful : Bool) → tried_key c method successful ≡ c
 unkeyed c method none true = rw none refl
 unkeyed c method none false = refl
@@ -174,7 +174,7 @@ unkeyed c method none false = refl
 pub untried : (c : Carried) (method : MethodData) → tried_key c method false ≡ c
 untried c method = refl
 
--- what is kept behind a request, as the endpoint goes on
+-- what is kept after a request, as the endpoint goes on
 module _ (old new : StateData) where
   pub with_end : (known : Known) → new ≡ record old { known = known; sending = new.sending } → new ≡ record old { end = new.end; known = known; sending = new.sending }
   with_end known e = e ∙ ap (λ (x : EndData). record old { end = x; known = known; sending = new.sending }) (sym (ap (λ (k : StateData). k.end) e))
@@ -185,7 +185,7 @@ module _ (old new : StateData) where
   with_key known carried same e = with_end known e ∙ ap (λ (x : Carried). record old { end = new.end; known = known; carried = x; sending = new.sending }) same
 
 module _ (m : SuiteData) (d : DecisionsData) (party : ConfigData) (known : Known) (user service own : List ℕ) (method : MethodData) (same : own ≡ service) where
-  -- a query, which is never good
+  -- a query, which is never successful
   pub query_tried : (algorithm key : List ℕ) → method ≡ PublicKeyQuery algorithm key
       → tried_with user own (PublicKeyQuery algorithm key) false ≡ tried_with user service method (is_successful m d party known user service method)
   unfolding proof_in

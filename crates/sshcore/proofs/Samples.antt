@@ -81,17 +81,17 @@ accept = written_message (ServiceAccept userauth)
 welcome : Bool → List ℕ
 welcome strict = kexinit_of Server strict a false
 
--- what a server says in a session without a guess
+-- what a server sends in a session without a guess
 server_sends : (d : DecisionsData) (v : List ℕ) → (making toy Server server ≡ welcome true ∷ []) × (unit_reply toy d Server server [] v ≡ goes []) × (unit_reply toy d Server server (v ∷ []) (hello true) ≡ goes []) × (unit_reply toy d Server server (v ∷ hello true ∷ []) init ≡ goes (reply ∷ (21 ∷ []) ∷ [])) × (unit_reply toy d Server server (v ∷ hello true ∷ init ∷ []) (21 ∷ []) ≡ goes []) × (unit_reply toy d Server server (v ∷ hello true ∷ init ∷ (21 ∷ []) ∷ []) request ≡ goes (accept ∷ []))
 unfolding toy kexinit_data config_data kexinit_of a ab ba o trusting wary written_message offered kexinit since_offer expects_guess stood first_kept since line_by line_reply work kexinit_reply init_reply reply_reply secret_of choice choice_of_directions exchange_with exchange_by exchange_text number_out switched_out derived key message_in messages.form_of messages.disconnect messages.ignore messages.unimplemented messages.debug messages.service_request messages.service_accept messages.ext_info messages.extensions messages.kexinit messages.newkeys messages.kexdh_init messages.kexdh_reply messages.kex_ecdh_init messages.kex_ecdh_reply readings.string_at readings.uint32_at readings.names_at readings.names_in readings.mpint_at readings.mpint_in ignore server client hello init reply request accept welcome
 server_sends d v = (refl, refl, refl, refl, refl, refl)
 
--- what a client says, up to the end that an empty plan has
+-- what a client sends, up to the end that an empty plan has
 client_sends : (v : List ℕ) → (making toy Client client ≡ hello true ∷ []) × (unit_reply toy trusting Client client (v ∷ []) (welcome true) ≡ goes (init ∷ [])) × (unit_reply toy trusting Client client (v ∷ welcome true ∷ []) reply ≡ goes ((21 ∷ []) ∷ request ∷ [])) × (unit_reply toy trusting Client client (v ∷ welcome true ∷ reply ∷ []) (21 ∷ []) ≡ goes []) × (unit_reply toy trusting Client client (v ∷ welcome true ∷ reply ∷ (21 ∷ []) ∷ []) accept ≡ fails fault.NoMoreMethods) × (answers_at toy trusting Client client (v ∷ welcome true ∷ reply ∷ (21 ∷ []) ∷ []) accept ≡ (1 ∷ 0 ∷ 0 ∷ 0 ∷ 14 ∷ 0 ∷ 0 ∷ 0 ∷ 0 ∷ 0 ∷ 0 ∷ 0 ∷ 0 ∷ []) ∷ [])
 unfolding toy kexinit_data config_data kexinit_of a ab ba o trusting wary written_message offered kexinit since_offer expects_guess stood first_kept since line_by line_reply work kexinit_reply init_reply reply_reply secret_of choice choice_of_directions exchange_with exchange_by exchange_text number_out switched_out derived key message_in messages.form_of messages.disconnect messages.ignore messages.unimplemented messages.debug messages.service_request messages.service_accept messages.ext_info messages.extensions messages.kexinit messages.newkeys messages.kexdh_init messages.kexdh_reply messages.kex_ecdh_init messages.kex_ecdh_reply readings.string_at readings.uint32_at readings.names_at readings.names_in readings.mpint_at readings.mpint_in ignore server client hello init reply request accept welcome all_kept count_kept left_after next_listed listed_in proof_in tried_in tried_at request_reply signed_text messages.password messages.publickey messages.userauth_request messages.userauth_failure messages.userauth_success messages.userauth_banner messages.userauth_pk_ok utf8_at
 client_sends v = (refl, refl, refl, refl, refl, refl)
 
--- both sides hash the same: versions, KEXINITs, host key, shares and the shared number
+-- both sides hash the same: versions, KEXINITs, host key, shares and the shared secret
 one_exchange : (exchange_at toy Server server (codes "SSH-2.0-x") (hello true ∷ init ∷ []) ≡ record { client_version = codes "SSH-2.0-x"; server_version = codes "SSH-2.0-lab_1"; client_kexinit = hello true; server_kexinit = welcome true; host_key = 66 ∷ 0 ∷ []; client_share = 1 ∷ 9 ∷ []; server_share = 1 ∷ 9 ∷ []; shared = 7 ∷ [] }) × (exchange_at toy Client client server.version (welcome true ∷ reply ∷ []) ≡ exchange_at toy Server server server.version (hello true ∷ init ∷ [])) × (session_at toy Client client server.version (welcome true ∷ reply ∷ []) ≡ session_at toy Server server server.version (hello true ∷ init ∷ []))
 unfolding toy kexinit_data config_data kexinit_of a ab ba o trusting wary written_message offered kexinit since_offer expects_guess stood first_kept since line_by line_reply work kexinit_reply init_reply reply_reply secret_of choice choice_of_directions exchange_with exchange_by exchange_text number_out switched_out derived key message_in messages.form_of messages.disconnect messages.ignore messages.unimplemented messages.debug messages.service_request messages.service_accept messages.ext_info messages.extensions messages.kexinit messages.newkeys messages.kexdh_init messages.kexdh_reply messages.kex_ecdh_init messages.kex_ecdh_reply readings.string_at readings.uint32_at readings.names_at readings.names_in readings.mpint_at readings.mpint_in ignore server client hello init reply request accept welcome
 one_exchange = (refl, refl, refl)
@@ -133,7 +133,7 @@ guess_places : (d : DecisionsData) (v : List ℕ) → (unit_reply toy d Server o
 unfolding toy kexinit_data config_data kexinit_of a ab ba o trusting wary written_message offered kexinit since_offer expects_guess stood first_kept since line_by line_reply work kexinit_reply init_reply reply_reply secret_of choice choice_of_directions exchange_with exchange_by exchange_text number_out switched_out derived key message_in messages.form_of messages.disconnect messages.ignore messages.unimplemented messages.debug messages.service_request messages.service_accept messages.ext_info messages.extensions messages.kexinit messages.newkeys messages.kexdh_init messages.kexdh_reply messages.kex_ecdh_init messages.kex_ecdh_reply readings.string_at readings.uint32_at readings.names_at readings.names_in readings.mpint_at readings.mpint_in ignore server client hello init reply request accept welcome to_server to_client guessing other_server guesser
 guess_places d v = (refl, refl, refl, refl, refl, refl, refl, refl, refl)
 
--- a client guesses at its making, and says it again only where the guess was wrong; a right guess is used
+-- a client guesses at its making, and sends it again only where the guess was wrong; a right guess is used
 guesses : (d : DecisionsData) (v : List ℕ) → (making toy Client guesser ≡ guessing true ∷ init ∷ []) × (guessed_method (config_data Client true (codes "ext-info-c" ∷ ba) true) ≡ codes "b") × (unit_reply toy d Client guesser (v ∷ []) (kexinit_of Server true ba false) ≡ goes (init ∷ [])) × (unit_reply toy d Client guesser (v ∷ []) (kexinit_of Server true ab false) ≡ goes []) × (expects_guess Server (config_data Server true ab false).offer (guessing true ∷ []) ≡ false) × (unit_reply toy d Server (config_data Server true ab false) (v ∷ guessing true ∷ []) init ≡ goes (reply ∷ (21 ∷ []) ∷ []))
 unfolding toy kexinit_data config_data kexinit_of a ab ba o trusting wary written_message offered kexinit since_offer expects_guess stood first_kept since line_by line_reply work kexinit_reply init_reply reply_reply secret_of choice choice_of_directions exchange_with exchange_by exchange_text number_out switched_out derived key message_in messages.form_of messages.disconnect messages.ignore messages.unimplemented messages.debug messages.service_request messages.service_accept messages.ext_info messages.extensions messages.kexinit messages.newkeys messages.kexdh_init messages.kexdh_reply messages.kex_ecdh_init messages.kex_ecdh_reply readings.string_at readings.uint32_at readings.names_at readings.names_in readings.mpint_at readings.mpint_in ignore server client hello init reply request accept welcome to_server to_client guessing other_server guesser
 guesses d v = (refl, refl, refl, refl, refl, refl)
@@ -157,7 +157,7 @@ auth_numbers : (m : SuiteData) (d : DecisionsData) (v : List ℕ) → (unit_repl
 unfolding toy kexinit_data config_data kexinit_of a ab ba o trusting wary written_message offered kexinit since_offer expects_guess stood first_kept since line_by line_reply work kexinit_reply init_reply reply_reply secret_of choice choice_of_directions exchange_with exchange_by exchange_text number_out switched_out derived key message_in messages.form_of messages.disconnect messages.ignore messages.unimplemented messages.debug messages.service_request messages.service_accept messages.ext_info messages.extensions messages.kexinit messages.newkeys messages.kexdh_init messages.kexdh_reply messages.kex_ecdh_init messages.kex_ecdh_reply readings.string_at readings.uint32_at readings.names_at readings.names_in readings.mpint_at readings.mpint_in ignore server client hello init reply request accept welcome to_server to_client guessing other_server guesser loose all_kept count_kept left_after next_listed listed_in proof_in tried_in tried_at request_reply signed_text messages.password messages.publickey messages.userauth_request messages.userauth_failure messages.userauth_success messages.userauth_banner messages.userauth_pk_ok utf8_at
 auth_numbers m d v = (refl, refl, refl, refl, refl, refl, refl, refl)
 
--- behind NEWKEYS: EXT_INFO is ignored, and before it is not; IGNORE is; a service that is not there; an answer for another service
+-- after NEWKEYS: EXT_INFO is ignored, and before it is not; IGNORE is; a service that is not there; an answer for another service
 after_newkeys : (m : SuiteData) (d : DecisionsData) (v : List ℕ) → (unit_reply m d Server server (v ∷ hello true ∷ init ∷ (21 ∷ []) ∷ []) (7 ∷ 0 ∷ 0 ∷ 0 ∷ 0 ∷ []) ≡ goes []) × (unit_reply m d Server server (v ∷ hello false ∷ init ∷ []) (7 ∷ 0 ∷ 0 ∷ 0 ∷ 0 ∷ []) ≡ fails (fault.Unexpected 7)) × (unit_reply m d Server server (v ∷ hello true ∷ init ∷ []) ignore ≡ fails (fault.Strict 2)) × (unit_reply m d Server server (v ∷ hello true ∷ init ∷ (21 ∷ []) ∷ []) ignore ≡ goes []) × (unit_reply m d Server server (v ∷ hello true ∷ init ∷ (21 ∷ []) ∷ []) (2 ∷ []) ≡ fails (fault.Malformed 2)) × (unit_reply m d Server server (v ∷ hello true ∷ init ∷ (21 ∷ []) ∷ []) (hello true) ≡ fails (fault.Unexpected 20)) × (unit_reply m d Server server (v ∷ hello true ∷ init ∷ (21 ∷ []) ∷ []) (written_message (ServiceRequest (codes "ssh-connection"))) ≡ fails fault.Service) × (unit_reply m d Client client (v ∷ welcome true ∷ reply ∷ (21 ∷ []) ∷ []) (written_message (ServiceAccept (codes "ssh-connection"))) ≡ fails (fault.Unexpected 6))
 unfolding toy kexinit_data config_data kexinit_of a ab ba o trusting wary written_message offered kexinit since_offer expects_guess stood first_kept since line_by line_reply work kexinit_reply init_reply reply_reply secret_of choice choice_of_directions exchange_with exchange_by exchange_text number_out switched_out derived key message_in messages.form_of messages.disconnect messages.ignore messages.unimplemented messages.debug messages.service_request messages.service_accept messages.ext_info messages.extensions messages.kexinit messages.newkeys messages.kexdh_init messages.kexdh_reply messages.kex_ecdh_init messages.kex_ecdh_reply readings.string_at readings.uint32_at readings.names_at readings.names_in readings.mpint_at readings.mpint_in ignore server client hello init reply request accept welcome to_server to_client guessing other_server guesser loose all_kept count_kept left_after next_listed listed_in proof_in tried_in tried_at request_reply signed_text messages.password messages.publickey messages.userauth_request messages.userauth_failure messages.userauth_success messages.userauth_banner messages.userauth_pk_ok utf8_at
 after_newkeys m d v = (refl, refl, refl, refl, refl, refl, refl, refl)
@@ -166,7 +166,7 @@ after_newkeys m d v = (refl, refl, refl, refl, refl, refl, refl, refl)
 banner_server : ConfigData
 banner_server = record server { banner = Some (codes "hi") }
 
--- it says the banner behind the answer
+-- it sends the banner after the answer
 banners : (m : SuiteData) (d : DecisionsData) (v : List ℕ) → unit_reply m d Server banner_server (v ∷ hello true ∷ init ∷ (21 ∷ []) ∷ []) request ≡ goes (accept ∷ written_message (UserauthBanner (codes "hi") []) ∷ [])
 unfolding toy kexinit_data config_data kexinit_of a ab ba o trusting wary written_message offered kexinit since_offer expects_guess stood first_kept since line_by line_reply work kexinit_reply init_reply reply_reply secret_of choice choice_of_directions exchange_with exchange_by exchange_text number_out switched_out derived key message_in messages.form_of messages.disconnect messages.ignore messages.unimplemented messages.debug messages.service_request messages.service_accept messages.ext_info messages.extensions messages.kexinit messages.newkeys messages.kexdh_init messages.kexdh_reply messages.kex_ecdh_init messages.kex_ecdh_reply readings.string_at readings.uint32_at readings.names_at readings.names_in readings.mpint_at readings.mpint_in ignore server client hello init reply request accept welcome to_server to_client guessing other_server guesser loose banner_server
 banners m d v = refl
@@ -192,7 +192,7 @@ forms : (d : DecisionsData) (v : List ℕ) → (unit_reply toy d Server octet_se
 unfolding toy kexinit_data config_data kexinit_of a ab ba o trusting wary written_message offered kexinit since_offer expects_guess stood first_kept since line_by line_reply work kexinit_reply init_reply reply_reply secret_of choice choice_of_directions exchange_with exchange_by exchange_text number_out switched_out derived key message_in messages.form_of messages.disconnect messages.ignore messages.unimplemented messages.debug messages.service_request messages.service_accept messages.ext_info messages.extensions messages.kexinit messages.newkeys messages.kexdh_init messages.kexdh_reply messages.kex_ecdh_init messages.kex_ecdh_reply readings.string_at readings.uint32_at readings.names_at readings.names_in readings.mpint_at readings.mpint_in ignore server client hello init reply request accept welcome to_server to_client guessing other_server guesser loose banner_server octet_server octet_client octets octet_hello octet_welcome
 forms d v = (refl, refl, refl, refl, refl)
 
--- shares for which the suite gives no shared number, and a wrong signature
+-- shares for which the suite gives no shared secret, and a wrong signature
 no_share : List ℕ
 no_share = 30 ∷ 0 ∷ 0 ∷ 0 ∷ 1 ∷ 0 ∷ []
 
@@ -202,7 +202,7 @@ no_answer = 31 ∷ 0 ∷ 0 ∷ 0 ∷ 2 ∷ 66 ∷ 0 ∷ 0 ∷ 0 ∷ 0 ∷ 1 ∷ 
 forged : List ℕ
 forged = 31 ∷ 0 ∷ 0 ∷ 0 ∷ 2 ∷ 66 ∷ 0 ∷ 0 ∷ 0 ∷ 0 ∷ 2 ∷ 1 ∷ 9 ∷ 0 ∷ 0 ∷ 0 ∷ 2 ∷ 83 ∷ 1 ∷ []
 
--- an exchange fails in this order at a client: the host key, the shared number, the signature
+-- an exchange fails in this order at a client: the host key, the shared secret, the signature
 failed_exchanges : (d : DecisionsData) (v : List ℕ) → (unit_reply toy d Server octet_server (v ∷ octet_hello ∷ []) no_share ≡ fails fault.Exchange) × (unit_reply toy wary Client octet_client (v ∷ octet_welcome ∷ []) no_answer ≡ fails fault.HostKey) × (unit_reply toy trusting Client octet_client (v ∷ octet_welcome ∷ []) no_answer ≡ fails fault.Exchange) × (unit_reply toy trusting Client octet_client (v ∷ octet_welcome ∷ []) forged ≡ fails fault.Signature)
 unfolding toy kexinit_data config_data kexinit_of a ab ba o trusting wary written_message offered kexinit since_offer expects_guess stood first_kept since line_by line_reply work kexinit_reply init_reply reply_reply secret_of choice choice_of_directions exchange_with exchange_by exchange_text number_out switched_out derived key message_in messages.form_of messages.disconnect messages.ignore messages.unimplemented messages.debug messages.service_request messages.service_accept messages.ext_info messages.extensions messages.kexinit messages.newkeys messages.kexdh_init messages.kexdh_reply messages.kex_ecdh_init messages.kex_ecdh_reply readings.string_at readings.uint32_at readings.names_at readings.names_in readings.mpint_at readings.mpint_in ignore server client hello init reply request accept welcome to_server to_client guessing other_server guesser loose banner_server octet_server octet_client octets octet_hello octet_welcome no_share no_answer forged
 failed_exchanges d v = (refl, refl, refl, refl)
@@ -264,7 +264,7 @@ agreed user = record {
   service = codes "s";
 }
 
--- a client with a plan of three attempts, each with its own user, and what it hears up to NEWKEYS
+-- a client with a plan of three attempts, each with its own user, and what it receives up to NEWKEYS
 planner : ConfigData
 planner = record client {
   plan = record { user = codes "u"; service = codes "s"; proving = ByNothing }
@@ -279,7 +279,7 @@ seen = welcome true ∷ reply ∷ (21 ∷ []) ∷ []
 mirror : SuiteData
 mirror = record toy { sign = λ alg secret input. input }
 
--- A client makes its attempts in order: the first behind SERVICE_ACCEPT, the next whose method is listed behind a FAILURE.
+-- A client makes its attempts in order: the first after SERVICE_ACCEPT, the next whose method is listed after a FAILURE.
 -- An attempt that was skipped isn't made later, and without one it fails.
 attempts : (v : List ℕ) → (unit_reply toy trusting Client planner (v ∷ seen) accept ≡ goes (asks (codes "u") none_fields ∷ [])) × (unit_reply toy trusting Client planner (v ∷ (seen ++ accept ∷ [])) (lists (codes "publickey,password")) ≡ goes (asks (codes "k") (key_fields (83 ∷ 5 ∷ [])) ∷ [])) × (unit_reply toy trusting Client planner (v ∷ (seen ++ accept ∷ [])) (lists (codes "password")) ≡ goes (asks (codes "p") password_fields ∷ [])) × (unit_reply toy trusting Client planner (v ∷ (seen ++ accept ∷ lists (codes "password") ∷ [])) (lists (codes "publickey,password")) ≡ fails fault.NoMoreMethods) × (unit_reply toy trusting Client planner (v ∷ (seen ++ accept ∷ [])) (lists []) ≡ fails fault.NoMoreMethods) × (answers_at toy trusting Client planner (v ∷ (seen ++ accept ∷ [])) (lists []) ≡ (1 ∷ 0 ∷ 0 ∷ 0 ∷ 14 ∷ 0 ∷ 0 ∷ 0 ∷ 0 ∷ 0 ∷ 0 ∷ 0 ∷ 0 ∷ []) ∷ []) × (unit_reply toy trusting Client planner (v ∷ (seen ++ accept ∷ [])) (51 ∷ 0 ∷ 0 ∷ 0 ∷ 8 ∷ (codes "password" ++ 1 ∷ [])) ≡ goes (asks (codes "p") password_fields ∷ []))
 unfolding toy kexinit_data config_data kexinit_of a ab ba o trusting wary written_message offered kexinit since_offer expects_guess stood first_kept since line_by line_reply work kexinit_reply init_reply reply_reply secret_of choice choice_of_directions exchange_with exchange_by exchange_text number_out switched_out derived key message_in messages.form_of messages.disconnect messages.ignore messages.unimplemented messages.debug messages.service_request messages.service_accept messages.ext_info messages.extensions messages.kexinit messages.newkeys messages.kexdh_init messages.kexdh_reply messages.kex_ecdh_init messages.kex_ecdh_reply readings.string_at readings.uint32_at readings.names_at readings.names_in readings.mpint_at readings.mpint_in ignore server client hello init reply request accept welcome all_kept count_kept left_after next_listed listed_in proof_in tried_in tried_at request_reply signed_text messages.password messages.publickey messages.userauth_request messages.userauth_failure messages.userauth_success messages.userauth_banner messages.userauth_pk_ok utf8_at is_utf8 chars encode_utf8 none_fields password_fields change_fields query_fields would_do key_front key_fields other_fields asks lists agreed planner seen mirror
@@ -302,7 +302,7 @@ keeper tries = record server { services = codes "s" ∷ []; tries = tries }
 lister : ConfigData
 lister = record server { services = codes "s" ∷ []; methods = codes "publickey" ∷ codes "password" ∷ [] }
 
--- what it hears up to the request of the service
+-- what it receives up to the request of the service
 entered : List (List ℕ)
 entered = hello true ∷ init ∷ (21 ∷ []) ∷ request ∷ []
 

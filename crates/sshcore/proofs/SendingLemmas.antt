@@ -1,4 +1,4 @@
--- The key switch and the number of the next packet that is said, with one payload more said.
+-- The key switch and the number of the next packet that is sent, with one payload more sent.
 
 use Rattle.std.proofs.Common.{◌≡◌, ℕ, ◌+◌, ◌==◌, Bool, true, false, cond, List, [], ◌∷◌, ◌++◌, length, length-append, refl, ap, ◌∙◌}
 use Rattle.std.specs.Prelude.{◌%◌, ◌^◌}

@@ -67,7 +67,7 @@ use Rattle.sshcore.proofs.StrictStages.{Follows}
 use Rattle.sshcore.proofs.StrictSteps.{Fails, Goes, Off, Step, line_is, step}
 use Rattle.sshcore.proofs.TableLemmas.{Closing, Dropped, Leaving, OffGuess, OffPhase, Sees, Staying, Useless, sees}
 
--- NEWKEYS is said
+-- NEWKEYS is sent
 abbrev Switches : Units → Type 0
 Switches answers = switched_out answers ≡ true
 
@@ -159,7 +159,7 @@ module _ (below : Below) (m : SuiteData) (d : DecisionsData) (role : Role) (part
     by_line known packet p l (Leaving none at is) here number is_open =
         rw is (read_switches known payload (message_in known.shares payload) refl (exchange_number role (kind payload) number) (rw is at is_open))
 
-    -- where the exchange message is heard, and the endpoint stays open, NEWKEYS is said
+    -- where the exchange message is received, and the endpoint stays open, NEWKEYS is sent
     received_switches : (p : Phase) → Tied role party.offer before p → end_at m d role party (version ∷ before) payload ≡ Open
         → stood role party.offer (leaving role phase.Exchange) before ≡ false → stood role party.offer (leaving role phase.Exchange) (before ++ payload ∷ []) ≡ true
         → Switches (answers_at m d role party (version ∷ before) payload)
@@ -174,7 +174,7 @@ module _ (below : Below) (m : SuiteData) (d : DecisionsData) (role : Role) (part
         (eqb-true (kind payload) k (and_parts _ _ here).0)
         (ap (λ (l : Line). (line_reply m d role party known (number_in role party before) l payload).end) same ∙ is_open)
 
-  -- an endpoint that stays open while the exchange message is heard has said NEWKEYS
+  -- an endpoint that stays open while the exchange message is received has sent NEWKEYS
   open_switches : (version : List ℕ) (before us : Units) (p : Phase) → Follows role party before p → EachPlace (λ b u. end_at m d role party b u ≡ Open) (version ∷ before) us
       → stood role party.offer (leaving role phase.Exchange) before ≡ false → stood role party.offer (leaving role phase.Exchange) (before ++ us) ≡ true
       → Switches (flat_places (answers_at m d role party) (version ∷ before) us)
@@ -251,7 +251,7 @@ module _ (below : Below) (m : SuiteData) (d : DecisionsData) (role : Role) (part
     inside : IsInside m d role party p.units p.answers p.rest kept i
     inside = p.inside (inr (a, is))
 
-    -- nothing stands behind the bytes that it used
+    -- nothing stands after the bytes that it used
     pub none_left : p.rest ≡ []
     none_left = p.history.last (authenticated_shut p.received_end a (uncut_end p.received_end kept.end a p.ends is)) (none_refused_at m d role party p.units p.refusal a replies.ends)
 
@@ -307,7 +307,7 @@ authenticated_at (end.Failed f) a is = absurd cc
 authenticated_at (end.Closed reason) a is = absurd cc
 authenticated_at (end.Disconnected reason) a is = absurd cc
 
--- what is handed over besides: both version lines, the host key, and how the user came in
+-- what is handed over besides: both version lines, the host key, and how the user was accepted
 pub record HandsOn (m : SuiteData) (d : DecisionsData) (role : Role) (party : ConfigData) (units : Units) (a : AgreedData) (own_version peer_version host_key : List ℕ) (accepted : Option Accepted) : Type 0 where
   pub own_version_is : own_version ≡ party.version
   pub peer_version_is : peer_version ≡ version_in units

@@ -1,4 +1,4 @@
--- What an endpoint has said, with more heard.
+-- What an endpoint has sent, with more received.
 
 use Rattle.std.proofs.Common.{◌≡◌, inl, inr, ℕ, Bool, true, false, cond, List, [], ◌∷◌, ◌++◌, None, Some, refl, sym, ap, ◌∙◌, append_assoc}
 use Rattle.std.proofs.lemmas.Bool.{cases_Bool, true≢false}
@@ -44,7 +44,7 @@ module _ (role : Role) (party : ConfigData) where
     exchange = stood_more role party (leaving role phase.Exchange) before more r.exchange;
   }
 
-  -- an endpoint that is ready has heard a version
+  -- an endpoint that is ready has received a version
   pub ready_units : (units more : Units) → IsReady role party (payloads_in units) → IsReady role party (payloads_in (units ++ more))
   unfolding offered
   ready_units [] more r = absurd (true≢false (sym r.offer))
@@ -56,7 +56,7 @@ unfolding number_out
 unready strict other_strict sent none = rw none refl
 
 module _ (m : SuiteData) (role : Role) (party : ConfigData) where
-  -- the keys and the strictness of an endpoint that is ready stay, whatever is heard behind
+  -- the keys and the strictness of an endpoint that is ready stay, whatever is received afterwards
   pub keys_stay : (version : List ℕ) (before more : Units) (sender : Role) → IsReady role party before → keys_at m role party version (before ++ more) sender ≡ keys_at m role party version before sender
   keys_stay version before more sender r =
       ap (λ (k : List ℕ). keys_by_payloads m role party version sender k (exchange_message role party (before ++ more))) (kexinit_stays before more r.offer)
@@ -75,7 +75,7 @@ module _ (m : SuiteData) (role : Role) (party : ConfigData) where
   ready_some [] r = absurd (true≢false (sym r.offer))
   ready_some (v ∷ us) r = (v, us, refl)
 
-  -- what was said is spelled as before, whatever is heard behind
+  -- what was sent is spelled as before, whatever is received afterwards
   spelled_stays : (units more sent : Units) (payload : List ℕ) → (switched_out sent ≡ true → IsReady role party (payloads_in units))
       → spells m role party units (party.version ∷ sent) payload ≡ spells m role party (units ++ more) (party.version ∷ sent) payload
   spelled_stays units more sent payload keyed = elim (cases_Bool (switched_out sent)) [
@@ -105,7 +105,7 @@ module _ (m : SuiteData) (role : Role) (party : ConfigData) where
     spelled = sent.spelled ∙ flat-same (spells m role party units) (spells m role party (units ++ more)) [] (party.version ∷ answers) (refl, each_stays units more [] answers keyed);
   }
 
--- whether NEWKEYS was said, of a list in two parts
+-- whether NEWKEYS was sent, of a list in two parts
 pub newkeys_anywhere : (b c us : Units) → stands is_newkeys b us ≡ stands is_newkeys c us
 newkeys_anywhere b c [] = refl
 newkeys_anywhere b c (u ∷ us) = ap (λ (x : Bool). cond (is_newkeys [] u) true x) (newkeys_anywhere (b ++ u ∷ []) (c ++ u ∷ []) us)

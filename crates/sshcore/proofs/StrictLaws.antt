@@ -85,7 +85,7 @@ module _ (role : Role) (party : ConfigData) (before : Units) (payload : List ℕ
       let here : kept role party.offer k before payload ≡ true = sym (stood_push role party.offer before payload k ∙ rw none refl) ∙ now in
       eqb-true (kind payload) k (and_parts _ _ here).0
 
-  -- a strict endpoint that stood open before this payload, and is past phase newkeys behind it
+  -- a strict endpoint that stood open before this payload, and is past phase newkeys after it
   pub past : (p : Phase) → Follows role party before p → strict_at role party (before ++ payload ∷ []) ≡ true
       → past_newkeys (phase_at role party.offer (before ++ payload ∷ [])) ≡ true → BeginsStrictly role party.offer (before ++ payload ∷ [])
   past p f s h = by p f (past_parts _ _ _ _ h)

@@ -1,4 +1,4 @@
--- What an endpoint that stands open has heard, of strictness.
+-- What an endpoint that stands open has received, of strictness.
 
 use Rattle.std.proofs.Common.{◌≡◌, ℕ, true, false, List, [], ◌∷◌, ◌++◌}
 use Rattle.sshmsg.specs.MessageData.{KexInitData}

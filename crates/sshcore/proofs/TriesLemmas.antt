@@ -115,7 +115,7 @@ module _ (below : Below) (m : SuiteData) (d : DecisionsData) (party : ConfigData
           omega (arith, same, few)
     ]
 
-  -- behind payloads at each of which it stays open
+  -- after payloads at each of which it stays open
   count_on : (version : List ℕ) (before us : Units) → EachPlace (λ b u. end_at m d Server party b u ≡ Open) (version ∷ before) us
       → count_kept Server party.offer 50 before < party.tries → count_kept Server party.offer 50 (before ++ us) < party.tries
   count_on version before [] each few = subst (λ (l : Units). count_kept Server party.offer 50 l < party.tries) (sym (append-nil before)) few

@@ -1,4 +1,4 @@
--- What is heard never ends an endpoint as its owner does.
+-- What is received never ends an endpoint as its owner does.
 
 use Rattle.std.proofs.Common.{◌≡◌, ℕ, false, List, [], ◌∷◌, Option, None, Some, Result, Ok, Err, refl, ap, ◌∙◌}
 use Rattle.sshmsg.specs.declared.fault.MsgFault.{MsgFault}
@@ -20,7 +20,7 @@ use Rattle.sshcore.specs.Replies.{Ends, end_at, ended, fault_of, goes_on, line_a
 use Rattle.sshcore.specs.Work.{work}
 use Rattle.sshcore.proofs.AuthenticatedLemmas.{Early, Requested, Succeeded, WorkEnds, early_uncut, work_ends}
 
--- what is heard never ends as an owner does
+-- what is received never ends as an owner does
 abbrev pub IsUncut : EndData → Type 0
 IsUncut end = by_owner end ≡ false
 

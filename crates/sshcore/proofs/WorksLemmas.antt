@@ -100,7 +100,7 @@ pub failed_ends : (end : EndData) (f : Fault) → end ≡ Failed f → IsOngoing
 failed_ends end f e (inl stays) = absurd cc
 failed_ends end f e (inr done) = let is : end ≡ Authenticated done.0 = done.1 in absurd cc
 
--- nothing is said
+-- nothing is sent
 pub silent : (m : SuiteData) (seed : List ℕ) (strict : Bool) (next : KeysData) (old new : StateData) (before : List ℕ) (end : EndData) → new.end ≡ end → new.sending ≡ old.sending
     → Gives m seed strict next old new before before (record { answers = []; end = end })
 unfolding sent_from sending_from
@@ -160,7 +160,7 @@ module _ (m : SuiteData) (d : DecisionsData) (role : Role) (party : ConfigData) 
         moves = λ goes_on. Offers peer at.phase_is at.none_due (has.offers peer is) keys (form goes_on) (moves goes_on);
       })
 
-  -- the exchange message, at the side that hears it
+  -- the exchange message, at the side that receives it
   exchange_works : (side : Role) (n : ℕ) (r : Reply) → number_of c ≡ n → leaving side phase.Exchange ≡ n → IsAt role side old.phase phase.Exchange old.guess
       → ReceivesExchange m side party old new before after c r → Works m d role party old new payload before after r
   exchange_works side n r number leaves at h =
@@ -191,7 +191,7 @@ module _ (m : SuiteData) (d : DecisionsData) (role : Role) (party : ConfigData) 
       by_reply (reply_reply m d Client party old.known c signature) (is ∙ ap (λ (x : Role). reply_reply m d x party old.known c signature) at.side_is)
       (exchange_works Client 31 (reply_reply m d Client party old.known c signature) number refl at h)
 
-  -- a message that leaves a phase behind the exchange
+  -- a message that leaves a phase after the exchange
   leaves_works : (side : Role) (p q : Phase) (n : ℕ) (k : Known) (r : Reply) → number_of c ≡ n → leaving side p ≡ n → past_exchange p ≡ true → next_phase p ≡ q
       → IsAt role side old.phase p old.guess → after_payload m d party old.known payload ≡ k
       → ((strict : Bool) (next : KeysData) → Gives m party.seed strict next old new before after r)
@@ -210,7 +210,7 @@ module _ (m : SuiteData) (d : DecisionsData) (role : Role) (party : ConfigData) 
         });
       }
 
-  -- what is known behind a message with another number than those of requests and FAILURE
+  -- what is known after a message with another number than those of requests and FAILURE
   received_as : (n : ℕ) → number_of c ≡ n → n ≢ 50 → n ≢ 51 → n ≢ 60 → after_payload m d party old.known payload ≡ received_one old.known
   received_as n number request failure confirmation = received_number m d party old.known payload n (has.kind_is ∙ number) request failure confirmation
 
@@ -329,7 +329,7 @@ fits_method (PublicKey algorithm key signature) short =
 fits_method (PublicKeyQuery algorithm key) short = tt
 fits_method (OtherMethod name fields) short = tt
 
--- messages to which nothing is said
+-- messages to which nothing is sent
 module _ (m : SuiteData) (d : DecisionsData) (role : Role) (party : ConfigData) (old new : StateData) (payload before : List ℕ) (c : MessageData) (has : HasPlace role old payload c) where
   pub disconnect_works : (reason : ℕ) (description language : List ℕ) → c ≡ Disconnect reason description language → new.end ≡ Closed reason → new.sending ≡ old.sending
       → Works m d role party old new payload before before (work m d role party old.known c)

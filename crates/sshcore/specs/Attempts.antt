@@ -1,4 +1,4 @@
--- What a client says to be authenticated, and how that ends: RFC 4252 sections 5 to 8.
+-- What a client sends to be authenticated, and how that ends: RFC 4252 sections 5 to 8.
 
 use Rattle.std.specs.Prelude.{◌&&◌, ℕ, Bool, true, false, if◌then◌else◌, List, [], ◌∷◌}
 use Rattle.std.specs.Str.{bytes_eq}

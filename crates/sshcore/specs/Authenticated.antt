@@ -1,4 +1,4 @@
--- What an endpoint that ended authenticated has heard: RFC 4252 section 5.1.
+-- What an endpoint that ended authenticated has received: RFC 4252 section 5.1.
 
 use Rattle.std.specs.Prelude.{◌≡◌, ℕ, true, List, [], ◌∷◌, ◌++◌, Ok}
 use Rattle.sshmsg.specs.MessageData.{MethodData, UserauthRequest, UserauthSuccess}
@@ -20,9 +20,9 @@ use Rattle.sshcore.specs.Reached.{Tried, are_reached}
 use Rattle.sshcore.specs.Requests.{is_successful}
 use Rattle.sshcore.specs.Tries.{tried_at, tried_with}
 
--- A server lets a user in: this payload is the user's request for a service by some method; the server has the service; the
--- request is good, so it is no query, it proves something, and the decision on that is yes; and behind it all required methods
--- are reached: in the unbroken run of requests for this user and service that it ends, for each of them one was good.
+-- A server accepts a user: this payload is the user's request for a service by some method; the server has the service; the
+-- request is successful, so it is no query, it proves something, and the decision on that is yes; and after it all required methods
+-- are reached: in the unbroken run of requests for this user and service that it ends, for each of them one was successful.
 pub record AcceptsUser (m : SuiteData) (d : DecisionsData) (party : ConfigData) (known : Known) (tried : List Tried) (payload : List ℕ) (a : AgreedData) : Type 0 where
   pub method : MethodData
   pub requests : message_in known.shares payload ≡ Ok (UserauthRequest a.user a.service method)
@@ -30,7 +30,7 @@ pub record AcceptsUser (m : SuiteData) (d : DecisionsData) (party : ConfigData) 
   pub successful : is_successful m d party known a.user a.service method ≡ true
   pub reached : are_reached party.required a.user a.service (tried ++ tried_with a.user a.service method true ∷ []) ≡ true
 
--- A client is let in: this payload is a SUCCESS, and user and service are those of the attempt that the client made last, which
+-- A client is accepted: this payload is a SUCCESS, and user and service are those of the attempt that the client made last, which
 -- is the first of those that its plan still has.
 pub record WasAccepted (known : Known) (payload : List ℕ) (a : AgreedData) : Type 0 where
   pub succeeds : message_in known.shares payload ≡ Ok UserauthSuccess
@@ -40,14 +40,14 @@ pub record WasAccepted (known : Known) (payload : List ℕ) (a : AgreedData) : T
   pub user_is : a.user ≡ made.user
   pub service_is : a.service ≡ made.service
 
--- what lets in, by the role
+-- by what a user is accepted, by the role
 abbrev pub IsAcceptedUser : SuiteData → DecisionsData → Role → ConfigData → Known → List Tried → List ℕ → AgreedData → Type 0
 IsAcceptedUser m d Client party known tried payload a = WasAccepted known payload a
 IsAcceptedUser m d Server party known tried payload a = AcceptsUser m d party known tried payload a
 
--- An endpoint ended authenticated: its last payload came in phase auth, and the phase is the same behind it. It agreed on what
+-- An endpoint ended authenticated: its last payload came in phase auth, and the phase is the same after it. It agreed on what
 -- the payloads before have given, which are the algorithms, strictness and the session identifier; and by what they have given
--- the last payload lets this user in for this service.
+-- this user is accepted by the last payload for this service.
 pub record IsAuthenticated (m : SuiteData) (d : DecisionsData) (role : Role) (party : ConfigData) (units : Units) (a : AgreedData) : Type 0 where
   pub version : List ℕ
   pub before : Units

@@ -1,4 +1,4 @@
--- What an endpoint does in authentication: what it keeps behind a request and behind a FAILURE, and what fits its messages.
+-- What an endpoint does in authentication: what it keeps after a request and after a FAILURE, and what fits its messages.
 
 use Rattle.std.specs.Prelude.{◌≡◌, ◌==◌, ◌||◌, ℕ, ◌+◌, ◌≤◌, Bool, true, false, if◌then◌else◌, List, [], length}
 use Rattle.sshwire.specs.declared.limits.TheConstants.{NAME_LIMIT, PAYLOAD_LIMIT}
@@ -19,19 +19,19 @@ use Rattle.sshcore.specs.Tries.{key_of, last_key}
 abbrev pub one_request : Known → Known
 one_request known = record known { request = known.request + 1; first = false }
 
--- what is known behind a request, which is counted, and may reach a method
+-- what is known after a request, which is counted, and may reach a method
 abbrev pub counted_request : Known → Tried → Known
 counted_request known t = record known { request = known.request + 1; reached = reached_after_one known.reached t; first = false }
 
--- what is carried along behind a request by this method, which was good or not: its key, if it has one
+-- what is carried along after a request by this method, which was successful or not: its key, if it has one
 abbrev pub tried_key : Carried → MethodData → Bool → Carried
 tried_key c method successful = record c { user_key = last_key c.user_key (if successful then key_of method else []) }
 
--- behind a PK_OK
+-- after a PK_OK
 abbrev pub confirmed_attempt : Known → Known
 confirmed_attempt known = record known { left = confirmed known.left; first = false }
 
--- and behind a FAILURE that lists these methods
+-- and after a FAILURE that lists these methods
 abbrev pub failed_attempt : Known → List (List ℕ) → Known
 failed_attempt known listed = record known { left = next_after listed known.left; first = false }
 

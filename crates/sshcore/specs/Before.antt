@@ -1,4 +1,4 @@
--- What stood before a place of the payloads that an endpoint heard: the peer's KEXINIT, the packet of a wrong guess, and the
+-- What stood before a place of the payloads that an endpoint received: the peer's KEXINIT, the packet of a wrong guess, and the
 -- messages that were kept. `before` are the payloads before the place; the text of the peer's version line isn't among them.
 
 use Rattle.std.specs.Prelude.{ℕ, ◌==◌, ◌&&◌, Bool, false, not, if◌then◌else◌, List, [], ◌∷◌, length, Option, None, Some}
@@ -28,7 +28,7 @@ kexinit before = first_where [] is_kexinit [] before
 abbrev pub peer_offer : Units → Option KexInitData
 peer_offer before = offer_in (kexinit before)
 
--- how many payloads stood behind it
+-- how many payloads stood after it
 unfoldable pub since_offer : Units → ℕ
 since_offer before = length (after_first is_kexinit [] before)
 
@@ -37,7 +37,7 @@ abbrev pub wrong_guess : Role → KexInitData → Option KexInitData → Bool
 wrong_guess role own None = false
 wrong_guess role own (Some peer) = peer.first_kex_packet_follows && not (is_right_guess (client_of role own peer) (server_of role own peer))
 
--- the place right behind the first KEXINIT, where that announced a wrong guess
+-- the place right after the first KEXINIT, where that announced a wrong guess
 unfoldable pub expects_guess : Role → KexInitData → Units → Bool
 expects_guess role own before = offered before && (since_offer before == 0 && wrong_guess role own (peer_offer before))
 
@@ -66,7 +66,7 @@ all_kept role own test before =
 unfoldable pub count_kept : Role → KexInitData → ℕ → Units → ℕ
 count_kept role own n before = count_places (kept role own n) [] before
 
--- how many payloads stood behind the first
+-- how many payloads stood after the first
 unfoldable pub since : Role → KexInitData → ℕ → Units → ℕ
 since role own n before = length (after_first (kept role own n) [] before)
 

@@ -1,4 +1,4 @@
--- What a packet does to what an endpoint keeps, and what is said to it.
+-- What a packet does to what an endpoint keeps, and what is sent to it.
 
 use Rattle.std.specs.Prelude.{◌≡◌, ◌⊎◌, ℕ, ◌==◌, Bool, true, false, if◌then◌else◌, List, ◌++◌, Some}
 use Rattle.sshmsg.specs.declared.numbers.TheConstants.{SSH_MSG_DISCONNECT, SSH_MSG_USERAUTH_REQUEST}
@@ -34,28 +34,28 @@ IsOngoing end = (end ≡ Open) ⊎ ((a : AgreedData) × (end ≡ Authenticated a
 abbrev pub received_one : Known → Known
 received_one known = record known { first = false }
 
--- what is carried along behind a payload that is neither dropped nor the first KEXINIT nor the exchange message: the key of a
--- request that was good
+-- what is carried along after a payload that is neither dropped nor the first KEXINIT nor the exchange message: the key of a
+-- request that was successful
 abbrev pub carried_after : SuiteData → DecisionsData → ConfigData → Known → Carried → List ℕ → Carried
 carried_after m d party known c payload = record c {
   user_key = if kind payload == SSH_MSG_USERAUTH_REQUEST then last_key c.user_key (successful_key_in m d party known.session known.request payload) else c.user_key;
 }
 
--- It gives this reply: it ends so, and says these answers, padded from this seed, with these keys behind a NEWKEYS.
+-- It gives this reply: it ends so, and sends these answers, padded from this seed, with these keys after a NEWKEYS.
 pub record Gives (m : SuiteData) (seed : List ℕ) (strict : Bool) (next : KeysData) (old new : StateData) (before after : List ℕ) (r : Reply) : Type 0 where
   pub ends : new.end ≡ r.end
   pub output : after ≡ before ++ sent_from m seed strict next old.sending r.answers
   pub sends : new.sending ≡ sending_from strict next old.sending r.answers
   pub fits : AllFit r.answers
 
--- what it stands at behind a payload
+-- what it stands at after a payload
 pub record StandsAt (new : StateData) (p : Phase) (guess : Bool) (known : Known) : Type 0 where
   pub phase_is : new.phase ≡ p
   pub guess_is : new.guess ≡ guess
   pub known_is : new.known ≡ known
 
--- How a payload moves what is kept: behind the peer's KEXINIT; behind the packet of a wrong guess; behind the exchange
--- message, which brings the keys of what is heard; behind every other message that leaves a phase; and behind one that
+-- How a payload moves what is kept: after the peer's KEXINIT; after the packet of a wrong guess; after the exchange
+-- message, which brings the keys of what is received; after every other message that leaves a phase; and after one that
 -- leaves none.
 pub data Moves (m : SuiteData) (d : DecisionsData) (role : Role) (party : ConfigData) (payload : List ℕ) (old new : StateData) : Type 0 where
   Offers : (peer : KexInitData) → old.phase ≡ phase.KexInit → old.guess ≡ false → offer_in payload ≡ Some peer → new.carried ≡ old.carried
@@ -72,7 +72,7 @@ pub data Moves (m : SuiteData) (d : DecisionsData) (role : Role) (party : Config
   Stays : old.guess ≡ false → LeavesNone role (kind payload) → new.carried ≡ carried_after m d party old.known old.carried payload
       → StandsAt new old.phase false (after_payload m d party old.known payload) → Moves m d role party payload old new
 
--- What a packet brings: this reply, and where the session goes on the endpoint stands behind the packet.
+-- What a packet brings: this reply, and where the session goes on the endpoint stands after the packet.
 pub record Works (m : SuiteData) (d : DecisionsData) (role : Role) (party : ConfigData) (old new : StateData) (payload before after : List ℕ) (r : Reply) : Type 0 where
   pub gives : Gives m party.seed old.known.strict (keys_by m old.known.algorithms (exchange_received m role party old.known payload) role) old new before after r
   pub moves : IsOngoing new.end → Moves m d role party payload old new

@@ -1,5 +1,5 @@
 -- The number of the next packet (RFC 4253 section 6.4): all packets count, the dropped one too; a strict endpoint counts anew
--- from 0 behind the key switch (OpenSSH PROTOCOL section 1.10).
+-- from 0 after the key switch (OpenSSH PROTOCOL section 1.10).
 
 use Rattle.std.specs.Prelude.{ℕ, ◌%◌, ◌^◌, ◌==◌, ◌&&◌, Bool, if◌then◌else◌, List, [], length}
 use Rattle.sshmsg.specs.declared.numbers.TheConstants.{SSH_MSG_NEWKEYS}
@@ -14,13 +14,13 @@ use Rattle.sshcore.specs.EndpointParts.{ConfigData}
 abbrev pub number_by : Bool → Bool → ℕ → ℕ → ℕ
 number_by switched strict since all = (if switched && strict then since else all) % 2 ^ 32
 
--- of what is heard: the switch is the first NEWKEYS that isn't dropped
+-- of what is received: the switch is the first NEWKEYS that isn't dropped
 abbrev pub number_in : Role → ConfigData → Units → ℕ
 number_in role party before =
     number_by (stood role party.offer SSH_MSG_NEWKEYS before) (strict_at role party before)
     (since role party.offer SSH_MSG_NEWKEYS before) (length before)
 
--- of what is said: the switch is the NEWKEYS that was said
+-- of what is sent: the switch is the NEWKEYS that was sent
 abbrev pub is_newkeys : Units → List ℕ → Bool
 is_newkeys before payload = kind payload == SSH_MSG_NEWKEYS
 

@@ -1,5 +1,5 @@
--- How an endpoint reads what it hears and spells what it says, unit by unit: RFC 4253 sections 4.2, 6, 7.2 and 7.3. Unit 0 of
--- either direction is the text of a version line, and the others are payloads: `before` stands behind the version here.
+-- How an endpoint reads what it receives and spells what it sends, unit by unit: RFC 4253 sections 4.2, 6, 7.2 and 7.3. Unit 0 of
+-- either direction is the text of a version line, and the others are payloads: `before` stands after the version here.
 
 use Rattle.std.specs.Prelude.{ℕ, if◌then◌else◌, List, [], ◌∷◌, ◌++◌, drop, flat_map, Option, None, Some}
 use Rattle.sshwire.specs.declared.limits.TheConstants.{OTHER_LINE_LIMIT}
@@ -19,7 +19,7 @@ use Rattle.sshcore.specs.Counting.{number_in, number_out, switched_out}
 use Rattle.sshcore.specs.Exchange.{keys_at}
 use Rattle.sshcore.specs.EndpointParts.{ConfigData}
 
--- what of the units heard is the version, and what are payloads
+-- what of the units received is the version, and what are payloads
 abbrev pub version_in : Units → List ℕ
 version_in [] = []
 version_in (version ∷ payloads) = version
@@ -32,7 +32,7 @@ abbrev pub others_of : Role → ℕ
 others_of Client = OTHER_LINE_LIMIT
 others_of Server = 0
 
--- the keys of what is heard: none up to the key switch, which is the first NEWKEYS that isn't dropped (RFC 4253 section 7.3)
+-- the keys of what is received: none up to the key switch, which is the first NEWKEYS that isn't dropped (RFC 4253 section 7.3)
 abbrev pub keys_in : SuiteData → Role → ConfigData → List ℕ → Units → Option KeysData
 keys_in m role party version before =
     if stood role party.offer SSH_MSG_NEWKEYS before then Some (keys_at m role party version before (other role)) else None
@@ -41,16 +41,16 @@ keys_in m role party version before =
 abbrev pub protection_in : SuiteData → Role → ConfigData → List ℕ → Units → ProtectionData
 protection_in m role party version before = protection m (keys_in m role party version before) (number_in role party before)
 
--- how the next unit is read behind these: lines first, then packets
+-- how the next unit is read after these: lines first, then packets
 abbrev pub parsers : SuiteData → Role → ConfigData → Units → Parser
 parsers m role party [] = preamble_parser (others_of role)
 parsers m role party (version ∷ before) = parse_packet (protection_in m role party version before)
 
--- the lines that are said first: notices and the version line
+-- the lines that are sent first: notices and the version line
 abbrev pub preamble_of : ConfigData → List ℕ
 preamble_of party = flat_map version_line party.notices ++ version_line party.version
 
--- the keys of what is said: none up to the NEWKEYS that was said, the exchange's behind it
+-- the keys of what is sent: none up to the NEWKEYS that was sent, the exchange's after it
 abbrev pub keys_out : SuiteData → Role → ConfigData → Units → Units → Option KeysData
 keys_out m role party received sent =
     if switched_out sent then Some (keys_at m role party (version_in received) (payloads_in received) role) else None
@@ -60,7 +60,7 @@ abbrev pub spelled_by : SuiteData → Option KeysData → List ℕ → ℕ → L
 spelled_by m None seed seq payload = written_clear m seed seq payload
 spelled_by m (Some keys) seed seq payload = written_sealed m keys seed seq payload
 
--- how a unit is spelled behind those said before, by an endpoint that has heard these units
+-- how a unit is spelled after those sent before, by an endpoint that has received these units
 abbrev pub spells : SuiteData → Role → ConfigData → Units → Units → List ℕ → List ℕ
 spells m role party received [] version = preamble_of party
 spells m role party received (version ∷ sent) payload =

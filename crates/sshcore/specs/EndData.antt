@@ -87,7 +87,7 @@ disconnect_by (Some reason) = written_message (Disconnect reason [] []) ∷ []
 abbrev pub disconnect : Fault → Units
 disconnect f = disconnect_by (reason_of f)
 
--- what a payload brings: the answers to it, and how the endpoint stands behind it
+-- what a payload brings: the answers to it, and how the endpoint stands after it
 pub record Reply : Type 0 where
   pub answers : Units
   pub end : EndData
@@ -108,6 +108,6 @@ description_sent text = if nat_le (length text) DESCRIPTION_LIMIT then text else
 abbrev pub parting : ℕ → List ℕ → List ℕ
 parting reason description = written_message (Disconnect reason (description_sent description) [])
 
--- the endpoint says it and has ended
+-- the endpoint sends it and has ended
 abbrev pub disconnects : ℕ → List ℕ → Reply
 disconnects reason description = record { answers = parting reason description ∷ []; end = Disconnected reason }

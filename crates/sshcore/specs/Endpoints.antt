@@ -17,8 +17,8 @@ use Rattle.sshcore.specs.EndpointParts.{ConfigData, DecisionsData}
 abbrev pub endpoint_end : {S D : Type 0} → EndpointData S D → EndData
 endpoint_end e = end_data e.state.end
 
--- An endpoint has heard and said these bytes. Of one that failed for want of memory BrokenOff tells what it has said; of one that
--- its owner told to disconnect these are the bytes before that, and Leaves tells what it said last.
+-- An endpoint has received and sent these bytes. Of one that ran out of memory BrokenOff tells what it has sent; of one that
+-- its owner told to disconnect these are the bytes before that, and Leaves tells what it sent last.
 abbrev pub EndpointAfter : {S D : Type 0} → (S → SuiteData) → (D → DecisionsData) → EndpointData S D → List ℕ → List ℕ → Type 0
 EndpointAfter meaning policy e h s = EndpointStands (meaning e.suite) (policy e.decisions) e.role e.party (state_data e.state) e.input h s
 
@@ -37,8 +37,8 @@ pub record Fed {S D : Type 0} (meaning : S → SuiteData) (policy : D → Decisi
   pub uncut : (h s : List ℕ) → EndpointAfter meaning policy old h s → by_owner (endpoint_end new) ≡ true → endpoint_end old ≡ endpoint_end new
   pub same : IsSameEndpoint old new
 
--- What a call did that wanted memory: it used some of the piece, and said whole packets, a prefix of those that it would have
--- said.
+-- What a call did that ran out of memory: it used some of the piece, and sent whole packets, a prefix of those that it would have
+-- sent.
 pub record Breaks {S D : Type 0} (meaning : S → SuiteData) (policy : D → DecisionsData) (old new : EndpointData S D) (piece before after : List ℕ) : Type 0 where
   pub used : ℕ
   pub within : used ≤ length piece
@@ -48,7 +48,7 @@ pub record Breaks {S D : Type 0} (meaning : S → SuiteData) (policy : D → Dec
       → BrokenOff (meaning old.suite) (policy old.decisions) old.role old.party (h ++ take used piece) (s ++ added)
   pub same : IsSameEndpoint old new
 
--- an endpoint before any byte is heard
+-- an endpoint before any byte is received
 pub record EndpointMade {S D : Type 0} (meaning : S → SuiteData) (policy : D → DecisionsData) (role : Role) (party : ConfigData) (suite : S) (decisions : D) (new : EndpointData S D) (before after : List ℕ) : Type 0 where
   pub added : List ℕ
   pub appended : after ≡ before ++ added
@@ -59,15 +59,15 @@ pub record EndpointMade {S D : Type 0} (meaning : S → SuiteData) (policy : D �
   pub is_suite : new.suite ≡ suite
   pub is_decisions : new.decisions ≡ decisions
 
--- what the end of input does to an open endpoint: it has failed, and has heard and said the same bytes
+-- what the end of input does to an open endpoint: it has failed, and has received and sent the same bytes
 pub record Cuts {S D : Type 0} (meaning : S → SuiteData) (policy : D → DecisionsData) (old new : EndpointData S D) : Type 0 where
   pub cut : endpoint_end new ≡ Failed fault.Cut
   pub follows : (h s : List ℕ) → EndpointAfter meaning policy old h s → EndpointAfter meaning policy new h s
   pub same : IsSameEndpoint old new
 
--- What the call did by which its owner told an open endpoint to disconnect: the endpoint has ended, and has heard the same; and it
--- has said a DISCONNECT with this reason behind what it had said. After has no such answer, for it tells of what was heard: so what
--- was said last stands in `sent`, as a unit behind the answers.
+-- What the call did by which its owner told an open endpoint to disconnect: the endpoint has ended, and has received the same; and
+-- it has sent a DISCONNECT with this reason after what it had sent. After has no such answer, for it tells of what was received: so
+-- what was sent last stands in `sent`, as a unit after the answers.
 pub record Leaves {S D : Type 0} (meaning : S → SuiteData) (policy : D → DecisionsData) (old new : EndpointData S D) (reason : ℕ) (description before after : List ℕ) : Type 0 where
   pub left : endpoint_end new ≡ Disconnected reason
   pub added : List ℕ
@@ -88,7 +88,7 @@ held_at (Disconnected reason) n = 0
 abbrev pub buffered_of : {S D : Type 0} → EndpointData S D → ℕ
 buffered_of e = held_at (endpoint_end e) (held_by e.input)
 
--- how many bytes that is, of what was heard: of the unfinished line before the version line, of the unfinished packet behind it
+-- how many bytes that is, of what was received: of the unfinished line before the version line, of the unfinished packet after it
 abbrev pub HasUnfinished : Role → Units → List ℕ → EndData → ℕ → Type 0
 HasUnfinished role [] rest Open n = (left : ℕ) × (line : List ℕ) × LineOpen (others_of role) rest left line × (n ≡ length line)
 HasUnfinished role (version ∷ before) rest Open n = n ≡ length rest

@@ -95,7 +95,7 @@ kex_end m role party a version kexinit message = record {
   host_key = host_key_by m role party a.host_key message;
 }
 
--- the server's share and the shared number, if there is one
+-- the server's share and the shared secret, if there is one
 abbrev pub answer_with : SuiteData → Role → ConfigData → AlgorithmsData → Result MessageData MsgFault → Option ResponseData
 answer_with m role party a message = answer_by role m a.kex party.random (share_read message)
 

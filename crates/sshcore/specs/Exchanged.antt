@@ -51,7 +51,7 @@ exchanged role party known shares = record {
   shared = shares.shared;
 }
 
--- the keys with which this role sends, by the shared number and the exchange hash, which in a first exchange is the session
+-- the keys with which this role sends, by the shared secret and the exchange hash, which in a first exchange is the session
 -- identifier (RFC 4253 section 7.2)
 abbrev pub kex_keys : SuiteData → AlgorithmsData → List ℕ → List ℕ → Role → KeysData
 kex_keys m a shared hash sender =
@@ -61,8 +61,8 @@ kex_keys m a shared hash sender =
 abbrev pub exchange_of_message : SuiteData → Role → ConfigData → Known → MessageData → ExchangeData
 exchange_of_message m role party known message = exchange_with m role party known.algorithms known.version known.kexinit (Ok message)
 
--- It hears the exchange message: it gives this reply; and where it goes on it stands behind the exchange, with the keys of what
--- is heard and the host key.
+-- It receives the exchange message: it gives this reply; and where it goes on it stands after the exchange, with the keys of what
+-- is received and the host key.
 pub record ReceivesExchange (m : SuiteData) (role : Role) (party : ConfigData) (old new : StateData) (before after : List ℕ) (message : MessageData) (r : Reply) : Type 0 where
   pub gives : Gives m party.seed old.known.strict (keys_by m old.known.algorithms (exchange_of_message m role party old.known message) role) old new before after r
   pub carries : IsOngoing new.end → new.carried ≡ with_exchange party (keys_by m old.known.algorithms (exchange_of_message m role party old.known message) (other role))
@@ -71,7 +71,7 @@ pub record ReceivesExchange (m : SuiteData) (role : Role) (party : ConfigData) (
       (record old.known { session = exchange_hash m old.known.algorithms.kex (exchange_of_message m role party old.known message) })
 
 -- what a client and its server have given, once the client has received the server's host key and share and made this shared
--- number
+-- secret
 abbrev pub client_shares : SuiteData → ConfigData → Known → List ℕ → List ℕ → List ℕ → SharesData
 client_shares m party known host_key share shared = record {
   host_key = host_key;
@@ -98,7 +98,7 @@ pub record IsSigned (m : SuiteData) (role : Role) (party : ConfigData) (known : 
       (m.sign known.algorithms.host_key (secret_of party.host_keys known.algorithms.host_key) hash))
   pub fits : FitsPacket reply
 
--- what is kept behind an exchange of this host key, shared number and hash, with these packets said
+-- what is kept after an exchange of this host key, shared secret and hash, with these packets sent
 pub record StandsAfter (m : SuiteData) (role : Role) (party : ConfigData) (old new : StateData) (host_key shared hash : List ℕ) (o : Sending) : Type 0 where
   pub kept : new ≡ record old {
     phase = phase.NewKeys;
@@ -107,13 +107,13 @@ pub record StandsAfter (m : SuiteData) (role : Role) (party : ConfigData) (old n
     sending = o;
   }
 
--- A server says its answer and NEWKEYS, and stands behind the exchange.
+-- A server sends its answer and NEWKEYS, and stands after the exchange.
 pub record AnswersInit (m : SuiteData) (role : Role) (party : ConfigData) (old new : StateData) (host_key shared hash reply before after : List ℕ) : Type 0 where
   pub output : after ≡ (before ++ spelled_by m old.sending.keys party.seed old.sending.number reply)
       ++ spelled_by m old.sending.keys party.seed (with_packet old.sending).number (written_message NewKeys)
   pub stands : StandsAfter m role party old new host_key shared hash (with_newkeys old.known.strict (kex_keys m old.known.algorithms shared hash role) (with_packet old.sending))
 
--- the same of a client, which says NEWKEYS and requests the service
+-- the same of a client, which sends NEWKEYS and requests the service
 pub record AcceptsReply (m : SuiteData) (role : Role) (party : ConfigData) (old new : StateData) (host_key shared hash before after : List ℕ) : Type 0 where
   pub output : let o = with_newkeys old.known.strict (kex_keys m old.known.algorithms shared hash role) old.sending in
       after ≡ (before ++ spelled_by m old.sending.keys party.seed old.sending.number (written_message NewKeys))

@@ -1,4 +1,4 @@
--- What an endpoint has heard and said, and how it ends by that, in bytes. None of it speaks of buffers, counters or pieces.
+-- What an endpoint has received and sent, and how it ends by that, in bytes. None of it speaks of buffers, counters or pieces.
 
 use Rattle.std.specs.Prelude.{◌≡◌, ◌≢◌, ℕ, ◌<◌, ◌≤◌, true, List, [], ◌∷◌, length, Option, None}
 use Rattle.sshwire.specs.declared.limits.TheConstants.{PAYLOAD_LIMIT}
@@ -26,14 +26,14 @@ pub record FitsPacket (payload : List ℕ) : Type 0 where
 abbrev pub AllFit : Units → Type 0
 AllFit answers = EachPlace (λ before payload. FitsPacket payload) [] answers
 
--- the exchange was heard, so both directions have their keys
+-- the exchange was received, so both directions have their keys
 pub record IsReady (role : Role) (party : ConfigData) (payloads : Units) : Type 0 where
   pub offer : offered payloads ≡ true
   pub exchange : stood role party.offer (leaving role phase.Exchange) payloads ≡ true
 
--- An endpoint that stands or ends so has heard bytes that read as these units with a rest, which may be refused, and has said
--- bytes that spell its version line and these answers. What was said fits packets; it is sealed only where the exchange was
--- heard; and nothing was taken behind the unit that ended the endpoint.
+-- An endpoint that stands or ends so has received bytes that read as these units with a rest, which may be refused, and has sent
+-- bytes that spell its version line and these answers. What was sent fits packets; it is sealed only where the exchange was
+-- received; and nothing was taken after the unit that ended the endpoint.
 pub record History (m : SuiteData) (d : DecisionsData) (role : Role) (party : ConfigData) (units : Units) (rest : List ℕ) (refusal : Option Refusal) (answers : Units) (end : EndData) (received_bytes sent_bytes : List ℕ) : Type 0 where
   pub received : Received (parsers m role party) received_bytes units rest refusal
   pub sent : Sent (spells m role party units) sent_bytes (party.version ∷ answers)
@@ -42,7 +42,7 @@ pub record History (m : SuiteData) (d : DecisionsData) (role : Role) (party : Co
   pub keyed : switched_out answers ≡ true → IsReady role party (payloads_in units)
   pub last : end ≢ Open → refusal ≡ None → rest ≡ []
 
--- What was said where memory was wanted: whole packets, a prefix of the answers that would have been given.
+-- What was sent where memory ran out: whole packets, a prefix of the answers that would have been given.
 pub record BrokenOff (m : SuiteData) (d : DecisionsData) (role : Role) (party : ConfigData) (received_bytes sent_bytes : List ℕ) : Type 0 where
   pub units : Units
   pub rest : List ℕ
@@ -55,7 +55,7 @@ pub record BrokenOff (m : SuiteData) (d : DecisionsData) (role : Role) (party : 
   pub prefix : IsPrefix some_answers answers
   pub sent : Sent (spells m role party units) sent_bytes (party.version ∷ some_answers)
 
--- Two histories are one: the same units were heard, with the same rest and refusal, and the same was answered, said and come to.
+-- Two histories are one: the same units were received, with the same rest and refusal, and the same was answered, sent and come to.
 pub record IsOneHistory (units other_units : Units) (rest other_rest : List ℕ) (refusal other_refusal : Option Refusal) (answers other_answers : Units) (end other_end : EndData) (sent_bytes other_bytes : List ℕ) : Type 0 where
   pub same_units : units ≡ other_units
   pub same_rest : rest ≡ other_rest

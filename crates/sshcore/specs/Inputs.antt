@@ -1,4 +1,4 @@
--- What an endpoint keeps, as what it has heard and said.
+-- What an endpoint keeps, as what it has received and sent.
 
 use Rattle.std.specs.Prelude.{◌≡◌, ◌≢◌, ◌&&◌, ℕ, true, false, not, if◌then◌else◌, List, [], ◌∷◌, ◌++◌, length, Option, None, Some}
 use Rattle.sshwire.specs.Feeding.{StandsOpen}
@@ -48,7 +48,7 @@ turns_left (Failed f) i = 0
 turns_left (Closed reason) i = 0
 turns_left (Disconnected reason) i = 0
 
--- The reader of what is heard: of lines, up to the version line; then of packets, with the keys and the number of the next one,
+-- The reader of what is received: of lines, up to the version line; then of packets, with the keys and the number of the next one,
 -- and with the bytes of the unfinished one.
 abbrev pub IsInput : SuiteData → Role → ConfigData → Units → List ℕ → Input → Type 0
 IsInput m role party units rest (input.Lines reader) = (units ≡ []) × StandsOpen (others_of role) rest reader.progress
@@ -56,19 +56,19 @@ IsInput m role party units rest (input.Packets reader) =
     (version : List ℕ) × (before : Units) × (units ≡ version ∷ before)
     × (packet_reader_data reader ≡ record { keys = keys_in m role party version before; seq = number_in role party before; held = rest; fault = None })
 
--- the keys of what is heard are kept from the exchange up to NEWKEYS
+-- the keys of what is received are kept from the exchange up to NEWKEYS
 abbrev pub pending_at : Phase → KeysData → Option KeysData
 pending_at p keys = if past_exchange p && not (past_newkeys p) then Some keys else None
 
--- what is carried along agrees with what was heard: the keys of what is heard; from the exchange on the own version line and the
--- exchange's host key; and the key of the last request that was good by one
+-- what is carried along agrees with what was received: the keys of what is received; from the exchange on the own version line
+-- and the exchange's host key; and the key of the last request that was successful by one
 pub record IsCarried (m : SuiteData) (d : DecisionsData) (role : Role) (party : ConfigData) (version : List ℕ) (before : Units) (p : Phase) (carried : Carried) : Type 0 where
   pub pending : carried.pending ≡ pending_at p (keys_at m role party version before (other role))
   pub own_version : past_exchange p ≡ true → carried.own_version ≡ party.version
   pub host_key : past_exchange p ≡ true → carried.host_key ≡ (exchange_at m role party version before).host_key
   pub user_key : carried.user_key ≡ last_key None (successful_keys_at m d role party version before)
 
--- what an endpoint keeps agrees with what was heard and said, while its session goes on
+-- what an endpoint keeps agrees with what was received and sent, while its session goes on
 pub record IsInside (m : SuiteData) (d : DecisionsData) (role : Role) (party : ConfigData) (units answers : Units) (rest : List ℕ) (kept : StateData) (i : Input) : Type 0 where
   pub sits : Sits m d role party (version_in units) (payloads_in units) kept.phase kept.guess kept.known
   pub form : HasForm m kept
@@ -76,13 +76,13 @@ pub record IsInside (m : SuiteData) (d : DecisionsData) (role : Role) (party : C
   pub carries : IsCarried m d role party (version_in units) (payloads_in units) kept.phase kept.carried
   pub speaks : Speaks m role party units answers kept.sending
 
--- how an endpoint stands that has come to this end by what it heard: so; or, where it stood open, cut off, or told to disconnect
+-- how an endpoint stands that has come to this end by what it received: so; or, where it stood open, cut off, or told to disconnect
 pub data StandsSo (received_end end : EndData) : Type 0 where
   AsReceived : end ≡ received_end → StandsSo received_end end
   CutOff : received_end ≡ Open → end ≡ Failed fault.Cut → StandsSo received_end end
   Left : (reason : ℕ) → received_end ≡ Open → end ≡ Disconnected reason → StandsSo received_end end
 
--- An endpoint that keeps this, with this reader, has heard and said these bytes; of one that left, what it said before that.
+-- An endpoint that keeps this, with this reader, has received and sent these bytes; of one that left, what it sent before that.
 pub record EndpointStands (m : SuiteData) (d : DecisionsData) (role : Role) (party : ConfigData) (kept : StateData) (i : Input) (received_bytes sent_bytes : List ℕ) : Type 0 where
   pub units : Units
   pub rest : List ℕ
@@ -93,18 +93,18 @@ pub record EndpointStands (m : SuiteData) (d : DecisionsData) (role : Role) (par
   pub ends : StandsSo received_end kept.end
   pub inside : IsOngoing kept.end → IsInside m d role party units answers rest kept i
 
--- An endpoint that goes on from here has heard these bytes more, and said what was appended; its owner didn't end it.
+-- An endpoint that goes on from here has received these bytes more, and sent what was appended; its owner didn't end it.
 pub record GoesOn (m : SuiteData) (d : DecisionsData) (role : Role) (party : ConfigData) (new : StateData) (j : Input) (h s taken before after : List ℕ) : Type 0 where
   pub added : List ℕ
   pub appended : after ≡ before ++ added
   pub stands : EndpointStands m d role party new j (h ++ taken) (s ++ added)
   pub uncut : by_owner new.end ≡ false
 
--- what a step did that used these bytes, whatever was heard and said before
+-- what a step did that used these bytes, whatever was received and sent before
 abbrev pub Steps : SuiteData → DecisionsData → Role → ConfigData → Input → StateData → Input → StateData → List ℕ → List ℕ → List ℕ → Type 0
 Steps m d role party i old j new taken before after = (h s : List ℕ) → EndpointStands m d role party old i h s → GoesOn m d role party new j h s taken before after
 
--- before any byte is heard
+-- before any byte is received
 abbrev pub Begins : Role → Input → Type 0
 Begins role (input.Lines reader) = (StandsOpen (others_of role) [] reader.progress) × (reader.progress ≢ Finished)
 Begins role (input.Packets reader) = ⊥

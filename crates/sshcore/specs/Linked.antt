@@ -114,7 +114,7 @@ abbrev pub Opens : List ℕ → ℕ → ℕ → Result PacketStep LinkFault → 
 Opens payload seq used (Ok step) = IsStep payload seq used step
 Opens payload seq used (Err f) = ⊥
 
--- No other answer comes than the one that the packet at hand has, want of memory apart.
+-- No other answer comes than the one that the packet at hand has, unless memory runs out.
 pub record OnlyOpenAnswer (m : SuiteData) (i : Incoming) (piece : List ℕ) (result : Result PacketStep LinkFault) : Type 0 where
   pub more : PacketMeans (protection_at m (packet_reader_data i.reader)) ((packet_reader_data i.reader).held ++ piece) unfinished → (result ≡ Ok More) ⊎ (result ≡ Err fault.Memory)
   pub payload : (payload : List ℕ) (used : ℕ) → used ≤ length piece → IsProtectedPacket (protection_at m (packet_reader_data i.reader)) payload ((packet_reader_data i.reader).held ++ take used piece)

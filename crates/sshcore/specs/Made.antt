@@ -1,4 +1,4 @@
--- A payload that is made to be said.
+-- A payload that is made to be sent.
 
 use Rattle.std.specs.Prelude.{◌≡◌, List, ℕ}
 use Rattle.sshcore.specs.History.{FitsPacket}

@@ -20,7 +20,7 @@ IsNegotiated m client server (Ok n) =
     (choice m client server ≡ Ok n.algorithms) × (n.shares ≡ m.share_form n.algorithms.kex) × (n.right ≡ is_right_guess client server)
 IsNegotiated m client server (Err f) = choice m client server ≡ Err f
 
--- what is said at KEXINIT, by whether a guess is right
+-- what is sent at KEXINIT, by whether a guess is right
 abbrev pub sends_init : SuiteData → Role → ConfigData → Bool → List ℕ → Units
 sends_init m Client party right kex = if party.offer.first_kex_packet_follows && right then [] else init_for m party kex ∷ []
 sends_init m Server party right kex = []

@@ -1,4 +1,4 @@
--- What an endpoint says packets with, and what it says with it: RFC 4253 sections 6.4 and 7.3, OpenSSH PROTOCOL section 1.10.
+-- What an endpoint sends packets with, and what it sends with it: RFC 4253 sections 6.4 and 7.3, OpenSSH PROTOCOL section 1.10.
 
 use Rattle.std.specs.Prelude.{◌≡◌, ℕ, ◌+◌, ◌%◌, ◌^◌, ◌==◌, Bool, if◌then◌else◌, List, [], ◌∷◌, ◌++◌, Option, None, Some}
 use Rattle.sshmsg.specs.declared.numbers.TheConstants.{SSH_MSG_NEWKEYS}
@@ -21,7 +21,7 @@ pub record Sending : Type 0 where
 abbrev pub with_packet : Sending → Sending
 with_packet o = record { keys = o.keys; number = (o.number + 1) % 2 ^ 32 }
 
--- behind a NEWKEYS: these keys, and number 0 where the endpoint is strict
+-- after a NEWKEYS: these keys, and number 0 where the endpoint is strict
 abbrev pub with_newkeys : Bool → KeysData → Sending → Sending
 with_newkeys strict next o = record { keys = Some next; number = if strict then 0 else (o.number + 1) % 2 ^ 32 }
 
@@ -30,21 +30,21 @@ abbrev pub sending_by : Option KeysData → Bool → Bool → KeysData → Sendi
 sending_by (Some keys) newkeys strict next o = with_packet o
 sending_by None newkeys strict next o = if newkeys then with_newkeys strict next o else with_packet o
 
--- behind a payload; the first NEWKEYS alone brings keys, since there is one exchange (profile)
+-- after a payload; the first NEWKEYS alone brings keys, since there is one exchange (profile)
 abbrev pub after_sending : Bool → KeysData → Sending → List ℕ → Sending
 after_sending strict next o payload = sending_by o.keys (kind payload == SSH_MSG_NEWKEYS) strict next o
 
--- payloads said one after another
+-- payloads sent one after another
 unfoldable pub sent_from : SuiteData → List ℕ → Bool → KeysData → Sending → Units → List ℕ
 sent_from m seed strict next o [] = []
 sent_from m seed strict next o (a ∷ more) = spelled_by m o.keys seed o.number a ++ sent_from m seed strict next (after_sending strict next o a) more
 
--- and what the next are said with
+-- and what the next are sent with
 unfoldable pub sending_from : Bool → KeysData → Sending → Units → Sending
 sending_from strict next o [] = o
 sending_from strict next o (a ∷ more) = sending_from strict next (after_sending strict next o a) more
 
--- what is kept is what was heard and said: the keys and the number of the next packet
+-- what is kept is what was received and sent: the keys and the number of the next packet
 pub record Speaks (m : SuiteData) (role : Role) (party : ConfigData) (units sent : Units) (o : Sending) : Type 0 where
   pub keys : o.keys ≡ keys_out m role party units sent
   pub number : o.number ≡ number_out (strict_at role party (payloads_in units)) sent

@@ -11,7 +11,7 @@ use Rattle.sshcore.specs.declared.table.Phase.TheVariants as phase
 use Rattle.sshcore.specs.Before.{stood}
 
 -- The number of the message that leaves a phase: RFC 4253 sections 7.1, 8, 7.3 and 10, RFC 4252 sections 5 and 5.1. A request
--- leaves phase auth where it is good, and the endpoint has then ended.
+-- leaves phase auth where it is successful, and the endpoint has then ended.
 abbrev pub leaving : Role → Phase → ℕ
 leaving role phase.KexInit = SSH_MSG_KEXINIT
 leaving Client phase.Exchange = SSH_MSG_KEXDH_REPLY
@@ -36,7 +36,7 @@ phase_at role own before =
     phase_by (stood role own SSH_MSG_KEXINIT before) (stood role own (leaving role phase.Exchange) before)
     (stood role own SSH_MSG_NEWKEYS before) (stood role own (leaving role phase.Service) before)
 
--- which phases are behind an endpoint that is in this one
+-- which phases are past where an endpoint is in this one
 abbrev pub past_kexinit : Phase → Bool
 past_kexinit phase.KexInit = false
 past_kexinit _ = true
@@ -55,7 +55,7 @@ abbrev pub past_service : Phase → Bool
 past_service phase.Auth = true
 past_service _ = false
 
--- the phase behind one
+-- the phase after one
 abbrev pub next_phase : Phase → Phase
 next_phase phase.KexInit = phase.Exchange
 next_phase phase.Exchange = phase.NewKeys

@@ -1,4 +1,4 @@
--- What a client's plan still has, by the answers that it heard: RFC 4252 sections 5, 5.1 and 7.
+-- What a client's plan still has, by the answers that it received: RFC 4252 sections 5, 5.1 and 7.
 
 use Rattle.std.specs.Prelude.{◌==◌, ◌||◌, if◌then◌else◌, ℕ, Bool, false, List, [], ◌∷◌, codes, drop, Result, Ok, true}
 use Rattle.sshwire.specs.declared.share_form.ShareForm.TheVariants.{Mpint}
@@ -23,7 +23,7 @@ asks ByNothing = false
 asks (ByPassword password) = false
 asks (ByKey algorithm secret ask) = ask
 
--- the attempt itself, behind its query
+-- the attempt itself, after its query
 abbrev pub unasked : CredentialData → CredentialData
 unasked ByNothing = ByNothing
 unasked (ByPassword password) = ByPassword password
@@ -45,11 +45,11 @@ listed_by _ = []
 unfoldable pub listed_in : List ℕ → List (List ℕ)
 listed_in payload = listed_by (message_in Mpint payload)
 
--- Behind the attempt that was made, which is the first: the attempts from the next one on whose method is listed.
+-- After the attempt that was made, which is the first: the attempts from the next one on whose method is listed.
 abbrev pub next_after : List (List ℕ) → List AttemptData → List AttemptData
 next_after listed attempts = next_listed listed (drop 1 attempts)
 
--- Behind a PK_OK: the attempt of the query is made itself.
+-- After a PK_OK: the attempt of the query is made itself.
 abbrev pub confirmed : List AttemptData → List AttemptData
 confirmed [] = []
 confirmed (a ∷ later) = after_query a ∷ later
@@ -68,11 +68,11 @@ is_waiting (a ∷ later) = asks a.proving
 abbrev pub is_answer : ℕ → Bool
 is_answer n = n == SSH_MSG_USERAUTH_FAILURE || n == SSH_MSG_USERAUTH_PK_OK
 
--- what is left of attempts behind an answer to the first
+-- what is left of attempts after an answer to the first
 abbrev pub left_after_one : List AttemptData → List ℕ → List AttemptData
 left_after_one attempts answer = if kind answer == SSH_MSG_USERAUTH_PK_OK then confirmed attempts else next_after (listed_in answer) attempts
 
--- what is left of a plan behind these answers: from the attempt on that was made last
+-- what is left of a plan after these answers: from the attempt on that was made last
 unfoldable pub left_after : List AttemptData → Units → List AttemptData
 left_after plan [] = plan
 left_after plan (answer ∷ later) = left_after (left_after_one plan answer) later

@@ -4,7 +4,7 @@ use Rattle.std.specs.Prelude.{◌≡◌, ◌&&◌, ◌||◌, ◌++◌, ℕ, Bool
 use Rattle.std.specs.List.{list_all, list_any}
 use Rattle.std.specs.Str.{bytes_eq}
 
--- What a request came to: for which user and service it was, and the method for which it was good, if it was.
+-- What a request came to: for which user and service it was, and the method for which it was successful, if it was.
 pub record Tried : Type 0 where
   pub user : List ℕ
   pub service : List ℕ
@@ -14,7 +14,7 @@ pub record Tried : Type 0 where
 abbrev pub is_for : List ℕ → List ℕ → Tried → Bool
 is_for user service t = bytes_eq user t.user && bytes_eq service t.service
 
--- it was good for this method
+-- it was successful for this method
 abbrev pub is_method : List ℕ → Option (List ℕ) → Bool
 is_method method None = false
 is_method method (Some successful) = bytes_eq method successful
@@ -34,11 +34,11 @@ pub data IsRun (user service : List ℕ) (tried run : List Tried) : Type 0 where
   FromBreak : (before : List Tried) (other : Tried) → list_all (is_for user service) run ≡ true → is_for user service other ≡ false
       → tried ≡ (before ++ other ∷ []) ++ run → IsRun user service tried run
 
--- for each of these methods a request of that run was good
+-- for each of these methods a request of that run was successful
 abbrev pub are_reached : List (List ℕ) → List ℕ → List ℕ → List Tried → Bool
 are_reached methods user service tried = list_all (λ method. list_any (is_successful_for method) (run_of user service tried)) methods
 
--- What a server keeps of it: for whom and for which service the last good request was, and which of the methods that can be
+-- What a server keeps of it: for whom and for which service the last successful request was, and which of the methods that can be
 -- required are reached.
 pub record ReachedData : Type 0 where
   pub user : List ℕ
@@ -53,7 +53,7 @@ nothing_reached = record { user = []; service = []; password = false; publickey 
 abbrev pub kept_reached : ReachedData → Tried → ReachedData
 kept_reached r t = if is_for r.user r.service t then r else record r { password = false; publickey = false }
 
--- A good request adds its method.
+-- A successful request adds its method.
 abbrev pub successful_reached : ReachedData → Tried → Option (List ℕ) → ReachedData
 successful_reached r t None = r
 successful_reached r t (Some method) = record {
@@ -63,7 +63,7 @@ successful_reached r t (Some method) = record {
   publickey = r.publickey || bytes_eq method (codes "publickey");
 }
 
--- behind a request, and behind some
+-- after a request, and after some
 abbrev pub reached_after_one : ReachedData → Tried → ReachedData
 reached_after_one r t = successful_reached (kept_reached r t) t t.successful
 

@@ -1,4 +1,4 @@
--- What an endpoint of either role says and how it ends, by the units that it heard. In `reply_at` the payloads before a place
+-- What an endpoint of either role sends and how it ends, by the units that it received. In `reply_at` the payloads before a place
 -- stand without the version; from `unit_reply` on `before` and `units` have the text of the version line in front.
 
 use Rattle.std.specs.Prelude.{◌≡◌, ◌≢◌, ℕ, List, [], ◌∷◌, ◌++◌, Option, None, Some, Result, Ok, Err}
@@ -45,7 +45,7 @@ line_at role party before payload =
     line_by role (phase_at role party.offer before) (strict_at role party before) (expects_guess role party.offer before) (waits_at role party before)
     (kind payload)
 
--- what a payload brings behind those before it
+-- what a payload brings after those before it
 abbrev pub reply_at : SuiteData → DecisionsData → Role → ConfigData → List ℕ → Units → List ℕ → Reply
 reply_at m d role party version before payload =
     line_reply m d role party (known_at m d role party version before) (number_in role party before) (line_at role party before payload) payload
@@ -61,7 +61,7 @@ answers_at m d role party before unit = (unit_reply m d role party before unit).
 abbrev pub end_at : SuiteData → DecisionsData → Role → ConfigData → Units → List ℕ → EndData
 end_at m d role party before unit = (unit_reply m d role party before unit).end
 
--- the failure at bytes that are refused (lines are refused for what they are, never for want of memory)
+-- the failure at bytes that are refused (lines are refused for what they are, never because memory ran out)
 abbrev pub fault_of : Refusal → Fault
 fault_of (OfLine f) = fault.Version
 fault_of (OfPacket packet.Length) = fault.Length
@@ -78,13 +78,13 @@ refusal_reply (Some r) = fails (fault_of r)
 abbrev pub StaysOpen : SuiteData → DecisionsData → Role → ConfigData → Units → Type 0
 StaysOpen m d role party units = EachPlace (λ before unit. end_at m d role party before unit ≡ Open) [] units
 
--- how it stands: open or refused behind all units; or the last unit ended it, and nothing stands behind
+-- how it stands: open or refused after all units; or the last unit ended it, and nothing follows
 pub data Ends (m : SuiteData) (d : DecisionsData) (role : Role) (party : ConfigData) (units : Units) (refusal : Option Refusal) (end : EndData) : Type 0 where
   goes_on : StaysOpen m d role party units → end ≡ (refusal_reply refusal).end → Ends m d role party units refusal end
   ended : (before : Units) (last : List ℕ) → units ≡ before ++ last ∷ [] → StaysOpen m d role party before
       → end ≡ end_at m d role party before last → end ≢ Open → refusal ≡ None → Ends m d role party units refusal end
 
--- What an endpoint says: its first payloads, then the answers to each unit heard, in order, and to a refusal.
+-- What an endpoint sends: its first payloads, then the answers to each unit received, in order, and to a refusal.
 pub record Replies (m : SuiteData) (d : DecisionsData) (role : Role) (party : ConfigData) (units : Units) (refusal : Option Refusal) (answers : Units) (end : EndData) : Type 0 where
   pub in_order : answers ≡ making m role party ++ (flat_places (answers_at m d role party) [] units ++ (refusal_reply refusal).answers)
   pub ends : Ends m d role party units refusal end

@@ -15,7 +15,7 @@ use Rattle.sshcore.specs.EndpointParts.{ConfigData, DecisionsData, KeyProof}
 use Rattle.sshcore.specs.Reached.{is_complete, reached_after_one}
 use Rattle.sshcore.specs.Tries.{is_successful_at, tried_with}
 
--- the request is good
+-- the request is successful
 abbrev pub is_successful : SuiteData → DecisionsData → ConfigData → Known → List ℕ → List ℕ → MethodData → Bool
 is_successful m d party known user service method = is_successful_at m d party known.session known.request user service method
 
@@ -39,13 +39,13 @@ abbrev pub query_answer : DecisionsData → ConfigData → Known → List ℕ �
 query_answer d party known user service algorithm key =
     if would_do d party known user service algorithm key then UserauthPkOk algorithm key else UserauthFailure party.methods false
 
--- Behind a request all required methods are reached (RFC 4252 section 5.1; that they are so in an unbroken run of requests for
+-- After a request all required methods are reached (RFC 4252 section 5.1; that they are so in an unbroken run of requests for
 -- one user and one service is profile).
 abbrev pub completes : ConfigData → Known → List ℕ → List ℕ → MethodData → Bool → Bool
 completes party known user service method successful = is_complete party.required (reached_after_one known.reached (tried_with user service method successful))
 
--- every other request: SUCCESS where it is good and all required methods are reached behind it; else FAILURE, which tells partial
--- success where it is good
+-- every other request: SUCCESS where it is successful and all required methods are reached after it; else FAILURE, which tells
+-- partial success where it is successful
 abbrev pub tried_reply : ConfigData → Known → List ℕ → List ℕ → MethodData → Bool → Reply
 tried_reply party known user service method successful =
     if successful && completes party known user service method successful

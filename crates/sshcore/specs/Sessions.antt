@@ -1,4 +1,4 @@
--- What is handed over behind authentication.
+-- What is handed over after authentication.
 
 use Rattle.std.specs.Prelude.{◌≡◌, if◌then◌else◌, List, ℕ, codes, Option, None, Some}
 use Rattle.std.specs.List.{list_any}
@@ -18,9 +18,9 @@ use Rattle.sshcore.specs.EndpointParts.{ConfigData, DecisionsData, UserKeyData}
 use Rattle.sshcore.specs.Reached.{Tried, is_successful_for, run_of}
 use Rattle.sshcore.specs.Tries.{last_key, successful_keys_at, tried_at}
 
--- How this user came in for this service, by the requests that a server heard and the keys by which they were good: whether a
--- password was good in the unbroken run of requests for both that ends these; and the last of the keys, if a signed request of that
--- run was good.
+-- How this user was accepted for this service, by the requests that a server received and the keys by which they were successful:
+-- whether a password succeeded in the unbroken run of requests for both that ends these; and the last of the keys, if a signed
+-- request of that run was successful.
 pub record AcceptedBy (tried : List Tried) (keys : List UserKeyData) (user service : List ℕ) (accepted : Accepted) : Type 0 where
   pub password : accepted.password ≡ list_any (is_successful_for (codes "password")) (run_of user service tried)
   pub key : user_key_data accepted.key ≡ (if list_any (is_successful_for (codes "publickey")) (run_of user service tried) then last_key None keys else None)
@@ -32,9 +32,9 @@ HasAccepted m d Server party version before a None = ⊥
 HasAccepted m d Server party version before a (Some accepted) =
     AcceptedBy (tried_at m d Server party version before) (successful_keys_at m d Server party version before) a.user a.service accepted
 
--- The session of an endpoint that has heard these units and said these payloads: what was agreed; both version lines; the server's
--- public host key, which is the exchange's; how the user came in; and of each direction the keys that are in use, which are the
--- exchange's, and the number of the next packet.
+-- The session of an endpoint that has received these units and sent these payloads: what was agreed; both version lines; the
+-- server's public host key, which is the exchange's; how the user was accepted; and of each direction the keys that are in use,
+-- which are the exchange's, and the number of the next packet.
 pub record IsSession (m : SuiteData) (d : DecisionsData) (role : Role) (party : ConfigData) (units sent : Units) (agreed : AgreedData) (session : Session) : Type 0 where
   pub agreed_is : agreed_data session.agreed ≡ agreed
   pub own_version : session.own_version.items ≡ party.version

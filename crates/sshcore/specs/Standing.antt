@@ -22,7 +22,7 @@ use Rattle.sshcore.specs.Plan.{is_answer, left_after_one}
 use Rattle.sshcore.specs.Reached.{nothing_reached, reached_after}
 use Rattle.sshcore.specs.Tries.{tried_in}
 
--- of the messages that leave phases, those stood that the phase has behind it
+-- of the messages that leave phases, those stood that are past in the phase
 pub record Tied (role : Role) (own : KexInitData) (before : Units) (p : Phase) : Type 0 where
   pub offer : offered before ≡ past_kexinit p
   pub kexinit : stood role own SSH_MSG_KEXINIT before ≡ past_kexinit p
@@ -52,7 +52,7 @@ nothing_known party version = record {
   first = true;
 }
 
--- what is known behind the first KEXINIT, which is this payload and offers this
+-- what is known after the first KEXINIT, which is this payload and offers this
 abbrev pub after_offer : SuiteData → Role → ConfigData → Known → List ℕ → KexInitData → Known
 after_offer m role party known payload peer = record {
   version = known.version;
@@ -67,8 +67,8 @@ after_offer m role party known payload peer = record {
   first = false;
 }
 
--- What is known behind a payload that is neither dropped nor the first KEXINIT nor the exchange message: a request counts, and
--- may reach a method; behind an answer the attempt itself or the next one is made.
+-- What is known after a payload that is neither dropped nor the first KEXINIT nor the exchange message: a request counts, and
+-- may reach a method; after an answer the attempt itself or the next one is made.
 abbrev pub after_payload : SuiteData → DecisionsData → ConfigData → Known → List ℕ → Known
 after_payload m d party known payload = record known {
   request = if kind payload == SSH_MSG_USERAUTH_REQUEST then known.request + 1 else known.request;
@@ -83,12 +83,12 @@ abbrev pub exchange_received : SuiteData → Role → ConfigData → Known → L
 exchange_received m role party known payload =
     exchange_with m role party known.algorithms known.version known.kexinit (message_in known.shares payload)
 
--- and what is known behind it
+-- and what is known after it
 abbrev pub after_exchange : SuiteData → Role → ConfigData → Known → List ℕ → Known
 after_exchange m role party known payload =
     record known { session = exchange_hash m known.algorithms.kex (exchange_received m role party known payload) }
 
--- An endpoint that has heard this version and these payloads stands so.
+-- An endpoint that has received this version and these payloads stands so.
 pub record Sits (m : SuiteData) (d : DecisionsData) (role : Role) (party : ConfigData) (version : List ℕ) (before : Units) (p : Phase) (guess : Bool) (known : Known) : Type 0 where
   pub tied : Tied role party.offer before p
   pub due : expects_guess role party.offer before ≡ guess

@@ -19,19 +19,19 @@ use Rattle.sshcore.specs.Plan.{confirmed}
 use Rattle.sshcore.specs.Reached.{ReachedData}
 use Rattle.sshcore.specs.Standing.{nothing_known}
 
--- What is carried along, on which no reply hangs: the keys of what is heard, from the exchange up to NEWKEYS; from the exchange on
--- the own version line and the server's public host key; and the public key of the last signed request that was good.
+-- What is carried along, on which no reply hangs: the keys of what is received, from the exchange up to NEWKEYS; from the exchange
+-- on the own version line and the server's public host key; and the public key of the last signed request that was successful.
 pub record Carried : Type 0 where
   pub pending : Option KeysData
   pub own_version : List ℕ
   pub host_key : List ℕ
   pub user_key : Option UserKeyData
 
--- behind the exchange, by which these are the keys of what is heard and this is the host key
+-- after the exchange, by which these are the keys of what is received and this is the host key
 abbrev pub with_exchange : ConfigData → KeysData → List ℕ → Carried → Carried
 with_exchange party keys host_key c = record c { pending = Some keys; own_version = party.version; host_key = host_key }
 
--- How it stands; its phase; whether the packet of a wrong guess is due; what it knows; what it carries along; and what it says
+-- How it stands; its phase; whether the packet of a wrong guess is due; what it knows; what it carries along; and what it sends
 -- packets with.
 pub record StateData : Type 0 where
   pub end : EndData
@@ -92,7 +92,7 @@ begun party = record {
   sending = record { keys = None; number = 0 };
 }
 
--- The keys of what is heard that are taken into use, and those that are left, by the phase: right behind NEWKEYS they are handed
+-- The keys of what is received that are taken into use, and those that are left, by the phase: right after NEWKEYS they are handed
 -- over, once, and none are left (RFC 4253 section 7.3).
 abbrev pub keys_due : Phase → Option KeysData → Option KeysData
 keys_due phase.Service pending = pending

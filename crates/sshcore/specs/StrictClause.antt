@@ -1,4 +1,4 @@
--- What a strict endpoint promises of what it heard: OpenSSH PROTOCOL section 1.10.
+-- What a strict endpoint promises of what it received: OpenSSH PROTOCOL section 1.10.
 
 use Rattle.std.specs.Prelude.{◌≡◌, ℕ, true, List, [], ◌∷◌, ◌++◌}
 use Rattle.sshmsg.specs.Numbers.{kind}

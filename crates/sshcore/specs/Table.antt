@@ -24,7 +24,7 @@ is_ruled _ strict = false
 abbrev pub is_of_method : ℕ → Bool
 is_of_method n = within 30 49 n
 
--- The messages of authentication: a server hears requests, a client FAILUREs and banners, and a PK_OK while a query waits for
+-- The messages of authentication: a server receives requests, a client FAILUREs and banners, and a PK_OK while a query waits for
 -- its answer (RFC 4252 sections 5, 5.1, 5.4 and 7). A SUCCESS leaves the phase.
 abbrev pub is_of_auth : Role → Phase → Bool → ℕ → Bool
 is_of_auth Server phase.Auth waits n = n == SSH_MSG_USERAUTH_REQUEST
@@ -35,7 +35,7 @@ is_of_auth role _ waits n = false
 abbrev pub is_ignored : ℕ → Bool
 is_ignored n = within 2 4 n
 
--- EXT_INFO has a place behind NEWKEYS (RFC 8308 section 2.4)
+-- EXT_INFO has a place after NEWKEYS (RFC 8308 section 2.4)
 abbrev pub takes_extensions : Phase → Bool
 takes_extensions phase.Service = true
 takes_extensions phase.Auth = true

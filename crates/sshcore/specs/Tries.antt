@@ -39,7 +39,7 @@ proof_in m party session user service (PublicKey algorithm key signature) =
     if is_in party.methods (codes "publickey") then signed_proof m session user service algorithm key signature else None
 proof_in m party session user service _ = None
 
--- the request of this number is good: it proves something, and the decision on that is yes
+-- the request of this number is successful: it proves something, and the decision on that is yes
 abbrev pub is_decided : DecisionsData → ℕ → List ℕ → List ℕ → Option ProofData → Bool
 is_decided d request user service None = false
 is_decided d request user service (Some proof) = d.user request user service proof
@@ -78,7 +78,7 @@ abbrev pub key_of : MethodData → List UserKeyData
 key_of (PublicKey algorithm key signature) = if is_name algorithm then record { algorithm = algorithm; blob = key } ∷ [] else []
 key_of _ = []
 
--- The key by which a request was good, if it was by one.
+-- The key by which a request was successful, if it was by one.
 abbrev pub successful_key_by : SuiteData → DecisionsData → ConfigData → List ℕ → ℕ → Result MessageData MsgFault → List UserKeyData
 successful_key_by m d party session request (Ok (UserauthRequest user service method)) =
     if is_successful_at m d party session request user service method then key_of method else []
@@ -87,7 +87,7 @@ successful_key_by m d party session request _ = []
 unfoldable pub successful_key_in : SuiteData → DecisionsData → ConfigData → List ℕ → ℕ → List ℕ → List UserKeyData
 successful_key_in m d party session request payload = successful_key_by m d party session request (message_in Mpint payload)
 
--- The keys by which the requests of these payloads were good, in order.
+-- The keys by which the requests of these payloads were successful, in order.
 abbrev pub successful_key_place : SuiteData → DecisionsData → Role → ConfigData → List ℕ → Units → List ℕ → List UserKeyData
 successful_key_place m d role party version before payload =
     if kept role party.offer SSH_MSG_USERAUTH_REQUEST before payload

@@ -55,7 +55,7 @@ abbrev pub guess_of : SuiteData → Role → ConfigData → Units
 guess_of m Server party = []
 guess_of m Client party = if party.offer.first_kex_packet_follows then init_for m party (guessed_method party) ∷ [] else []
 
--- what is said before anything is heard: KEXINIT, and a guess
+-- what is sent before anything is received: KEXINIT, and a guess
 abbrev pub making : SuiteData → Role → ConfigData → Units
 making m role party = own_kexinit party ∷ guess_of m role party
 
@@ -93,7 +93,7 @@ init_reply m role party known message =
 abbrev pub userauth : List ℕ
 userauth = codes "ssh-userauth"
 
--- Its answer at a client: whether the host key is trusted, then the shared number, then the signature (RFC 4253 section 8);
+-- Its answer at a client: whether the host key is trusted, then the shared secret, then the signature (RFC 4253 section 8);
 -- then NEWKEYS and the request of the service (sections 7.3 and 10).
 abbrev pub signed_by : SuiteData → Known → ExchangeData → List ℕ → Option ResponseData → Reply
 signed_by m known x signature None = fails fault.Exchange
@@ -111,7 +111,7 @@ reply_reply m d role party known message signature =
     trusted_by m d known (exchange_with m role party known.algorithms known.version known.kexinit (Ok message)) signature
     (answer_with m role party known.algorithms (Ok message))
 
--- SERVICE_REQUEST at a server (RFC 4253 section 10), with the banner behind the answer (RFC 4252 section 5.4)
+-- SERVICE_REQUEST at a server (RFC 4253 section 10), with the banner after the answer (RFC 4252 section 5.4)
 abbrev pub banner_by : Option (List ℕ) → Units
 banner_by None = []
 banner_by (Some text) = written_message (UserauthBanner text []) ∷ []

@@ -65,7 +65,7 @@ impl State<'_> {
         }
     }
 
-    /// A client hears FAILURE: it makes the next attempt whose method is listed; those that it skips
+    /// A client receives FAILURE: it makes the next attempt whose method is listed; those that it skips
     /// aren't made later (RFC 4252 section 5.1). Fails as `NoMoreMethods` where none is left.
     pub(crate) fn receive_failure<S: Suite>(
         &mut self,
@@ -91,7 +91,7 @@ impl State<'_> {
         self.make_attempt(config, suite, sent)
     }
 
-    /// A client hears PK_OK: the attempt of the query is made itself, if the key is the one that was asked
+    /// A client receives PK_OK: the attempt of the query is made itself, if the key is the one that was asked
     /// about; else it is unexpected (RFC 4252 section 7).
     pub(crate) fn receive_pk_ok<S: Suite>(
         &mut self,
@@ -138,7 +138,7 @@ impl State<'_> {
         }
     }
 
-    /// A client hears SUCCESS: the user of the attempt that was made last is authenticated (RFC 4252
+    /// A client receives SUCCESS: the user of the attempt that was made last is authenticated (RFC 4252
     /// section 5.1). Fails as `Unexpected(52)` where none was made.
     pub(crate) fn receive_success<S: Suite>(
         &mut self,
@@ -165,7 +165,7 @@ impl State<'_> {
     }
 }
 
-/// The attempts behind the first, from the next one on whose method is listed.
+/// The attempts after the first, from the next one on whose method is listed.
 fn next_attempts<'a>(attempts: &'a [Attempt], listed: &NameList) -> &'a [Attempt]
     ensures { map attempt_data result.now ≡ next_after listed.now (map attempt_data attempts.now) }
 {

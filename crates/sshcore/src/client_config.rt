@@ -52,7 +52,7 @@ impl ClientConfig {
     /// The config of these parts, which a refusal drops.
     ///
     /// Answers the refusal with the least number whose cause holds ([`ConfigFault`] says which cause
-    /// each has), and `Memory` only where none does, for want of memory.
+    /// each has), and `Memory` only where none does and an allocation failed.
     pub fn new(alloc: Global, parts: ClientParts) -> Result<ClientConfig, ConfigFault>
         ensures accepted { IfOk result (λ config. (config ≡ client_data parts) × IsClient config) }
         ensures refused { IfErr result (λ code. code ≢ fault.Memory → IsLeastBroken (λ rule. ClientRule rule (client_data parts)) code) }
@@ -99,8 +99,8 @@ impl ClientConfig {
     }
 
     /// The KEXINIT that an endpoint of this config sends (RFC 4253 section 7.1): the lists as they are,
-    /// behind the methods the own marker where the side is willing to be strict, no compression and no
-    /// languages. It fits a payload. Answers `Memory` for want of memory.
+    /// after the methods the own marker where the side is willing to be strict, no compression and no
+    /// languages. It fits a payload. Answers `Memory` where an allocation failed.
     pub fn kexinit(&self) -> Result<KexInit<'_>, Memory>
         ensures offer { IfOk result (λ kexinit. kexinit_data kexinit ≡ client_offer self.now) }
         ensures formed { IsOffer (client_offer self.now) }
@@ -111,7 +111,7 @@ impl ClientConfig {
     }
 
     /// The KEXINIT that an endpoint of this config with these draws sends: it has their cookie, and the rest
-    /// is that of [`ClientConfig::kexinit`]. It fits a payload. Answers `Memory` for want of memory.
+    /// is that of [`ClientConfig::kexinit`]. It fits a payload. Answers `Memory` where an allocation failed.
     pub fn kexinit_with<'b>(&'b self, draws: &'b Draws) -> Result<KexInit<'b>, Memory>
         ensures offer { IfOk result (λ kexinit. kexinit_data kexinit ≡ client_offer (redrawn_client draws.now self.now)) }
         ensures formed { IsOffer (client_offer (redrawn_client draws.now self.now)) }

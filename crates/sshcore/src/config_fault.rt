@@ -33,7 +33,7 @@ pub enum ConfigFault {
     Tries,
     /// C10: the cookie hasn't 16 bytes, or the exchange random or the padding seed hasn't 32.
     Random,
-    /// C11: a growth was refused. It comes only where no other cause holds.
+    /// C11: an allocation failed. It comes only where no other cause holds.
     Memory,
     /// C12: a required method isn't one of the server's methods, or stands twice.
     Required,

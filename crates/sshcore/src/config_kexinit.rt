@@ -31,7 +31,7 @@ struct Alike {
 }
 
 /// The KEXINIT of a side of this role with this cookie and these host key algorithms, which announces a
-/// guess or not. Answers `Memory` for want of memory, as each function below.
+/// guess or not. Answers `Memory` where an allocation failed, as each function below.
 pub(crate) fn kexinit_of<'a>(
     alloc: Global,
     role: Role,

@@ -81,7 +81,7 @@ impl Credential {
 pub struct Attempt {
     /// The user's name, at most 255 bytes.
     pub user: String,
-    /// The name of the service that is to start behind authentication.
+    /// The name of the service that is to start after authentication.
     pub service: String,
     /// How the client proves who the user is.
     pub credential: Credential,
@@ -118,8 +118,8 @@ pub struct SideParts {
     /// last in the kex list that it sends.
     pub strict: bool,
     /// The cookie of the KEXINIT: 16 random bytes. This and the next two are the parts' own draws, which
-    /// serve one connection: with a second one from the same draws the bytes that a client said in the
-    /// first are good again. [`Draws`](crate::Draws) gives each connection its own.
+    /// serve one connection: with a second one from the same draws the bytes that a client sent in the
+    /// first are accepted again. [`Draws`](crate::Draws) gives each connection its own.
     pub cookie: Vec<u8>,
     /// The secret of which the suite makes this side's share: 32 random bytes, for one connection.
     pub exchange_random: Vec<u8>,
@@ -148,11 +148,11 @@ pub struct ServerParts {
     /// The host keys, at least one. Their algorithms in order are the list that the server offers; of
     /// two with one algorithm the first is used.
     pub host_keys: Vec<HostKey>,
-    /// The names of the services that may start behind authentication; there may be none.
+    /// The names of the services that may start after authentication; there may be none.
     pub services: Vec<String>,
     /// The methods that a FAILURE lists, each `password` or `publickey`; there may be none.
     pub methods: Vec<String>,
-    /// The methods that all have to succeed before a user is let in, each one of `methods` and none
+    /// The methods that all have to succeed before a user is accepted, each one of `methods` and none
     /// twice; there may be none (RFC 4252 section 5.1). They have to succeed in an unbroken run of requests
     /// for one user and one service (profile).
     pub required: Vec<String>,

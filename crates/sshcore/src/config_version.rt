@@ -10,8 +10,8 @@ use crate::config_parts::SideParts;
 use sshwire::{Memory, VersionLine};
 use std::alloc::Global;
 
-/// The version line of a side, of whose parts it is known that they spell one. Answers `Memory` for
-/// want of memory.
+/// The version line of a side, of whose parts it is known that they spell one. Answers `Memory` where
+/// an allocation failed.
 pub(crate) fn version_line(alloc: Global, side: &SideParts) -> Result<VersionLine, Memory>
     ensures { IfOk result (λ line. line ≡ version_of (side_data side.now)) }
 {

@@ -17,7 +17,7 @@ pub enum Proof<'a> {
     Password(&'a [u8]),
     /// A key (RFC 4252 section 7). Of a request that is signed: the user's side has its private key, and
     /// the signature was verified. Of a query: whether this key would do is asked, nothing was signed, and
-    /// a yes lets nobody in.
+    /// a yes accepts nobody.
     Key {
         /// The name of the key's algorithm, as the request has it. An endpoint compares it with nothing. That
         /// it fits the names inside the key and the signature is for the suite's `verify` to see; of a query,
@@ -42,14 +42,14 @@ pub trait Decisions {
     fn host_key(&self, algorithm: &str, blob: &[u8]) -> bool
         ensures { result ≡ (policy self.now).host_key algorithm.now blob.now };
 
-    /// Whether a request is good by what it proves, of requests counted from 1 (RFC 4252 section 5); of a
-    /// query whether its key would do (section 7). A yes to a request lets the user in, unless methods
+    /// Whether a request is successful by what it proves, of requests counted from 1 (RFC 4252 section 5); of a
+    /// query whether its key would do (section 7). A yes to a request accepts the user, unless methods
     /// are required that aren't reached yet (section 5.1). It is asked of the method `none` too, whatever
-    /// methods the server lists: say no to `Proof::None` where nobody comes in without a proof.
+    /// methods the server lists: say no to `Proof::None` where nobody is accepted without a proof.
     fn user(&self, request_number: u32, user: &str, service: &str, proof: &Proof<'_>) -> bool
         ensures { result ≡ (policy self.now).user request_number user.now service.now (proof_data proof.now) };
 
-    /// Hears what the peer says to people, by a message before the endpoint answers that, or by a line before the
+    /// Is told what the peer tells people, by a message before the endpoint answers that, or by a line before the
     /// version line. It can't change what is answered. Does nothing, unless whoever decides has a body of its own.
     fn told(&self, notice: Notice<'_>) {
         let _ = notice;

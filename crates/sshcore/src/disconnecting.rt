@@ -18,8 +18,8 @@ use sshwire::Memory;
 pub const DESCRIPTION_LIMIT: usize = 1024;
 
 impl State<'_> {
-    /// Says a DISCONNECT with this reason and description (RFC 4253 section 11.1), and has ended. Where a
-    /// growth was refused `out` is unchanged.
+    /// Sends a DISCONNECT with this reason and description (RFC 4253 section 11.1), and has ended. Where
+    /// an allocation failed `out` is unchanged.
     pub(crate) fn disconnect<S: Suite>(
         &mut self,
         config: &Config<'_>,

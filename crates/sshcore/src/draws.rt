@@ -13,7 +13,7 @@ use crate::config_parts::SideParts;
 #[derive(Drop)]
 pub struct Draws {
     /// The cookie of the KEXINIT. By it no two connections have one session identifier, whatever the peer
-    /// says again (RFC 4253 section 7.1).
+    /// sends again (RFC 4253 section 7.1).
     pub cookie: [u8; 16],
     /// The secret of which the suite makes this side's share.
     pub exchange_random: [u8; 32],

@@ -29,7 +29,7 @@ pub enum Fault {
     Strict(u8),
     /// F8: no common algorithm in this field.
     NoCommon(NoCommon),
-    /// F9: the suite gives no shared number.
+    /// F9: the suite gives no shared secret.
     Exchange,
     /// F10: the host key isn't trusted.
     HostKey,
@@ -41,7 +41,7 @@ pub enum Fault {
     TooManyTries,
     /// F14: no attempt is left.
     NoMoreMethods,
-    /// F15: a growth was refused.
+    /// F15: an allocation failed.
     Memory,
     /// F16: the input ended before.
     Cut,

@@ -74,12 +74,12 @@ impl<'a, S: Suite, D: Decisions> Model for Endpoint<'a, S, D> {
 }
 
 impl<'a, S: Suite, D: Decisions> Endpoint<'a, S, D> {
-    /// A client that has heard nothing yet. Its version line, its KEXINIT and, where its config
+    /// A client that has received nothing yet. Its version line, its KEXINIT and, where its config
     /// announces a guess, its share are appended to `out` (RFC 4253 sections 4.2, 7.1 and 7). Answers
-    /// `Memory` where a growth was refused; `out` is then unchanged.
+    /// `Memory` where an allocation failed; `out` is then unchanged.
     ///
     /// Its draws are the config's own, so one config serves one connection this way: a second one would
-    /// say the same cookie and share again. [`Endpoint::client_with`] takes fresh draws.
+    /// send the same cookie and share again. [`Endpoint::client_with`] takes fresh draws.
     pub fn client(
         alloc: Global,
         config: &'a ClientConfig,
@@ -110,12 +110,12 @@ impl<'a, S: Suite, D: Decisions> Endpoint<'a, S, D> {
         Endpoint::begin(alloc, Config::Client(config, draws), suite, decisions, out)
     }
 
-    /// A server that has heard nothing yet. Its notice lines, its version line and its KEXINIT are
-    /// appended to `out` (RFC 4253 sections 4.2 and 7.1). Answers `Memory` where a growth was refused;
+    /// A server that has received nothing yet. Its notice lines, its version line and its KEXINIT are
+    /// appended to `out` (RFC 4253 sections 4.2 and 7.1). Answers `Memory` where an allocation failed;
     /// `out` is then unchanged.
     ///
     /// Its draws are the config's own, so one config serves one connection this way. To a second server of
-    /// the same draws the bytes of a client that were recorded at the first are good again, and it ends
+    /// the same draws the bytes of a client that were recorded at the first are accepted again, and it ends
     /// authenticated without that client. [`Endpoint::server_with`] takes fresh draws.
     pub fn server(
         alloc: Global,
@@ -132,8 +132,8 @@ impl<'a, S: Suite, D: Decisions> Endpoint<'a, S, D> {
 
     /// The same with these draws: its KEXINIT has their cookie, its share is made of their exchange random,
     /// and its padding of their seed; all else is the config's. So one config serves any number of
-    /// connections, each with fresh random draws: what a client once said is then good in none but the
-    /// connection that it was said in, since the session identifier depends on the cookie.
+    /// connections, each with fresh random draws: what a client once sent is then accepted in none but the
+    /// connection that it was sent in, since the session identifier depends on the cookie.
     pub fn server_with(
         alloc: Global,
         config: &'a ServerConfig,
@@ -148,7 +148,7 @@ impl<'a, S: Suite, D: Decisions> Endpoint<'a, S, D> {
         Endpoint::begin(alloc, Config::Server(config, draws), suite, decisions, out)
     }
 
-    /// An endpoint that has heard nothing yet.
+    /// An endpoint that has received nothing yet.
     fn begin(
         alloc: Global,
         config: Config<'a>,
@@ -178,19 +178,19 @@ impl<'a, S: Suite, D: Decisions> Endpoint<'a, S, D> {
     /// Answers how many bytes were used: all of them, unless the endpoint ends inside the piece; then
     /// those up to the place of the refusal, or to the end of the packet that ended it.
     ///
-    /// Keep what it didn't use. Behind the packet that authenticated the user those are the first bytes of
+    /// Keep what it didn't use. After the packet that authenticated the user those are the first bytes of
     /// what follows, for the reader that goes on with the session, and a peer may send them in one piece
-    /// with that packet: a server its first messages behind SUCCESS, as OpenSSH's does; a client messages of
-    /// the service, and further requests, behind the one that succeeded (RFC 4252 section 5.1 has such
+    /// with that packet: a server its first messages after SUCCESS, as OpenSSH's does; a client messages of
+    /// the service, and further requests, after the one that succeeded (RFC 4252 section 5.1 has such
     /// requests ignored, by whoever goes on).
     ///
-    /// An endpoint that has ended uses and appends nothing. Answers `Memory` where a growth was refused:
+    /// An endpoint that has ended uses and appends nothing. Answers `Memory` where an allocation failed:
     /// the endpoint has then failed, and `out` has its old bytes followed by whole packets.
     pub fn feed(&mut self, piece: &[u8], out: &mut Vec<u8>) -> Result<usize, Memory>
         ensures fed { IfOk result (λ used. Fed S.meaning D.policy self.old self.new (take used piece.now) out.old.items out.new.items) }
         ensures used { IfOk result (λ used. (used ≤ length piece.now) × (endpoint_end self.new ≡ Open → used ≡ length piece.now)) }
         ensures memory { OnErr result ((endpoint_end self.new ≡ Failed fault.Memory) × Breaks S.meaning D.policy self.old self.new piece.now out.old.items out.new.items) }
-        // Want of memory is answered, and never found later.
+        // Running out of memory is answered, and never found later.
         ensures kept { OnOk result (endpoint_end self.new ≡ Failed fault.Memory → endpoint_end self.old ≡ Failed fault.Memory) }
         ensures ended { endpoint_end self.old ≢ Open → (result ≡ Ok 0) × (self.new ≡ self.old) × (out.new ≡ out.old) }
     {
@@ -244,10 +244,10 @@ impl<'a, S: Suite, D: Decisions> Endpoint<'a, S, D> {
     /// closed.
     ///
     /// The reason may be any number. The language tag is empty, and a description of more than 1024 bytes isn't
-    /// sent: the DISCONNECT has none then. Before NEWKEYS it goes in clear, as all that is said there.
+    /// sent: the DISCONNECT has none then. Before NEWKEYS it goes in clear, as all that is sent there.
     ///
-    /// An endpoint that has ended doesn't change, and nothing is appended. Answers `Memory` where a growth was
-    /// refused: the endpoint has then failed, and `out` is unchanged.
+    /// An endpoint that has ended doesn't change, and nothing is appended. Answers `Memory` where an
+    /// allocation failed: the endpoint has then failed, and `out` is unchanged.
     pub fn disconnect(
         &mut self,
         reason: u32,
@@ -284,7 +284,7 @@ impl<'a, S: Suite, D: Decisions> Endpoint<'a, S, D> {
     /// What it waits for; of an endpoint that has ended, what it waited for last. Takes no memory.
     pub fn phase(&self) -> Phase
         ensures kept { result ≡ self.now.state.phase }
-        // For every history of an open endpoint: the first phase whose leaving message it hasn't heard.
+        // For every history of an open endpoint: the first phase whose leaving message it hasn't received.
         ensures waits { (h s : List ℕ) (a : EndpointAfter S.meaning D.policy self.now h s) → endpoint_end self.now ≡ Open → phase_at self.now.role self.now.party.offer (payloads_in a.units) ≡ result }
     {
         self.state.phase
@@ -312,7 +312,7 @@ impl<'a, S: Suite, D: Decisions> Endpoint<'a, S, D> {
         ensures none { result ≡ None → self.now.state.algorithms ≡ None }
         // They are there from the peer's KEXINIT on.
         ensures there { is_some result ≡ past_kexinit self.now.state.phase }
-        // For every history of an open endpoint: they are chosen by what was heard and said.
+        // For every history of an open endpoint: they are chosen by what was received and sent.
         ensures chosen { (h s : List ℕ) (a : EndpointAfter S.meaning D.policy self.now h s) → endpoint_end self.now ≡ Open
             → IfSome result (λ names. names_of names ≡ algorithms_at (S.meaning self.now.suite) self.now.role self.now.party (payloads_in a.units)) }
     {
@@ -336,9 +336,9 @@ impl<'a, S: Suite, D: Decisions> Endpoint<'a, S, D> {
         }
     }
 
-    /// What goes on behind authentication, where the endpoint ended authenticated; None otherwise: what was
-    /// agreed, both version lines, the server's public host key, at a server how the user came in, and the
-    /// keys and numbers of both directions. The session's first byte is the one behind those that `feed` has
+    /// What goes on after authentication, where the endpoint ended authenticated; None otherwise: what was
+    /// agreed, both version lines, the server's public host key, at a server how the user was accepted, and the
+    /// keys and numbers of both directions. The session's first byte is the one after those that `feed` has
     /// used. Takes no memory.
     pub fn into_session(self) -> Option<Session>
         ensures session { (h s : List ℕ) (p : EndpointAfter S.meaning D.policy self.entry h s) (a : AgreedData) → endpoint_end self.entry ≡ Authenticated a
@@ -374,7 +374,7 @@ impl<'a, S: Suite, D: Decisions> Endpoint<'a, S, D> {
     }
 }
 
-/// Reads on up to the end of one unit; for want of memory `out` is unchanged.
+/// Reads on up to the end of one unit; where an allocation failed `out` is unchanged.
 fn receive<S: Suite, D: Decisions>(
     input: &mut Input,
     state: &mut State<'_>,

@@ -15,9 +15,9 @@ use crate::endpoint::Endpoint;
 use crate::law::{authentication_law, history_law, strict_law};
 use sshpacket::Suite;
 
-/// The law of endpoints: how an endpoint ends and what it has said depend on its joined input alone,
+/// The law of endpoints: how an endpoint ends and what it has sent depend on its joined input alone,
 /// whatever the pieces; what a strict endpoint was given (OpenSSH PROTOCOL section 1.10); and what one
-/// that ended authenticated has heard (RFC 4252 section 5.1). Takes no memory.
+/// that ended authenticated has received (RFC 4252 section 5.1). Takes no memory.
 pub fn endpoint_law<S: Suite, D: Decisions>(one: &Endpoint<'_, S, D>, other: &Endpoint<'_, S, D>)
     // Two endpoints of one role, config and suite, and with the same decisions, each used a prefix of one input, all of it where it
     // is open; and neither was ended by its owner.
@@ -25,18 +25,19 @@ pub fn endpoint_law<S: Suite, D: Decisions>(one: &Endpoint<'_, S, D>, other: &En
         → (h g s t x y : List ℕ) → EndpointAfter S.meaning D.policy one.now h s → EndpointAfter S.meaning D.policy other.now g t
         → h ++ x ≡ g ++ y → (endpoint_end one.now ≡ Open → x ≡ []) → (endpoint_end other.now ≡ Open → y ≡ [])
         → (h ≡ g) × (s ≡ t) × (endpoint_end one.now ≡ endpoint_end other.now) }
-    // The same of what was heard before an owner's end: endpoints that were cut off, or told to disconnect, used the same bytes too, and
-    // had said the same.
+    // The same of what was received before an owner's end: endpoints that were cut off, or told to disconnect, used the
+    // same bytes too, and had sent the same.
     ensures joined_received { IsSameEndpoint one.now other.now → (h g s t x y : List ℕ) (a : EndpointAfter S.meaning D.policy one.now h s) (b : EndpointAfter S.meaning D.policy other.now g t)
         → h ++ x ≡ g ++ y → (a.received_end ≡ Open → x ≡ []) → (b.received_end ≡ Open → y ≡ [])
         → (h ≡ g) × (s ≡ t) × (a.received_end ≡ b.received_end) }
-    // An endpoint stands as what it heard left it, or was ended by its owner where that left it open.
+    // An endpoint stands as what it received left it, or was ended by its owner where that left it open.
     ensures received { (h s : List ℕ) (a : EndpointAfter S.meaning D.policy one.now h s) → by_owner (endpoint_end one.now) ≡ false → a.received_end ≡ endpoint_end one.now }
     ensures cut { (h s : List ℕ) (a : EndpointAfter S.meaning D.policy one.now h s) → endpoint_end one.now ≡ Failed fault.Cut → a.received_end ≡ Open }
     ensures left { (h s : List ℕ) (a : EndpointAfter S.meaning D.policy one.now h s) (reason : ℕ) → endpoint_end one.now ≡ Disconnected reason → a.received_end ≡ Open }
-    // What was heard keeps strictness, whoever sent it.
+    // What was received keeps strictness, whoever sent it.
     ensures strict { (h s : List ℕ) (a : EndpointAfter S.meaning D.policy one.now h s) → KeepsStrict one.now.role one.now.party a.units a.received_end }
-    // What was heard let the user in, where an endpoint ended authenticated; and one that is strict was given a strict sequence first.
+    // By what was received the user was accepted, where an endpoint ended authenticated; and one that is strict was
+    // given a strict sequence first.
     ensures authenticated { (h s : List ℕ) (a : EndpointAfter S.meaning D.policy one.now h s) (g : AgreedData) → endpoint_end one.now ≡ Authenticated g
         → IsAuthenticated (S.meaning one.now.suite) (D.policy one.now.decisions) one.now.role one.now.party a.units g
         × (strict_at one.now.role one.now.party (payloads_in a.units) ≡ true → BeginsStrictly one.now.role one.now.party.offer (payloads_in a.units)) }

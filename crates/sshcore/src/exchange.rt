@@ -71,8 +71,8 @@ impl State<'_> {
     ghost use Rattle.sshmsg.specs.MessageData.{MessageData};
     ghost use Rattle.sshcore.specs.Directions.{spelled_by};
 
-    /// A server hears the client's share: it answers with its own and the signature of the exchange
-    /// hash, then with NEWKEYS. Fails as `Exchange` where the suite gives no shared number.
+    /// A server receives the client's share: it answers with its own and the signature of the exchange
+    /// hash, then with NEWKEYS. Fails as `Exchange` where the suite gives no shared secret.
     pub(crate) fn receive_init<S: Suite>(
         &mut self,
         config: &Config<'_>,
@@ -99,7 +99,7 @@ impl State<'_> {
         }
     }
 
-    /// The server's share and the shared number.
+    /// The server's share and the shared secret.
     fn respond<S: Suite>(
         &self,
         config: &Config<'_>,
@@ -150,7 +150,7 @@ impl State<'_> {
         })
     }
 
-    /// Says the answer and NEWKEYS, and stands behind the exchange.
+    /// Sends the answer and NEWKEYS, and stands after the exchange.
     fn answer_init<S: Suite>(
         &mut self,
         config: &Config<'_>,
@@ -171,9 +171,9 @@ impl State<'_> {
         self.stand_after_exchange(config, signed.hash, signed.host_key, keys.incoming)
     }
 
-    /// A client hears the server's share: it asks whether the host key is trusted (else `HostKey`), then
-    /// makes the shared number (`Exchange` where the suite gives none), then verifies the signature of
-    /// the exchange hash (else `Signature`); then it says NEWKEYS and requests the service.
+    /// A client receives the server's share: it asks whether the host key is trusted (else `HostKey`), then
+    /// makes the shared secret (`Exchange` where the suite gives none), then verifies the signature of
+    /// the exchange hash (else `Signature`); then it sends NEWKEYS and requests the service.
     pub(crate) fn receive_reply<S: Suite, D: Decisions>(
         &mut self,
         config: &Config<'_>,
@@ -263,7 +263,7 @@ impl State<'_> {
         self.hash(config, suite, &shares)
     }
 
-    /// Says NEWKEYS and the request of the service, and stands behind the exchange.
+    /// Sends NEWKEYS and the request of the service, and stands after the exchange.
     fn accept_reply<S: Suite>(
         &mut self,
         config: &Config<'_>,
@@ -358,7 +358,7 @@ impl State<'_> {
     }
 
     /// Goes on to phase newkeys, with the session identifier, the server's public host key and the keys of
-    /// what is heard.
+    /// what is received.
     fn stand_after_exchange(
         &mut self,
         config: &Config<'_>,
@@ -383,7 +383,7 @@ impl State<'_> {
     }
 }
 
-/// The law of a server's answer: its share has the method's form, and the shared number is short.
+/// The law of a server's answer: its share has the method's form, and the shared secret is short.
 fn answer_law<S: Suite>(config: &Config<'_>, suite: &S)
     ensures share { (kex share : List ℕ) (r : ResponseData) → (S.meaning suite.now).respond kex (config_data config.now).random share ≡ Some r
         → FitsShare ((S.meaning suite.now).share_form kex) r.share }

@@ -1,4 +1,4 @@
-//! What failures say to people.
+//! What failures tell people.
 
 ghost use Rattle.std.specs.Prelude.{◌≡◌};
 ghost use Rattle.sshcore.specs.Codes.{config_code, fault_code};

@@ -1,4 +1,4 @@
-//! What is said before anything is heard.
+//! What is sent before anything is received.
 
 ghost use Rattle.std.specs.Prelude.{◌≡◌, ◌++◌, ◌∷◌, [], ℕ, Bool, List, OnErr, OnOk, flat_map, map};
 ghost use Rattle.sshwire.specs.Lines.{version_line};
@@ -17,8 +17,8 @@ use sshpacket::Suite;
 use sshwire::Memory;
 
 impl State<'_> {
-    /// Says all that is said before anything is heard: the lines before packets, then what is said at the
-    /// making. Where a growth was refused `out` is unchanged.
+    /// Sends all that is sent before anything is received: the lines before packets, then what is sent at the
+    /// making. Where an allocation failed `out` is unchanged.
     pub(crate) fn send_greeting<S: Suite>(
         &mut self,
         config: &Config<'_>,
@@ -39,7 +39,7 @@ impl State<'_> {
         Ok(())
     }
 
-    /// Says KEXINIT, and a client's share where its config announces a guess (RFC 4253 section 7).
+    /// Sends KEXINIT, and a client's share where its config announces a guess (RFC 4253 section 7).
     fn send_making<S: Suite>(
         &mut self,
         config: &Config<'_>,
@@ -57,7 +57,7 @@ impl State<'_> {
         self.send_guess(config, suite, sent)
     }
 
-    /// Says a client's guess, if it makes one; a server guesses nothing (profile).
+    /// Sends a client's guess, if it makes one; a server guesses nothing (profile).
     fn send_guess<S: Suite>(
         &mut self,
         config: &Config<'_>,
@@ -78,7 +78,7 @@ impl State<'_> {
     }
 }
 
-/// Says the lines before packets: a server's notice lines, and the version line (RFC 4253 section 4.2).
+/// Sends the lines before packets: a server's notice lines, and the version line (RFC 4253 section 4.2).
 fn send_lines(config: &Config<'_>, sent: &mut Vec<u8>) -> Result<(), Memory>
     ensures { OnOk result (sent.new.items ≡ sent.old.items ++ preamble_of (config_data config.now)) }
 {
@@ -88,7 +88,7 @@ fn send_lines(config: &Config<'_>, sent: &mut Vec<u8>) -> Result<(), Memory>
     config.version().write(sent)
 }
 
-/// Says a line with its CR LF.
+/// Sends a line with its CR LF.
 fn send_line(line: &[u8], sent: &mut Vec<u8>) -> Result<(), Memory>
     ensures { OnOk result (sent.new.items ≡ sent.old.items ++ version_line line.now) }
 {

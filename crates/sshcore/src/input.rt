@@ -75,7 +75,7 @@ impl Input {
     }
 
     /// Reads on up to the end of one unit, a version line or a packet, and answers how many bytes of the
-    /// piece were used; what is said to it is appended to `sent`.
+    /// piece were used; what is sent to it is appended to `sent`.
     pub(crate) fn receive<S: Suite, D: Decisions>(
         &mut self,
         state: &mut State<'_>,
@@ -173,7 +173,7 @@ fn receive_lines(
     }
 }
 
-/// Fails as a refused line asks for; nothing is said (profile), and want of memory is answered.
+/// Fails as a refused line asks for; nothing is sent (profile), and running out of memory is answered.
 fn fail_line(state: &mut State<'_>, fault: WireFault) -> Result<(), Memory>
     ensures fails { OnOk result (state_data state.new ≡ record (state_data state.old) { end = Failed failed.Version }) }
     ensures refused { OnOk result (fault ≢ wire.Memory) }
@@ -227,7 +227,7 @@ fn receive_packets<S: Suite, D: Decisions>(
     }
 }
 
-/// Fails as a refused packet asks for; want of memory is answered.
+/// Fails as a refused packet asks for; running out of memory is answered.
 fn fail_packet<S: Suite>(
     state: &mut State<'_>,
     config: &Config<'_>,

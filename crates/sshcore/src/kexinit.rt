@@ -40,7 +40,7 @@ pub(crate) struct Negotiated {
 }
 
 impl State<'_> {
-    /// Hears the peer's KEXINIT: judges strictness, then chooses, then judges guesses; a client sends its
+    /// Receives the peer's KEXINIT: judges strictness, then chooses, then judges guesses; a client sends its
     /// share unless a right guess has it (RFC 4253 section 7).
     pub(crate) fn receive_kexinit<S: Suite>(
         &mut self,
@@ -107,7 +107,7 @@ impl State<'_> {
         Ok(())
     }
 
-    /// Says a client's share, unless a right guess has it.
+    /// Sends a client's share, unless a right guess has it.
     fn send_init<S: Suite>(
         &mut self,
         config: &Config<'_>,
@@ -137,7 +137,7 @@ fn is_strict(config: &Config<'_>, peer: &KexInit<'_>) -> bool
     strict_of(config.side().strict, config.role(), peer)
 }
 
-/// Whether a message of the exchange is said at KEXINIT: a client says its share, unless a right guess
+/// Whether a message of the exchange is sent at KEXINIT: a client sends its share, unless a right guess
 /// has it.
 fn opens(config: &Config<'_>, right: bool) -> bool
     ensures client { role_of config.now ≡ Client → result ≡ not ((config_data config.now).offer.first_kex_packet_follows && right) }

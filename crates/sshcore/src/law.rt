@@ -35,7 +35,7 @@ ghost use Rattle.sshcore.specs.StrictClause.{KeepsStrict};
 ghost use Rattle.sshcore.specs.Table.{line_by};
 ghost use Rattle.sshcore.specs.Work.{making};
 
-/// The law of strictness (OpenSSH PROTOCOL section 1.10): an endpoint that heard these units and
+/// The law of strictness (OpenSSH PROTOCOL section 1.10): an endpoint that received these units and
 /// ended so, or stands open, keeps it, whoever sent them.
 pub fn strict_law()
     ensures keeps { (m : SuiteData) (d : DecisionsData) (role : Role) (party : ConfigData) (units : Units) (refusal : Option Refusal) (end : EndData)
@@ -45,9 +45,9 @@ pub fn strict_law()
     sshneg::markers_law();
 }
 
-/// The law of authentication: an endpoint that ends authenticated has heard its last payload in phase
+/// The law of authentication: an endpoint that ends authenticated has received its last payload in phase
 /// auth, and agreed on what the payloads before have given. At a server that was a request for a
-/// service that it has, and good; at a client the answer to the attempt that it made last.
+/// service that it has, and successful; at a client the answer to the attempt that it made last.
 pub fn authentication_law()
     ensures authenticated { (m : SuiteData) (d : DecisionsData) (role : Role) (party : ConfigData) (units : Units) (refusal : Option Refusal) (a : AgreedData)
         → Ends m d role party units refusal (Authenticated a) → IsAuthenticated m d role party units a }
@@ -65,23 +65,24 @@ pub fn reached_law()
     // The run, and no other.
     ensures run { (user service : List ℕ) (tried : List Tried) → IsRun user service tried (run_of user service tried) }
     ensures only { (user service : List ℕ) (tried run : List Tried) → IsRun user service tried run → run ≡ run_of user service tried }
-    // Behind a good request all required methods are reached exactly if requests of its run were good for them all.
+    // After a successful request all required methods are reached exactly if requests of its run were successful for
+    // them all.
     ensures kept { (tried : List Tried) (t : Tried) (successful : List ℕ) (required : List (List ℕ)) → t.successful ≡ Some successful → AllByRecursion IsListed required
         → is_complete required (reached_after_one (reached_after nothing_reached tried) t) ≡ are_reached required t.user t.service (tried ++ t ∷ []) }
 {}
 
 /// The law of standing: where an endpoint stands between two payloads, what the next one brings there,
-/// and where it stands behind it.
+/// and where it stands after it.
 pub fn standing_law()
-    // Before anything but the peer's version line was heard.
+    // Before anything but the peer's version line was received.
     ensures begins { (m : SuiteData) (d : DecisionsData) (role : Role) (party : ConfigData) (version : List ℕ) → Sits m d role party version [] phase.KexInit false (nothing_known party version) }
     // What a payload brings is what its line of the phase table says.
     ensures replies { (m : SuiteData) (d : DecisionsData) (role : Role) (party : ConfigData) (version : List ℕ) (before : Units) (payload : List ℕ) (p : Phase) (guess : Bool) (known : Known)
         → Sits m d role party version before p guess known → reply_at m d role party version before payload
         ≡ line_reply m d role party known (number_in role party before) (line_by role p known.strict guess (is_waiting known.left) (kind payload)) payload }
 
-    // Behind the peer's KEXINIT; behind the packet of a wrong guess; behind the exchange message; behind every other message that
-    // leaves a phase; and behind one that leaves none.
+    // After the peer's KEXINIT; after the packet of a wrong guess; after the exchange message; after every other message that
+    // leaves a phase; and after one that leaves none.
     ensures offers { (m : SuiteData) (d : DecisionsData) (role : Role) (party : ConfigData) (version : List ℕ) (before : Units) (payload : List ℕ) (peer : KexInitData) (known : Known)
         → Sits m d role party version before phase.KexInit false known → offer_in payload ≡ Some peer
         → Sits m d role party version (before ++ payload ∷ []) phase.Exchange (wrong_guess role party.offer (Some peer)) (after_offer m role party known payload peer) }
@@ -115,7 +116,7 @@ pub fn standing_law()
         → Sits m d role party version before p guess known → past_exchange p ≡ true → (sender : Role)
         → keys_at m role party version (before ++ payload ∷ []) sender ≡ keys_at m role party version before sender }
 
-    // Behind the key switch a strict endpoint counts packets anew; behind every other packet it counts one more.
+    // After the key switch a strict endpoint counts packets anew; after every other packet it counts one more.
     ensures counts_anew { (m : SuiteData) (d : DecisionsData) (role : Role) (party : ConfigData) (version : List ℕ) (before : Units) (payload : List ℕ) (known : Known)
         → Sits m d role party version before phase.NewKeys false known → kind payload ≡ SSH_MSG_NEWKEYS
         → number_in role party (before ++ payload ∷ []) ≡ (if known.strict then 0 else (number_in role party before + 1) % 2 ^ 32) }
@@ -127,7 +128,7 @@ pub fn standing_law()
     sshneg::markers_law();
 }
 
-/// The law of saying: the key switch and the number of the next packet that is said, before anything
+/// The law of sending: the key switch and the number of the next packet that is sent, before anything
 /// and with one payload more (RFC 4253 sections 6.4 and 7.3, OpenSSH PROTOCOL section 1.10).
 pub fn sending_law()
     ensures nothing { (strict : Bool) → (switched_out [] ≡ false) × (number_out strict [] ≡ 0) }
@@ -141,17 +142,17 @@ pub fn sending_law()
     // Before the key switch strictness doesn't matter.
     ensures unswitched { (strict other : Bool) (sent : Units) → switched_out sent ≡ false → number_out strict sent ≡ number_out other sent }
 
-    // What was said stays spelled as it is when more is heard, once both directions have their keys.
+    // What was sent stays spelled as it is when more is received, once both directions have their keys.
     ensures stays { (m : SuiteData) (role : Role) (party : ConfigData) (units more answers : Units) (s : List ℕ)
         → (switched_out answers ≡ true → IsReady role party (payloads_in units))
         → Sent (spells m role party units) s (party.version ∷ answers) → Sent (spells m role party (units ++ more)) s (party.version ∷ answers) }
 {}
 
-/// The law of histories: what an endpoint has heard and said, before any byte and with each piece more;
+/// The law of histories: what an endpoint has received and sent, before any byte and with each piece more;
 /// and that its input decides the bytes that it uses and all the rest, in whatever pieces it came.
 ///
-/// Behind a history in which the endpoint stands open a piece brings more of an unfinished unit, a
-/// refusal, or a unit with its answers. That NEWKEYS is said only where the exchange was heard comes of
+/// After a history in which the endpoint stands open a piece brings more of an unfinished unit, a
+/// refusal, or a unit with its answers. That NEWKEYS is sent only where the exchange was received comes of
 /// the definitions; that the answers fit packets is for the code to see to.
 pub fn history_law()
     ensures parsers { (m : SuiteData) (role : Role) (party : ConfigData) (units : Units) → IsIncremental (parsers m role party units) }
@@ -171,7 +172,7 @@ pub fn history_law()
         → History m d role party (units ++ u ∷ []) [] None (answers ++ answers_at m d role party units u) (end_at m d role party units u) (h ++ take used piece)
         (s ++ flat_places (spells m role party (units ++ u ∷ [])) (party.version ∷ answers) (answers_at m d role party units u)) }
 
-    // Where memory is wanted: before anything was said, or behind some of the answers to a unit.
+    // Where memory runs out: before anything was sent, or after some of the answers to a unit.
     ensures broken { (m : SuiteData) (d : DecisionsData) (role : Role) (party : ConfigData) (units : Units) (rest : List ℕ) (r : Option Refusal) (answers : Units) (end : EndData) (h s : List ℕ)
         → History m d role party units rest r answers end h s → BrokenOff m d role party h s }
     ensures breaks { (m : SuiteData) (d : DecisionsData) (role : Role) (party : ConfigData) (units : Units) (rest : List ℕ) (answers : Units) (h s : List ℕ)
@@ -179,7 +180,7 @@ pub fn history_law()
         → parsers m role party units (rest ++ piece) ≡ whole u (length rest + used) → IsPrefix some (answers_at m d role party units u)
         → BrokenOff m d role party (h ++ take used piece) (s ++ flat_places (spells m role party (units ++ u ∷ [])) (party.version ∷ answers) some) }
 
-    // The bytes used decide the units, the rest, the answers, the end and the bytes said. And one input decides the bytes used: an
+    // The bytes used decide the units, the rest, the answers, the end and the bytes sent. And one input decides the bytes used: an
     // endpoint uses some bytes at the front of its input, and all of them while it stands open.
     ensures one { (m : SuiteData) (d : DecisionsData) (role : Role) (party : ConfigData) (units other_units : Units) (rest other_rest : List ℕ) (r other_r : Option Refusal)
         (answers other_answers : Units) (end other_end : EndData) (h s t : List ℕ)

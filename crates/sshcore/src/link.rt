@@ -70,7 +70,7 @@ impl Link {
 
     /// Appends the packet of a payload of 1 to `PAYLOAD_LIMIT` bytes, sealed, and raises the number of the next
     /// one (RFC 4253 sections 6 and 6.4). After an error all is as before: `Payload` of another length, `UsedUp`
-    /// where `LINK_LIMIT` packets were sealed, `Memory` where a growth was refused.
+    /// where `LINK_LIMIT` packets were sealed, `Memory` where an allocation failed.
     #[tactic(auto, unfolding(crate::specs::Linked::outgoing_of, crate::specs::Linked::incoming_of))]
     pub fn seal<S: Suite>(
         &mut self,
@@ -113,12 +113,12 @@ impl Link {
     /// wanted.
     ///
     /// `UsedUp` where `LINK_LIMIT` packets were opened, and then all is as before. `Packet` where what came is no
-    /// packet, `Memory` where a growth was refused: either is answered for good, and nothing is opened any more.
+    /// packet, `Memory` where an allocation failed: either is answered for good, and nothing is opened any more.
     #[tactic(auto, unfolding(crate::specs::Linked::outgoing_of, crate::specs::Linked::incoming_of))]
     pub fn next<S: Suite>(&mut self, suite: &S, piece: &[u8]) -> Result<PacketStep<'_>, LinkFault>
         ensures used_up { LINK_LIMIT ≤ (incoming_of self.old).opened → result ≡ Err fault.UsedUp }
         // Before that: a payload exactly where a packet of it stands at the front, a fault exactly where the
-        // packet there is refused, want of memory apart.
+        // packet there is refused, unless memory runs out.
         ensures tells { (incoming_of self.old).opened < LINK_LIMIT → LinkWaits (S.meaning suite.now) (incoming_of self.old) → OpenAnswer (S.meaning suite.now) (incoming_of self.old) piece.now result }
         ensures only { (incoming_of self.old).opened < LINK_LIMIT → LinkWaits (S.meaning suite.now) (incoming_of self.old) → OnlyOpenAnswer (S.meaning suite.now) (incoming_of self.old) piece.now result }
         ensures again { (incoming_of self.old).opened < LINK_LIMIT → IfSome (packet_reader_data (incoming_of self.old).reader).fault (λ f. result ≡ Err (fault_by f)) }

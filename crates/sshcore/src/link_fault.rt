@@ -19,7 +19,7 @@ pub enum LinkFault {
     /// What came is no packet (RFC 4253 section 6); it is never `PacketFault::Memory`. The link opens nothing
     /// any more.
     Packet(PacketFault),
-    /// A growth was refused. A payload may be sealed later; a link that was to open opens nothing any more.
+    /// An allocation failed. A payload may be sealed later; a link that was to open opens nothing any more.
     Memory,
 }
 

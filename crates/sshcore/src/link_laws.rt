@@ -14,8 +14,8 @@ ghost use Rattle.sshcore.specs.Linked.{AreLinked, BeginsBy, CanSeal, Incoming, L
 pub fn link_law()
     // Links that are made of a direction that both sessions have alike are linked in it.
     ensures begins { (direction : Direction) (seed : List ℕ) (i : Incoming) → direction.sequence_number < 2 ^ 32 → BeginsBy direction i → AreLinked (sent_by direction seed) i }
-    // Of two that are linked, the one's packet is opened by the other as its payload, with its number, whatever follows it, want of
-    // memory apart; and they stay linked.
+    // Of two that are linked, the one's packet is opened by the other as its payload, with its number, whatever follows
+    // it, unless memory runs out; and they stay linked.
     ensures opens { (m : SuiteData) → IsLawful m → (o : Outgoing) (i : Incoming) → AreLinked o i → (payload rest : List ℕ) → IsBytes payload → CanSeal o payload
         → (result : Result PacketStep LinkFault) → OnlyOpenAnswer m i (sealed_by m o payload ++ rest) result
         → Opens payload o.number (length (sealed_by m o payload)) result ⊎ (result ≡ Err fault.Memory) }

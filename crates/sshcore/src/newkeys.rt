@@ -10,7 +10,7 @@ use crate::table::Phase;
 use sshpacket::Keys;
 
 impl State<'_> {
-    /// Hears that the peer goes over to the new keys.
+    /// Is told that the peer goes over to the new keys.
     pub(crate) fn receive_new_keys(&mut self)
         requires { self.old.phase ≡ phase.NewKeys }
         ensures { state_data self.new ≡ record (state_data self.old) { phase = phase.Service; known = received_one (state_data self.old).known } }
@@ -19,7 +19,7 @@ impl State<'_> {
         self.first = false;
     }
 
-    /// The keys of what is heard from here on, right behind NEWKEYS.
+    /// The keys of what is received from here on, right after NEWKEYS.
     pub(crate) fn take_keys(&mut self) -> Option<Keys>
         ensures keys { result ≡ keys_due self.old.phase self.old.pending }
         ensures left { state_data self.new ≡ record (state_data self.old) { carried = record (state_data self.old).carried { pending = keys_left self.old.phase self.old.pending } } }

@@ -1,10 +1,10 @@
-//! What the peer says to people.
+//! What the peer tells people.
 
 use crate::decisions::Decisions;
 use sshmsg::Message;
 use sshwire::{LINE_LIMIT, NameList};
 
-/// What the peer says to people, for a log or to be shown: by a message, out of whose payload it is lent, or by a line
+/// What the peer tells people, for a log or to be shown: by a message, out of whose payload it is lent, or by a line
 /// before its version line.
 ///
 /// Texts are any bytes, as the peer sent them: whoever shows one filters control characters first (RFC 4251
@@ -33,23 +33,23 @@ pub enum Notice<'a> {
         /// Their language tag.
         language: &'a [u8],
     },
-    /// What a server says to whoever logs in, before that (USERAUTH_BANNER, RFC 4252 section 5.4).
+    /// What a server sends to whoever logs in, before that (USERAUTH_BANNER, RFC 4252 section 5.4).
     Banner {
         /// The words.
         text: &'a [u8],
         /// Their language tag.
         language: &'a [u8],
     },
-    /// A server hasn't let the user in by the last request (USERAUTH_FAILURE, RFC 4252 section 5.1).
+    /// A server hasn't accepted the last request (USERAUTH_FAILURE, RFC 4252 section 5.1).
     Failure {
         /// The methods that can continue.
         methods: &'a NameList,
-        /// Whether the request was good as one of several.
+        /// Whether the request was successful as one of several.
         partial_success: bool,
     },
 }
 
-/// Tells whoever runs the endpoint what a message says to people, if it says something.
+/// Tells whoever runs the endpoint what a message tells people, if it says something.
 pub(crate) fn tell_notice<D: Decisions>(decisions: &D, message: &Message<'_>) {
     match message {
         Message::Disconnect {

@@ -39,7 +39,7 @@ use sshpacket::Suite;
 use sshwire::Memory;
 
 impl State<'_> {
-    /// Hears a packet with this number: its line of the phase table says what becomes of it.
+    /// Receives a packet with this number: its line of the phase table says what becomes of it.
     pub(crate) fn receive<S: Suite, D: Decisions>(
         &mut self,
         config: &Config<'_>,
@@ -325,7 +325,7 @@ fn leaves(role: Role, phase: Phase, number: u8) -> bool
     }
 }
 
-/// Whether the message is one of authentication: a server hears requests, a client FAILUREs and banners,
+/// Whether the message is one of authentication: a server receives requests, a client FAILUREs and banners,
 /// and a PK_OK while a query waits (RFC 4252); a SUCCESS leaves the phase.
 fn is_of_auth(role: Role, phase: Phase, waits: bool, number: u8) -> bool
     ensures { result ≡ is_of_auth role phase waits number }

@@ -1,4 +1,4 @@
-//! The payloads that an endpoint says.
+//! The payloads that an endpoint sends.
 
 ghost use Rattle.std.specs.Prelude.{◌≡◌, ◌<◌, ◌≤◌, ◌+◌, [], IfOk, length};
 ghost use Rattle.sshwire.specs.declared.limits.TheConstants.{PAYLOAD_LIMIT};
@@ -23,7 +23,7 @@ use std::alloc::Global;
 /// The name of the service of authentication (RFC 4252 section 4).
 pub(crate) const USERAUTH: &[u8] = b"ssh-userauth";
 
-/// The payload of a message that fits one. Answers `Memory` for want of memory, as each function below.
+/// The payload of a message that fits one. Answers `Memory` where an allocation failed, as each function below.
 pub(crate) fn payload_of(alloc: Global, message: &Message<'_>) -> Result<Vec<u8>, Memory>
     requires { length (written_message (message_data message.now)) ≤ PAYLOAD_LIMIT }
     ensures { IfOk result (λ made. IsMade (written_message (message_data message.now)) made.items) }

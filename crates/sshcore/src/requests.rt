@@ -34,9 +34,9 @@ use sshpacket::{BLOB_LIMIT, Suite};
 use sshwire::{Memory, as_name};
 
 impl State<'_> {
-    /// A server hears a request: it fails as `Service` where it doesn't have the service; a query asks
-    /// whether a key would do; a good request by which all required methods are reached authenticates the
-    /// user; any other is answered by FAILURE, which tells partial success where it is good, or at the last
+    /// A server receives a request: it fails as `Service` where it doesn't have the service; a query asks
+    /// whether a key would do; a successful request by which all required methods are reached authenticates the
+    /// user; any other is answered by FAILURE, which tells partial success where it is successful, or at the last
     /// try fails as `TooManyTries` (RFC 4252 sections 5, 5.1 and 7).
     pub(crate) fn receive_request<S: Suite, D: Decisions>(
         &mut self,
@@ -81,7 +81,7 @@ impl State<'_> {
         self.refuse_more(config, suite, false, sent)
     }
 
-    /// Keeps the key of a good request, if it is signed.
+    /// Keeps the key of a successful request, if it is signed.
     fn keep_key(&mut self, method: &Method<'_>) -> Result<(), Memory>
         ensures { OnOk result (state_data self.new ≡ record (state_data self.old) { carried = tried_key (state_data self.old).carried (method_data method.now) true }) }
     {
@@ -98,7 +98,7 @@ impl State<'_> {
         Ok(())
     }
 
-    /// A server hears a query whether a key would do, for a service that it has: at the last try it fails as
+    /// A server receives a query whether a key would do, for a service that it has: at the last try it fails as
     /// `TooManyTries`, and nothing is asked; else it is answered by PK_OK or FAILURE (RFC 4252 section 7).
     fn receive_query<S: Suite, D: Decisions>(
         &mut self,
@@ -132,7 +132,7 @@ impl State<'_> {
         }
     }
 
-    /// A server hears a good request for a service that it has: the user is authenticated if all required
+    /// A server receives a successful request for a service that it has: the user is authenticated if all required
     /// methods are reached, else it goes on (RFC 4252 section 5.1).
     fn receive_successful<S: Suite>(
         &mut self,
@@ -178,7 +178,7 @@ impl State<'_> {
         }
     }
 
-    /// Keeps that a good request by this method was heard.
+    /// Keeps that a successful request by this method was received.
     fn reach(&mut self, user: &str, service: &str, method: &Method<'_>) -> Result<(), Memory>
         ensures { OnOk result (state_data self.new ≡ record (state_data self.old) {
           known = record (state_data self.old).known {
@@ -265,7 +265,7 @@ impl State<'_> {
         self.refuse(config, suite, partial, sent)
     }
 
-    /// Whether a request is good: it proves something, and the decision on that is yes. The decision is
+    /// Whether a request is successful: it proves something, and the decision on that is yes. The decision is
     /// asked of nothing else.
     fn is_successful<S: Suite, D: Decisions>(
         &self,
@@ -368,7 +368,7 @@ impl State<'_> {
         }))
     }
 
-    /// Says SUCCESS; the user is authenticated for this service.
+    /// Sends SUCCESS; the user is authenticated for this service.
     fn succeed<S: Suite>(
         &mut self,
         config: &Config<'_>,
@@ -405,7 +405,7 @@ impl State<'_> {
         self.first = false;
     }
 
-    /// Says FAILURE with the methods that may go on, and whether the request succeeded as one of several.
+    /// Sends FAILURE with the methods that may go on, and whether the request succeeded as one of several.
     fn refuse<S: Suite>(
         &mut self,
         config: &Config<'_>,
@@ -434,7 +434,7 @@ impl State<'_> {
         self.tell(config, suite, refusal, sent)
     }
 
-    /// Says PK_OK.
+    /// Sends PK_OK.
     fn confirm<S: Suite>(
         &mut self,
         config: &Config<'_>,

@@ -1,4 +1,4 @@
-//! Messages that are said and given up.
+//! Messages that are sent and given up.
 
 ghost use Rattle.std.specs.Prelude.{◌≡◌, ◌≤◌, ◌==◌, ◌∷◌, [], Bool, OnOk, false, length};
 ghost use Rattle.sshwire.specs.declared.limits.TheConstants.{PAYLOAD_LIMIT};
@@ -20,7 +20,7 @@ use sshpacket::Suite;
 use sshwire::Memory;
 
 impl State<'_> {
-    /// Says a message that fits a payload, and gives it up.
+    /// Sends a message that fits a payload, and gives it up.
     pub(crate) fn tell<S: Suite>(
         &mut self,
         config: &Config<'_>,

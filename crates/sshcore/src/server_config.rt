@@ -52,7 +52,7 @@ impl ServerConfig {
     /// The config of these parts, which a refusal drops.
     ///
     /// Answers the refusal with the least number whose cause holds ([`ConfigFault`] says which cause
-    /// each has), and `Memory` only where none does, for want of memory.
+    /// each has), and `Memory` only where none does and an allocation failed.
     pub fn new(alloc: Global, parts: ServerParts) -> Result<ServerConfig, ConfigFault>
         ensures accepted { IfOk result (λ config. (config ≡ server_data parts) × IsServer config) }
         ensures refused { IfErr result (λ code. code ≢ fault.Memory → IsLeastBroken (λ rule. ServerRule rule (server_data parts)) code) }
@@ -91,8 +91,8 @@ impl ServerConfig {
     }
 
     /// The KEXINIT that an endpoint of this config sends (RFC 4253 section 7.1): the lists as they are,
-    /// behind the methods the own marker where the side is willing to be strict, no compression and no
-    /// languages, and no guess. It fits a payload. Answers `Memory` for want of memory.
+    /// after the methods the own marker where the side is willing to be strict, no compression and no
+    /// languages, and no guess. It fits a payload. Answers `Memory` where an allocation failed.
     pub fn kexinit(&self) -> Result<KexInit<'_>, Memory>
         ensures offer { IfOk result (λ kexinit. kexinit_data kexinit ≡ server_offer self.now) }
         ensures formed { IsOffer (server_offer self.now) }
@@ -103,7 +103,7 @@ impl ServerConfig {
     }
 
     /// The KEXINIT that an endpoint of this config with these draws sends: it has their cookie, and the rest
-    /// is that of [`ServerConfig::kexinit`]. It fits a payload. Answers `Memory` for want of memory.
+    /// is that of [`ServerConfig::kexinit`]. It fits a payload. Answers `Memory` where an allocation failed.
     pub fn kexinit_with<'b>(&'b self, draws: &'b Draws) -> Result<KexInit<'b>, Memory>
         ensures offer { IfOk result (λ kexinit. kexinit_data kexinit ≡ server_offer (redrawn_server draws.now self.now)) }
         ensures formed { IsOffer (server_offer (redrawn_server draws.now self.now)) }

@@ -21,7 +21,7 @@ use sshpacket::Suite;
 use sshwire::Memory;
 
 impl State<'_> {
-    /// A server hears the request: it accepts `ssh-userauth` and says its banner (RFC 4252 section 5.4);
+    /// A server receives the request: it accepts `ssh-userauth` and sends its banner (RFC 4252 section 5.4);
     /// else it fails as `Service`.
     pub(crate) fn receive_service_request<S: Suite>(
         &mut self,
@@ -51,7 +51,7 @@ impl State<'_> {
         self.send_banner(config, suite, sent)
     }
 
-    /// Says a server's banner, if it has one.
+    /// Sends a server's banner, if it has one.
     fn send_banner<S: Suite>(
         &mut self,
         config: &Config<'_>,
@@ -77,7 +77,7 @@ impl State<'_> {
         }
     }
 
-    /// A client hears that the service is accepted: it makes the first attempt of its plan; where the
+    /// A client is told that the service is accepted: it makes the first attempt of its plan; where the
     /// service isn't `ssh-userauth` it fails as `Unexpected(6)`.
     pub(crate) fn receive_service_accept<S: Suite>(
         &mut self,

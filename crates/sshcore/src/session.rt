@@ -32,22 +32,22 @@ pub struct UserKey {
     pub blob: Vec<u8>,
 }
 
-/// How a user came in, as a server has judged it. It speaks of the unbroken run of requests for the user
-/// and the service that ended with SUCCESS; where neither is here, the method `none` let the user in. No
+/// How a user was accepted, as a server has judged it. It speaks of the unbroken run of requests for the user
+/// and the service that ended with SUCCESS; where neither is here, the user was accepted by the method `none`. No
 /// password is kept.
 #[derive(Debug, Drop)]
 pub struct Accepted {
-    /// Whether a password was good (RFC 4252 section 8).
+    /// Whether a password succeeded (RFC 4252 section 8).
     pub password: bool,
-    /// The key of the last signed request that was good, if one was (RFC 4252 section 7).
+    /// The key of the last signed request that was successful, if one was (RFC 4252 section 7).
     pub key: Option<UserKey>,
 }
 
-/// What goes on behind authentication: what both sides agreed on, what a later exchange and the files of
+/// What goes on after authentication: what both sides agreed on, what a later exchange and the files of
 /// known hosts and of authorized keys ask for, and both directions.
 ///
 /// [`into_link`](Session::into_link) makes of it what opens all that the peer sends next, from the first byte
-/// behind the packet that ended the endpoint, and seals what is sent next. It has no `Debug`: keys are never
+/// after the packet that ended the endpoint, and seals what is sent next. It has no `Debug`: keys are never
 /// printed.
 #[derive(Drop)]
 pub struct Session {
@@ -61,7 +61,7 @@ pub struct Session {
     /// The server's public host key, K_S (RFC 4253 section 8), of the algorithm `agreed.host_key`: at a
     /// client the one that the decisions trusted and whose signature was verified, at a server its own.
     pub host_key: Vec<u8>,
-    /// How the user came in; None at a client.
+    /// How the user was accepted; None at a client.
     pub accepted: Option<Accepted>,
     /// What the peer sends.
     pub incoming: Direction,
@@ -127,7 +127,7 @@ pub(crate) fn session_of(
     }
 }
 
-/// How the user came in, by what is reached and the key of the last signed request that was good; a client
+/// How the user was accepted, by what is reached and the key of the last signed request that was successful; a client
 /// doesn't say.
 pub(crate) fn accepted_by(role: Role, reached: &Reached, key: Option<UserKey>) -> Option<Accepted>
     ensures client { role ≡ Client → result ≡ None }

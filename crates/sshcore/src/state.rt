@@ -1,4 +1,4 @@
-//! What an endpoint keeps between two packets, and what it says.
+//! What an endpoint keeps between two packets, and what it sends.
 
 ghost use Rattle.std.specs.Prelude.{◌≡◌, ◌<◌, ◌≤◌, ◌++◌, ◌==◌, ◌∷◌, [], ℕ, Bool, IfOk, None, OnOk, Some, false, is_some, length, map, true};
 ghost use Rattle.std.specs.List.{AllByRecursion, AllByRecursion-prop};
@@ -34,9 +34,9 @@ use std::alloc::Global;
 /// Which of the methods that can be required are reached, and for whom.
 #[derive(Drop)]
 pub(crate) struct Reached {
-    /// The user of the last good request.
+    /// The user of the last successful request.
     pub(crate) user: String,
-    /// The service of the last good request.
+    /// The service of the last successful request.
     pub(crate) service: String,
     pub(crate) password: bool,
     pub(crate) publickey: bool,
@@ -51,7 +51,7 @@ pub(crate) struct State<'a> {
     /// Whether the packet of a wrong guess is due.
     pub(crate) guess: bool,
     pub(crate) strict: bool,
-    /// Whether no payload was heard.
+    /// Whether no payload was received.
     pub(crate) first: bool,
     /// The text of the peer's version line.
     pub(crate) version: Vec<u8>,
@@ -68,19 +68,19 @@ pub(crate) struct State<'a> {
     pub(crate) left: &'a [Attempt],
     /// Whether the query of the first of them was answered by PK_OK.
     pub(crate) confirmed: bool,
-    /// What the requests that a server heard have reached.
+    /// What the requests that a server received have reached.
     pub(crate) reached: Reached,
-    /// The keys of what is heard, from the exchange up to NEWKEYS.
+    /// The keys of what is received, from the exchange up to NEWKEYS.
     pub(crate) pending: Option<Keys>,
     /// The text of the own version line, from the exchange on.
     pub(crate) own_version: Vec<u8>,
     /// The server's public host key, from the exchange on.
     pub(crate) host_key: Vec<u8>,
-    /// The key of the last signed request that was good.
+    /// The key of the last signed request that was successful.
     pub(crate) user_key: Option<UserKey>,
-    /// The keys of what is said.
+    /// The keys of what is sent.
     pub(crate) keys_out: Option<Keys>,
-    /// The number of the next packet that is said.
+    /// The number of the next packet that is sent.
     pub(crate) number_out: u32,
     ghost version_short: { length version.items ≤ LINE_LIMIT },
     ghost kexinit_short: { length kexinit.items ≤ PACKET_LIMIT },
@@ -145,7 +145,7 @@ impl<'a> State<'a> {
         }
     }
 
-    /// Says a payload in a packet with the keys and the number at hand.
+    /// Sends a payload in a packet with the keys and the number at hand.
     pub(crate) fn send<S: Suite>(
         &mut self,
         config: &Config<'_>,
@@ -178,7 +178,7 @@ impl<'a> State<'a> {
         Ok(())
     }
 
-    /// Says NEWKEYS; what follows is said with these keys (RFC 4253 section 7.3), from number 0 where the
+    /// Sends NEWKEYS; what follows is sent with these keys (RFC 4253 section 7.3), from number 0 where the
     /// endpoint is strict (OpenSSH PROTOCOL section 1.10).
     pub(crate) fn send_new_keys<S: Suite>(
         &mut self,
@@ -201,7 +201,7 @@ impl<'a> State<'a> {
         Ok(())
     }
 
-    /// Fails: what the peer is told of it is said (RFC 4253 section 11.1).
+    /// Fails: what the peer is told of it is sent (RFC 4253 section 11.1).
     pub(crate) fn fail<S: Suite>(
         &mut self,
         config: &Config<'_>,
@@ -219,7 +219,7 @@ impl<'a> State<'a> {
         Ok(())
     }
 
-    /// Says the DISCONNECT of a failure, where the peer is told of it.
+    /// Sends the DISCONNECT of a failure, where the peer is told of it.
     fn tell_fault<S: Suite>(
         &mut self,
         config: &Config<'_>,

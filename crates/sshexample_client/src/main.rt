@@ -120,7 +120,7 @@ fn talk(rt: &HostRuntime, client: &mut Client<'_>, out: &mut Vec<u8>) -> anyhow:
         let sent = rt.stdout().write_all(out).and(rt.stdout().flush());
         out.clear();
         if !matches!(client.end(), End::Open) {
-            break; // a server that has gone hears no farewell
+            break; // a server that has gone receives no farewell
         }
         sent?;
         let count = rt.stdin().read(&mut chunk)?;

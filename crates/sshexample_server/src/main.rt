@@ -1,7 +1,7 @@
 //! The program `sshexample_server`: a server of many connections over one config, in turns. Each line of standard input
-//! is one, `NAME HEX`: what its client sends, in the place of a socket. It prints how each ends. Each has draws of its own,
-//! so no client that was recorded is let in again. Config and suite are the lab's, which is insecure. A real program limits
-//! how many connections are open and how long each may take to log in, and goes on with the sessions.
+//! is one, `NAME HEX`: what its client sends, in the place of a socket. It prints how each ends. Each has draws of its
+//! own, so no client that was recorded is accepted again. Config and suite are the lab's, which is insecure. A real
+//! program limits how many connections are open and how long each may take to log in, and goes on with the sessions.
 #![tactic(auto)]
 
 use anyhow::Context;
@@ -95,7 +95,7 @@ fn round(rt: &HostRuntime, connections: &mut [Connection<'_>]) -> anyhow::Result
     Ok(is_open)
 }
 
-/// Hears what has come on a connection, and answers whether it is open then. Prints how it has ended by that.
+/// Receives what has come on a connection, and answers whether it is open then. Prints how it has ended by that.
 fn turn(rt: &HostRuntime, connection: &mut Connection<'_>) -> anyhow::Result<bool> {
     if !matches!(connection.server.end(), End::Open) {
         return Ok(false);
@@ -106,7 +106,7 @@ fn turn(rt: &HostRuntime, connection: &mut Connection<'_>) -> anyhow::Result<boo
     if piece.is_empty() {
         connection.server.end_of_input(); // it fails as F16
     }
-    let _ = connection.server.feed(&piece, &mut connection.out); // want of memory is its end, F15
+    let _ = connection.server.feed(&piece, &mut connection.out); // running out of memory is its end, F15
     connection.out.clear(); // yours: sends these bytes first
     let (end, name) = (connection.server.end(), connection.name);
     let is_open = matches!(end, End::Open);

@@ -30,7 +30,7 @@ fn payload_of(alloc: Global, text: &str, mark: &str, others: u32) -> anyhow::Res
     find_kexinit(alloc, &mut packets, after_version(alloc, &stream, others)?)
 }
 
-/// What a side sent: the bytes of its lines, one behind the other.
+/// What a side sent: the bytes of its lines, one after the other.
 fn stream_of(alloc: Global, text: &str, mark: &str) -> anyhow::Result<Vec<u8>> {
     let mut stream = Vec::new(alloc);
     for line in text.lines() {
@@ -42,7 +42,7 @@ fn stream_of(alloc: Global, text: &str, mark: &str) -> anyhow::Result<Vec<u8>> {
     Ok(stream)
 }
 
-/// What stands behind the version line.
+/// What stands after the version line.
 fn after_version(alloc: Global, stream: &[u8], others: u32) -> anyhow::Result<&[u8]> {
     let mut lines = LineReader::new(alloc, others);
     match lines.feed(stream)? {

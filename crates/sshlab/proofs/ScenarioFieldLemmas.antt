@@ -53,7 +53,7 @@ pub parts_uncut : (c : ℕ) (s : List ℕ) → position_or_len (λ x. x == c) s 
 parts_uncut c [] h = parts_none c
 parts_uncut c (b ∷ s) h = uncut_by c b s (b == c) refl h (parts_uncut c s)
 
--- a text with the byte has the part before it, and those behind it
+-- a text with the byte has the part before it, and those that follow it
 pub parts_cut : (c : ℕ) (s : List ℕ) → position_or_len (λ x. x == c) s < length s
     → parts c s ≡ before_first (λ x. x == c) s ∷ parts c (after_first (λ x. x == c) s)
 parts_cut c [] h = absurd (omega arith)

@@ -16,7 +16,7 @@ use Rattle.sshlab.proofs.ScenarioDraftLemmas.{drafted_more, drafted_settings}
 use Rattle.sshlab.proofs.ScenarioLineLemmas.{read_less, read_more}
 use Rattle.sshlab.proofs.TextLemmas.{parts_are}
 
--- the line that is read next stands so far behind
+-- the line that is read next stands after so many others
 pub record IsLineAt (ls : List (List ℕ)) (n : ℕ) (line : List ℕ) : Type 0 where
   pub within : n < length ls
   pub is : line ≡ get_or ls n line

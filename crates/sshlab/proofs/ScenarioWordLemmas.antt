@@ -1,4 +1,4 @@
--- What is said by the fields of a line, as the code sees them: lent.
+-- What is stated by the fields of a line, as the code sees them: lent.
 
 use Rattle.std.proofs.Common.{◌≡◌, ℕ, zero, suc, List, [], ◌∷◌, length, drop, refl}
 use Rattle.std.specs.Prelude.{◌==◌, ◌&&◌, Bool, true, false, if◌then◌else◌, None, Some, codes, nat_le, option_map, slice_index_or}

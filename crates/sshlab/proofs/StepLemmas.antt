@@ -54,7 +54,7 @@ module _ {S D : Type 0} (meaning : S → SuiteData) (policy : D → DecisionsDat
       subst (λ (q : List Step). StepsDone meaning policy q old new) (sym (take_more steps i default lt))
       (steps_push (take i steps) (get_or steps i default) old mid new before s)
 
-  -- a step for which memory was wanting
+  -- a step for which memory ran out
   pub steps_into : (steps : List Step) (i : ℕ) (default : Step) (old mid new : WorldData S D) → i < length steps → StepsDone meaning policy (take i steps) old mid
       → StopsInStep meaning policy (get_or steps i default) mid new → StopsInSteps meaning policy steps old new
   steps_into [] i default old mid new lt before stop = absurd (omega arith)

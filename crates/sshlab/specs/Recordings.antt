@@ -49,7 +49,7 @@ pub record IsFirstBadLine (k : ℕ) (ls : List (List ℕ)) : Type 0 where
   pub readable : list_all is_recorded before ≡ true
   pub bad : is_recorded line ≡ false
 
--- why lines are no recording; want of memory has no cause in them
+-- why lines are no recording; running out of memory has no cause in them
 abbrev pub IsRecordingCause : List (List ℕ) → ToolFault → Type 0
 IsRecordingCause ls (fault.Recording k) = IsFirstBadLine k ls
 IsRecordingCause ls fault.Memory = Unit {0}

@@ -25,7 +25,7 @@ yes_or_no flag = if flag then codes "yes" else codes "no"
 abbrev pub hex_digits : ℕ → List ℕ
 hex_digits byte = digit_glyph false (byte / 16) ∷ digit_glyph false (byte % 16) ∷ []
 
--- whether nothing waits for either side, where that is said
+-- whether nothing waits for either side, where that is told
 abbrev pub complete_text : Option Bool → List ℕ
 complete_text None = []
 complete_text (Some complete) = line (codes "complete") (yes_or_no complete)

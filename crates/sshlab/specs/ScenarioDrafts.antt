@@ -33,7 +33,7 @@ no_lines = record {
   settings = [];
 }
 
--- one more is let in, by a proof that a request can have
+-- one more is accepted, by a proof that a request can have
 abbrev pub allowing : LabDecisionsData → List ℕ → CredentialData → LabDecisionsData
 allowing rules user proving =
     if can_be_proved proving then record rules { allowed = rules.allowed ++ record { user = user; proof = proof_by proving } ∷ [] } else rules

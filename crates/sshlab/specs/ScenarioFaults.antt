@@ -20,7 +20,7 @@ pub record IsServerCause (ls : List (List ℕ)) (code : ConfigFault) : Type 0 wh
   pub client : (rule : ConfigFault) → ClientRule rule (client_of_lines (statements_in ls))
   pub server : IsLeastBroken (λ rule. ServerRule rule (server_of_lines (statements_in ls))) code
 
--- why lines are refused so; want of memory has no cause in them
+-- why lines are refused so; running out of memory has no cause in them
 abbrev pub IsCause : List (List ℕ) → ScenarioFault → Type 0
 IsCause ls (fault.Line k) = IsFirstBad k ls
 IsCause ls (fault.Client code) = IsClientCause ls code

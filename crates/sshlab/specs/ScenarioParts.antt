@@ -77,7 +77,7 @@ abbrev pub can_be_proved : CredentialData → Bool
 can_be_proved (ByKey algorithm secret ask) = is_name algorithm
 can_be_proved proving = true
 
--- who is let in, and by what
+-- who is accepted, and by what
 abbrev pub allowance_in : StatementData → Option AllowedData
 allowance_in (Allows user proving) = if can_be_proved proving then Some (record { user = user; proof = proof_by proving }) else None
 allowance_in stated = None

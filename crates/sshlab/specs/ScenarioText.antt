@@ -31,7 +31,7 @@ pub record IsFirstBad (k : ℕ) (ls : List (List ℕ)) : Type 0 where
   pub before : CanBeRead (take (k - 1) ls)
   pub bad : CanBeRead (take k ls) → ⊥
 
--- A line can stand behind others that made these settings: it has a form, and makes none of them.
+-- A line can stand after others that made these settings: it has a form, and makes none of them.
 pub record CanFollow (made : List (Side × Setting)) (line : List ℕ) : Type 0 where
   pub form : statement line ≢ None
   pub new : IfSome (option_and_then setting_in (statement_in line)) (λ setting. Contains made setting → ⊥)

@@ -125,14 +125,14 @@ step fields =
     if has_form fields (codes "deliver") 3 then delivery (side_of (field fields 1)) (number_of (field fields 2))
     else if has_form fields (codes "settle") 2 then rounds (number_of (field fields 1)) else None
 
--- what is said by the fields behind `client`: `try USER SERVICE PROOF`, `try USER SERVICE query ALG HEX`, or a setting
+-- what is stated by the fields after `client`: `try USER SERVICE PROOF`, `try USER SERVICE query ALG HEX`, or a setting
 unfoldable pub statement_of_client : Fields → Option StatementData
 statement_of_client fields =
     if begins_with_word fields (codes "try") 3 then
     option_map (λ proof. Tries (record { user = field fields 1; service = field fields 2; proving = proof })) (attempting (drop 3 fields))
     else if length fields == 2 then client_value (field fields 0) (field fields 1) else None
 
--- what is said by the fields behind `server`: `hostkey ALG HEX`, `notice HEX`, or a setting
+-- what is stated by the fields after `server`: `hostkey ALG HEX`, `notice HEX`, or a setting
 unfoldable pub statement_of_server : Fields → Option StatementData
 statement_of_server fields =
     if has_form fields (codes "hostkey") 3 then
@@ -165,7 +165,7 @@ states_nothing line = (length line == 0) || (slice_index line 0 == 35)
 abbrev pub has_empty : Fields → Bool
 has_empty fields = list_any (λ field. length field == 0) fields
 
--- what is said by the fields between the blanks of a line
+-- what is stated by the fields between the blanks of a line
 unfoldable pub statement_in_fields : List ℕ → Option StatementData
 statement_in_fields line = if has_empty (parts 32 line) then None else statement_by (parts 32 line)
 

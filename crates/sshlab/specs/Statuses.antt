@@ -1,4 +1,4 @@
--- The program's exit statuses: 0 done, 1 not complete, 2 bad words or input, 3 want of memory, 4 a read or write that failed.
+-- The program's exit statuses: 0 done, 1 not complete, 2 bad words or input, 3 out of memory, 4 a read or write that failed.
 
 use Rattle.std.specs.Prelude.{◌≡◌, ◌⊎◌, ℕ, List, Some, String, codes, map, string_bytes}
 use Rattle.std.specs.List.{slice_get}
@@ -55,7 +55,7 @@ IsGreet _ = ⊥
 abbrev pub AsksForInput : List (String Global) → Type 0
 AsksForInput words = IsFirstWord (codes "predict") words ⊎ IsFirstWord (codes "run") words ⊎ IsFirstWord (codes "show") words ⊎ IsFirstWord (codes "check") words
 
--- the words can't be had, for want of memory or for another cause
+-- the words can't be had, since memory ran out or for another cause
 abbrev pub words_status : ErrorKind → ℕ
 words_status OutOfMemory = 3
 words_status _ = 2

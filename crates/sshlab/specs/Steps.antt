@@ -16,7 +16,7 @@ module _ {S D : Type 0} (meaning : S → SuiteData) (policy : D → DecisionsDat
   MovesByStep (Deliver delivery) old new = DoneBy meaning policy delivery old new
   MovesByStep (Settle rounds) old new = Rounds meaning policy rounds old new
 
-  -- the first delivery of a step for which memory was wanting
+  -- the first delivery of a step for which memory ran out
   abbrev pub StopsInStep : Step → WorldData S D → WorldData S D → Type 0
   StopsInStep (Deliver delivery) old new = Refused meaning policy delivery.to (min delivery.count (waiting_for delivery.to old)) old new
   StopsInStep (Settle rounds) old new = RoundsInto meaning policy rounds old new
@@ -32,7 +32,7 @@ module _ {S D : Type 0} (meaning : S → SuiteData) (policy : D → DecisionsDat
   StepsDone [] old new = new ≡ old
   StepsDone (step ∷ later) old new = (mid : WorldData S D) × StepDone step old mid × StepsDone later mid new
 
-  -- the first step for which memory was wanting; those before it were done
+  -- the first step for which memory ran out; those before it were done
   abbrev pub StopsInSteps : List Step → WorldData S D → WorldData S D → Type 0
   StopsInSteps [] old new = ⊥
   StopsInSteps (step ∷ later) old new = StopsInStep step old new ⊎ ((mid : WorldData S D) × StepDone step old mid × StopsInSteps later mid new)

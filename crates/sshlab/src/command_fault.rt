@@ -12,7 +12,7 @@ use thiserror::Error;
 /// The status of bad words or input.
 const BAD_INPUT: u8 = 2;
 
-/// The status for want of memory.
+/// The status for out of memory.
 const NO_MEMORY: u8 = 3;
 
 /// The status of a read or a write that failed.
@@ -36,7 +36,7 @@ pub(crate) enum CommandFault {
     /// The input or the output failed, or the input is no recording.
     #[error("{0}")]
     Tool(ToolFault),
-    /// A growth was refused.
+    /// An allocation failed.
     #[error("out of memory")]
     Memory,
 }

@@ -19,7 +19,7 @@ use std::alloc::Global;
 ///
 /// The input is read to its end before any of it is judged, and all that is to be written is built before
 /// the first write. Answers `Read` where a read failed, `TooLong` above 1048576 bytes, `Recording` where a
-/// line has none of the forms, `Memory` for want of memory, and then nothing is written; `Write` where a
+/// line has none of the forms, `Memory` where an allocation failed, and then nothing is written; `Write` where a
 /// write failed, or took no byte of some, and then a prefix is.
 pub fn show<I: Source, O: Sink>(
     alloc: Global,

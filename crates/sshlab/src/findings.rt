@@ -100,7 +100,7 @@ impl Terms {
 }
 
 impl Findings {
-    /// Judges both streams. Answers `Memory` for want of memory alone.
+    /// Judges both streams. Answers `Memory` only where an allocation failed.
     pub(crate) fn of(alloc: Global, listing: &Listing<'_>) -> Result<Findings, Memory> {
         let terms = terms_of(alloc, listing)?;
         let client = terms.and_then(|terms| terms.sequence(Role::Client));
@@ -141,7 +141,7 @@ fn kexinit_of(alloc: Global, payload: &[u8]) -> Result<Option<Box<KexInit<'_>>>,
     }
 }
 
-/// The first of what may be said of a stream.
+/// The first of what may be told of a stream.
 fn finding_of(stream: &RecordedStream<'_>, sequence: Option<StrictSequence>) -> Finding {
     match stream.end {
         StreamEnd::Refused(fault) => Finding::Refused(fault),

@@ -22,7 +22,7 @@ pub(crate) struct Listing<'a> {
 }
 
 impl<'a> Listing<'a> {
-    /// Reads what both sides of a recording sent. Answers `Memory` for want of memory alone.
+    /// Reads what both sides of a recording sent. Answers `Memory` only where an allocation failed.
     pub(crate) fn of(alloc: Global, recording: &'a Recording) -> Result<Listing<'a>, Memory> {
         Ok(Listing {
             client: RecordedStream::read(alloc, &recording.client, 0)?,

@@ -41,7 +41,7 @@ pub(crate) fn each<A: Drop, B: Drop, E: Drop>(
     }
 }
 
-/// Puts an item behind the others. At `Memory` nothing is changed.
+/// Puts an item after the others. At `Memory` nothing is changed.
 pub(crate) fn put<T: Drop>(items: &mut Vec<T>, item: T) -> Result<(), Memory>
     ensures done { OnOk result (items.new.items ≡ items.old.items ++ item ∷ []) }
     ensures memory { OnErr result (items.new.items ≡ items.old.items) }

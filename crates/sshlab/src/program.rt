@@ -44,7 +44,7 @@ struct Answer {
 
 /// Does all that the program does with its words, its name left out, and answers the exit status.
 ///
-/// 0 is done, 1 not complete, 2 bad words or input, 3 want of memory, 4 a failed read or write. A
+/// 0 is done, 1 not complete, 2 bad words or input, 3 out of memory, 4 a failed read or write. A
 /// refusal is told on `faults` in one line; where that can't be written the status stays. The whole
 /// input is read before it is judged, and the whole output is built before any of it is written.
 pub fn tool<I: Source, O: Sink, E: Sink>(
@@ -58,7 +58,7 @@ pub fn tool<I: Source, O: Sink, E: Sink>(
     requires output { O.has_failed output.old ≡ false }
     requires faults { E.has_failed faults.old ≡ false }
     ensures status { result ≤ 4 }
-    // Bad words, bad input and want of memory leave the output as it was.
+    // Bad words, bad input and running out of memory leave the output as it was.
     ensures kept { 2 ≤ result → result ≤ 3 → Keeps (O.contents output.old) (O.contents output.new) }
     ensures broken { (result ≡ 4) ↔ ((I.has_failed input.new || O.has_failed output.new) ≡ true) }
     // Where a read failed, nothing is written.
@@ -78,7 +78,7 @@ pub fn tool<I: Source, O: Sink, E: Sink>(
 
 /// Tells on `faults` why the program's words can't be had as text, and answers the exit status.
 ///
-/// 3 is want of memory, 2 any other cause.
+/// 3 is out of memory, 2 any other cause.
 pub fn refuse_words<E: Sink>(error: io::Error, faults: &mut E) -> u8
     requires { E.has_failed faults.old ≡ false }
     ensures { result ≡ words_status (error_kind error) }
@@ -276,7 +276,7 @@ fn printed(alloc: Global, report: &Report<'_>, status: u8) -> Result<Answer, Com
     }
 }
 
-/// What two sides with these softwareversions hear of each other.
+/// What two sides with these softwareversions receive from each other.
 fn greeting_of(
     alloc: Global,
     client: &str,

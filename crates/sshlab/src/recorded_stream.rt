@@ -17,9 +17,9 @@ pub(crate) struct RecordedStream<'a> {
     pub(crate) lines: Vec<&'a [u8]>,
     /// The version line, if it came.
     pub(crate) version: Option<VersionLine>,
-    /// The clear packets behind it.
+    /// The clear packets after it.
     pub(crate) clear: ClearPackets,
-    /// What stands behind all of these.
+    /// What stands after all of these.
     pub(crate) end: StreamEnd,
 }
 
@@ -41,10 +41,10 @@ pub(crate) struct ClearPacket {
     pub(crate) payload_len: usize,
 }
 
-/// What stands behind the lines and packets that could be read.
+/// What stands after the lines and packets that could be read.
 #[derive(Clone, Copy, Debug, PartialEq, Eq)]
 pub(crate) enum StreamEnd {
-    /// NEWKEYS was the last packet, and so many bytes stand behind it.
+    /// NEWKEYS was the last packet, and so many bytes stand after it.
     Sealed(usize),
     /// So many bytes of a line or packet that isn't all there.
     Partial(usize),
@@ -100,7 +100,7 @@ fn packet_code(fault: PacketFault) -> &'static str {
 enum Stop {
     /// Bytes are refused.
     Refused(StreamFault),
-    /// A growth was refused.
+    /// An allocation failed.
     Memory,
 }
 
@@ -121,7 +121,7 @@ impl From<PacketFault> for Stop {
 
 impl<'a> RecordedStream<'a> {
     /// Reads what a side sent, of whose lines so many may stand before the version line. Answers `Memory`
-    /// for want of memory alone.
+    /// only where an allocation failed.
     pub(crate) fn read(
         alloc: Global,
         bytes: &'a [u8],
@@ -134,7 +134,7 @@ impl<'a> RecordedStream<'a> {
     }
 
     /// What stands in a stream whose lines ended so. Of its bytes some were judged as lines, and so many of these
-    /// are of a line that isn't all there; others stand behind them.
+    /// are of a line that isn't all there; others stand after them.
     fn of_step(
         alloc: Global,
         step: Result<LineStep, WireFault>,
@@ -220,14 +220,14 @@ impl ClearPackets {
         }
     }
 
-    /// The packets of a stream up to its first NEWKEYS, and what stands behind them.
+    /// The packets of a stream up to its first NEWKEYS, and what stands after them.
     fn of(alloc: Global, bytes: &[u8]) -> Result<(ClearPackets, StreamEnd), Memory> {
         let mut clear = ClearPackets::new(alloc);
         let end = clear.read(bytes);
         beside(clear, end)
     }
 
-    /// Reads the packets of a stream up to its first NEWKEYS, and answers what stands behind them.
+    /// Reads the packets of a stream up to its first NEWKEYS, and answers what stands after them.
     fn read(&mut self, bytes: &[u8]) -> Result<StreamEnd, Memory> {
         let mut reader = PacketReader::new(self.alloc);
         let end = self.read_packets(&mut reader, bytes);
@@ -277,7 +277,7 @@ impl ClearPackets {
     }
 }
 
-/// What stands behind packets, where they ended so.
+/// What stands after packets, where they ended so.
 fn told(end: Result<StreamEnd, Stop>) -> Result<StreamEnd, Memory> {
     match end {
         Ok(end) => Ok(end),

@@ -1,6 +1,6 @@
 //! Recordings of what a client and a server sent each other.
 //!
-//! The text of a recording is lines with an LF behind each, which the last may lack. It has at most 1048576
+//! The text of a recording is lines with an LF after each, which the last may lack. It has at most 1048576
 //! bytes. A line is `c HEX`, sent by the client, or `s HEX`, sent by the server; an empty one says nothing.
 //! HEX is hexadecimal digits in either case, two for each of at least one byte. What a side sent is the bytes
 //! of its lines in their order.
@@ -28,8 +28,8 @@ pub(crate) struct Recording {
 
 /// The side that sent a line of a recording, and the bytes that its digits spell.
 ///
-/// The line comes without its LF. None is the answer to any other form, the empty line too. `Memory` for
-/// want of memory alone.
+/// The line comes without its LF. None is the answer to any other form, the empty line too. `Memory`
+/// only where an allocation failed.
 #[tactic(auto, unfolding(crate::specs::Recordings::piece_of))]
 pub fn piece(alloc: Global, line: &[u8]) -> Result<Option<(Side, Vec<u8>)>, Memory>
     ensures { IfOk result (λ found. option_map (λ sent. (sent.0, sent.1.items)) found ≡ piece_of line.now) }
@@ -51,7 +51,7 @@ pub fn piece(alloc: Global, line: &[u8]) -> Result<Option<(Side, Vec<u8>)>, Memo
 
 impl Recording {
     /// Reads a recording of at most 1048576 bytes. Answers `Recording` with the number of the first line
-    /// that has none of the forms, and `Memory` for want of memory.
+    /// that has none of the forms, and `Memory` where an allocation failed.
     pub(crate) fn parse(alloc: Global, text: &[u8]) -> Result<Recording, ToolFault>
         requires { length text.now ≤ TEXT_LIMIT }
         ensures client { IfOk result (λ recording. recording.client.items ≡ stream Client text.now) }

@@ -13,9 +13,9 @@ use std::fmt;
 pub(crate) struct Report<'a> {
     pub(crate) client: &'a End,
     pub(crate) server: &'a End,
-    /// Whether nothing waits for either side, where that is to be said.
+    /// Whether nothing waits for either side, where that is to be told.
     pub(crate) complete: Option<bool>,
-    /// Whether the session identifier is to be said.
+    /// Whether the session identifier is to be told.
     pub(crate) session: bool,
 }
 

@@ -1,6 +1,6 @@
 //! Scenarios: a client and a server, what they decide, and what is delivered between them.
 //!
-//! The text of a scenario is lines with an LF behind each, which the last may lack. It has at most 1048576
+//! The text of a scenario is lines with an LF after each, which the last may lack. It has at most 1048576
 //! bytes, and a line at most 20000, from 32 to 126. Empty lines and those that begin with `#` say nothing.
 //! Between the fields of any other line stand single spaces.
 //!
@@ -37,8 +37,8 @@
 //! | `server hostkey ALG HEX` | a host key, with its private key; with no such line the server has the key 00 for `h` |
 //! | `server notice HEX` | a line before the server's version line |
 //! | `distrust ALG` | host keys of this algorithm aren't trusted |
-//! | `allow USER PROOF` | the user is let in who proves so to be this one |
-//! | `deny N` | request N, from 1, lets nobody in |
+//! | `allow USER PROOF` | the user is accepted who proves so to be this one |
+//! | `deny N` | request N, from 1, is never accepted |
 //! | `deliver SIDE N` | at most N of the waiting bytes go to the side |
 //! | `settle N` | N rounds, at most 1000: all waiting bytes to the server, then all to the client |
 
@@ -94,7 +94,7 @@ pub enum ScenarioFault {
     /// They give one of a client, and none of a server.
     #[error("server config {}", .0.code())]
     Server(ConfigFault),
-    /// A growth was refused.
+    /// An allocation failed.
     #[error("out of memory")]
     Memory,
 }
@@ -118,7 +118,7 @@ impl Scenario {
     /// Reads a scenario of at most 1048576 bytes.
     ///
     /// Answers the fault of the first bad line; if there is none, that of the client's config, and then
-    /// that of the server's ([`ScenarioFault`] says what each tells); `Memory` for want of memory alone.
+    /// that of the server's ([`ScenarioFault`] says what each tells); `Memory` only where an allocation failed.
     pub fn parse(alloc: Global, text: &[u8]) -> Result<Scenario, ScenarioFault>
         requires { length text.now ≤ TEXT_LIMIT }
         ensures read { IfOk result (λ scenario. CanBeRead (lines text.now)) }
@@ -145,7 +145,7 @@ impl Scenario {
     }
 
     /// How both sides end, the client's end first, where they use the lab suite and all that either
-    /// sends reaches the other. Answers `Memory` for want of memory alone.
+    /// sends reaches the other. Answers `Memory` only where an allocation failed.
     pub fn predict(&self, alloc: Global) -> Result<(End, End), Memory>
         ensures client { IfOk result (λ ends. end_data ends.0 ≡ (outcome lab (lab_policy self.now.decisions) self.now.client self.now.server).client) }
         ensures server { IfOk result (λ ends. end_data ends.1 ≡ (outcome lab (lab_policy self.now.decisions) self.now.client self.now.server).server) }

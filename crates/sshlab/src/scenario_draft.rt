@@ -109,7 +109,7 @@ impl Draft {
         self.settings.push(setting).map_err(|_| LineFault::Memory)
     }
 
-    /// Puts the statement to what was said before. At `Memory` nothing is changed.
+    /// Puts the statement to what was stated before. At `Memory` nothing is changed.
     fn accept(&mut self, statement: Statement) -> Result<(), Memory>
         ensures done { OnOk result (self.new ≡ after self.old (statement_data statement)) }
         ensures memory { OnErr result (self.new ≡ self.old) }
@@ -149,7 +149,7 @@ impl Draft {
         }
     }
 
-    /// What was said, with the host keys of the lines in the place of the default, if there is one.
+    /// What was stated, with the host keys of the lines in the place of the default, if there is one.
     pub(crate) fn finish(self) -> ScenarioParts
         ensures client { client_data result.client ≡ self.client }
         ensures server { server_data result.server ≡ record self.server { host_keys = some_or self.server.host_keys self.host_keys } }
@@ -186,7 +186,7 @@ fn with_keys(server: ServerParts, host_keys: Vec<HostKey>) -> ServerParts
     }
 }
 
-/// Lets the user in who proves so to be this one. A key whose algorithm isn't a name is no request's.
+/// Accepts the user who proves so to be this one. A key whose algorithm isn't a name is no request's.
 fn allow(decisions: &mut LabDecisions, user: &str, credential: &Credential) -> Result<(), Memory>
     ensures done { OnOk result (decisions.new ≡ allowing decisions.old user.now (credential_data credential.now)) }
     ensures memory { OnErr result (decisions.new ≡ decisions.old) }

@@ -14,7 +14,7 @@ use std::alloc::Global;
 pub(crate) enum LineFault {
     /// It has no form that there is.
     Form,
-    /// A growth was refused.
+    /// An allocation failed.
     Memory,
 }
 

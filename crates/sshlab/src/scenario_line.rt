@@ -44,12 +44,12 @@ pub(crate) enum Statement {
     Notice(Vec<u8>),
     /// Host keys of this algorithm aren't trusted.
     Distrust(String),
-    /// The user is let in who proves so to be this one.
+    /// The user is accepted who proves so to be this one.
     Allow {
         user: String,
         credential: Credential,
     },
-    /// The request of this number lets nobody in.
+    /// The request of this number is never accepted.
     Deny(u32),
     Step(Step),
 }
@@ -132,7 +132,7 @@ fn states_nothing(line: &[u8]) -> bool
     line.is_empty() || line[0] == b'#'
 }
 
-/// What is said by the fields between the blanks of a line.
+/// What is stated by the fields between the blanks of a line.
 fn statement_in_fields(alloc: Global, line: &str) -> Result<Statement, LineFault>
     ensures value { IfOk result (λ stated. statement_in_fields line.now ≡ Some (statement_data stated)) }
     ensures form { result ≡ Err fault.Form → statement_in_fields line.now ≡ None }
@@ -170,7 +170,7 @@ fn statement_by(alloc: Global, fields: &[&str]) -> Result<Statement, LineFault>
     }
 }
 
-/// What is said by the fields behind `client`.
+/// What is stated by the fields after `client`.
 #[tactic(auto, unfolding(crate::specs::Scenarios::statement_of_client))]
 fn statement_of_client(alloc: Global, fields: &[&str]) -> Result<Statement, LineFault>
     ensures value { IfOk result (λ stated. statement_of_client (texts fields.now) ≡ Some (statement_data stated)) }
@@ -187,7 +187,7 @@ fn statement_of_client(alloc: Global, fields: &[&str]) -> Result<Statement, Line
     }
 }
 
-/// What is said by the fields behind `server`.
+/// What is stated by the fields after `server`.
 #[tactic(auto, unfolding(crate::specs::Scenarios::statement_of_server))]
 fn statement_of_server(alloc: Global, fields: &[&str]) -> Result<Statement, LineFault>
     ensures value { IfOk result (λ stated. statement_of_server (texts fields.now) ≡ Some (statement_data stated)) }

@@ -25,7 +25,7 @@ use std::alloc::Global;
 
 impl Scenario {
     /// A world of the scenario's configs, over the lab suite, in which the steps were done in the order
-    /// of their lines. Answers `Memory` for want of memory alone: no step is done behind the first one
+    /// of their lines. Answers `Memory` only where an allocation failed: no step is done after the first one
     /// for which it was wanting.
     pub fn run(&self, alloc: Global) -> Result<World<'_, LabSuite, LabDecisions>, Memory>
         ensures client_config { IfOk result (λ w. w.client_config ≡ self.now.client) }
@@ -33,8 +33,8 @@ impl Scenario {
         ensures decisions { IfOk result (λ w. w.decisions ≡ self.now.decisions) }
         ensures steps { IfOk result (λ w. StepsLeadTo (λ suite. lab) lab_policy self.now.client self.now.server self.now.decisions self.now.steps.items w) }
         ensures replies { IfOk result (λ w. EachReplies (λ suite. lab) lab_policy w) }
-        // The ends of a lab understand each other, and neither wanted memory: so both sides are in the course of their configs, and
-        // each that has ended has the end that is predicted.
+        // The ends of a lab understand each other, and neither ran out of memory: so both sides are in the course of
+        // their configs, and each that has ended has the end that is predicted.
         ensures course { IfOk result (λ w. IsCourseReceived lab (lab_policy self.now.decisions) self.now.client self.now.server
             (wording_of lab (lab_policy self.now.decisions) self.now.client self.now.server) w.client w.server) }
         ensures headline { IfOk result (λ w. Headline (outcome lab (lab_policy self.now.decisions) self.now.client self.now.server) w.client.end w.server.end (Complete w)) }
@@ -60,7 +60,7 @@ impl Scenario {
     }
 }
 
-/// Does the steps in order, up to the first one for which memory was wanting; then it answers `Memory`.
+/// Does the steps in order, up to the first one for which memory ran out; then it answers `Memory`.
 fn do_steps<S: Suite, D: Decisions>(
     world: &mut World<'_, S, D>,
     steps: &[Step],
@@ -81,7 +81,7 @@ fn do_steps<S: Suite, D: Decisions>(
     Ok(())
 }
 
-/// Does one step, up to the first delivery for which memory was wanting; then it answers `Memory`.
+/// Does one step, up to the first delivery for which memory ran out; then it answers `Memory`.
 fn do_step<S: Suite, D: Decisions>(world: &mut World<'_, S, D>, step: Step) -> Result<(), Memory>
     ensures done { OnOk result (StepDone S.meaning D.policy step world.old world.new) }
     ensures stopped { OnErr result (StopsInStep S.meaning D.policy step world.old world.new) }

@@ -15,7 +15,7 @@ pub enum ToolFault {
     /// X2: a write failed, or took no byte of some.
     #[error("write failed")]
     Write,
-    /// X3: a growth was refused.
+    /// X3: an allocation failed.
     #[error("out of memory")]
     Memory,
     /// X4: the first line of the recording that has none of the forms; lines are counted from 1.

@@ -42,7 +42,7 @@ fn matches_of(alloc: Global, words: &[String]) -> Result<ArgMatches<'_>, Command
     }
 }
 
-/// The form of the words, or that memory was wanting.
+/// The form of the words, or that memory ran out.
 fn form_of<'a>(alloc: Global) -> Result<Command<'a>, CommandFault>
     ensures { IfErr result IsNoToolFault }
 {

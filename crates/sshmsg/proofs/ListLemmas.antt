@@ -10,17 +10,17 @@ use Rattle.sshmsg.specs.Messages.{ext_info, extensions, form_of, kexinit, messag
 use Rattle.sshmsg.specs.View.{HoldsList}
 use Rattle.sshmsg.proofs.ExtensionLemmas.{one_pair}
 
--- what was read with nothing behind it is the message
+-- what was read with nothing after it is the message
 pub read_whole : (n : ℕ) (r : Result (MessageData × List ℕ) WireFault) (m : MessageData) (rest : List ℕ) → r ≡ Ok (m, rest) → length rest ≡ 0 → whole_form n r ≡ Ok m
 read_whole n r m [] e none = rw e refl
 read_whole n r m (b ∷ bs) e none = absurd (omega (arith, none))
 
--- and so want of memory is told of a message
+-- and so running out of memory is told of a message
 pub out_of_memory : (n : ℕ) (r : Result (MessageData × List ℕ) WireFault) (m : MessageData) (rest : List ℕ) → HoldsList m → r ≡ Ok (m, rest) → length rest ≡ 0
     → (x : MessageData) × (whole_form n r ≡ Ok x) × HoldsList x
 out_of_memory n r m rest holds e none = (m, read_whole n r m rest e none, holds)
 
--- what stands behind a pair, behind some pairs more
+-- what stands after a pair, after some pairs more
 pub pass_pair : (count counter : ℕ) (all bytes : List ℕ) (pair : List ℕ × List ℕ) (after : List ℕ) → counter < count → pair_at bytes ≡ Ok (pair, after)
     → ((found : List (List ℕ × List ℕ)) × (form_at (extensions (count - counter) found) bytes ≡ form_at (extensions count []) all))
     → (found : List (List ℕ × List ℕ)) × (form_at (extensions (count - (counter + 1)) found) after ≡ form_at (extensions count []) all)

@@ -1,4 +1,4 @@
--- A KEXINIT by its parts: the cookie, the ten lists, and what stands behind them.
+-- A KEXINIT by its parts: the cookie, the ten lists, and what stands after them.
 
 use Rattle.std.proofs.Common.{◌≡◌, ℕ, Bool, List, Result, Ok, Err, refl, subst}
 use Rattle.sshwire.specs.declared.fault.WireFault.{WireFault}

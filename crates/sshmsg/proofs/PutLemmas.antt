@@ -21,7 +21,7 @@ keeps_on (Err e) old more mid new is keeps =
     sym (take-take (length old) (length (old ++ more)) new within)
     ∙ (ap (λ (xs : List ℕ). take (length old) xs) kept ∙ take_at old more (length old) refl)
 
--- the parts of a KEXINIT, one behind another: two lists, and four, and four
+-- the parts of a KEXINIT, one after another: two lists, and four, and four
 pub thirteen_parts : (out a b c d e f g h i j k l m n : List ℕ)
     → ((((out ++ a) ++ b) ++ ((c ++ d) ++ (((e ++ f) ++ (g ++ h)) ++ ((i ++ j) ++ (k ++ l))))) ++ m) ++ n
     ≡ out ++ (a ++ (b ++ (c ++ (d ++ (e ++ (f ++ (g ++ (h ++ (i ++ (j ++ (k ++ (l ++ (m ++ n)))))))))))))

@@ -11,7 +11,7 @@ abbrev pub pairs_length : List (List ℕ × List ℕ) → ℕ
 pairs_length [] = 0
 pairs_length (pair ∷ pairs) = length pair.0 + length pair.1 + 8 + pairs_length pairs
 
--- the fields behind a method's name
+-- the fields after a method's name
 abbrev pub method_length : MethodData → ℕ
 method_length NoMethod = 0
 method_length (Password password) = length password + 5

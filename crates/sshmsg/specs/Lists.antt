@@ -20,7 +20,7 @@ Four = Two × Two
 abbrev pub Ten : Type 0
 Ten = (Two × Four) × Four
 
--- one reading behind another
+-- one reading after another
 abbrev pub then_at : {X Y : Type 0} → (List ℕ → Result (X × List ℕ) WireFault) → (List ℕ → Result (Y × List ℕ) WireFault) → List ℕ → Result ((X × Y) × List ℕ) WireFault
 then_at first other bytes = do
   x ← first bytes
@@ -41,7 +41,7 @@ four_at bytes = then_at two_at two_at bytes
 unfoldable pub ten_at : List ℕ → Result (Ten × List ℕ) WireFault
 ten_at bytes = then_at (then_at two_at four_at) four_at bytes
 
--- what stands behind them; the reserved word may hold anything
+-- what stands after them; the reserved word may hold anything
 abbrev pub end_at : List ℕ → Result (Bool × List ℕ) WireFault
 end_at bytes = do
   follows ← boolean_at bytes

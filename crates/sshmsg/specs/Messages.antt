@@ -34,7 +34,7 @@ service_request = Then Bytes λ service. Done (ServiceRequest service)
 unfoldable pub service_accept : Form
 service_accept = Then Bytes λ service. Done (ServiceAccept service)
 
--- so many pairs of a name and a value, behind those that were found
+-- so many pairs of a name and a value, after those that were found
 unfoldable pub extensions : ℕ → List (List ℕ × List ℕ) → Form
 extensions zero found = Done (ExtInfo found)
 extensions (suc n) found = Then Bytes λ name. Then Bytes λ value. extensions n (found ++ (name, value) ∷ [])

@@ -116,7 +116,7 @@ HoldsList (content.KexInit offer) = Unit {0}
 HoldsList (content.UserauthFailure methods partial_success) = Unit {0}
 HoldsList _ = ⊥
 
--- want of memory is told of such a message alone, which the payload reads as: never in the place of another refusal
+-- running out of memory is told of such a message alone, which the payload reads as: never in the place of another refusal
 abbrev pub IsOutOfMemory : Result Message MsgFault → Result MessageData MsgFault → Type 0
 IsOutOfMemory (Ok m) read = Unit {0}
 IsOutOfMemory (Err e) read = e ≡ Memory → (m : MessageData) × (read ≡ Ok m) × HoldsList m

@@ -33,7 +33,7 @@ offer_written offer =
     ++ (boolean offer.first_kex_packet_follows
     ++ uint32 0)))))))))))
 
--- a method: its name, and the fields behind it
+-- a method: its name, and the fields after it
 abbrev pub method_name : MethodData → List ℕ
 method_name NoMethod = codes "none"
 method_name (Password password) = codes "password"

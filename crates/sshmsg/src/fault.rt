@@ -8,10 +8,10 @@ use std::fmt;
 pub enum MsgFault {
     /// M1: no message has this number.
     Unrecognised(u8),
-    /// M2: a message has this number, and the payload doesn't spell it, or bytes stand behind it;
+    /// M2: a message has this number, and the payload doesn't spell it, or bytes stand after it;
     /// 0 for no bytes at all.
     Malformed(u8),
-    /// M3: a growth was refused.
+    /// M3: an allocation failed.
     Memory,
 }
 

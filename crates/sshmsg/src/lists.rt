@@ -1,6 +1,6 @@
 //! Reads the messages that hold lists, which are owned: EXT_INFO, KEXINIT and USERAUTH_FAILURE.
 //!
-//! Each is judged to its end before memory is asked for: want of memory is told of a message alone.
+//! Each is judged to its end before memory is asked for: running out of memory is told of a message alone.
 
 ghost use Rattle.std.specs.Prelude.{◌≡◌, IfErr, IfOk, [], vec_capacity};
 ghost use Rattle.sshwire.specs.TypeReadings.{Gives};
@@ -125,7 +125,7 @@ fn lend_two<'a>(reader: &mut Reader<'a>) -> Result<LentTwo<'a>, WireFault>
     beside(first, other)
 }
 
-/// Reads what stands behind the lists of a KEXINIT: whether a packet follows, and the reserved word.
+/// Reads what stands after the lists of a KEXINIT: whether a packet follows, and the reserved word.
 fn read_end(reader: &mut Reader<'_>) -> Result<bool, WireFault>
     ensures { Goes (λ follows. follows) result reader.new (end_at reader.old) }
 {
@@ -342,7 +342,7 @@ fn own_extensions<'a>(
     once(found, kept)
 }
 
-/// Reads so many pairs behind those that were found.
+/// Reads so many pairs after those that were found.
 fn keep_extensions<'a>(
     count: u32,
     reader: &mut Reader<'a>,

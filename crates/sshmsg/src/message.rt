@@ -94,7 +94,7 @@ impl<'a> OtherMethod<'a> {
         self.name
     }
 
-    /// All bytes behind the name. Takes no memory.
+    /// All bytes after the name. Takes no memory.
     pub fn fields(&self) -> &'a [u8]
         ensures fields { result.now ≡ self.now.1 }
         ensures other { is_named self.now.0 ≡ false }

@@ -26,9 +26,9 @@ use std::str;
 /// The message lends what it says out of the payload.
 ///
 /// Answers `Unrecognised` with the number where no message here has it, `Malformed` with the number
-/// where one has it and the payload doesn't spell it or goes on behind it, `Malformed(0)` for no
+/// where one has it and the payload doesn't spell it or goes on after it, `Malformed(0)` for no
 /// bytes. It takes memory for EXT_INFO, KEXINIT and USERAUTH_FAILURE alone, whose lists are owned:
-/// `Memory` comes where the payload spells one of them and a growth was refused.
+/// `Memory` comes where the payload spells one of them and an allocation failed.
 pub fn read<'a>(alloc: Global, payload: &'a [u8]) -> Result<Message<'a>, MsgFault>
     ensures found { IfOk result (λ m. Spells Mpint (message_data m) payload.now) }
     ensures only { (m : MessageData) → Spells Mpint m payload.now → MessageAnswer result (Ok m) }

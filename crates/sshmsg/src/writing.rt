@@ -23,7 +23,7 @@ use sshwire::{Memory, Mpint, NameList, put_boolean, put_string, put_u32};
 /// Appends the payload of a message (RFC 4253, RFC 4252, RFC 8308): booleans as 0 or 1, the reserved
 /// word of a KEXINIT as 0.
 ///
-/// The caller's condition is that the message [`fits`](Message::fits). For want of memory the vector
+/// The caller's condition is that the message [`fits`](Message::fits). Where an allocation failed the vector
 /// is unchanged; room is asked for once.
 pub fn write(message: &Message<'_>, out: &mut Vec<u8>) -> Result<(), Memory>
     requires { length (written_message (message_data message.now)) ≤ PAYLOAD_LIMIT }
@@ -42,7 +42,7 @@ pub fn write(message: &Message<'_>, out: &mut Vec<u8>) -> Result<(), Memory>
     Ok(())
 }
 
-/// Appends a message; for want of memory a prefix of it may stand there, as with every function below.
+/// Appends a message; where an allocation failed a prefix of it may stand there, as with every function below.
 #[tactic(auto, unfolding(crate::specs::Written::written_message))]
 fn put_message(out: &mut Vec<u8>, message: &Message<'_>) -> Result<(), Memory>
     requires { length (written_message (message_data message.now)) ≤ PAYLOAD_LIMIT }
@@ -163,7 +163,7 @@ fn put_three_strings(
     put_string(out, third)
 }
 
-/// Two strings, one behind the other.
+/// Two strings, one after the other.
 fn put_pair(out: &mut Vec<u8>, first: &[u8], second: &[u8]) -> Result<(), Memory>
     requires { length (string first.now ++ string second.now) ≤ PAYLOAD_LIMIT }
     ensures ok { OnOk result (out.new.items ≡ out.old.items ++ (string first.now ++ string second.now)) }
@@ -261,7 +261,7 @@ fn put_lists(out: &mut Vec<u8>, kexinit: &KexInit<'_>) -> Result<(), Memory>
     )
 }
 
-/// Four lists, one behind the other.
+/// Four lists, one after the other.
 fn put_four_lists(
     out: &mut Vec<u8>,
     first: &NameList,
@@ -277,7 +277,7 @@ fn put_four_lists(
     put_two_lists(out, third, fourth)
 }
 
-/// Two lists, one behind the other.
+/// Two lists, one after the other.
 fn put_two_lists(out: &mut Vec<u8>, first: &NameList, second: &NameList) -> Result<(), Memory>
     ensures ok { OnOk result (out.new.items ≡ out.old.items ++ two_written (first.now, second.now)) }
     ensures well { OnOk result (AreTwo (first.now, second.now)) }
@@ -324,7 +324,7 @@ fn put_userauth_request(
     put_method_fields(out, method)
 }
 
-/// Appends the fields of a method, which stand behind its name.
+/// Appends the fields of a method, which stand after its name.
 fn put_method_fields(out: &mut Vec<u8>, method: &Method<'_>) -> Result<(), Memory>
     requires { length (method_fields (method_data method.now)) ≤ PAYLOAD_LIMIT }
     ensures ok { OnOk result (out.new.items ≡ out.old.items ++ method_fields (method_data method.now)) }

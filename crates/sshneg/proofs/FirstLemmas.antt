@@ -9,7 +9,7 @@ use Rattle.std.proofs.lemmas.Slice.Eq.{bytes_eq-Decides}
 use Rattle.sshneg.specs.Choice.{IsFirst, IsPosition}
 use Rattle.sshneg.specs.ChoiceReadings.{is_in, position_in}
 
--- a name is the first of the list or stands behind it
+-- a name is the first of the list or stands after it
 pub contains_cases : (x : List ℕ) (xs : List (List ℕ)) (n : List ℕ) → Contains (x ∷ xs) n → (x ≡ n) ⊎ Contains xs n
 contains_cases x xs n (zero, within, e) = inl e
 contains_cases x xs n (suc k, within, e) = inr (k, omega (arith, within), e)
@@ -67,7 +67,7 @@ none_found test (x ∷ xs) e n c = elim (cases_Bool (test x)) [
       ]
 ]
 
--- the first that passes is found behind those that don't
+-- the first that passes is found after those that don't
 pub finds_after : (test : List ℕ → Bool) (before after : List (List ℕ)) (n : List ℕ) → ((k : List ℕ) → Contains before k → test k ≡ false)
     → test n ≡ true → find test (before ++ n ∷ after) ≡ Some n
 finds_after test [] after n none t = rw t refl

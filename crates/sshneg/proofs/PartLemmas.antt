@@ -1,4 +1,4 @@
--- Parts one behind another.
+-- Parts one after another.
 
 use Rattle.std.proofs.Common.{◌≡◌, ℕ, List, ◌++◌}
 use Rattle.std.proofs.lemmas.List.{append_assoc}

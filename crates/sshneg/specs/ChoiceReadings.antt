@@ -45,7 +45,7 @@ abbrev pub with_name : NoCommon → Option (List ℕ) → (List ℕ → Result A
 with_name f (Some name) next = next name
 with_name f None next = Err f
 
--- the names of the six fields behind the method and the host key algorithm, or the first field without one
+-- the names of the six fields after the method and the host key algorithm, or the first field without one
 unfoldable pub choice_of_directions : KexInitData → KexInitData → List ℕ → List ℕ → Result AlgorithmsData NoCommon
 choice_of_directions client server kex host_key =
     with_name field.EncryptionClientToServer (first_common client.encryption_client_to_server server.encryption_client_to_server) (λ encryption_client_to_server.

@@ -10,7 +10,7 @@ use Rattle.sshpacket.specs.Suite.{SuiteData}
 use Rattle.sshmsg.specs.declared.numbers.TheConstants.{SSH_MSG_USERAUTH_REQUEST}
 
 -- what both sides know of an exchange: the version lines without CR LF, the payloads of both KEXINITs, the server's host
--- key, the shares e and f and the shared number K, as bodies of mpints or as bytes
+-- key, the shares e and f and the shared secret K, as bodies of mpints or as bytes
 pub record ExchangeData : Type 0 where
   pub client_version : List ℕ
   pub server_version : List ℕ
@@ -56,11 +56,11 @@ pub record KeyMaterialData : Type 0 where
 abbrev pub source_size : KeyMaterialData → ℕ
 source_size x = length x.kex + length x.shared + length x.hash + length x.session
 
--- HASH(K || H || what stands behind)
+-- HASH(K || H || what follows)
 abbrev pub hash_with : SuiteData → KeyMaterialData → List ℕ → List ℕ
 hash_with m x after = m.digest x.kex (string x.shared ++ (x.hash ++ after))
 
--- behind the first hash, so many times more HASH(K || H || all so far) (RFC 4253 section 7.2)
+-- after the first hash, so many times more HASH(K || H || all so far) (RFC 4253 section 7.2)
 abbrev pub grown : SuiteData → KeyMaterialData → List ℕ → ℕ → List ℕ
 grown m x first zero = first
 grown m x first (suc n) = grown m x first n ++ hash_with m x (grown m x first n)

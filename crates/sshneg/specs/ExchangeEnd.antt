@@ -58,13 +58,13 @@ pub record KexEnd : Type 0 where
 abbrev pub choice_at : SuiteData → Role → KexEnd → Result AlgorithmsData NoCommon
 choice_at m role end = choice_in m (client_of role end.kexinit end.peer_kexinit) (server_of role end.kexinit end.peer_kexinit)
 
--- The server's share f and the shared number K, by the method, the own random bytes and the peer's share (RFC 4253 section 8):
+-- The server's share f and the shared secret K, by the method, the own random bytes and the peer's share (RFC 4253 section 8):
 -- a client has received f and makes K of it; a server makes both of the client's share e.
 abbrev pub answer_by : Role → SuiteData → List ℕ → List ℕ → List ℕ → Option ResponseData
 answer_by Client m kex random peer = option_map (λ body. record { share = peer; shared = body }) (m.shared kex random peer)
 answer_by Server m kex random peer = m.respond kex random peer
 
--- what is hashed at this end, by the method, the server's share and the shared number (RFC 4253 section 8)
+-- what is hashed at this end, by the method, the server's share and the shared secret (RFC 4253 section 8)
 unfoldable pub exchange_by : SuiteData → Role → List ℕ → KexEnd → ResponseData → ExchangeData
 exchange_by m role kex end answer = record {
   client_version = client_of role end.version end.peer_version;
@@ -81,7 +81,7 @@ exchange_by m role kex end answer = record {
 abbrev pub exchange_hash : SuiteData → List ℕ → ExchangeData → List ℕ
 exchange_hash m kex x = m.digest kex (exchange_text x)
 
--- what keys are made of behind a first exchange, by this method (RFC 4253 section 7.2)
+-- what keys are made of after a first exchange, by this method (RFC 4253 section 7.2)
 abbrev pub source_by : SuiteData → List ℕ → ExchangeData → KeyMaterialData
 source_by m kex x = record { kex = kex; shared = x.shared; hash = exchange_hash m kex x; session = exchange_hash m kex x }
 

@@ -17,6 +17,6 @@ is_right_guess client server =
     same_name (first_name (methods client.kex_algorithms)) (first_name (methods server.kex_algorithms))
     && same_name (first_name client.server_host_key_algorithms) (first_name server.server_host_key_algorithms)
 
--- the kex list that is sent: where the flag is on, the marker of strictness stands behind the methods
+-- the kex list that is sent: where the flag is on, the marker of strictness stands after the methods
 abbrev pub marked_list : Role → Bool → List (List ℕ) → List (List ℕ)
 marked_list role flag names = if flag then names ++ strict_marker role ∷ [] else names

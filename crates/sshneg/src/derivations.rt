@@ -13,7 +13,7 @@ use sshwire::{Memory, put_boolean, put_string};
 use std::alloc::Global;
 
 /// What both sides know of a key exchange (RFC 4253 section 8). It can't be printed, since it holds
-/// the shared number.
+/// the shared secret.
 #[derive(Drop)]
 pub struct Exchange<'a> {
     /// V_C: the client's version line without CR LF.
@@ -30,7 +30,7 @@ pub struct Exchange<'a> {
     pub client_share: &'a [u8],
     /// f: the server's share.
     pub server_share: &'a [u8],
-    /// K: the shared number.
+    /// K: the shared secret.
     pub shared: &'a [u8],
 }
 
@@ -39,7 +39,7 @@ pub struct Exchange<'a> {
 pub struct KeyMaterial<'a> {
     /// The key exchange method.
     pub kex: &'a str,
-    /// K: the shared number.
+    /// K: the shared secret.
     pub shared: &'a [u8],
     /// H: the exchange hash.
     pub hash: &'a [u8],
@@ -47,7 +47,7 @@ pub struct KeyMaterial<'a> {
     pub session: &'a [u8],
 }
 
-/// The input of the exchange hash (RFC 4253 section 8). `Memory` where a growth was refused.
+/// The input of the exchange hash (RFC 4253 section 8). `Memory` where an allocation failed.
 ///
 /// The caller's condition is that the parts have fewer than 2^31 bytes together.
 #[tactic(auto, unfolding(crate::specs::Derivations::exchange_text))]
@@ -67,7 +67,7 @@ pub fn exchange_input(alloc: Global, exchange: &Exchange<'_>) -> Result<Vec<u8>,
     Ok(out)
 }
 
-/// What a publickey request signs (RFC 4252 section 7). `Memory` where a growth was refused.
+/// What a publickey request signs (RFC 4252 section 7). `Memory` where an allocation failed.
 ///
 /// The caller's condition is that the parts have fewer than 2^31 bytes together.
 #[tactic(auto, unfolding(crate::specs::Derivations::signed_text))]
@@ -95,7 +95,7 @@ pub fn signed_request(
 }
 
 /// The keys of the direction in which this side sends (RFC 4253 section 7.2), as long as the suite
-/// asks for. `Memory` where a growth was refused.
+/// asks for. `Memory` where an allocation failed.
 ///
 /// The caller's conditions are that the names are names, and that the parts have fewer than 2^31
 /// bytes together.
@@ -205,7 +205,7 @@ fn grow<S: Suite>(
     Ok(bytes)
 }
 
-/// The hash of the shared number, the exchange hash and what stands behind.
+/// The hash of the shared secret, the exchange hash and what follows.
 fn hash_of<S: Suite>(
     alloc: Global,
     suite: &S,

@@ -11,7 +11,7 @@ use sshwire::NameList;
 /// Whether a guessed key exchange packet is right: the first key exchange methods of both sides are
 /// the same, markers left out, and so are their first host key algorithms. Unlike RFC 4253 section 7
 /// it looks at no other list (profile): where another algorithm can't be agreed on, `choose` has
-/// said so. Takes no memory.
+/// told so. Takes no memory.
 pub fn guess_right(client: &KexInit<'_>, server: &KexInit<'_>) -> bool
     ensures { IsTrue result ↔ IsRightGuess (kexinit_data client.now) (kexinit_data server.now) }
 {

@@ -74,7 +74,7 @@ pub fn markers_law()
     // Strictness and a right guess are decided by a test of flag, role and offers.
     ensures strictness { (flag : Bool) (role : Role) (peer : KexInitData) → (is_strict flag role peer ≡ true) ↔ IsStrict flag role peer }
     ensures right { (client server : KexInitData) → (is_right_guess client server ≡ true) ↔ IsRightGuess client server }
-    // Of two endpoints that put their own marker behind methods: the methods are the same, and strictness is both flags.
+    // Of two endpoints that put their own marker after methods: the methods are the same, and strictness is both flags.
     ensures own_methods { (flag : Bool) (role : Role) (names : List (List ℕ)) → ((name : List ℕ) → Contains names name → is_marker name ≡ false)
         → methods (marked_list role flag names) ≡ names }
     ensures both_flags { (flag other_flag : Bool) (role : Role) (names : List (List ℕ)) (peer : KexInitData)
@@ -121,8 +121,8 @@ pub fn exchange_law()
     ensures choices { (m : SuiteData) (kex : List ℕ) (client server : KexEnd) → IsOneExchange m kex client server
         → (choice_at m Client client ≡ choice_in m client.kexinit server.kexinit)
         × (choice_at m Server server ≡ choice_in m client.kexinit server.kexinit) }
-    // Where their random bytes agree under the method, both come to one answer, which is the server's share and the shared
-    // number: the client from the share that it has received, the server from the client's.
+    // Where their random bytes agree under the method, both come to one answer, which is the server's share and the
+    // shared secret: the client from the share that it has received, the server from the client's.
     ensures answers { (m : SuiteData) (kex : List ℕ) (client server : KexEnd) → Agrees m kex client.random server.random
         → IsOneExchange m kex client server → (r : ResponseData) × (answer_by Client m kex client.random client.peer_share ≡ Some r)
         × (answer_by Server m kex server.random server.peer_share ≡ Some r) }
@@ -147,7 +147,7 @@ pub fn agreement_law<S: AgreeingSuite>(suite: &S, kex: &str, client: &[u8], serv
     ensures agrees { Agrees (S.meaning suite.now) kex.now client.now server.now }
     // Every key signs.
     ensures signs { (alg secret : List ℕ) → Signs (S.meaning suite.now) alg secret }
-    // A client that reads the share of the server's answer has the same answer: that share, and the same shared number.
+    // A client that reads the share of the server's answer has the same answer: that share, and the same shared secret.
     ensures one { (r : ResponseData) → (S.meaning suite.now).respond kex.now server.now ((S.meaning suite.now).share kex.now client.now) ≡ Some r
         → answer_by Client (S.meaning suite.now) kex.now client.now r.share ≡ Some r }
 {}

@@ -45,7 +45,7 @@ module _ (m : SuiteData) (s : PacketReaderData) (piece : List ℕ) where
   abbrev pub OneMeaning : Type 0
   OneMeaning = (found : Parse) → PacketMeans (protection_at m s) (s.held ++ piece) found → ahead m s piece ≡ found
 
-  -- an error that isn't want of memory tells its own refusal
+  -- an error that isn't out of memory tells its own refusal
   told_error : (f : PacketFault) → ParseAnswer m s piece (Err f) → (f ≢ Memory) → (used : ℕ) × (ahead m s piece ≡ refused (OfPacket f) (length s.held + used))
   told_error f answer other = let a = answer other in (a.0, a.2)
 
@@ -95,7 +95,7 @@ module _ (m : SuiteData) (s : PacketReaderData) (piece : List ℕ) where
     refused = λ f place found. refused_by f place result answer (one (refused (OfPacket f) place) found);
   }
 
-  -- what is said by the payload that is lent
+  -- what is told by the payload that is lent
   module _ (payload : List ℕ) (used : ℕ) where
     pub step_answer : (step : PacketStep) → IsStep payload s.seq used step → used ≤ length piece → ahead m s piece ≡ whole payload (length s.held + used)
         → ParseAnswer m s piece (Ok step)
@@ -116,7 +116,7 @@ pub step_holds : (step : PacketStep) (new : PacketReaderData) → new.held ≡ [
 step_holds More new none = tt
 step_holds (Payload lent seq taken) new none = none
 
--- a payload is behind a step that is one
+-- a payload is after a step that is one
 pub step_keeps : (payload : List ℕ) (seq used : ℕ) (step : PacketStep) (new : PacketReader) → IsStep payload seq used step → spare_room new ≤ ROOM_KEPT → KeepsLittle (Ok step) new
 step_keeps payload seq used More new is little = absurd is
 step_keeps payload seq used (Payload lent number taken) new is little = little

@@ -6,7 +6,7 @@ use Rattle.std.proofs.lemmas.Bool.{eqb-false, eqb-true, ltb-false, ltb-true}
 use Rattle.std.proofs.lemmas.Nat.{mod_below}
 use Rattle.sshpacket.specs.Packet.{IsLeastPadding, IsPadding, counted, least_padding, to_multiple, alignment, with_four}
 
--- what lies a little behind a multiple isn't one
+-- what lies a little after a multiple isn't one
 after_multiple : (u n j : ℕ) → n % u + j < u → (n + j) % u ≡ n % u + j
 after_multiple u n j h = sym (mod-add-mod n u j) ∙ mod-eq_of_lt h
 

@@ -30,7 +30,7 @@ length_more : (w : ProtectionData) (bytes more : List ℕ) (b : Bool) → 4 ≤ 
     → is_length w.counts w.block w.tag (w.head (take 4 (bytes ++ more))) ≡ b
 length_more w bytes more b h e = ap (λ (head : List ℕ). is_length w.counts w.block w.tag (w.head head)) (take_more 4 bytes more h) ∙ e
 
--- more bytes behind change no answer
+-- more bytes after them change no answer
 parse_more_by : (w : ProtectionData) (bytes more : List ℕ) (s t u : Bool) → ltb (length bytes) 4 ≡ s → is_length w.counts w.block w.tag (w.head (take 4 bytes)) ≡ t → ltb (length bytes) (total w bytes) ≡ u
     → (parse_packet w bytes ≡ unfinished → ⊥) → parse_packet w (bytes ++ more) ≡ parse_packet w bytes
 parse_more_by w bytes more true t u a b c some = absurd (some (parse_short w bytes (ltb-true (length bytes) 4 a)))
@@ -133,7 +133,7 @@ pub record IsLinesLaw : Type 0 where
   pub used : (k : ℕ) (bytes : List ℕ) (code : WireFault) (rest : List ℕ) → reading k [] bytes ≡ Stop code rest
       → (used : List ℕ) × (bytes ≡ used ++ rest) × (reading k [] used ≡ Stop code [])
 
--- more bytes behind are more that is left
+-- more bytes after it are more that is left
 lines_more : (all more : List ℕ) (r : Reading) → (parse_preamble (length all) r ≡ unfinished → ⊥) → parse_preamble (length (all ++ more)) (then_on r more) ≡ parse_preamble (length all) r
 lines_more all more (More left line) some = absurd (some refl)
 lines_more all more (Got text rest) some =

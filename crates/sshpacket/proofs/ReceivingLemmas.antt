@@ -39,7 +39,7 @@ pub record IsLinesParser : Type 0 where
   pub only : (k : ℕ) (bytes : List ℕ) (f : Parse) → PreambleMeans k bytes f → preamble_parser k bytes ≡ f
   pub preamble : (k : ℕ) (text bytes more : List ℕ) → Preamble k text bytes → preamble_parser k (bytes ++ more) ≡ whole text (length bytes)
 
--- A line reader that stands open has heard no unit.
+-- A line reader that stands open has received no unit.
 pub stands : IsLinesParser → (parsers : Units → Parser) (k : ℕ) (stream : List ℕ) (progress : Progress) → parsers [] ≡ preamble_parser k
     → StandsOpen k stream progress → Received parsers stream [] stream None
 stands law parsers k stream (Waits left line) e o = record { read = refl; then_rest = ap (λ (parser : Parser). parser stream) e ∙ law.only k stream unfinished (left, line, o) }

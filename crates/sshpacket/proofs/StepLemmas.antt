@@ -35,7 +35,7 @@ module _ (target : ℕ) (piece held new : List ℕ) (used : ℕ) (f : Fills targ
   pub filled_up : target ≤ length new → length new ≡ target
   filled_up full = let size : length new ≡ length held + used = filled_length in let upto : length held + used ≤ target = f.upto in omega arith
 
-  -- and the rest of the piece stands behind them
+  -- and the rest of the piece stands after them
   pub filled_rest : held ++ piece ≡ new ++ drop used piece
   filled_rest =
       ap (λ (xs : List ℕ). held ++ xs) (sym (take-append-drop used piece))
@@ -67,7 +67,7 @@ part_parse w bytes len k headed less =
     let size : len ≡ 4 + w.head (take 4 bytes) + w.tag = k.len_is in
     (parse_part w bytes headed k.taken (omega arith), size ∙ sym (needed_long w bytes headed))
 
--- all of it is there, and something behind it
+-- all of it is there, and something after it
 whole_parse : (w : ProtectionData) (new rest : List ℕ) (len : ℕ) → 4 ≤ length new → length new ≡ len → Counts w (take 4 new) len
     → parse_packet w (new ++ rest) ≡ unsealed (w.unseal new) (length new)
 whole_parse w new rest len headed full k =
@@ -80,7 +80,7 @@ whole_parse w new rest len headed full k =
     ∙ (ap (λ (n : ℕ). unsealed (w.unseal (take n (new ++ rest))) n) counts
     ∙ ap (λ (xs : List ℕ). unsealed (w.unseal xs) (length new)) (take_at new rest (length new) refl))
 
--- What was filled up to the length of the packet, behind bytes with its length field.
+-- What was filled up to the length of the packet, after bytes with its length field.
 pub packet_of_body : (w : ProtectionData) (len : ℕ) (held piece own more new : List ℕ) (result : Result Filled PacketFault) → held ++ piece ≡ own ++ more → 4 ≤ length own
     → Counts w (take 4 own) len → FillsBody len more own new result → FillsPacket w held piece new result
 packet_of_body w len held piece own more new (Err e) same headed k memory = λ other. absurd (other memory)
@@ -120,7 +120,7 @@ waits_counts w held target headed e is = record {
   len_is = is ∙ needed_long w held headed;
 }
 
--- behind fewer than four bytes: the first four are not taken, or there are fewer
+-- after fewer than four bytes: the first four are not taken, or there are fewer
 pub head_refused : (w : ProtectionData) (piece held new : List ℕ) (used : ℕ) → Fills 4 piece held new used → 4 ≤ length new
     → is_length w.counts w.block w.tag (w.head (take 4 new)) ≡ false → parse_packet w (held ++ piece) ≡ refused (OfPacket Length) (length new)
 head_refused w piece held new used f headed bad =

@@ -1,4 +1,4 @@
--- One stream has one reading, and what was said is heard.
+-- One stream has one reading, and what was sent is received.
 
 use Rattle.std.proofs.Common.{◌≡◌, ℕ, ◌+◌, ◌≤◌, List, [], ◌∷◌, ◌++◌, length, drop, take, refl, sym, ap, ◌∙◌, subst, Option, None, Some, append_assoc}
 use Rattle.std.proofs.lemmas.List.{append-nil, drop-append-le, length-append, length-take-le, take-append-drop}
@@ -20,7 +20,7 @@ one_refusal parser rest None (Some f) h k = cc
 one_refusal parser rest (Some f) None h k = cc
 one_refusal parser rest (Some f) (Some g) h k = cc
 
--- the bytes used, behind the rest
+-- the bytes used, after the rest
 record IsUsed (rest piece : List ℕ) (used : ℕ) : Type 0 where
   taken : take (length rest + used) (rest ++ piece) ≡ rest ++ take used piece
   size : length (rest ++ take used piece) ≡ length rest + used
@@ -68,7 +68,7 @@ module _ (parsers : Units → Parser) where
   pub one_reading : (stream : List ℕ) (us vs : Units) (x y : List ℕ) (r q : Option Refusal) → Received parsers stream us x r → Received parsers stream vs y q → Same us vs x y r q
   one_reading stream us vs x y r q a b = read_one [] stream us vs x y r q a.read a.then_rest b.read b.then_rest
 
-  -- behind the same units stands the same rest
+  -- after the same units stands the same rest
   read_rest : (before : Units) (bytes : List ℕ) (us : Units) (x y : List ℕ) → Read parsers before bytes us x → Read parsers before bytes us y → x ≡ y
   read_rest before bytes [] x y a b = sym a ∙ b
   read_rest before bytes (u ∷ us) x y (len, e, a) (n, f, b) =
@@ -85,7 +85,7 @@ module _ (parsers : Units → Parser) where
       (n, f, read_push (before ++ v ∷ []) (drop n bytes) us rest u len a (subst (λ (b : Units). parsers b rest ≡ whole u len) (sym (append_assoc before (v ∷ []) us)) e))
 
   module _ (each : (us : Units) → IsIncremental (parsers us)) where
-    -- what was read is read with more bytes behind
+    -- what was read is read with more bytes after it
     more_whole : (before : Units) (bytes more u : List ℕ) (len : ℕ) → parsers before bytes ≡ whole u len → parsers before (bytes ++ more) ≡ whole u len
     more_whole before bytes more u len e = (each before).more bytes more (λ none. cc) ∙ e
 
@@ -96,12 +96,12 @@ module _ (parsers : Units → Parser) where
         let cut : drop len (bytes ++ more) ≡ drop len bytes ++ more = drop-append-le len bytes more low in
         (len, more_whole before bytes more u len e, rw cut (read_more (before ++ u ∷ []) (drop len bytes) more us rest a))
 
-    -- the rest with more bytes behind
+    -- the rest with more bytes after it
     pub received_more : (stream more : List ℕ) (us : Units) (rest : List ℕ) (r q : Option Refusal)
         → Received parsers stream us rest r → IsRest (parsers us) (rest ++ more) q → Received parsers (stream ++ more) us (rest ++ more) q
     received_more stream more us rest r q h k = record { read = read_more [] stream more us rest h.read; then_rest = k }
 
-    -- more bytes behind, which end a unit
+    -- more bytes after it, which end a unit
     pub received_push : (stream more : List ℕ) (us : Units) (rest u : List ℕ) (r : Option Refusal)
         → Received parsers stream us rest r → parsers us (rest ++ more) ≡ whole u (length (rest ++ more)) → Received parsers (stream ++ more) (us ++ u ∷ []) [] None
     received_push stream more us rest u r h e =
@@ -110,7 +110,7 @@ module _ (parsers : Units → Parser) where
         let none : drop (length (rest ++ more)) (rest ++ more) ≡ [] = ap (λ (z : List ℕ). drop (length (rest ++ more)) z) (sym (append-nil (rest ++ more))) ∙ drop-append_seam (rest ++ more) [] in
         record { read = subst (λ (z : List ℕ). Read parsers [] (stream ++ more) (us ++ u ∷ []) z) none all; then_rest = (each (us ++ u ∷ [])).none }
 
-    -- of more bytes behind, those that end a unit or decide a refusal
+    -- of more bytes after it, those that end a unit or decide a refusal
     pub received_unit : (stream piece : List ℕ) (us : Units) (rest u : List ℕ) (used : ℕ) → Received parsers stream us rest None → used ≤ length piece
         → parsers us (rest ++ piece) ≡ whole u (length rest + used) → Received parsers (stream ++ take used piece) (us ++ u ∷ []) [] None
     received_unit stream piece us rest u used h low e =
@@ -202,7 +202,7 @@ module _ (parsers : Units → Parser) where
           let same : Same us sent rest [] r None = one_reading stream us sent rest [] r None h (sent_received stream sent s e) in
           record { all_units = same.same_units; none_left = same.same_rest; no_refusal = same.same_refusal }
 
--- what was said, with more
+-- what was sent, with more
 pub sent_append : (spells : Units → List ℕ → List ℕ) (stream : List ℕ) (us more : Units) → Sent spells stream us → Sent spells (stream ++ flat_places spells us more) (us ++ more)
 sent_append spells stream us more s = record { spelled = ap (λ (z : List ℕ). z ++ flat_places spells us more) s.spelled ∙ sym (flat-append spells [] us more) }
 

@@ -85,7 +85,7 @@ written_bytes bytes m law counts block seed seq payload low each =
     let high : least_padding counts block (length payload) ≤ 131 = padding_high counts block (length payload) low in omega arith)
     each (law.padding_bytes seed seq (least_padding counts block (length payload)))
 
--- the first four bytes are the same with more behind
+-- the first four bytes are the same with more after them
 first_same : (xs rest : List ℕ) → 4 ≤ length xs → take 4 (xs ++ rest) ≡ take 4 xs
 first_same xs rest h = take-append-le 4 xs rest h
 

@@ -49,7 +49,7 @@ pub record IsPacket (counts : Bool) (block tag : ℕ) (payload bytes : List ℕ)
   pub padding_high : length padding < 256
   pub not_empty : 0 < length payload
 
--- so many bytes of padding are allowed behind a payload of this length
+-- so many bytes of padding are allowed after a payload of this length
 pub record IsPadding (counts : Bool) (block len padding : ℕ) : Type 0 where
   pub low : 4 ≤ padding
   pub multiple : (counted counts + (1 + len + padding)) % alignment block ≡ 0

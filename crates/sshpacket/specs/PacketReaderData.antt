@@ -64,15 +64,15 @@ IsPayload payload seq used (Ok step) = IsStep payload seq used step
 IsPayload payload seq used (Err f) = ⊥
 
 -- What the answer says of the packet at hand: that it is unfinished; that with so many bytes of the piece it is a packet of the
--- payload, whose number is the next; or that it is refused for this cause, which so many bytes of the piece decide. Where a growth
--- was refused, nothing.
+-- payload, whose number is the next; or that it is refused for this cause, which so many bytes of the piece decide. Where an
+-- allocation failed, nothing.
 abbrev pub PacketAnswer : SuiteData → PacketReaderData → List ℕ → Result PacketStep PacketFault → Type 0
 PacketAnswer m s piece (Ok More) = PacketMeans (protection_at m s) (s.held ++ piece) unfinished
 PacketAnswer m s piece (Ok (Payload payload seq used)) =
     (used ≤ length piece) × (seq ≡ s.seq) × IsProtectedPacket (protection_at m s) payload.now (s.held ++ take used piece)
 PacketAnswer m s piece (Err f) = f ≢ Memory → (used : ℕ) × (used ≤ length piece) × Refuses (protection_at m s) (s.held ++ piece) f (length s.held + used)
 
--- No other answer comes than the one that the packet at hand has, want of memory apart.
+-- No other answer comes than the one that the packet at hand has, unless memory runs out.
 pub record OnlyPacketAnswer (m : SuiteData) (s : PacketReaderData) (piece : List ℕ) (result : Result PacketStep PacketFault) : Type 0 where
   pub more : PacketMeans (protection_at m s) (s.held ++ piece) unfinished → (result ≡ Ok More) ⊎ (result ≡ Err Memory)
   pub payload : (payload : List ℕ) (used : ℕ) → used ≤ length piece → IsProtectedPacket (protection_at m s) payload (s.held ++ take used piece)
@@ -86,7 +86,7 @@ ParseAnswer m s piece (Ok More) = ahead m s piece ≡ unfinished
 ParseAnswer m s piece (Ok (Payload payload seq used)) =
     (used ≤ length piece) × (ahead m s piece ≡ whole payload.now (length s.held + used)) × (seq ≡ s.seq)
 
--- and how the reader is left: with all unfinished bytes, with none behind a packet, with none and the fault
+-- and how the reader is left: with all unfinished bytes, with none after a packet, with none and the fault
 abbrev pub ReaderLeaves : SuiteData → PacketReaderData → List ℕ → Result PacketStep PacketFault → PacketReader → Type 0
 ReaderLeaves m old piece (Err f) new =
     (packet_reader_data new ≡ record old { held = []; fault = Some f }) × (last_used new ≤ length piece)
@@ -100,12 +100,12 @@ abbrev pub Uses : ℕ → PacketStep → Type 0
 Uses len More = Unit {0}
 Uses len (Payload payload seq used) = (0 < used) × (used ≤ len)
 
--- behind a payload nothing is held
+-- after a payload nothing is held
 abbrev pub HoldsNothingAfter : Result PacketStep PacketFault → PacketReaderData → Type 0
 HoldsNothingAfter (Ok (Payload payload seq used)) new = new.held ≡ []
 HoldsNothingAfter _ new = Unit {0}
 
--- behind a payload and a refusal little room is kept; without a payload nothing of a packet that was read
+-- after a payload and a refusal little room is kept; without a payload nothing of a packet that was read
 abbrev pub KeepsLittle : Result PacketStep PacketFault → PacketReader → Type 0
 KeepsLittle (Ok More) new = kept new ≡ 0
 KeepsLittle (Ok (Payload payload seq used)) new = spare_room new ≤ ROOM_KEPT

@@ -29,7 +29,7 @@ module _ {A : Type 0} where
   first_where default t before [] = default
   first_where default t before (x ∷ xs) = if t before x then x else first_where default t (before ++ x ∷ []) xs
 
-  -- what stands behind that place, or nothing where there is none
+  -- what stands after that place, or nothing where there is none
   abbrev pub after_first : (List A → A → Bool) → List A → List A → List A
   after_first t before [] = []
   after_first t before (x ∷ xs) = if t before x then xs else after_first t (before ++ x ∷ []) xs

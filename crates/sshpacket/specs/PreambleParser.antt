@@ -1,4 +1,4 @@
--- The lines at the front of a direction as a unit: the text of the version line, with its place behind the other lines.
+-- The lines at the front of a direction as a unit: the text of the version line, with its place after the other lines.
 
 use Rattle.std.specs.Prelude.{◌≡◌, ℕ, ◌+◌, ◌-◌, ◌≤◌, List, [], length, take}
 use Rattle.sshwire.specs.Lines.{LineOpen, LineRefused, Preamble}

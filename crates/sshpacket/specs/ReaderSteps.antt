@@ -78,12 +78,12 @@ ReadsOn w held piece new used (Ok (gathered.Part target)) =
 ReadsOn w held piece new used (Ok (gathered.Whole opened)) =
     (new ≡ []) × (parse_packet w (held ++ piece) ≡ whole (take opened.payload_len (drop 5 opened.packet.items)) (length held + used))
 
--- there is room up to the target; behind a whole packet nothing is held, and some bytes were used
+-- there is room up to the target; after a whole packet nothing is held, and some bytes were used
 abbrev pub GatheredRoom : List ℕ → ℕ → Gathered → Type 0
 GatheredRoom new used (gathered.Part target) = (length new < target) × (4 ≤ target) × (target ≤ PACKET_LIMIT)
 GatheredRoom new used (gathered.Whole opened) = (new ≡ []) × (0 < used)
 
--- behind a whole packet little room is kept
+-- after a whole packet little room is kept
 abbrev pub KeepsRoom : ℕ → Gathered → Type 0
 KeepsRoom spare (gathered.Part target) = Unit {0}
 KeepsRoom spare (gathered.Whole opened) = spare ≤ ROOM_KEPT

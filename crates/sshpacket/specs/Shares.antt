@@ -1,4 +1,4 @@
--- What the layers above know of a share or a shared number: bytes, not too many, and where it is a number its shortest body.
+-- What the layers above know of a share or a shared secret: bytes, not too many, and where it is a number its shortest body.
 
 use Rattle.std.specs.Prelude.{◌≡◌, Bool, true, ℕ, ◌≤◌, List, length}
 use Rattle.sshwire.specs.Types.{IsBytes, IsShortestBody}

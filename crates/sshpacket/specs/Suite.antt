@@ -12,7 +12,7 @@ use Rattle.sshpacket.specs.KeysData.{KeysData}
 use Rattle.sshpacket.specs.Packet.{IsPacket, number}
 use Rattle.sshpacket.specs.declared.limits.TheConstants.{BLOB_LIMIT, BLOCK_LIMIT, DIGEST_LIMIT, KEY_LIMIT, SHARE_LIMIT, SIGNATURE_LIMIT, TAG_LIMIT}
 
--- the server's answer to a client's share: its own share, and the shared number
+-- the server's answer to a client's share: its own share, and the shared secret
 pub record ResponseData : Type 0 where
   pub share : List ℕ
   pub shared : List ℕ
@@ -99,7 +99,7 @@ pub record IsLawful (m : SuiteData) : Type 0 where
   pub unsealed : (keys : KeysData) (seq : ℕ) (sealed clear : List ℕ) → seq < 2 ^ 32 → IsBytes sealed
       → length sealed ≡ 4 + m.head keys seq (take 4 sealed) + m.tag_len keys.cipher keys.mac
       → m.unseal keys seq sealed ≡ Some clear → Keeps (m.head keys seq (take 4 sealed)) clear
-  -- shares and shared numbers have the method's form
+  -- shares and shared secrets have the method's form
   pub share_fits : (kex a : List ℕ) → length a ≡ 32 → FitsShare (m.share_form kex) (m.share kex a)
   pub shared_fits : (kex a peer body : List ℕ) → length a ≡ 32 → m.shared kex a peer ≡ Some body → FitsShared (m.share_form kex) body
   pub response_fits : (kex a peer : List ℕ) (r : ResponseData) → length a ≡ 32 → m.respond kex a peer ≡ Some r
@@ -125,7 +125,7 @@ pub record IsLawful (m : SuiteData) : Type 0 where
   pub response_bytes : (kex a peer : List ℕ) (r : ResponseData) → IsBytes a → IsBytes peer → m.respond kex a peer ≡ Some r
       → IsBytes r.share × IsBytes r.shared
 
--- to the client's share of the one random the other is answered, and the client has the same shared number from that answer
+-- to the client's share of the one random the other is answered, and the client has the same shared secret from that answer
 pub record Agrees (m : SuiteData) (kex client server : List ℕ) : Type 0 where
   pub answer : ResponseData
   pub responds : m.respond kex server (m.share kex client) ≡ Some answer
@@ -135,14 +135,14 @@ pub record Agrees (m : SuiteData) (kex client server : List ℕ) : Type 0 where
 abbrev pub Signs : SuiteData → List ℕ → List ℕ → Type 0
 Signs m alg secret = (input : List ℕ) → m.verify alg (m.blob alg secret) input (m.sign alg secret input) ≡ true
 
--- the method answers as a Diffie-Hellman does: with the share of the own random, and the shared number from the peer's share
+-- the method answers as a Diffie-Hellman does: with the share of the own random, and the shared secret from the peer's share
 abbrev pub AnswersAsDiffieHellman : SuiteData → List ℕ → Type 0
 AnswersAsDiffieHellman m kex =
     (a peer : List ℕ) → m.respond kex a peer ≡ option_map (λ body. record { share = m.share kex a; shared = body }) (m.shared kex a peer)
 
 -- The laws of two ends.
 pub record IsAgreeing (m : SuiteData) : Type 0 where
-  -- both come to one shared number
+  -- both come to one shared secret
   pub agreed : (kex client server : List ℕ) → length client ≡ 32 → length server ≡ 32 → IsBytes client → IsBytes server → Agrees m kex client server
   -- every key signs
   pub signed : (alg secret : List ℕ) → Signs m alg secret

@@ -18,7 +18,7 @@ pub enum PacketFault {
     Empty,
     /// P4: the tag isn't that of the packet.
     Mac,
-    /// P5: a growth was refused.
+    /// P5: an allocation failed.
     Memory,
 }
 

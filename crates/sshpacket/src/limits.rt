@@ -21,7 +21,7 @@ pub const DIGEST_LIMIT: usize = 64;
 /// The most bytes of a public key that a suite answers (profile).
 pub const BLOB_LIMIT: usize = 8192;
 
-/// The most bytes of a share and of a shared number that a suite answers (profile).
+/// The most bytes of a share and of a shared secret that a suite answers (profile).
 pub const SHARE_LIMIT: usize = 4096;
 
 /// The most bytes of a signature that a suite answers (profile), the name of its algorithm and both

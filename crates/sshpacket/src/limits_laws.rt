@@ -7,7 +7,7 @@ ghost use Rattle.sshpacket.specs.declared.room.TheConstants.{ROOM_KEPT};
 /// The law of limits: code and definitions cite each by its name, and here it is a number. 35000
 /// bytes of a packet are of RFC 4253 section 6.1. What a suite may ask for and answer is profile:
 /// blocks, tags, keys and hashes of at most 64 bytes (tags of HMAC-SHA-512 and hashes of SHA-512 have
-/// as many), public keys and signatures of 8192, and shares and shared numbers of 4096. That a reader keeps
+/// as many), public keys and signatures of 8192, and shares and shared secrets of 4096. That a reader keeps
 /// room of at most 1024 bytes for the packets to come is profile too. Takes no memory.
 pub fn limits_law()
     ensures packet { PACKET_LIMIT ≡ 35000 }

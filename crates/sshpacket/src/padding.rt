@@ -21,7 +21,7 @@ pub fn padding_len(block: u8, payload_len: usize) -> u8
 }
 
 /// The same where the four bytes of packet_length don't count (RFC 5647 section 7.2;
-/// chacha20-poly1305@openssh.com and the MACs -etm of OpenSSH): what stands behind them is the
+/// chacha20-poly1305@openssh.com and the MACs -etm of OpenSSH): what stands after them is the
 /// multiple, and has at least 8 bytes.
 pub fn padding_len_uncounted(block: u8, payload_len: usize) -> u8
     requires block { block ≤ BLOCK_LIMIT }

@@ -31,7 +31,7 @@ pub(crate) struct Protection<'a, S: Suite> {
 pub(crate) struct Opened {
     /// The packet in clear.
     pub(crate) packet: BytesMut,
-    /// How many bytes of payload stand in it, behind the first five.
+    /// How many bytes of payload stand in it, after the first five.
     pub(crate) payload_len: usize,
     ghost within: { payload_len + 5 ≤ length packet.items },
 }
@@ -89,7 +89,7 @@ impl<'a, S: Suite> Protection<'a, S> {
     }
 }
 
-/// What the suite's answer says of the packet. It is given no allocator: behind the answer nothing asks
+/// What the suite's answer says of the packet. It is given no allocator: after the answer nothing asks
 /// for memory, so none is wanting then.
 fn judged(answer: Result<Option<Vec<u8>>, Memory>) -> Result<BytesMut, PacketFault>
     ensures clear { IfOk answer (λ unsealed. IfSome unsealed (λ clear. IsOk result × IfOk result (λ packet. packet.items ≡ clear.items))) }

@@ -38,7 +38,7 @@ pub enum PacketStep<'a> {
 ///
 /// In clear until keys are set. It holds the bytes of the one unfinished packet and nothing older: the
 /// bytes of a packet that was read are given up at the next call. Room is asked for by the packet's
-/// length; behind a packet and a fault room for at most `ROOM_KEPT` bytes more is kept.
+/// length; after a packet and a fault room for at most `ROOM_KEPT` bytes more is kept.
 #[derive(Drop)]
 pub struct PacketReader {
     alloc: Global,
@@ -109,14 +109,14 @@ impl PacketReader {
     /// Reads on with a piece of the stream.
     ///
     /// The length of a packet is judged once its first four bytes are there, the rest once all of it
-    /// is: the tag, then the padding, then that the payload isn't empty. `Memory` where a growth was
-    /// refused. After a fault the same fault is answered for good and nothing is used.
+    /// is: the tag, then the padding, then that the payload isn't empty. `Memory` where an allocation
+    /// failed. After a fault the same fault is answered for good and nothing is used.
     ///
     /// What is promised holds where the reader waits for this suite, as `new`, `with_keys`, `use_keys`
     /// and every answer that is no fault leave it: a suite isn't changed in the middle of a packet.
     pub fn next<S: Suite>(&mut self, suite: &S, piece: &[u8]) -> Result<PacketStep<'_>, PacketFault>
         // A payload exactly where a packet of it stands at the front, a fault exactly where the packet
-        // there is refused, want of memory apart.
+        // there is refused, unless memory runs out.
         ensures tells { ReaderWaits (S.meaning suite.now) self.old → PacketAnswer (S.meaning suite.now) (packet_reader_data self.old) piece.now result }
         ensures only { ReaderWaits (S.meaning suite.now) self.old → OnlyPacketAnswer (S.meaning suite.now) (packet_reader_data self.old) piece.now result }
         ensures again { IfSome (packet_reader_data self.old).fault (λ f. result ≡ Err f) }
@@ -125,7 +125,7 @@ impl PacketReader {
         // The same as a function of what the reader holds, and what stands at the front by the standard.
         ensures answers { ReaderWaits (S.meaning suite.now) self.old → ParseAnswer (S.meaning suite.now) (packet_reader_data self.old) piece.now result }
         ensures means { PacketMeans (protection (S.meaning suite.now) (packet_reader_data self.old).keys (packet_reader_data self.old).seq) ((packet_reader_data self.old).held ++ piece.now) (ahead (S.meaning suite.now) (packet_reader_data self.old) piece.now) }
-        // How the reader is left. In every state: nothing is held behind a payload; a refusal is kept, with
+        // How the reader is left. In every state: nothing is held after a payload; a refusal is kept, with
         // the keys and the number; what was read is given up where no other packet comes, and large room.
         ensures* after { sem 𝓛 (Rests the_row self.entry (λ new.
             (ReaderWaits (S.meaning suite.now) self.old → ReaderLeaves (S.meaning suite.now) (packet_reader_data self.old) piece.now result new)
@@ -248,7 +248,7 @@ impl PacketReader {
     /// Sets the keys of all that follows. `reset` says whether the next packet has number 0, as
     /// under strict key exchange; else numbers go on. It takes no memory.
     ///
-    /// The caller's condition is that no byte of an unfinished packet is held, as behind each payload.
+    /// The caller's condition is that no byte of an unfinished packet is held, as after each payload.
     #[tactic(auto, unfolding(crate::specs::PacketReaderData::packet_reader_data, crate::specs::PacketReaderData::last_used, crate::specs::PacketReaderData::target_len), using(crate::proofs::WaitLemmas::waits_empty, crate::proofs::WaitLemmas::none_held))]
     pub fn use_keys(&mut self, keys: Keys, reset: bool)
         requires { (packet_reader_data self.old).held ≡ [] }

@@ -41,7 +41,7 @@ pub fn places_law()
     ensures units_push { (f : Units → List ℕ → Units) (before us : Units) (u : List ℕ)
         → flat_places f before (us ++ u ∷ []) ≡ flat_places f before us ++ f (before ++ us) u }
 
-    // More units behind.
+    // More units after them.
     ensures stands_append { (t : Units → List ℕ → Bool) (before us more : Units)
         → stands t before (us ++ more) ≡ (if stands t before us then true else stands t (before ++ us) more) }
     ensures first_append { (other : List ℕ) (t : Units → List ℕ → Bool) (before us more : Units)
@@ -75,13 +75,13 @@ pub fn parser_law()
     sshwire::reading_law();
 }
 
-/// The law of streams: a stream has one reading, which grows with the stream, and what is heard of
-/// a prefix of what was said is a prefix of the units said.
+/// The law of streams: a stream has one reading, which grows with the stream, and what is received of
+/// a prefix of what was sent is a prefix of the units sent.
 pub fn stream_law()
     ensures one { (parsers : Units → Parser) (stream : List ℕ) (us vs : Units) (x y : List ℕ) (r q : Option Refusal)
         → Received parsers stream us x r → Received parsers stream vs y q → Same us vs x y r q }
 
-    // More bytes behind, and one unit more.
+    // More bytes after them, and one unit more.
     ensures nothing { (parsers : Units → Parser) → ((us : Units) → IsIncremental (parsers us)) → Received parsers [] [] [] None }
     ensures read_more { (parsers : Units → Parser) → ((us : Units) → IsIncremental (parsers us)) → (before : Units) (bytes more : List ℕ) (us : Units) (rest : List ℕ)
         → Read parsers before bytes us rest → Read parsers before (bytes ++ more) us (rest ++ more) }
@@ -92,7 +92,7 @@ pub fn stream_law()
     ensures received_push { (parsers : Units → Parser) → ((us : Units) → IsIncremental (parsers us)) → (stream more : List ℕ) (us : Units) (rest u : List ℕ) (r : Option Refusal)
         → Received parsers stream us rest r → parsers us (rest ++ more) ≡ whole u (length (rest ++ more)) → Received parsers (stream ++ more) (us ++ u ∷ []) [] None }
 
-    // A piece behind the rest, which may go on behind what was used of it: it ends a unit, or it
+    // A piece after the rest, which may go on after what was used of it: it ends a unit, or it
     // is refused, or more bytes are wanted.
     ensures received_unit { (parsers : Units → Parser) → ((us : Units) → IsIncremental (parsers us)) → (stream piece : List ℕ) (us : Units) (rest u : List ℕ) (used : ℕ)
         → Received parsers stream us rest None → used ≤ length piece → parsers us (rest ++ piece) ≡ whole u (length rest + used)
@@ -103,11 +103,11 @@ pub fn stream_law()
     ensures received_part { (parsers : Units → Parser) → ((us : Units) → IsIncremental (parsers us)) → (stream piece : List ℕ) (us : Units) (rest : List ℕ)
         → Received parsers stream us rest None → parsers us (rest ++ piece) ≡ unfinished → Received parsers (stream ++ piece) us (rest ++ piece) None }
 
-    // What is heard of a prefix of a stream is a prefix of what is heard of it.
+    // What is received of a prefix of a stream is a prefix of what is received of it.
     ensures prefix { (parsers : Units → Parser) → ((us : Units) → IsIncremental (parsers us)) → (stream more : List ℕ) (us vs : Units) (x y : List ℕ) (r q : Option Refusal)
         → Received parsers stream us x r → Received parsers (stream ++ more) vs y q → IsPrefix us vs }
 
-    // The link: what was said is heard, a prefix of it as a prefix of its units, and nothing of it is refused.
+    // The link: what was sent is received, a prefix of it as a prefix of its units, and nothing of it is refused.
     ensures again { (parsers : Units → Parser) (spells : Units → List ℕ → List ℕ) → ((us : Units) → IsIncremental (parsers us))
         → (stream : List ℕ) (sent : Units) → Sent spells stream sent → EachPlace (Spelled parsers spells) [] sent → Received parsers stream sent [] None }
     ensures link { (parsers : Units → Parser) (spells : Units → List ℕ → List ℕ) → ((us : Units) → IsIncremental (parsers us))
@@ -117,7 +117,7 @@ pub fn stream_law()
         → (stream : List ℕ) (sent us : Units) (rest : List ℕ) (r : Option Refusal)
         → Sent spells stream sent → EachPlace (Spelled parsers spells) [] sent → Received parsers stream us rest r → ReceivedAll us sent rest r }
 
-    // What is said further is spelled behind.
+    // What is sent further is spelled after it.
     ensures sent_push { (spells : Units → List ℕ → List ℕ) (stream : List ℕ) (us : Units) (u : List ℕ)
         → Sent spells stream us → Sent spells (stream ++ spells us u) (us ++ u ∷ []) }
     ensures sent_append { (spells : Units → List ℕ → List ℕ) (stream : List ℕ) (us more : Units)
@@ -126,7 +126,7 @@ pub fn stream_law()
         → EachPlace (λ before u. spells before u ≡ others before u) [] us → Sent spells stream us → Sent others stream us }
 {}
 
-/// The law of hearing: a packet reader that stands at the rest of a stream goes on standing there, for
+/// The law of receiving: a packet reader that stands at the rest of a stream goes on standing there, for
 /// each answer of `next`, in whatever pieces the stream comes; and so does a line reader that stands
 /// open at the stream, for each answer of `feed`.
 ///
@@ -138,7 +138,7 @@ pub fn receiving_law()
         → Received parsers stream us old.held None → parsers us ≡ parse_packet (protection_at m old)
         → ParseAnswer m old piece result → ReaderLeaves m old piece result new → ReceivesOn parsers stream us old piece result new }
 
-    // A line reader that stands open at the stream has heard no unit of it, and all of it is rest.
+    // A line reader that stands open at the stream has received no unit of it, and all of it is rest.
     ensures stands { (parsers : Units → Parser) (k : ℕ) (stream : List ℕ) (progress : Progress)
         → parsers [] ≡ preamble_parser k → StandsOpen k stream progress → Received parsers stream [] stream None }
     ensures receives_lines { (parsers : Units → Parser) → ((us : Units) → IsIncremental (parsers us)) → (k : ℕ) (stream piece : List ℕ)
@@ -148,7 +148,7 @@ pub fn receiving_law()
     parser_law();
 }
 
-/// The law of joined packets: what is read of a stream behind its version line is packets one after
+/// The law of joined packets: what is read of a stream after its version line is packets one after
 /// another by the standard's own definition of a packet (RFC 4253 section 6), and nothing else is read.
 pub fn joined_law()
     ensures found { (parsers : Units → Parser) (at : Units → ProtectionData) (version : List ℕ) → ((us : Units) → parsers (version ∷ us) ≡ parse_packet (at us)) → ((us : Units) → IsFaithful (at us))

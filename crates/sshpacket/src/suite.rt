@@ -37,12 +37,12 @@ pub struct KeyLens {
     pub mac: u8,
 }
 
-/// A server's answer to a client's share. It can't be printed, since it holds the shared number.
+/// A server's answer to a client's share. It can't be printed, since it holds the shared secret.
 #[derive(Drop)]
 pub struct Response {
     /// The server's share.
     pub share: Vec<u8>,
-    /// The shared number.
+    /// The shared secret.
     pub shared: Vec<u8>,
 }
 
@@ -85,7 +85,7 @@ pub struct Response {
 ///   curve (RFC 5656 section 4), and a number that isn't from 1 to p - 1 (RFC 4253 section 8). They answer
 ///   none, and the endpoint fails as F9.
 /// - In `verify`: a blob of another algorithm's key, a signature whose inner name is another one, bytes
-///   behind the last field of either, and every signature of an algorithm that it doesn't know. A blob of
+///   after the last field of either, and every signature of an algorithm that it doesn't know. A blob of
 ///   rsa-sha2-256 is named ssh-rsa, its signature rsa-sha2-256 (RFC 8332 section 3). Nothing else compares
 ///   these names: an endpoint hands on the name that was chosen, or that stands in a request, and blobs and
 ///   signatures as they came.
@@ -142,8 +142,8 @@ pub trait Suite {
         requires mac { IsName mac.now }
         ensures { result ≡ (meaning self.now).key_lens cipher.now mac.now };
 
-    /// The sealed packet with its tag, of a clear packet with this number. `Memory` where a growth
-    /// was refused, as with every call below that makes a vector.
+    /// The sealed packet with its tag, of a clear packet with this number. `Memory` where an allocation
+    /// failed, as with every call below that makes a vector.
     fn seal(&self, alloc: Global, keys: &Keys, seq: u32, packet: &[u8]) -> Result<Vec<u8>, Memory>
         requires { length packet.now < 2 ^ 32 }
         ensures { IfOk result (λ v. v.items ≡ (meaning self.now).seal keys.now seq packet.now) };
@@ -182,7 +182,7 @@ pub trait Suite {
         requires random { length random.now ≡ 32 }
         ensures { IfOk result (λ v. v.items ≡ (meaning self.now).share kex.now random.now) };
 
-    /// The client's shared number (RFC 4253 section 8: K), from the same random bytes and the share that
+    /// The client's shared secret (RFC 4253 section 8: K), from the same random bytes and the share that
     /// the server answered; none where that is refused.
     fn shared(
         &self,
@@ -196,7 +196,7 @@ pub trait Suite {
         requires peer { length peer.now < 2 ^ 32 }
         ensures { IfOk result (λ o. option_map (λ v. v.items) o ≡ (meaning self.now).shared kex.now random.now peer.now) };
 
-    /// The server's share and its shared number, from 32 random bytes and the client's share; none
+    /// The server's share and its shared secret, from 32 random bytes and the client's share; none
     /// where that is refused. In a Diffie-Hellman they are `public` of the random bytes and `shared`
     /// with the client's share (RFC 4253 section 8); in mlkem768x25519-sha256
     /// (draft-ietf-sshm-mlkem-hybrid-kex) the server's share depends on the client's.
@@ -249,7 +249,7 @@ pub trait Suite {
     ghost lawful: { (s : Self) → IsLawful (meaning s) };
 }
 
-/// A suite of which two ends understand each other: they come to one shared number, and a signature is
+/// A suite of which two ends understand each other: they come to one shared secret, and a signature is
 /// verified by its own key's blob. What is proved of one end needs none of it.
 ///
 /// Not every suite is one: decapsulation in ML-KEM fails for a few random bytes, and not all secrets

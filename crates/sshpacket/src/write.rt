@@ -15,8 +15,8 @@ use sshwire::{Memory, put_u32};
 use std::alloc::Global;
 
 /// Appends the packet of a payload in clear (RFC 4253 section 6), with this sequence number: the
-/// padding is the least, and its bytes are the suite's for the seed and the number. For want of
-/// memory the vector is unchanged.
+/// padding is the least, and its bytes are the suite's for the seed and the number. Where an allocation
+/// failed the vector is unchanged.
 ///
 /// The caller's conditions are a payload of 1 to `PAYLOAD_LIMIT` bytes, and a seed of fewer than 2^32.
 pub fn write_clear<S: Suite>(
@@ -101,7 +101,7 @@ fn clear_packet<S: Suite>(
     Ok(clear)
 }
 
-/// Appends a packet; for want of memory a prefix of it may stand there.
+/// Appends a packet; where an allocation failed a prefix of it may stand there.
 #[tactic(auto, unfolding(crate::specs::Packet::length_field))]
 fn put_packet(out: &mut Vec<u8>, payload: &[u8], padding: &[u8]) -> Result<(), Memory>
     requires payload { length payload.now ≤ PAYLOAD_LIMIT }

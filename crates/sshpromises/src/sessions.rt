@@ -75,7 +75,7 @@ pub fn joined_by_hand<'a, S: Suite, D: Decisions>(
     once((of_client, of_server), fed)
 }
 
-/// Feeds the server what the client said, and then the client all that the server said.
+/// Feeds the server what the client sent, and then the client all that the server sent.
 fn feed_each<S: Suite, D: Decisions>(
     of_client: &mut Endpoint<'_, S, D>,
     of_server: &mut Endpoint<'_, S, D>,

@@ -95,7 +95,7 @@ fn deliver(
     }
 }
 
-/// What stands behind a refused delivery to this side, whose other side was open or not.
+/// What stands after a refused delivery to this side, whose other side was open or not.
 fn refused_delivery(
     alloc: Global,
     line: &Line<'_>,
@@ -116,7 +116,7 @@ fn refused_delivery(
     refused(alloc, line, stands)
 }
 
-/// Whether the side stays failed by want of memory, whatever is delivered behind that.
+/// Whether the side stays failed by running out of memory, whatever is delivered after that.
 fn stays_failed(world: &mut LabWorld<'_>, side: Side) -> bool {
     let _ = world.deliver(side, 1);
     let _ = world.settle(2);

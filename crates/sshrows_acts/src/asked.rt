@@ -13,7 +13,7 @@ use std::cell::{Cell, RefCell};
 pub(crate) struct StateData {
     /// A blank and words for each.
     text: RefCell<String>,
-    /// Whether memory was wanting for one.
+    /// Whether memory ran out for one.
     is_lost: Cell<bool>,
     alloc: Global,
 }
@@ -36,14 +36,14 @@ impl StateData {
         }
     }
 
-    /// What memory is wanting for is lost, and its row isn't judged.
+    /// What memory runs out for is lost, and its row isn't judged.
     fn note(&self, kept: Result<(), Stop>) {
         if kept.is_err() {
             self.is_lost.set(true);
         }
     }
 
-    /// All that was kept; nothing is kept behind it.
+    /// All that was kept; nothing is kept after it.
     fn taken(&self) -> String {
         match self.text.try_replace(String::new(self.alloc)) {
             Ok(text) => text,

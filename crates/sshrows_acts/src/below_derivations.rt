@@ -141,7 +141,7 @@ fn signed_of(alloc: Global, line: &Line<'_>, parts: &Parts) -> Result<Vec<u8>, S
     }
 }
 
-/// The keys of four parts (method, shared number, hash and session) for a sender, a cipher and a MAC.
+/// The keys of four parts (method, shared secret, hash and session) for a sender, a cipher and a MAC.
 fn judge_keys(alloc: Global, line: &Line<'_>, parts: &Parts, words: &str) -> Result<(), Stop> {
     let (role, words) = split_word(words);
     let (cipher, words) = split_word(words);

@@ -106,7 +106,7 @@ fn judge_read(
     }
 }
 
-/// The message has to be written as these bytes, behind what stood there.
+/// The message has to be written as these bytes, after what stood there.
 fn judge_written(
     alloc: Global,
     line: &Line<'_>,
@@ -123,7 +123,7 @@ fn judge_written(
     }
 }
 
-/// Each beginning that is shorter has to be refused, and the payload with a byte behind it.
+/// Each beginning that is shorter has to be refused, and the payload with a byte after it.
 fn judge_cuts(alloc: Global, line: &Line<'_>, payload: &[u8], form: ShareForm) -> Result<(), Stop> {
     cut(alloc, line, payload, form)?;
     let mut longer = Vec::from_slice(alloc, payload)?;

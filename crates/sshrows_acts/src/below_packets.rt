@@ -44,7 +44,7 @@ pub(crate) fn judge_packets<S: Suite>(
     steps(alloc, names, suite, lines, &mut receiver)
 }
 
-/// Does or judges lines; behind them all payloads that came have to be judged.
+/// Does or judges lines; after them all payloads that came have to be judged.
 fn steps<S: Suite>(
     alloc: Global,
     names: &Names,
@@ -192,7 +192,7 @@ fn use_keys(
     Ok(())
 }
 
-/// The keys that five words are, and what stands behind them.
+/// The keys that five words are, and what stands after them.
 pub(crate) fn keys_of<'a>(
     alloc: Global,
     names: &Names,
@@ -238,7 +238,7 @@ fn keys_with(
 }
 
 /// `clear NUMBER SEED PAYLOAD PACKET` or `sealed CIPHER MAC IV ENC MACKEY NUMBER SEED PAYLOAD PACKET`: the
-/// packet of a payload has to be written as these bytes, behind what stood there.
+/// packet of a payload has to be written as these bytes, after what stood there.
 fn judge_written<S: Suite>(
     alloc: Global,
     names: &Names,
@@ -273,7 +273,7 @@ fn judge_packet<S: Suite>(
     }
 }
 
-/// Writes the packet of `NUMBER SEED PAYLOAD`, and answers what stands behind them.
+/// Writes the packet of `NUMBER SEED PAYLOAD`, and answers what stands after them.
 fn put_packet<'a, S: Suite>(
     alloc: Global,
     names: &Names,

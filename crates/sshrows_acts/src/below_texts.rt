@@ -32,7 +32,7 @@ pub(crate) fn put_names(text: &mut String, list: &NameList) -> Result<(), Stop> 
     Ok(())
 }
 
-/// These words, and the bytes of each part behind them in digits.
+/// These words, and the bytes of each part after them in digits.
 pub(crate) fn text_with(alloc: Global, words: &str, parts: &[&[u8]]) -> Result<String, Stop> {
     let mut text = String::from_str(alloc, words)?;
     for part in parts {

@@ -80,7 +80,7 @@ fn text_of_authentication(alloc: Global, message: &Message<'_>) -> Result<String
     }
 }
 
-/// These words, and the method with its fields behind them.
+/// These words, and the method with its fields after them.
 fn text_of_method(alloc: Global, words: &str, method: &Method<'_>) -> Result<String, Stop> {
     match method {
         Method::None => joined(alloc, words, "none", &[]),

@@ -36,7 +36,7 @@ fn judge_call(alloc: Global, reader: &mut Reader<'_>, line: &Line<'_>) -> Result
     Ok(())
 }
 
-/// How a reader stands behind a refused call.
+/// How a reader stands after a refused call.
 fn standing(is_unchanged: bool) -> &'static str {
     if is_unchanged {
         "V7, the reader as it was"

@@ -13,7 +13,7 @@ use sshmsg::{KexInit, Message, write};
 use sshsuites::LabSuite;
 use std::alloc::Global;
 
-/// Judges a config of a client or a server: lines that change its parts, and behind them what comes of it.
+/// Judges a config of a client or a server: lines that change its parts, and after them what comes of it.
 pub fn judge_config(
     alloc: Global,
     names: &Names,
@@ -42,7 +42,7 @@ pub fn judge_config(
     }
 }
 
-/// No line stands behind what comes of a config, but behind `generous`.
+/// No line stands after what comes of a config, but after `generous`.
 fn nothing_after_verdict(alloc: Global, line: &Line<'_>, rest: &[Line<'_>]) -> Result<(), Stop> {
     if line.text == "generous" {
         return Ok(());

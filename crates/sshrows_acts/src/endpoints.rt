@@ -21,7 +21,7 @@ struct Subject<'a, S: Suite, D: Decisions> {
     endpoint: Endpoint<'a, S, D>,
     /// What its decisions were asked and told since that was last judged.
     received: &'a Received,
-    /// What it has said since that was last judged.
+    /// What it has sent since that was last judged.
     out: Vec<u8>,
     /// How many bytes it is given at once, at most.
     piece_len: usize,
@@ -102,7 +102,7 @@ fn server_of<'a, S: Suite, D: Decisions>(
     }
 }
 
-/// The endpoint and what it said at its making.
+/// The endpoint and what it sent at its making.
 fn subject_of<'a, S: Suite, D: Decisions>(
     alloc: Global,
     endpoint: Endpoint<'a, S, D>,
@@ -150,7 +150,7 @@ fn talk<S: Suite, D: Decisions>(
     judged.and(seed.and(went_on))
 }
 
-/// The place of the first line that begins with this word; that behind all lines where there is none.
+/// The place of the first line that begins with this word; that after all lines where there is none.
 fn place_of(lines: &[Line<'_>], word: &str) -> usize {
     for (place, line) in lines.iter().enumerate() {
         if line.head().0 == word {
@@ -166,7 +166,7 @@ fn session_of<S: Suite, D: Decisions>(subject: Box<Subject<'_, S, D>>) -> Option
     endpoint.into_session()
 }
 
-/// Judges an endpoint by lines, all that it said and asked, and its end.
+/// Judges an endpoint by lines, all that it sent and asked, and its end.
 fn talk_on<S: Suite, D: Decisions>(
     alloc: Global,
     names: &Names,
@@ -180,7 +180,7 @@ fn talk_on<S: Suite, D: Decisions>(
     finish(alloc, row, subject)
 }
 
-/// All that was said and asked has to be judged, and the end; and all that was told, where a line judges some of it.
+/// All that was sent and asked has to be judged, and the end; and all that was told, where a line judges some of it.
 fn finish<S: Suite, D: Decisions>(
     alloc: Global,
     row: &Line<'_>,
@@ -237,7 +237,7 @@ fn step<S: Suite, D: Decisions>(
     }
 }
 
-/// These bytes have to be what was said since that was last judged.
+/// These bytes have to be what was sent since that was last judged.
 fn judge_sent<S: Suite, D: Decisions>(
     alloc: Global,
     line: &Line<'_>,
@@ -300,7 +300,7 @@ fn disconnect<S: Suite, D: Decisions>(
     }
 }
 
-/// What stands behind a refused `feed` or `disconnect`: how the endpoint is failed, and what it said up to there.
+/// What stands after a refused `feed` or `disconnect`: how the endpoint is failed, and what it sent up to there.
 fn refused_call<S: Suite, D: Decisions>(
     alloc: Global,
     line: &Line<'_>,
@@ -315,7 +315,7 @@ fn refused_call<S: Suite, D: Decisions>(
     refused_sending(line, stands, mem::replace(&mut talk.out, Vec::new(alloc)))
 }
 
-/// Whether it ended by want of memory, and neither a byte more nor the end of its input changes that.
+/// Whether it ended by running out of memory, and neither a byte more nor the end of its input changes that.
 fn is_failed_for_good<S: Suite, D: Decisions>(talk: &mut Subject<'_, S, D>) -> bool {
     let is_failed = is_out_of_memory(talk.endpoint.end());
     let used = talk.endpoint.feed(&[0], &mut talk.out);

@@ -32,7 +32,7 @@ pub(crate) fn link_of(alloc: Global, session: Option<Session>, seed: [u8; 32]) -
     }
 }
 
-/// Judges a link by the lines behind its first one. It is given pieces of at most so many bytes.
+/// Judges a link by the lines after its first one. It is given pieces of at most so many bytes.
 pub(crate) fn judge_link<S: Suite>(
     alloc: Global,
     names: &Names,
@@ -92,7 +92,7 @@ fn step<S: Suite>(
     }
 }
 
-/// `seals PAYLOAD TERMS`: the packet of the payload has to be written as these bytes, behind what stood there;
+/// `seals PAYLOAD TERMS`: the packet of the payload has to be written as these bytes, after what stood there;
 /// `seals PAYLOAD payload`: it has to be refused as no payload, and nothing written.
 fn judge_sealed<S: Suite>(
     alloc: Global,

@@ -1,16 +1,16 @@
-//! What stands behind a judged call that was refused memory. It is told without memory.
+//! What stands after a judged call that was refused memory. It is told without memory.
 
 use crate::stop::{Refusal, Stop};
 use crate::words::Line;
 use sshcore::{End, Fault};
 use std::alloc::Global;
 
-/// A judged call was refused memory, and this stands behind it.
+/// A judged call was refused memory, and this stands after it.
 pub fn refused(alloc: Global, line: &Line<'_>, stands: &'static str) -> Stop {
     refused_sending(line, stands, Vec::new(alloc))
 }
 
-/// The same of an endpoint that has said this since it was judged last.
+/// The same of an endpoint that has sent this since it was judged last.
 pub(crate) fn refused_sending(line: &Line<'_>, stands: &'static str, sent: Vec<u8>) -> Stop {
     line.told.keep_refusal(Refusal {
         number: line.number,
@@ -20,7 +20,7 @@ pub(crate) fn refused_sending(line: &Line<'_>, stands: &'static str, sent: Vec<u
     Stop::Refused
 }
 
-/// Where a row was stopped because a judged call was refused memory, this stands behind it.
+/// Where a row was stopped because a judged call was refused memory, this stands after it.
 pub(crate) fn stopped(alloc: Global, line: &Line<'_>, stop: Stop, stands: &'static str) -> Stop {
     match stop {
         Stop::Refused => refused(alloc, line, stands),
@@ -28,7 +28,7 @@ pub(crate) fn stopped(alloc: Global, line: &Line<'_>, stop: Stop, stands: &'stat
     }
 }
 
-/// How a vector stands behind a refused call that was to append to it.
+/// How a vector stands after a refused call that was to append to it.
 pub(crate) fn vector(is_unchanged: bool) -> &'static str {
     if is_unchanged {
         "the vector as it was"
@@ -37,7 +37,7 @@ pub(crate) fn vector(is_unchanged: bool) -> &'static str {
     }
 }
 
-/// Whether it ended by want of memory.
+/// Whether it ended by running out of memory.
 pub fn is_out_of_memory(end: &End) -> bool {
     matches!(end, End::Failed(Fault::Memory))
 }

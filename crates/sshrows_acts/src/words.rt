@@ -14,13 +14,13 @@ pub struct Line<'a> {
 }
 
 impl<'a> Line<'a> {
-    /// Its first word, and what stands behind the blank.
+    /// Its first word, and what stands after the blank.
     pub fn head(&self) -> (&'a str, &'a str) {
         split_word(self.text)
     }
 }
 
-/// The first word, and what stands behind the blank; nothing where there is none.
+/// The first word, and what stands after the blank; nothing where there is none.
 pub fn split_word(text: &str) -> (&str, &str) {
     match text.split_once(' ') {
         Some((word, rest)) => (word, rest),

@@ -171,7 +171,7 @@ words_are w n i t low zeroth more f is =
     ∙ both2 (bit_xor (f (12 + r)) (f (8 + r))) (bit_xor (o 3) (o 2)) (bit_xor (f (4 + r)) (f r)) (bit_xor (o 1) (o 0))
     (both2 (f (12 + r)) (o 3) (f (8 + r)) (o 2) f3 f2) (both2 (f (4 + r)) (o 1) (f r) (o 0) f1 f0)))
 
--- Both round keys behind two.
+-- Both round keys after two.
 abbrev taken : (ℕ → ℕ) → ℕ → ℕ → ℕ
 taken g c r = bit_xor (s_box (g (12 + (r + 1) % 4))) (cond (eqb r 0) c 0)
 
@@ -217,7 +217,7 @@ constant_small (suc (suc (suc (suc (suc zero))))) h = omega arith
 constant_small (suc (suc (suc (suc (suc (suc zero)))))) h = omega arith
 constant_small (suc (suc (suc (suc (suc (suc (suc m))))))) h = absurd (omega arith)
 
--- the words behind the first of a round key
+-- the words after the first of a round key
 others_are : (key : ℕ → ℕ) (w : ℕ → ℕ → ℕ) (q r k : ℕ) → IsExpanded key w → r < 4 → k < 3
     → w (4 * q + 8 + (k + 1)) r ≡ bit_xor (w (4 * q + (k + 1)) r) (w (4 * q + 8 + k) r)
 others_are key w q r k expanded low small =

@@ -1,4 +1,4 @@
--- The loop of the ladder keeps its points in the order that the last bit said.
+-- The loop of the ladder keeps its points in the order that the last bit gave.
 
 use Rattle.std.proofs.Common.{◌≡◌, ℕ, zero, suc, ◌+◌, ◌-◌, ◌%◌, ◌<◌, List, refl, sym, ap, ◌∙◌, arith}
 use Rattle.sshsuite.specs.Bits.{bit_at}
@@ -14,7 +14,7 @@ turned_further s (suc zero) (suc zero) h k = refl
 turned_further s (suc (suc last)) bit h k = absurd (omega arith)
 turned_further s last (suc (suc bit)) h k = absurd (omega arith)
 
--- a step behind a further bit
+-- a step after a further bit
 pub ladder_kept : (scalar x1 : List ℕ) (s : LadderState) (last bit n : ℕ) → bit ≡ bit_at scalar (254 - n) → turned s last ≡ ladder scalar x1 n
     → turned (ladder_step (turned (turned s last) bit) x1 (small_of x1)) bit ≡ ladder scalar x1 (n + 1)
 unfolding ladder_bit

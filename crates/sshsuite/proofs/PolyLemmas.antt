@@ -75,7 +75,7 @@ pass c0 c1 c2 c3 c4 q0 q1 q2 q3 q4 r0 r1 r2 r3 r4 d0 f1 e0 e1 e2 e3 e4 e5 e6 = o
 multiple : (x y q : ℕ) → x ≡ y + modulus * q → x % modulus ≡ y % modulus
 multiple x y q e = omega arith
 
--- limbs behind carries: the second may be a little more than 2^26
+-- limbs after carries: the second may be a little more than 2^26
 pub record AreCarried (n : ℕ) (a : List ℕ) : Type 0 where
   pub l0 : slice_index a 0 < 2 ^ 26
   pub l1 : slice_index a 1 ≤ n

@@ -82,7 +82,7 @@ share_bytes : (random : List ℕ) → IsBytes (share random)
 unfolding share
 share_bytes random = bytes_x25519 random base_point
 
--- The shared number.
+-- The shared secret.
 low_positive : (b : ℕ) (bytes : List ℕ) → (b ≡ 0 → ⊥) → b < 128 → length bytes ≤ 31 → IsPositiveBody (b ∷ bytes)
 low_positive b bytes some h short = record { some = omega arith; sign = h; shortest = λ e. absurd (some e); short = omega arith }
 

@@ -38,7 +38,7 @@ pub times_more : (x y n : ℕ) → times_to x y (n + 1) ≡ (if x / 2 ^ (127 - n
 unfolding times_to
 times_more x y n = rw (add-one n) refl
 
--- the block with this number, with zeros behind the last bytes
+-- the block with this number, with zeros after the last bytes
 unfoldable pub padded_block : List ℕ → ℕ → ℕ
 padded_block input i = number_at (filled_up (take (min (16 * i + 16) (length input) - 16 * i) (drop (16 * i) input))) 0
 

@@ -50,7 +50,7 @@ add a b =
 unfoldable pub clamped_r : List ℕ → List ℕ
 clamped_r key = limbs_of (bit_and (word_at key 0) 0x0ffffffc0fffffff) (bit_and (word_at key 8) 0x0ffffffc0ffffffc) 0
 
--- a block with the byte 1 behind it, which is what stands above 16 bytes, and zeros behind fewer
+-- a block with the byte 1 after it, which is what stands above 16 bytes, and zeros after fewer
 unfoldable pub block_limbs : List ℕ → List ℕ
 block_limbs block =
     if length block == 16 then limbs_of (word_at block 0) (word_at block 8) (2 ^ 24)

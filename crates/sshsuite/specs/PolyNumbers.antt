@@ -22,13 +22,13 @@ r_number key = bit_and (word_at key 0) 0x0ffffffc0fffffff + 2 ^ 64 * bit_and (wo
 unfoldable pub s_number : List ℕ → ℕ
 s_number key = word_at key 16 + 2 ^ 64 * word_at key 24
 
--- a block with the byte 1 behind it
+-- a block with the byte 1 after it
 unfoldable pub block_number : List ℕ → ℕ
 block_number block =
     if length block == 16 then number_of_16 block + 2 ^ 128
     else number_of_16 (block ++ 1 ∷ replicate (15 - length block) 0)
 
--- the accumulator behind so many blocks
+-- the accumulator after so many blocks
 unfoldable pub accumulator : List ℕ → ℕ → ℕ → ℕ
 accumulator input r zero = 0
 accumulator input r (suc n) = (accumulator input r n + block_number (block_at input n)) * r % modulus

@@ -14,7 +14,7 @@ filled_up bytes = bytes ++ replicate (64 - length bytes) 0
 unfoldable pub whole_key : List ℕ → List ℕ
 whole_key enc = filled_up (take (min (length enc) 64) enc)
 
--- the half for the packet behind its length, and the half for the length
+-- the half for the packet after its length, and the half for the length
 unfoldable pub payload_key : List ℕ → List ℕ
 payload_key enc = take 32 (whole_key enc)
 

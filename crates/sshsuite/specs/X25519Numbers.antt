@@ -35,7 +35,7 @@ step s x1 =
       z3 = times x1 (times (minus da cb) (minus da cb));
     }
 
--- the variables behind so many bits of the scalar, the highest first
+-- the variables after so many bits of the scalar, the highest first
 unfoldable pub climb : List ℕ → ℕ → ℕ → Ladder
 climb scalar x1 zero = record { x2 = 1; z2 = 0; x3 = x1; z3 = 1 }
 climb scalar x1 (suc n) =

@@ -204,7 +204,7 @@ fn summed_words(key: u128) -> u128
     pairs ^ (pairs >> 64)
 }
 
-/// The two round keys behind two, with this round constant (FIPS 197 section 5.2).
+/// The two round keys after two, with this round constant (FIPS 197 section 5.2).
 #[tactic(auto, unfolding(crate::specs::Aes::next_pair))]
 fn next_pair(pair: [u128; 2], constant: u128) -> [u128; 2]
     ensures { result ≡ next_pair pair constant }

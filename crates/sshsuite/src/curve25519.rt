@@ -124,7 +124,7 @@ fn ladder_start(x1: Element) -> LadderState
     }
 }
 
-/// The ladder over the bits of a scalar, the highest first. The points stay in the order that the last bit said, so
+/// The ladder over the bits of a scalar, the highest first. The points stay in the order that the last bit gave, so
 /// they are swapped once for each bit, where it isn't the one before.
 #[tactic(auto, using(crate::specs::Curve25519::ladder_none, crate::proofs::LadderLemmas::ladder_kept))]
 fn ladder(scalar: [u8; 32], x1: Element) -> LadderState

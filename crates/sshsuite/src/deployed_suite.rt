@@ -29,20 +29,20 @@ const ED25519: &str = "ssh-ed25519";
 /// - A key exchange method that it doesn't know needs a host key that encrypts, and a host key algorithm that
 ///   it doesn't know can neither sign nor encrypt: so no choice comes to one. A share of such a method is
 ///   refused.
-/// - A signature of an algorithm that it doesn't know is never good.
+/// - A signature of an algorithm that it doesn't know is never valid.
 /// - Every other cipher is chacha20-poly1305@openssh.com, and every MAC is left out.
 ///
 /// The nonce of a packet under aes256-gcm@openssh.com tells how many packets came before it under the same keys. A suite
 /// is told the packet's number alone, which is that only where numbers begin anew with the keys: under strict key
 /// exchange. Elsewhere the first sealed packet isn't the peer's, and the endpoint fails as F4: so whoever lists
-/// this cipher lists it behind another, or for peers that are strict.
+/// this cipher lists it after another, or for peers that are strict.
 ///
 /// What it computes is proved to be the RFCs' ([`deployed_law`](crate::deployed_law)), down to numbers; SHA-256,
 /// SHA-512 and ChaCha20 are the kit's. That two ends agree, and that a signature is verified by its own key,
 /// isn't proved.
 ///
 /// No branch and no index depends on a secret, as the code is written; no contract promises it of what a
-/// compiler makes. What time does tell is how many zeros a shared number begins with, since it goes as an
+/// compiler makes. What time does tell is how many zeros a shared secret begins with, since it goes as an
 /// mpint into the exchange hash (RFC 8731 section 3.1). How long a verification takes tells of its arguments, which
 /// are all public. Nothing is wiped.
 #[derive(Clone, Copy, Debug)]
@@ -238,7 +238,7 @@ fn share(random: &[u8]) -> [u8; 32]
     x25519(scalar_of(random), &BASE_POINT)
 }
 
-/// The shared number as the body of an mpint; none where the method isn't known, the peer's share isn't 32
+/// The shared secret as the body of an mpint; none where the method isn't known, the peer's share isn't 32
 /// bytes, or gives zero.
 #[tactic(auto, unfolding(crate::specs::Deployed::shared))]
 fn shared(alloc: Global, kex: &str, random: &[u8], peer: &[u8]) -> Result<Option<Vec<u8>>, Memory>

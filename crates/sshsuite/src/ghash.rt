@@ -33,7 +33,7 @@ fn times(x: u128, y: u128) -> u128
     sum
 }
 
-/// The block with this number, with zeros behind the last bytes.
+/// The block with this number, with zeros after the last bytes.
 #[tactic(auto, unfolding(crate::specs::Ghash::padded_block))]
 fn padded_block(input: &[u8], i: usize) -> u128
     requires short { length input.now < 2 ^ 32 }

@@ -60,7 +60,7 @@ pub fn point_law()
 {}
 
 /// The law of Ed25519: public keys (`key`) and signatures (`signed`) are those of RFC 8032 section 5.1, in
-/// numbers modulo 2^255 - 19 and modulo L, and so is which signatures are good (`verified`).
+/// numbers modulo 2^255 - 19 and modulo L, and so is which signatures are valid (`verified`).
 pub fn ed25519_law()
     ensures key { (private_key : List ℕ) → public_key private_key ≡ key_of private_key }
     ensures signed { (private_key input : List ℕ) → signature private_key input ≡ signed private_key input }

@@ -105,7 +105,7 @@ fn clamped_r(key: &[u8]) -> Limbs
     limbs_of(low, high, 0)
 }
 
-/// A block of fewer than 16 bytes with the byte 1 and zeros behind it.
+/// A block of fewer than 16 bytes with the byte 1 and zeros after it.
 fn padded(block: &[u8]) -> [u8; 16]
     requires { length block.now < 16 }
     ensures { result ≡ block.now ++ 1 ∷ replicate (15 - length block.now) 0 }
@@ -116,7 +116,7 @@ fn padded(block: &[u8]) -> [u8; 16]
     padded
 }
 
-/// The limbs of a block, and of the byte 1 behind it.
+/// The limbs of a block, and of the byte 1 after it.
 #[tactic(auto, unfolding(crate::specs::Poly1305::block_limbs))]
 fn block_limbs(block: &[u8]) -> Limbs
     requires { length block.now ≤ 16 }

@@ -23,7 +23,7 @@ pub(crate) fn whole_key(enc: &[u8]) -> [u8; 64]
     filled_up(&enc[..enc.len().min(64)])
 }
 
-/// The key for the packet behind its length, and for the tag: the first 32 bytes (K_2).
+/// The key for the packet after its length, and for the tag: the first 32 bytes (K_2).
 #[tactic(auto, unfolding(crate::specs::Sealing::payload_key))]
 fn payload_key(enc: &[u8]) -> [u8; 32]
     ensures { result ≡ payload_key enc.now }
@@ -51,7 +51,7 @@ fn mask(alloc: Global, enc: &[u8], seq: u32, len: usize) -> Result<Vec<u8>, Memo
     Ok(mask)
 }
 
-/// The packet with this number, in clear or not, the other way: its length by the one key, all behind by
+/// The packet with this number, in clear or not, the other way: its length by the one key, all that follows by
 /// the other.
 #[tactic(auto, using(crate::specs::SealingLaws::length_mask), unfolding(crate::specs::Sealing::encrypted))]
 fn encrypted(alloc: Global, enc: &[u8], seq: u32, packet: &[u8]) -> Result<Vec<u8>, Memory>

@@ -13,7 +13,7 @@ pub any_seen : {X Y : Type 0} (f : X → Y) (p : Y → Bool) (xs held : List X) 
     → list_any (λ x. p (f x)) xs ≡ list_any p seen
 any_seen f p xs held seen is sees = any_mapped f p xs ∙ ap (list_any p) (ap (map f) is ∙ sees)
 
--- who is allowed is let in unless denied, and nobody else
+-- who is allowed is accepted unless denied, and nobody else
 pub allowed_accepted : (a b c d : Bool) → a ≡ b → c ≡ d → a ≡ true → not c ≡ (b && not d)
 allowed_accepted a true c d is denied h = ap not denied
 allowed_accepted a false c d is denied h = cc

@@ -20,7 +20,7 @@ crossed keys seq bytes = take 4 bytes ++ masked keys seq (drop 4 bytes)
 unfoldable pub kem_tag : KeysData → ℕ → List ℕ → List ℕ
 kem_tag keys seq covered = take 16 (sha256 (keys.enc ++ uint32 seq ++ covered))
 
--- the packet, masked behind its length, and its tag
+-- the packet, masked after its length, and its tag
 unfoldable pub kem_seal : KeysData → ℕ → List ℕ → List ℕ
 kem_seal keys seq clear = crossed keys seq clear ++ kem_tag keys seq (crossed keys seq clear)
 
@@ -41,7 +41,7 @@ kem_share random = 2 ∷ random
 abbrev pub kem_answer : List ℕ → List ℕ → List ℕ
 kem_answer random peer = 3 ∷ xored random (drop 1 peer)
 
--- the shared number: a hash of the server's random bytes and both shares
+-- the shared secret: a hash of the server's random bytes and both shares
 unfoldable pub kem_number : List ℕ → List ℕ → List ℕ → List ℕ
 kem_number random client server = sha256 (random ++ client ++ server)
 

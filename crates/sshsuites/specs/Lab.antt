@@ -88,7 +88,7 @@ unfoldable pub lab_shared : List ℕ → List ℕ → Option (List ℕ)
 lab_shared random peer =
     if (length peer == 33) && (slice_index peer 0 == 1) then Some (1 ∷ xored (drop 1 peer) random) else None
 
--- the server's answer: its own share, beside the shared number
+-- the server's answer: its own share, beside the shared secret
 abbrev pub lab_respond : List ℕ → List ℕ → Option ResponseData
 lab_respond random peer = option_map (λ body. record { share = lab_share random; shared = body }) (lab_shared random peer)
 

@@ -7,12 +7,12 @@ use Rattle.sshcore.specs.ConfigParts.{ByKey, ByNothing, ByPassword, CredentialDa
 use Rattle.sshcore.specs.EndpointParts.{DecisionsData, KeyProof, NoProof, PasswordProof, ProofData}
 use Rattle.sshsuites.specs.Lab.{lab_blob}
 
--- a user, and what lets the user in
+-- a user, and by what the user is accepted
 pub record AllowedData : Type 0 where
   pub user : List ℕ
   pub proof : ProofData
 
--- the algorithms whose host keys aren't trusted, who is let in by what, and the numbers of the requests that let nobody in
+-- the algorithms whose host keys aren't trusted, who is accepted by what, and the numbers of the requests that are never accepted
 pub record LabDecisionsData : Type 0 where
   pub distrusted : List (List ℕ)
   pub allowed : List AllowedData
@@ -35,7 +35,8 @@ is_proof _ _ = false
 abbrev pub accepts : AllowedData → List ℕ → ProofData → Bool
 accepts allowance user proof = bytes_eq allowance.user user && is_proof allowance.proof proof
 
--- A host key is trusted unless its algorithm is distrusted. A request lets in who is allowed so, unless its number is denied.
+-- A host key is trusted unless its algorithm is distrusted. A request is accepted where it is allowed so, unless its number is
+-- denied.
 unfoldable pub lab_policy : LabDecisionsData → DecisionsData
 lab_policy rules = record {
   host_key = λ algorithm blob. not (list_any (λ name. bytes_eq name algorithm) rules.distrusted);

@@ -1,4 +1,4 @@
--- What the lab endpoints are made of where nothing else is said.
+-- What the lab endpoints are made of by default.
 
 use Rattle.std.specs.Prelude.{ℕ, false, true, [], ◌∷◌, codes, None, replicate}
 use Rattle.sshcore.specs.ConfigParts.{ClientData, HostKeyData, ServerData, SideData}

@@ -192,7 +192,7 @@ fn answer_to(alloc: Global, random: &[u8], peer: &[u8]) -> Result<Vec<u8>, Memor
     prefixed(alloc, 3, &masked)
 }
 
-/// A byte, and these behind it.
+/// A byte, and these after it.
 fn prefixed(alloc: Global, first: u8, bytes: &[u8]) -> Result<Vec<u8>, Memory>
     ensures { IfOk result (λ all. all.items ≡ first ∷ bytes.now) }
 {
@@ -202,7 +202,7 @@ fn prefixed(alloc: Global, first: u8, bytes: &[u8]) -> Result<Vec<u8>, Memory>
     Ok(all)
 }
 
-/// The shared number, as its own.
+/// The shared secret, as its own.
 fn number_of(alloc: Global, random: &[u8], client: &[u8], server: &[u8]) -> Result<Vec<u8>, Memory>
     ensures { IfOk result (λ number. number.items ≡ kem_number random.now client.now server.now) }
 {
@@ -227,7 +227,7 @@ fn first_four(bytes: &[u8]) -> &[u8]
     if bytes.len() < 4 { bytes } else { &bytes[..4] }
 }
 
-/// What stands behind them.
+/// What stands after them.
 fn after_four(bytes: &[u8]) -> &[u8]
     ensures { result.now ≡ drop 4 bytes.now }
 {
@@ -249,7 +249,7 @@ fn tag(keys: &Keys, seq: u32, covered: &[u8]) -> [u8; 16]
     tag
 }
 
-/// The shared number.
+/// The shared secret.
 #[tactic(auto, unfolding(crate::specs::Kem::kem_number))]
 fn shared_secret(random: &[u8], client: &[u8], server: &[u8]) -> [u8; 32]
     ensures { result ≡ kem_number random.now client.now server.now }

@@ -1,4 +1,4 @@
-//! Decisions for tests: which host keys are trusted, and who is let in by what.
+//! Decisions for tests: which host keys are trusted, and who is accepted by what.
 
 ghost use Rattle.std.specs.Prelude.{◌≡◌, ◌==◌, ◌++◌, ◌∷◌, ◌↔◌, [], ℕ, false, true, List, Contains, IfOk, OnErr, OnOk, string_bytes};
 ghost use Rattle.std.specs.List.{list_any};
@@ -19,7 +19,7 @@ use std::marker::Model;
 /// The decisions of a lab endpoint, by lists that are empty at first.
 ///
 /// - A host key is trusted unless its algorithm is distrusted.
-/// - A request lets its user in exactly where user and proof were allowed together and its number
+/// - A request is accepted exactly where user and proof were allowed together and its number
 ///   isn't denied. The service doesn't matter.
 ///
 /// It has no `Debug`: passwords are never printed.
@@ -31,7 +31,7 @@ pub struct LabDecisions {
     alloc: Global,
 }
 
-/// A user, and what lets the user in.
+/// A user, and by what the user is accepted.
 #[derive(Drop)]
 struct Allowed {
     user: String,
@@ -61,7 +61,7 @@ impl Model for LabDecisions {
 }
 
 impl LabDecisions {
-    /// Every host key is trusted, and nobody is let in. Takes no memory.
+    /// Every host key is trusted, and nobody is accepted. Takes no memory.
     pub fn new(alloc: Global) -> LabDecisions
         ensures { result ≡ record { distrusted = []; allowed = []; denied = [] } }
     {
@@ -83,7 +83,7 @@ impl LabDecisions {
         Ok(())
     }
 
-    /// Whoever proves so to be this user is let in: without a proof, by the password, or by the key
+    /// Whoever proves so to be this user is accepted: without a proof, by the password, or by the key
     /// whose blob the lab suite makes of the private key. The algorithm's name has at most 64 bytes. At
     /// `Memory` nothing is changed.
     pub fn allow(&mut self, user: &str, credential: &Credential) -> Result<(), Memory>
@@ -97,7 +97,7 @@ impl LabDecisions {
         Ok(())
     }
 
-    /// A request with this number, of requests counted from 1, lets nobody in. At `Memory` nothing is
+    /// A request with this number, of requests counted from 1, is never accepted. At `Memory` nothing is
     /// changed.
     pub fn deny(&mut self, request_number: u32) -> Result<(), Memory>
         ensures done { OnOk result (self.new ≡ record self.old { denied = self.old.denied ++ request_number ∷ [] }) }
@@ -145,7 +145,7 @@ fn proof_by(alloc: Global, credential: &Credential) -> Result<OwnProof, Memory>
     }
 }
 
-/// The law of these decisions: no is said exactly to the host keys of distrusted algorithms, and yes
+/// The law of these decisions: no is answered exactly to the host keys of distrusted algorithms, and yes
 /// exactly to the requests whose user and proof are allowed together and whose number isn't denied.
 pub fn lab_decisions_law()
     ensures host_key { (rules : LabDecisionsData) (algorithm blob : List ℕ) → ((lab_policy rules).host_key algorithm blob ≡ false)

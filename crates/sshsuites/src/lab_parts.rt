@@ -1,4 +1,4 @@
-//! What the lab endpoints are made of where nothing else is said.
+//! What the lab endpoints are made of by default.
 
 ghost use Rattle.std.specs.Prelude.{◌≡◌, ◌∷◌, [], IfOk, codes, map, replicate, string_bytes};
 ghost use Rattle.sshcore.specs.ConfigView.{client_data, host_key_data, server_data, side_data};
@@ -11,7 +11,7 @@ use std::alloc::Global;
 
 /// The parts of a client whose plan is empty: the method `a`, the cipher `c`, the MAC `m` and the host
 /// key algorithm `h`, strict, with no guess; the cookie is 16 bytes 00, the exchange random 32 bytes 11
-/// and the padding seed 32 bytes 22, all hexadecimal. Answers `Memory` for want of memory.
+/// and the padding seed 32 bytes 22, all hexadecimal. Answers `Memory` where an allocation failed.
 pub fn lab_client_parts(alloc: Global) -> Result<ClientParts, Memory>
     ensures { IfOk result (λ parts. client_data parts ≡ lab_client) }
 {
@@ -29,7 +29,7 @@ pub fn lab_client_parts(alloc: Global) -> Result<ClientParts, Memory>
 /// The parts of a server with the same algorithms, strict: the private key of its host key `h` is the
 /// byte 00, its service `ssh-connection`, and its methods `password` and `publickey`, none of them
 /// required, with 6 tries, no banner and no notice lines; the cookie is 16 bytes ff, the exchange random 32 bytes 33 and the
-/// padding seed 32 bytes 44, all hexadecimal. Answers `Memory` for want of memory.
+/// padding seed 32 bytes 44, all hexadecimal. Answers `Memory` where an allocation failed.
 pub fn lab_server_parts(alloc: Global) -> Result<ServerParts, Memory>
     ensures { IfOk result (λ parts. server_data parts ≡ lab_server) }
 {

@@ -190,7 +190,7 @@ impl AgreeingSuite for LabSuite {
     ghost agrees = { λ _. lab_agreeing };
 }
 
-/// The law of the lab suite's key exchange: each side's shared number with the other's share is the
+/// The law of the lab suite's key exchange: each side's shared secret with the other's share is the
 /// same, and is there; and the server answers with its own share and number.
 pub fn lab_law()
     ensures agreed { (kex a b : List ℕ) → length a ≡ 32 → length b ≡ 32 → lab.shared kex a (lab.share kex b) ≡ lab.shared kex b (lab.share kex a) }

@@ -1,5 +1,5 @@
 //! What a lab stands on: two insecure suites of algorithms, decisions by lists, and the parts of endpoints
-//! where nothing else is said.
+//! by default.
 #![tactic(auto)]
 
 mod kem_suite;

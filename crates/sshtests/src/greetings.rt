@@ -1,4 +1,4 @@
-//! What two sides hear of each other, where the bytes are any.
+//! What two sides receive from each other, where the bytes are any.
 
 use crate::compare::has_text;
 use sshlab::{Delivery, Reception, Side, greet};

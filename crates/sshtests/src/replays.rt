@@ -8,7 +8,7 @@ use std::test::Fail;
 /// An endpoint of the lab.
 type LabEndpoint<'a> = Endpoint<'a, LabSuite, LabDecisions>;
 
-/// Two configs, and decisions that let a user in by a password.
+/// Two configs, and decisions that accept a user by a password.
 #[derive(Drop)]
 struct Lab {
     client: Box<ClientConfig>,
@@ -45,7 +45,7 @@ fn server_config(alloc: Global) -> Result<Box<ServerConfig>, Fail> {
     Ok(Box::new(alloc, config)?)
 }
 
-/// Decisions that let the user in.
+/// Decisions that accept the user.
 fn decisions(alloc: Global) -> Result<LabDecisions, Fail> {
     let mut decisions = LabDecisions::new(alloc);
     let password = Vec::from_slice(alloc, PASSWORD)?;
@@ -97,7 +97,7 @@ fn server_of<'a>(
     Ok(Box::new(alloc, endpoint)?)
 }
 
-/// All that both sides of a connection have said.
+/// All that both sides of a connection have sent.
 #[derive(Drop)]
 struct Recording {
     client: Vec<u8>,
@@ -169,7 +169,7 @@ fn replay(
     })
 }
 
-/// How a server with these draws ends that is given what a client said to another.
+/// How a server with these draws ends that is given what a client sent to another.
 fn to_server(
     alloc: Global,
     lab: &Lab,
@@ -181,7 +181,7 @@ fn to_server(
     replay(alloc, server, &recorded.client)
 }
 
-/// How a client with these draws ends that is given what a server said to another.
+/// How a client with these draws ends that is given what a server sent to another.
 fn to_client(
     alloc: Global,
     lab: &Lab,

@@ -10,10 +10,10 @@ use std::alloc::Global;
 use std::process::Abort;
 use std::test::Fail;
 
-/// Two clear packets behind a client's version line, and two bytes.
+/// Two clear packets after a client's version line, and two bytes.
 const SHORT: &str = "c 5353482d322e302d610d0a\nc 0000000c0a1500000000000000000000\nc ffff\n";
 
-/// What is shown of it: 80 bytes, of which the first line has 25 behind its LF.
+/// What is shown of it: 80 bytes, of which the first line has 25 after its LF.
 const SHORT_SHOWN: &str =
     "client version SSH-2.0-a\nclient 0 21 NEWKEYS 1\nclient sealed 2\nserver partial 0\n";
 
@@ -88,7 +88,7 @@ fn reads_no_other_form_as_a_piece(rt: HostRuntime) -> Result<(), Fail> {
     Ok(())
 }
 
-/// A source that gives at most `step` bytes of a text a call, and fails behind it or ends there.
+/// A source that gives at most `step` bytes of a text a call, and fails after it or ends there.
 #[derive(Drop)]
 pub(crate) struct TextSource<'a> {
     pub(crate) rest: &'a [u8],
@@ -139,7 +139,7 @@ fn answer_of(
     }
 }
 
-/// The engine has to tell a read that fails behind so many bytes of the short recording, and to write
+/// The engine has to tell a read that fails after so many bytes of the short recording, and to write
 /// nothing.
 fn tells_failed_read(rt: &impl Abort, alloc: Global, engine: Engine, count: usize, step: usize) {
     let mut source = TextSource {
@@ -154,7 +154,7 @@ fn tells_failed_read(rt: &impl Abort, alloc: Global, engine: Engine, count: usiz
     same_count(rt, sink.bytes.len(), 0);
 }
 
-/// The engine has to tell a write that fails behind so many bytes of the text, or takes none, and to write
+/// The engine has to tell a write that fails after so many bytes of the text, or takes none, and to write
 /// these.
 fn tells_failed_write(
     rt: &impl Abort,

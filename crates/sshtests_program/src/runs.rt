@@ -1,4 +1,4 @@
-//! How much of the input `tool` reads, by sources that fail behind it, and what deliveries cost.
+//! How much of the input `tool` reads, by sources that fail after it, and what deliveries cost.
 
 ghost use Rattle.std.specs.Prelude.{◌≡◌, false};
 
@@ -47,7 +47,7 @@ fn answers(
     Ok(())
 }
 
-/// A text, and another one so many times behind it.
+/// A text, and another one so many times after it.
 fn text_of(alloc: Global, before: &str, repeated: &str, count: usize) -> Result<Vec<u8>, Fail> {
     let mut text = Vec::from_slice(alloc, before.as_bytes())?;
     for _ in 0..count {
@@ -56,10 +56,10 @@ fn text_of(alloc: Global, before: &str, repeated: &str, count: usize) -> Result<
     Ok(text)
 }
 
-/// The lines by which `al` is let in.
+/// The lines by which `al` is accepted.
 const AL: &str = "client try al ssh-connection none\nallow al none\n";
 
-/// How much processor time it takes to run a scenario that lets `al` in.
+/// How much processor time it takes to run a scenario by which `al` is accepted.
 fn time_of(rt: &(impl Abort + CpuClock), alloc: Global, text: &[u8]) -> Result<Duration, Fail> {
     let start = rt.thread_cpu_time()?;
     let wanted = Answered {
@@ -113,7 +113,7 @@ const TOO_LONG: Answered<'static> = Answered {
     status: 2,
 };
 
-/// The words have to be answered so, and to leave so many bytes of the text unread; a read behind the text
+/// The words have to be answered so, and to leave so many bytes of the text unread; a read after the text
 /// fails. There is no room for output, which isn't missed.
 fn leaves(
     rt: &impl Abort,

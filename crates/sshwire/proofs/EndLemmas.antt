@@ -64,7 +64,7 @@ length-ends_from place (name ∷ names) =
     let more : length (ends_from (place + length name + 1) names) ≡ length names = length-ends_from (place + length name + 1) names in
     omega arith
 
--- where the name at a position starts: behind the end before it
+-- where the name at a position starts: after the end before it
 abbrev start_at : ℕ → List ℕ → ℕ → ℕ
 start_at place ends zero = place
 start_at place ends (suc i) = get_or ends i 0 + 1

@@ -113,7 +113,7 @@ pub ascii_name : (name : List ℕ) → AllByRecursion IsNameByte name → IsAsci
 ascii_name [] h = λ i. lit< tt
 ascii_name (b ∷ bs) h = ascii_cell b bs (let low : b ≤ 126 = h.0.printable in omega arith) (ascii_name bs h.1)
 
--- one more name behind a comma
+-- one more name after a comma
 pub body_push : (names : List (List ℕ)) (name : List ℕ) → 0 < length names → names_body (names ++ name ∷ []) ≡ names_body names ++ (44 ∷ name)
 body_push [] name some = absurd (omega arith)
 body_push (x ∷ []) name some = refl

@@ -84,7 +84,7 @@ name_taken name z short t =
     let some : length name ≢ 0 = eqb-false _ _ z in
     and_from _ _ (le-leb 1 (length name) (omega arith)) (and_from _ _ (le-leb (length name) 64 short) t)
 
--- the bytes that are left, behind those of a name that were seen, are as many names as there are parts
+-- the bytes that are left, after those of a name that were seen, are as many names as there are parts
 left_counted : (name bs : List ℕ) → list_all is_name_byte name ≡ true → length name ≤ 64 → names_left (length name) bs ≡ counted (slice_split is_comma (name ++ bs))
 left_counted name [] t short =
     let whole : slice_split is_comma (name ++ []) ≡ name ∷ []

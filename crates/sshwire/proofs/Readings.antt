@@ -73,7 +73,7 @@ stop_shorter left line (b ∷ bs) code after e = elim (cases_Bool (eqb b 0)) [
   ]
 ]
 
--- Where the reading of one byte stops, or memory runs out at it, so does the reading with more behind it.
+-- Where the reading of one byte stops, or memory runs out at it, so does the reading with more after it.
 stops_later : (r : Reading) (bs : List ℕ) → StopsWithin r [] → ((left : ℕ) (line : List ℕ) → r ≡ More left line → StopsWithin (reading left line bs) bs) → StopsWithin (then_on r bs) bs
 stops_later (More left line) bs within more code after e = more left line refl code after e
 stops_later (Got text rest) bs within more code after e = cc

@@ -58,7 +58,7 @@ same_cut (a ∷ ls) (b ∷ ms) l m p p' q q' e =
     let r = same_cut ls ms l m p.1 p' q.1 q' s.rest in
     record { lines = (let f : a ≡ b = s.prefix in let g : ls ≡ ms = r.lines in cc); line = r.line }
 
--- A cause behind other lines and an unfinished one stops the reading.
+-- A cause after other lines and an unfinished one stops the reading.
 cause_stops : (k left : ℕ) (lines : List (List ℕ)) (line : List ℕ) (byte : ℕ) (code : WireFault) (bs : List ℕ)
     → length lines + left ≡ k → IsCause k lines line byte code → reading left line (byte ∷ bs) ≡ Stop code bs
 cause_stops k left lines line byte Line bs few (inl nul) = reads_nul left line byte bs nul
@@ -71,7 +71,7 @@ cause_stops k left lines line byte Name bs few c = absurd c
 cause_stops k left lines line byte NotCanonical bs few c = absurd c
 cause_stops k left lines line byte Memory bs few c = absurd c
 
--- what stands before a place, and behind it
+-- what stands before a place, and after it
 record PlaceCuts (bytes : List ℕ) (i : ℕ) (lines : List (List ℕ)) (line : List ℕ) (byte : ℕ) (rest : List ℕ) : Type 0 where
   before : take i bytes ≡ joined lines ++ line
   after : rest ≡ drop (i + 1) bytes
@@ -128,7 +128,7 @@ stopped_place k bytes code rest s = record {
   own_line = no_lf_line s.line s.unfinished.bytes;
 }
 
--- More bytes behind change no place.
+-- More bytes after them change no place.
 cause_kept : (k : ℕ) (bytes more : List ℕ) (i : ℕ) (code : WireFault) → HasCause k bytes i code → HasCause k (bytes ++ more) i code
 cause_kept k bytes more i code has = record {
   lines = has.lines;

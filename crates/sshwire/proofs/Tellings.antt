@@ -14,7 +14,7 @@ use Rattle.sshwire.specs.Feeding.{NoneRefused, OnlyPreambleAnswer, FeedAnswer, S
 use Rattle.sshwire.proofs.Readings.{open_read, preamble_read, reading-append}
 use Rattle.sshwire.proofs.Refusals.{reading_sound, refused_read, refused_within}
 
--- behind the bytes heard so far the piece reads as it does behind the unfinished line
+-- after the bytes received so far the piece reads as it does after the unfinished line
 joined_reading : (k left : ℕ) (line received piece : List ℕ) → LineOpen k received left line → reading k [] (received ++ piece) ≡ reading left line piece
 joined_reading k left line received piece o =
     reading-append k [] received piece ∙ ap (λ (r : Reading). then_on r piece) (open_read k received left line o)

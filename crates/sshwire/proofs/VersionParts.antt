@@ -14,7 +14,7 @@ and_assoc : (a b c : Bool) → (a && (b && c)) ≡ ((a && b) && c)
 and_assoc true b c = refl
 and_assoc false b c = refl
 
--- what stands before the first space and behind it is as it should be
+-- what stands before the first space and after it is as it should be
 are_round_space : List ℕ → Bool
 are_round_space bytes = list_all is_software_byte (before_first is_space bytes) && list_all is_comment_byte (after_first is_space bytes)
 
@@ -50,13 +50,13 @@ some_spaced (b ∷ bs) comments = elim (cases_Bool (is_space b)) [
       (some_bytes b (take (position_or_len is_space (bs ++ 32 ∷ comments)) (bs ++ 32 ∷ comments)) ∙ sym (some_bytes b (take (position_or_len is_space bs) bs)))
 ]
 
--- comments behind comments are comments
+-- comments after comments are comments
 tail_spaced : (software comments : List ℕ) → is_software_and_comments (software ++ 32 ∷ comments) ≡ (is_software_and_comments software && list_all is_comment_byte comments)
 unfolding is_software_and_comments are_round_space
 tail_spaced software comments = rw (some_spaced software comments, round_spaced software comments)
     (and_assoc (ltb 0 (length (before_first is_space software))) (are_round_space software) (list_all is_comment_byte comments))
 
--- the test of a text by what stands behind SSH-2.0-
+-- the test of a text by what stands after SSH-2.0-
 text_test : (bytes : List ℕ) → is_version_text (ssh_2_0 ++ bytes) ≡ (leb (length bytes) 245 && is_software_and_comments bytes)
 unfolding is_version_text
 text_test bytes =

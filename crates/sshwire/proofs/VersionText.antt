@@ -103,7 +103,7 @@ round_space (b ∷ bs) = elim (cases_Bool (is_space b)) [
       record { comments = r.comments; bytes_are = further b bs r.comments f r.bytes_are; after = further_after b bs r.comments f r.after }
 ]
 
--- the bytes behind SSH-2.0-
+-- the bytes after SSH-2.0-
 record IsTail (bytes : List ℕ) : Type 0 where
   software : List ℕ
   comments : Option (List ℕ)

@@ -43,7 +43,7 @@ pub record IsAgain (code : WireFault) (result : Result LineStep WireFault) (new 
   pub for_good : new.progress ≡ Refused code
   pub nothing_used : new.taken ≡ 0
 
--- a reader of at most k other lines has heard these bytes, and neither a version line nor a refusal has come
+-- a reader of at most k other lines has received these bytes, and neither a version line nor a refusal has come
 abbrev pub StandsOpen : ℕ → List ℕ → Progress → Type 0
 StandsOpen k received (Waits left line) = LineOpen k received left line
 StandsOpen k received Finished = ⊥
@@ -58,14 +58,14 @@ TellsRefusal k received piece code new =
 abbrev pub NoneRefused : ℕ → List ℕ → Type 0
 NoneRefused k bytes = (place : ℕ) (code : WireFault) → LineRefused k bytes place code → ⊥
 
--- what the answer says of the bytes heard so far and the piece
+-- what the answer says of the bytes received so far and the piece
 abbrev pub PreambleAnswer : ℕ → List ℕ → List ℕ → Result LineStep WireFault → LineReaderData → Type 0
 PreambleAnswer k received piece (Ok step.More) new = StandsOpen k (received ++ piece) new.progress × (new.taken ≡ length piece)
 PreambleAnswer k received piece (Ok (step.Done version used)) new =
     (used ≤ length piece) × Preamble k version (received ++ take used piece) × (new.progress ≡ Finished) × (new.taken ≡ used)
 PreambleAnswer k received piece (Err code) new = TellsRefusal k received piece code new × (new.progress ≡ Refused code)
 
--- No other answer comes than the one that the bytes heard so far and the piece have, want of memory apart.
+-- No other answer comes than the one that the bytes received so far and the piece have, unless memory runs out.
 pub record OnlyPreambleAnswer (k : ℕ) (received piece : List ℕ) (result : Result LineStep WireFault) : Type 0 where
   pub more : (left : ℕ) (line : List ℕ) → LineOpen k (received ++ piece) left line → (result ≡ Ok step.More) ⊎ (result ≡ Err Memory)
   pub done : (used : ℕ) (text : List ℕ) → used ≤ length piece → Preamble k text (received ++ take used piece)

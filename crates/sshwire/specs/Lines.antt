@@ -104,7 +104,7 @@ pub record IsPlace (bytes : List ℕ) (i : ℕ) (lines : List (List ℕ)) (line 
   pub each_line : AllByRecursion HasNoLf lines
   pub own_line : HasNoLf line
 
--- why the byte behind these lines and this prefix of a line is refused: it is a NUL, or the LF of a line that
+-- why the byte after these lines and this prefix of a line is refused: it is a NUL, or the LF of a line that
 -- begins with SSH- and is no version line; or byte 255 of its line, and neither LF nor NUL;
 -- or the LF of other line k + 1
 abbrev pub IsCause : ℕ → List (List ℕ) → List ℕ → ℕ → WireFault → Type 0

@@ -5,13 +5,13 @@ use Rattle.sshwire.specs.declared.fault.WireFault.{WireFault}
 use Rattle.sshwire.specs.Lines.{Preamble, LineRefused, LineOpen}
 use Rattle.sshwire.specs.Reading.{Reading, More, Got, Stop}
 
--- a prefix of the bytes is a preamble, and the rest stands behind it
+-- a prefix of the bytes is a preamble, and the rest stands after it
 pub record EndsPreamble (k : ℕ) (bytes text rest : List ℕ) : Type 0 where
   pub prefix : List ℕ
   pub bytes_are : bytes ≡ prefix ++ rest
   pub preamble : Preamble k text prefix
 
--- the bytes are refused at a place, and the rest stands behind it
+-- the bytes are refused at a place, and the rest stands after it
 pub record EndsRefused (k : ℕ) (bytes : List ℕ) (code : WireFault) (rest : List ℕ) : Type 0 where
   pub place : ℕ
   pub refused : LineRefused k bytes place code
@@ -31,6 +31,6 @@ BeginsPreamble k text bytes = (rest : List ℕ) × EndsPreamble k bytes text res
 abbrev pub IsLineRefused : ℕ → List ℕ → WireFault → Type 0
 IsLineRefused k bytes code = (place : ℕ) × LineRefused k bytes place code
 
--- what is left of the bytes behind some of them
+-- what is left of the bytes after some of them
 abbrev pub IsLeftOf : List ℕ → List ℕ → Type 0
 IsLeftOf bytes rest = (used : ℕ) × (used ≤ length bytes) × (rest ≡ drop used bytes)

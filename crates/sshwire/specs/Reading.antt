@@ -1,4 +1,4 @@
--- The lines of a stream as a function: what the bytes read as, and what is left behind the place that decided it.
+-- The lines of a stream as a function: what the bytes read as, and what is left after the place that decided it.
 -- The promise is in Lines; the law function `reading_law` ties the two.
 
 use Rattle.std.specs.Prelude.{◌≡◌, ◌≢◌, ℕ, ◌+◌, ◌-◌, ◌==◌, ◌&&◌, ◌<◌, Bool, nat_le, nat_lt, nat_eq, not, if◌then◌else◌, List, [], ◌∷◌, ◌++◌, length, drop, Option, None, Some, Result, Ok, Err}
@@ -27,11 +27,11 @@ is_software_and_comments bytes =
 unfoldable pub is_version_text : List ℕ → Bool
 is_version_text text = nat_le (length text) (LINE_LIMIT - 2) && (starts_with nat_eq text ssh_2_0 && is_software_and_comments (drop 8 text))
 
--- the softwareversion, which may have comments behind a space, is that of a version line
+-- the softwareversion, which may have comments after a space, is that of a version line
 abbrev pub is_part : List ℕ → Bool
 is_part software = nat_le (length software) (LINE_LIMIT - 10) && is_software_and_comments software
 
--- the softwareversion, which may have comments of its own behind a space, and the comments are those of a version line
+-- the softwareversion, which may have comments of its own after a space, and the comments are those of a version line
 abbrev pub are_parts : List ℕ → List ℕ → Bool
 are_parts software comments =
     nat_le (length software + length comments) (LINE_LIMIT - 11) && (is_software_and_comments software && list_all is_comment_byte comments)
@@ -41,13 +41,13 @@ unfoldable pub is_version_line : List ℕ → Bool
 is_version_line line = ends_with nat_eq line (13 ∷ 10 ∷ []) && is_version_text (text_in line)
 
 -- More bytes are wanted, with so many other lines left and this unfinished line;
--- or the text of the version line, or a refusal, with the bytes behind the one that brought it.
+-- or the text of the version line, or a refusal, with the bytes after the one that brought it.
 pub data Reading : Type 0 where
   More : ℕ → List ℕ → Reading
   Got : List ℕ → List ℕ → Reading
   Stop : WireFault → List ℕ → Reading
 
--- reads on behind an unfinished line, with so many other lines left
+-- reads on after an unfinished line, with so many other lines left
 abbrev pub reading : ℕ → List ℕ → List ℕ → Reading
 reading left line [] = More left line
 reading left line (b ∷ bs) =
@@ -75,7 +75,7 @@ pub record Stops (code : WireFault) (r : Reading) (rest : List ℕ) : Type 0 whe
   pub refusal : code ≢ Memory → r ≡ Stop code rest
   pub memory : code ≡ Memory → StopsWithin r rest
 
--- bytes with this reading were heard, which left a line, and this stands behind them
+-- bytes with this reading were received, which left a line, and this stands after them
 abbrev pub ReadsTo : Reading → ℕ → List ℕ → List ℕ → Result (Option (List ℕ)) WireFault → Type 0
 ReadsTo r left line rest (Ok None) = (r ≡ More left line) × IsUnfinished line
 ReadsTo r left line rest (Ok (Some text)) = (r ≡ Got text rest) × (line ≡ [])

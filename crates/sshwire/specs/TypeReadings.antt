@@ -27,7 +27,7 @@ string_at bytes = do
   n ← uint32_at bytes
   if nat_lt (length n.1) n.0 then Err Short else Ok (take n.0 n.1, drop n.0 n.1)
 
--- the first byte isn't 00 with no byte or one below 80 behind it, nor ff with one from 80 on
+-- the first byte isn't 00 with no byte or one below 80 after it, nor ff with one from 80 on
 abbrev pub is_canonical : List ℕ → Bool
 is_canonical [] = true
 is_canonical (a ∷ []) = not (a == 0)

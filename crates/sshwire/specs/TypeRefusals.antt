@@ -10,7 +10,7 @@ abbrev pub OnlyShort : Type 0 → WireFault → Type 0
 OnlyShort missing Short = missing
 OnlyShort missing _ = ⊥
 
--- a length stands at the front, with fewer bytes behind it
+-- a length stands at the front, with fewer bytes after it
 pub record IsCutAfterLength (bytes : List ℕ) : Type 0 where
   pub len : ℕ
   pub rest : List ℕ

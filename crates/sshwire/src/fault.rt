@@ -7,7 +7,7 @@ use std::alloc::{AllocError, AllocFailed};
 use std::error::Error;
 use std::fmt;
 
-/// A growth was refused: memory ran out.
+/// An allocation failed: out of memory.
 #[derive(Clone, Copy, Debug, PartialEq, Eq)]
 pub struct Memory;
 
@@ -50,7 +50,7 @@ pub enum WireFault {
     TooLong,
     /// V6: more other lines stand before the version line than are accepted (profile).
     TooManyLines,
-    /// V7: a growth was refused.
+    /// V7: an allocation failed.
     Memory,
 }
 

@@ -20,7 +20,7 @@ pub fn reading_law()
     // No two outcomes hold of one input.
     ensures one { (k : ℕ) (bytes : List ℕ) (r s : Reading) → ReadingMeans k bytes r → ReadingMeans k bytes s → r ≡ s }
 
-    // What stands behind a preamble lies within the bytes, and so does a refused byte.
+    // What stands after a preamble lies within the bytes, and so does a refused byte.
     ensures after { (k : ℕ) (bytes text rest : List ℕ) → reading k [] bytes ≡ Got text rest → IsLeftOf bytes rest }
     ensures within { (k : ℕ) (bytes : List ℕ) (place : ℕ) (code : WireFault) → LineRefused k bytes place code → place < length bytes }
 

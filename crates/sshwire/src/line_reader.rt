@@ -79,25 +79,25 @@ impl LineReader {
         }
     }
 
-    /// Reads the next bytes of the stream. Bytes behind the version line aren't read. It may not be
+    /// Reads the next bytes of the stream. Bytes after the version line aren't read. It may not be
     /// called once it has answered `Done`.
     ///
     /// Judges the bytes in order, and answers `Line` at a NUL, `TooLong` at byte 255 of a line where
     /// that is no LF, `Line` at the LF of a line that begins with `SSH-` and is no version line, and
     /// `TooManyLines` at the LF of the first other line too many (RFC 4253 section 4.2 gives the
-    /// forms; the order is profile). `Memory` comes where a growth was refused, never at a byte that is
+    /// forms; the order is profile). `Memory` comes where an allocation failed, never at a byte that is
     /// refused itself; `taken` is then at most the piece. After a refusal it gives the same refusal for
     /// good and uses nothing.
     pub fn feed(&mut self, piece: &[u8]) -> Result<LineStep, WireFault>
         requires { self.old.progress ≢ Finished }
 
-        // Whatever was heard before, in whatever pieces: the answer is that of all bytes together.
+        // Whatever was received before, in whatever pieces: the answer is that of all bytes together.
         ensures tells { (k : ℕ) (received : List ℕ) → StandsOpen k received self.old.progress
             → PreambleAnswer k received piece.now result self.new }
         ensures only { (k : ℕ) (received : List ℕ) → StandsOpen k received self.old.progress
             → OnlyPreambleAnswer k received piece.now result }
 
-        // Want of memory never stands in place of a refusal: up to the last byte used none was due.
+        // Running out of memory never stands in place of a refusal: up to the last byte used none was due.
         ensures memory { (k : ℕ) (received : List ℕ) → StandsOpen k received self.old.progress
             → result ≡ Err WireFault.Memory → NoneRefused k (received ++ take self.new.taken piece.now) }
 
@@ -156,7 +156,7 @@ impl LineReader {
         &self.line
     }
 
-    /// Reads the next bytes behind the unfinished line that is held.
+    /// Reads the next bytes after the unfinished line that is held.
     fn advance(&mut self, piece: &[u8]) -> Result<LineStep, WireFault>
         requires { self.old.progress ≢ Finished }
         ensures leaves { Leaves result self.new.progress }

@@ -42,7 +42,7 @@ impl NameList {
     /// The names of the body of a string, its length left out; no bytes are the empty list.
     ///
     /// Answers `Name` where the body isn't names with single commas between, each of 1 to 64 bytes
-    /// from 33 to 126, and `Memory` for want of memory.
+    /// from 33 to 126, and `Memory` where an allocation failed.
     pub fn parse(alloc: Global, body: &[u8]) -> Result<NameList, WireFault>
         requires { length body.now < 2 ^ 32 }
         ensures ok { IfOk result (λ names. AreNames names × (body.now ≡ names_body names)) }
@@ -70,8 +70,8 @@ impl NameList {
 
     /// The list of these names, in order.
     ///
-    /// Answers `Name` where one of them is none (RFC 4251 section 6), and `Memory` for want of
-    /// memory. Fewer than 2^25 names fit a string, whatever their lengths.
+    /// Answers `Name` where one of them is none (RFC 4251 section 6), and `Memory` where an allocation
+    /// failed. Fewer than 2^25 names fit a string, whatever their lengths.
     pub fn from_names(alloc: Global, names: &[&str]) -> Result<NameList, WireFault>
         requires { length names.now < 2 ^ 25 }
         ensures sound { IfOk result (λ list. (list ≡ map (λ name. name.now) names.now) × AreNames list) }
@@ -89,7 +89,7 @@ impl NameList {
         Ok(NameList { text, ends })
     }
 
-    /// Appends the whole string, its length included. For want of memory the vector is unchanged.
+    /// Appends the whole string, its length included. Where an allocation failed the vector is unchanged.
     pub fn write(&self, out: &mut Vec<u8>) -> Result<(), Memory>
         ensures appends { out.new.items ≡ (if is_ok result then out.old.items ++ name_list self.now else out.old.items) }
         // What is appended stands for the names, and so is read again, whatever follows.
@@ -202,7 +202,7 @@ fn ends_of(alloc: Global, body: &[u8], count: usize) -> Result<Vec<u32>, Memory>
     Ok(ends)
 }
 
-/// Appends a name, behind a comma where another stands before it.
+/// Appends a name, after a comma where another stands before it.
 fn push_name(text: &mut String, name: &str) -> Result<(), Memory>
     ensures { OnOk result (string_bytes text.new
         ≡ (if length (string_bytes text.old) == 0 then name.now else string_bytes text.old ++ 44 ∷ name.now)) }

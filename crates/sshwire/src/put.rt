@@ -7,7 +7,7 @@ use crate::fault::Memory;
 use crate::mpint::Mpint;
 use byteorder::{BigEndian, ByteOrder};
 
-/// Appends 1 for true and 0 for false. For want of memory the vector is unchanged.
+/// Appends 1 for true and 0 for false. Where an allocation failed the vector is unchanged.
 pub fn put_boolean(out: &mut Vec<u8>, value: bool) -> Result<(), Memory>
     ensures appends { out.new.items ≡ (if is_ok result then out.old.items ++ boolean value else out.old.items) }
     // What is appended stands for the value, and so is read again, whatever follows.
@@ -17,7 +17,7 @@ pub fn put_boolean(out: &mut Vec<u8>, value: bool) -> Result<(), Memory>
     Ok(())
 }
 
-/// Appends four bytes, the most significant first. For want of memory the vector is unchanged.
+/// Appends four bytes, the most significant first. Where an allocation failed the vector is unchanged.
 pub fn put_u32(out: &mut Vec<u8>, value: u32) -> Result<(), Memory>
     ensures appends { out.new.items ≡ (if is_ok result then out.old.items ++ uint32 value else out.old.items) }
     // What is appended stands for the number, and so is read again, whatever follows.
@@ -29,7 +29,7 @@ pub fn put_u32(out: &mut Vec<u8>, value: u32) -> Result<(), Memory>
     Ok(())
 }
 
-/// Appends the length and the bytes. For want of memory the vector is unchanged.
+/// Appends the length and the bytes. Where an allocation failed the vector is unchanged.
 pub fn put_string(out: &mut Vec<u8>, bytes: &[u8]) -> Result<(), Memory>
     requires { length bytes.now < 2 ^ 32 }
     ensures appends { out.new.items ≡ (if is_ok result then out.old.items ++ string bytes.now else out.old.items) }
@@ -45,7 +45,7 @@ pub fn put_string(out: &mut Vec<u8>, bytes: &[u8]) -> Result<(), Memory>
     Ok(())
 }
 
-/// Appends the number as a string. For want of memory the vector is unchanged.
+/// Appends the number as a string. Where an allocation failed the vector is unchanged.
 pub fn put_mpint(out: &mut Vec<u8>, value: &Mpint<'_>) -> Result<(), Memory>
     ensures appends { out.new.items ≡ (if is_ok result then out.old.items ++ string value.now else out.old.items) }
     // What is appended stands for the number, and so is read again, whatever follows.

@@ -100,7 +100,7 @@ impl<'a> Reader<'a> {
     }
 
     /// A string whose body is names with single commas between. `Short` where bytes are missing,
-    /// `Name` for another body, `Memory` for want of memory.
+    /// `Name` for another body, `Memory` where an allocation failed.
     pub fn name_list(&mut self, alloc: Global) -> Result<NameList, WireFault>
         ensures reads { ReadsText NameListText (λ l. l) result self.old self.new }
         ensures exact { Takes (λ l. l) result self.old self.new (names_at self.old) }

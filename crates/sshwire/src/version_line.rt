@@ -35,7 +35,7 @@ impl VersionLine {
     /// Reads one version line, CR LF included, which is all of `line`.
     ///
     /// Answers `TooLong` above 255 bytes, otherwise `Line` where `line` is no version line, and
-    /// `Memory` for want of memory, which is taken only where `line` is one.
+    /// `Memory` where an allocation failed, which is taken only where `line` is one.
     pub fn parse(alloc: Global, line: &[u8]) -> Result<VersionLine, WireFault>
         ensures ok { IfOk result (λ text. IsVersionText text × (line.now ≡ version_line text)) }
         ensures err { IfErr result (IsNoVersionLine line.now) }
@@ -56,7 +56,7 @@ impl VersionLine {
     /// The version line `SSH-2.0-softwareversion`, with a space and the comments where there are some.
     ///
     /// Answers `TooLong` above 255 bytes, CR LF included, otherwise `Line` where that is no version
-    /// line (RFC 4253 section 4.2), and `Memory` for want of memory. What is judged is the text that
+    /// line (RFC 4253 section 4.2), and `Memory` where an allocation failed. What is judged is the text that
     /// the parts spell, so a softwareversion with a space is taken as one with comments.
     pub fn new(
         alloc: Global,
@@ -92,7 +92,7 @@ impl VersionLine {
         }
     }
 
-    /// Appends the line, CR LF included. For want of memory the vector is unchanged.
+    /// Appends the line, CR LF included. Where an allocation failed the vector is unchanged.
     pub fn write(&self, out: &mut Vec<u8>) -> Result<(), Memory>
         ensures appends { out.new.items ≡ (if is_ok result then out.old.items ++ version_line self.now else out.old.items) }
         // What is appended is read again, whatever follows.
@@ -122,7 +122,7 @@ impl VersionLine {
         }
     }
 
-    /// The version line that these bytes and an LF behind them are. Answers `Line` where they are none,
+    /// The version line that these bytes and an LF after them are. Answers `Line` where they are none,
     /// and `Memory` only where they are one.
     #[tactic(auto, using(crate::proofs::VersionText::whole_line_from_test))]
     pub(crate) fn of_unfinished(mut line: Vec<u8>) -> Result<VersionLine, WireFault>
@@ -172,7 +172,7 @@ fn is_version_line(line: &[u8]) -> bool
     line.ends_with(b"\r\n") && is_version_text(&line[..line.len() - 2])
 }
 
-/// Whether the bytes and an LF behind them are a version line.
+/// Whether the bytes and an LF after them are a version line.
 #[tactic(auto, using(crate::proofs::VersionText::unfinished_test))]
 fn is_unfinished_version_line(line: &[u8]) -> bool
     ensures { result ≡ is_version_line (with_lf line.now) }
@@ -225,7 +225,7 @@ fn are_parts(software: &[u8], comments: &[u8]) -> bool
     is_software_and_comments(software) && are_comment_bytes(comments)
 }
 
-/// What stands before the first space, and behind it.
+/// What stands before the first space, and after it.
 fn split_at_space(bytes: &[u8]) -> (&[u8], &[u8])
     ensures before { result.0.now ≡ before_first is_space bytes.now }
     ensures after { result.1.now ≡ after_first is_space bytes.now }

@@ -109,7 +109,7 @@ module _ (m : SuiteData) (law : IsLawful m) (below : Below m) (c : ClientData) (
   named_by (ByPassword password) t = tt
   named_by (ByKey algorithm secret ask) t = name_tested algorithm t
 
-  -- an attempt behind its query has what it had
+  -- an attempt after its query has what it had
   unasked_named : (p : CredentialData) → IsNamed p → IsNamed (unasked p)
   unasked_named ByNothing t = t
   unasked_named (ByPassword password) t = t

@@ -23,7 +23,7 @@ pub answers_first : (g : Units) (f : ℕ → Units) (h : ℕ → Units) (n : ℕ
 answers_first g f h zero e s = ap (λ (q : Units). [] ++ q) e ∙ sym (append-nil g)
 answers_first g f h (suc n) e s = ap (λ (q : Units). q ++ h (suc n)) (answers_first g f h n e s) ∙ (ap (λ (q : Units). (g ++ answers_to f n) ++ q) (s n) ∙ append_assoc g (answers_to f n) (f n))
 
--- the groups, and then what comes behind
+-- the groups, and then what comes after them
 pub groups_after : (groups : List Units) (f : ℕ → Units) (n : ℕ) → answers_to (group_at groups f) (length groups + n) ≡ joined groups ++ answers_to f n
 groups_after [] f n = let e : 0 + n ≡ n = omega arith in ap (λ (k : ℕ). answers_to f k) e
 groups_after (g ∷ groups) f n =
@@ -80,7 +80,7 @@ requests_sent w v (suc n) h = omega (arith, length-append (answers_to (client_ne
 pub all_sent : (w : Wording) (v : Verdict) → length (answers_to (client_next w v) (suc v.requests)) ≡ v.requests + received_last v.how
 all_sent w v = omega (arith, length-append (answers_to (client_next w v) v.requests) (client_next w v v.requests), requests_sent w v v.requests (omega arith), ap length (next_last w v v.requests refl), bye_one w v.how)
 
--- what is said up to the first request
+-- what is sent up to the first request
 pub silent : (texts : Units) → joined (map (λ (text : List ℕ). []) texts) ≡ []
 silent [] = refl
 silent (t ∷ texts) = silent texts

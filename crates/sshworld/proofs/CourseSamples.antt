@@ -28,7 +28,7 @@ module _ (words : Wording) (greeting : List ℕ) (ends : BothEnds) (attempt : At
   abbrev server_sends : Wording → Guess → Way → Units
   server_sends w guess way = sent_after (server_part w guess way ends) (server_part w guess way ends).receives
 
-  -- one request, which is good
+  -- one request, which is successful
   client_one : client_sends plain NoGuess (after 1 (Success attempt)) ≡ words.client_offer ∷ words.init ∷ words.new_keys ∷ words.service_request ∷ words.request 0 ∷ []
   client_one = refl
 
@@ -89,7 +89,7 @@ module _ (words : Wording) (greeting : List ℕ) (ends : BothEnds) (attempt : At
   none_all : received_all NoGuess (after 0 Exhausted) ≡ record { client = 5; server = 6 }
   none_all = refl
 
-  -- behind three rounds the server waits for the one request; a right guess saves a round, and a wrong one none
+  -- after three rounds the server waits for the one request; a right guess saves a round, and a wrong one none
   one_three : received NoGuess (after 1 (Success attempt)) 3 ≡ record { client = 5; server = 5 }
   one_three = refl
 

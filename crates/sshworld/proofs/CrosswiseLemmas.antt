@@ -1,4 +1,4 @@
--- Two joined sides that ended authenticated: each has heard all that the other has said, and what they hand over matches.
+-- Two joined sides that ended authenticated: each has received all that the other has sent, and what they hand over matches.
 
 use Rattle.std.proofs.Common.{◌≡◌, ◌≢◌, ℕ, Bool, true, false, cond, List, [], ◌∷◌, ◌++◌, length, Option, None, Some, refl, sym, ap, subst, ◌∙◌, arith, append-nil, length-append}
 use Rattle.sshneg.specs.declared.role.Role.TheVariants.{Client, Server}
@@ -59,7 +59,7 @@ same_direction : (x y : Direction) → x.keys ≡ y.keys → x.sequence_number �
 same_direction x y keys number =
     ap (λ (k : KeysData). record { keys = k; sequence_number = x.sequence_number }) keys ∙ ap (λ (n : ℕ). record { keys = y.keys; sequence_number = n }) number
 
--- One direction: their endpoint has said these bytes, and the own one has heard all their units.
+-- One direction: their endpoint has sent these bytes, and the own one has received all their units.
 module _ (laws : Laws) (m : SuiteData) (d : DecisionsData) (lawful : IsLawful m) (own their : Partner) (receives : ReceivesCourse m d own their)
     (units answers : Units) (rest h s : List ℕ) (end : EndData) (b : History m d their.role their.party units rest None answers end h s)
     (f : IsPrefix units (stream_of own)) (is : IsInPart their.part units answers end) where
@@ -92,7 +92,7 @@ module _ (laws : Laws) (m : SuiteData) (d : DecisionsData) (lawful : IsLawful m)
       same_way m own.role their.role own.party their.party (payloads_of own) (payloads_of their) receives.received units answers speaks answers (prefix-all answers) on now_ready in
       ap (λ (l : Units). exchange_at m own.role own.party (version_in l) (payloads_in l)) all ∙ way.exchange
 
-  -- what the one says next, the other hears
+  -- what the one sends next, the other receives
   pub direction : (us sent : Units) → us ≡ their.party.version ∷ answers → IsReady own.role own.party (payloads_in us) → (agreed other_agreed : AgreedData) (speaker receiver : Session)
       → IsSession m d their.role their.party units answers agreed speaker → IsSession m d own.role own.party us sent other_agreed receiver → speaker.outgoing ≡ receiver.incoming
   direction us sent all ready agreed other_agreed speaker receiver t u =

@@ -76,7 +76,7 @@ module _ {S D : Type 0} (meaning : S → SuiteData) (policy : D → DecisionsDat
       subst (λ (q : List Delivery). Runs meaning policy q old new) (sym (take_more ds i default lt))
       (runs_push (take i ds) (get_or ds i default) old mid new r d)
 
-  -- a round for which memory was wanting
+  -- a round for which memory ran out
   pub rounds_into : (rounds n : ℕ) (old mid new : WorldData S D) → n < rounds → Rounds meaning policy n old mid → RoundInto meaning policy mid new → RoundsInto meaning policy rounds old new
   rounds_into zero n old mid new lt before r = absurd (omega arith)
   rounds_into (suc rounds) zero old mid new lt e r = inl (subst (λ (w : WorldData S D). RoundInto meaning policy w new) e r)
@@ -102,7 +102,7 @@ module _ {S D : Type 0} (meaning : S → SuiteData) (policy : D → DecisionsDat
     server = side_replies meaning policy _ _ suite decisions server client s.server_stands;
   }
 
-  -- what a node did that received n bytes, or for which memory was wanting
+  -- what a node did that received n bytes, or for which memory ran out
   module _ (sent : List ℕ) (old new : Node S D) where
     node_receives : (n : ℕ) → Takes meaning policy sent n old new → Receives meaning policy sent old new
     node_receives n (TakesNone z e) = ReceivesNone e
@@ -170,7 +170,7 @@ module _ {S D : Type 0} (meaning : S → SuiteData) (policy : D → DecisionsDat
   StandAt Client own their = NodesStand meaning policy client_config server_config suite decisions own their
   StandAt Server own their = NodesStand meaning policy client_config server_config suite decisions their own
 
-  -- Both nodes stand behind a delivery.
+  -- Both nodes stand after a delivery.
   pub nodes_received : (to : Side) (own their next : Node S D) → StandAt to own their → Receives meaning policy their.sent.items own next → StandAt to next their
   nodes_received Client own their next s r = record {
     client_stands = receiver_stands meaning policy _ _ suite decisions their.sent.items own next s.client_stands r;

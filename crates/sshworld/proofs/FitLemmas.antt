@@ -25,7 +25,7 @@ no_choice_fits w guess ends = record {
     waits k (suc zero) hk hl ek = omega (arith, hk, ek)
     waits k (suc (suc l)) hk hl ek = omega (arith, hl)
 
--- a side that hears n units at k waits for another number of them
+-- a side that receives n units at k waits for another number of them
 clash : (p : Part) (k n l : ℕ) → k ≡ n → l ≡ units_sent p k → (l ≡ units_sent p n → ⊥) → ⊥
 clash p k n l e el f = f (el ∙ ap (λ i. units_sent p i) e)
 
@@ -59,7 +59,7 @@ no_trust_fits w WrongGuess ends = record { client_receives_some = omega arith; s
 
 -- where requests are made
 module _ (w : Wording) (v : Verdict) (ends : BothEnds) where
-  -- a client that heard all of a server that heard so many requests has made one more
+  -- a client that received all of a server that received so many requests has made one more
   far : (guess : Guess) (k l i : ℕ) → i ≤ v.requests → l ≡ 5 + length (unanswered guess) + i → k < client_receives w v.requests → l < 5 + length (unanswered guess) + v.requests + received_last v.how
       → k ≡ units_sent (server_requests w guess v ends.server) l → l ≡ units_sent (client_requests w guess v ends.client) k → ⊥
   far guess k l i le is hk hl ek el =

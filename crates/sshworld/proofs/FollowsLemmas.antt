@@ -50,7 +50,7 @@ sent_from f group before (x ∷ xs) e =
     ∙ ap (λ (g : Units). group (length before) ++ g) (sent_from f group (before ++ x ∷ []) xs e.1 ∙ ap (λ (n : ℕ). from group n (length xs)) (let n : length (before ++ x ∷ []) ≡ suc (length before) = omega (arith, length-append before (x ∷ [])) in n))
 
 module _ (m : SuiteData) (d : DecisionsData) (role : Role) (own : ConfigData) (p : Part) (stream : Units) (follows : FollowsPart m d role own p stream) (some : 0 < p.receives) (ends : p.final ≢ Open) where
-  -- it stays open at fewer units than it hears
+  -- it stays open at fewer units than it receives
   few : (units : Units) → IsPrefix units stream → StaysOpen m d role own units → length units < p.receives
   few units front open_at = elim (dec_lt (length units) p.receives) [
     | yes less ↦ less

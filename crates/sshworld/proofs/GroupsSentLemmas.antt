@@ -12,7 +12,7 @@ use Rattle.sshworld.specs.Rounds.{after_rounds, all_received, groups_sent, is_no
 use Rattle.sshworld.proofs.FitLemmas.{fits}
 use Rattle.sshworld.proofs.RoundLemmas
 
--- in how many groups something is said
+-- in how many groups something is sent
 sent_step : (t : Bool) (n : ℕ) → (if t then n else n + 1) ≤ n + 1
 sent_step true n = omega arith
 sent_step false n = omega arith
@@ -41,14 +41,14 @@ sent_silent f h (suc n) e s = step (is_nothing (h (suc n))) (is_nothing (f n)) (
     step true false e h = absurd (cc)
     step false true e h = absurd (cc)
 
--- behind the banner nothing but requests
+-- after the banner nothing but requests
 sent_banner : (texts : Units) (f : ℕ → Units) (n : ℕ) → groups_sent (group_at (map (λ (text : List ℕ). []) texts) f) (length texts + n) ≤ n
 sent_banner [] f n = let e : 0 + n ≡ n = omega arith in rw e (sent_most f n)
 sent_banner (t ∷ texts) f n =
     let e : length (t ∷ texts) + n ≡ suc (length texts + n) = omega arith in
     rw e (omega (arith, sent_silent (group_at (map (λ (text : List ℕ). []) texts) f) (group_at ([] ∷ map (λ (text : List ℕ). []) texts) f) (length texts + n) refl (λ i. refl), sent_banner texts f n))
 
--- the client sends few groups behind its first
+-- the client sends few groups after its first
 requests_groups : (w : Wording) (guess : Guess) (v : Verdict) (end : EndData) (n : ℕ) → groups_sent (client_requests w guess v end).group (client_receives w n) ≤ n + 3
 requests_groups w guess v end zero = few (is_nothing (client_next w v 0)) (is_nothing (init_anew w guess))
   where

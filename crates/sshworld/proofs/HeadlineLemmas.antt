@@ -22,9 +22,9 @@ use Rattle.sshworld.proofs.CourseLaws.{client_final, few_groups, of_outcome, ser
 use Rattle.sshworld.proofs.PartLemmas.{grows}
 use Rattle.sshworld.proofs.RoundLemmas.{groups_sent_on, more_groups_of}
 
--- a side in its part, by how many units it has heard
+-- a side in its part, by how many units it has received
 module _ (part : Part) (units answers : Units) (end : EndData) (is : IsInPart part units answers end) where
-  -- it is open before it has heard all, and ends as the part does
+  -- it is open before it has received all, and ends as the part does
   pub ends_as : end ≢ Open → (end ≡ part.final) × (length units ≡ part.receives)
   ends_as ended = elim (dec_lt (length units) part.receives) [
     | yes less ↦ absurd (ended (is.ends ∙ (let t : (length units == part.receives) ≡ false = ne_eqb (length units) part.receives (λ z. omega (arith, z, less)) in ap (λ (b : Bool). if b then part.final else Open) t)))
@@ -42,7 +42,7 @@ module _ (part : Part) (units answers : Units) (end : EndData) (is : IsInPart pa
   pub sent_all : end ≢ Open → answers ≡ sent_after part part.receives
   sent_all ended = is.sent ∙ ap (λ (n : ℕ). sent_after part n) (ends_as ended).1
 
-  -- what was said is a prefix of all that the part says
+  -- what was sent is a prefix of all that the part sends
   pub sent_prefix : (version : List ℕ) → IsPrefix (version ∷ answers) (version ∷ sent_after part part.receives)
   sent_prefix version = prefix-cons version answers (sent_after part part.receives) (subst (λ (l : Units). IsPrefix l (sent_after part part.receives)) (sym is.sent) (grows part (length units) is.within))
 
@@ -58,12 +58,12 @@ open_or_not (Failed f) = inr (λ h. cc (h))
 open_or_not (Closed reason) = inr (λ h. cc (h))
 open_or_not (Disconnected reason) = inr (λ h. cc (h))
 
--- two sides in their parts, each of which has heard all that the other said unless it has ended
+-- two sides in their parts, each of which has received all that the other sent unless it has ended
 module _ (p q : Part) (of_client of_server : Told) (client_version server_version : List ℕ) (course : IsCourse p q)
     (of_p : IsInPart p of_client.units of_client.answers of_client.end) (of_q : IsInPart q of_server.units of_server.answers of_server.end)
     (client_all : of_client.end ≡ Open → of_client.units ≡ server_version ∷ of_server.answers)
     (server_all : of_server.end ≡ Open → of_server.units ≡ client_version ∷ of_client.answers) where
-  -- how many units a side has heard that is open
+  -- how many units a side has received that is open
   at_client : of_client.end ≡ Open → length of_client.units ≡ units_sent q (length of_server.units)
   at_client o = ap length (client_all o) ∙ sent_count q of_server.units of_server.answers of_server.end of_q server_version
 
@@ -141,7 +141,7 @@ module _ (m : SuiteData) (d : DecisionsData) (c : ClientData) (s : ServerData) (
     together = λ k a. let ended = both_ended (all k) in both_authenticated m d c s of_client.end of_server.end a end_as ended.0 ended.1;
   }
 
-  -- what a side has heard is a prefix of all that the other says
+  -- what a side has received is a prefix of all that the other sends
   pub client_received_of : IsPrefix of_client.units (version_of s.side ∷ sent_after (part_of_server m d c s w) (part_of_server m d c s w).receives)
   client_received_of = prefix-through of_client.units (version_of s.side ∷ of_server.answers) (version_of s.side ∷ sent_after (part_of_server m d c s w) (part_of_server m d c s w).receives)
       are.client_received (sent_prefix (part_of_server m d c s w) of_server.units of_server.answers of_server.end are.server_in_part (version_of s.side))
@@ -150,7 +150,7 @@ module _ (m : SuiteData) (d : DecisionsData) (c : ClientData) (s : ServerData) (
   server_received_of = prefix-through of_server.units (version_of c.side ∷ of_client.answers) (version_of c.side ∷ sent_after (part_of_client m d c s w) (part_of_client m d c s w).receives)
       are.server_received (sent_prefix (part_of_client m d c s w) of_client.units of_client.answers of_client.end are.client_in_part (version_of c.side))
 
--- the groups that a side has sent, by what it has said
+-- the groups that a side has sent, by what it has sent
 pub more_groups : (part : Part) (old new : Told) → IsInPart part old.units old.answers old.end → IsInPart part new.units new.answers new.end
     → length old.answers < length new.answers → groups_sent part.group (length old.units) < groups_sent part.group (length new.units)
 more_groups part old new a b more =

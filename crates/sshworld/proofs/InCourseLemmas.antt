@@ -1,4 +1,4 @@
--- Two sides are in their course from the making on, whatever prefix each hears next of what the other has said.
+-- Two sides are in their course from the making on, whatever prefix each receives next of what the other has sent.
 
 use Rattle.std.proofs.Common.{◌≡◌, ◌≢◌, ◌≤◌, [], ◌∷◌, length, length-append, append-nil, None, refl, sym, ap, subst, arith}
 use Rattle.sshneg.specs.declared.role.Role.TheVariants.{Client, Server}
@@ -23,13 +23,13 @@ use Rattle.sshworld.proofs.PartLemmas.{grows_to}
 prefix_short : (xs ys : Units) → IsPrefix xs ys → length xs ≤ length ys
 prefix_short xs ys p = omega (arith, ap length p.whole_is, length-append xs p.rest)
 
--- a side that has heard more has said more
+-- a side that has received more has sent more
 sent_more : (part : Part) (old new : Told) → IsInPart part old.units old.answers old.end → IsInPart part new.units new.answers new.end → IsPrefix old.units new.units → IsPrefix old.answers new.answers
 sent_more part old new a b received =
     subst (λ (l : Units). IsPrefix l new.answers) (sym a.sent)
     (subst (λ (l : Units). IsPrefix (sent_after part (length old.units)) l) (sym b.sent) (grows_to part (length old.units) (length new.units) (prefix_short old.units new.units received)))
 
--- what is said at the making
+-- what is sent at the making
 begins_with : (m : SuiteData) (d : DecisionsData) (role : Role) (own : ConfigData) → Replies m d role own [] None (making m role own) Open
 begins_with m d role own = record { in_order = sym (append-nil (making m role own)); ends = goes_on tt refl }
 
@@ -71,6 +71,6 @@ module _ (m : SuiteData) (d : DecisionsData) (c : ClientData) (s : ServerData) (
           server_received = received;
         }
 
--- a side that has ended has heard and said all that its part has
+-- a side that has ended has received and sent all that its part has
 pub all_of_part : (part : Part) (told : Told) → IsInPart part told.units told.answers told.end → told.end ≢ Open → (length told.units ≡ part.receives) × (told.answers ≡ sent_after part part.receives)
 all_of_part part told is ended = ((ends_as part told.units told.answers told.end is ended).1, sent_all part told.units told.answers told.end is ended)

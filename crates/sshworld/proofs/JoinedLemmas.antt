@@ -1,4 +1,4 @@
--- Two endpoints each of which has heard a prefix of what the other has said are in their course, in whatever order that came.
+-- Two endpoints each of which has received a prefix of what the other has sent are in their course, in whatever order that came.
 
 use Rattle.std.proofs.Common.{◌≡◌, ◌≢◌, inl, inr, ℕ, zero, suc, ◌+◌, ◌<◌, ◌≤◌, true, List, [], ◌∷◌, ◌++◌, length, min, take, drop, Option, None, refl, sym, ap, subst, ◌∙◌, arith}
 use native.Mathlib.Decide.{dec_lt}
@@ -46,18 +46,18 @@ taken_within n first us f low =
     let same : take n us ≡ take n first = ap (λ (l : Units). take n l) f.whole_is ∙ take-append-le n first f.rest low in
     record { rest = drop n first; whole_is = sym (take-append-drop n first) ∙ ap (λ (l : Units). l ++ drop n first) (sym same) }
 
--- what a side says that stands in its part
+-- what a side sends that stands in its part
 pub sent_within : (p : Partner) (units answers : Units) (end : EndData) → IsInPart p.part units answers end → IsPrefix answers (payloads_of p)
 sent_within p units answers end is = subst (λ (q : Units). IsPrefix q (payloads_of p)) (sym is.sent) (grows p.part (length units) is.within)
 
--- Their endpoint has said these bytes, of which the own one has read these units.
+-- Their endpoint has sent these bytes, of which the own one has read these units.
 module _ (laws : Laws) (below : Below) (m : SuiteData) (d : DecisionsData) (lawful : IsLawful m) (own their : Partner) (receives : ReceivesCourse m d own their)
     (units answers : Units) (rest h s : List ℕ) (end : EndData) (b : History m d their.role their.party units rest None answers end h s)
     (us : Units) (left received : List ℕ) (refusal : Option Refusal) (a : Received (parsers m own.role own.party) received us left refusal) (to_own : IsPrefix received s) where
   in_part_of : IsPrefix units (stream_of own) → IsInPart their.part units answers end
   in_part_of f = receives.keeps units answers end f b.replies
 
-  -- where they have heard units of the course alone, they have said such
+  -- where they have received units of the course alone, they have sent such
   pub received_of_whole : IsPrefix units (stream_of own) → IsPrefix us (their.party.version ∷ answers)
   received_of_whole f =
       (received_prefix laws m d lawful own.role their.role own.party their.party (payloads_of own) (payloads_of their) receives.received units answers rest h s None end b f
@@ -98,7 +98,7 @@ module _ (laws : Laws) (below : Below) (m : SuiteData) (d : DecisionsData) (lawf
     so_count : length (their.party.version ∷ sent_so m d their.role their.party so) ≡ units_sent their.part (length so)
     so_count = sent_count their.part so (sent_so m d their.role their.party so) Open in_part_so their.party.version
 
-  -- So many units as they have said when they have heard k of the course are of the course.
+  -- So many units as they have sent when they have received k of the course are of the course.
   pub step : (k n : ℕ) → n ≤ units_sent their.part k → IsPrefix (take k units) (stream_of own) → IsPrefix (take n us) (stream_of their)
   step k n low f = elim (dec_lt k (length units)) [
     | no ge ↦ taken_prefix n us (stream_of their) (in_stream (subst (λ (l : Units). IsPrefix l (stream_of own)) (take_all k units (omega (arith, ge))) f))
@@ -116,7 +116,7 @@ module _ (laws : Laws) (below : Below) (m : SuiteData) (d : DecisionsData) (lawf
       by n sent low g (inl f) = taken_prefix n us (stream_of their) (prefix-through us sent (stream_of their) f g)
       by n sent low g (inr f) = prefix-through (take n us) sent (stream_of their) (taken_within n sent us f low) g
 
--- An endpoint has heard no more units of the course than its part hears.
+-- An endpoint has received no more units of the course than its part receives.
 module _ (m : SuiteData) (d : DecisionsData) (own their : Partner) (receives : ReceivesCourse m d their own) (final : own.part.final ≢ Open)
     (units answers : Units) (rest h s : List ℕ) (end : EndData) (a : History m d own.role own.party units rest None answers end h s) where
   pub no_more : IsPrefix (take own.part.receives units) (stream_of their) → length units ≤ own.part.receives

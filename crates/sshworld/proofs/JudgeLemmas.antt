@@ -58,7 +58,7 @@ module _ {R : Type 0} (ends : List R → R → Option How) where
       by None e rest more = ap (λ o. (verdict_here made o (verdict_after ends (made ++ x ∷ []) (xs ++ later))).how) e ∙ more rest
 
 module _ (m : SuiteData) (d : DecisionsData) (s : ServerData) where
-  -- the verdict on what is left of a plan, behind the requests made
+  -- the verdict on what is left of a plan, after the requests made
   abbrev pub verdict_left : List AttemptData → List AttemptData → Verdict
   verdict_left made plan = verdict_after (ends_by m d s) made (offered_after m d s made plan)
 

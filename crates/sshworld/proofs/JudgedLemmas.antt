@@ -74,7 +74,7 @@ decided_if sent decide p given none false = none
 last_test : (n t : ℕ) → n ≤ t → nat_le t n ≡ (n == t)
 last_test n t h = grind (arith, nat_tests)
 
--- what a request brings that ends so, behind those made
+-- what a request brings that ends so, after those made
 abbrev pub how_reply : SuiteData → DecisionsData → ClientData → ServerData → AlgorithmsData → List AttemptData → AttemptData → Option How → Reply
 how_reply m d c s a made r None = goes (written_message (answer_to m d s made r) ∷ [])
 how_reply m d c s a made r (Some Unknown) = fails fault.Service
@@ -115,7 +115,7 @@ module _ (m : SuiteData) (d : DecisionsData) (c : ClientData) (s : ServerData) (
   pub tried_more : (made : List AttemptData) (r : AttemptData) → tried_of m d s (made ++ r ∷ []) ≡ tried_of m d s made ++ tried_by m d s made r ∷ []
   tried_more made r = flat-push (λ before x. tried_by m d s before x ∷ []) [] made r
 
-  -- where the server stands behind the requests made
+  -- where the server stands after the requests made
   module _ (version kexinit : List ℕ) (shares : ShareForm) (left : List AttemptData) (strict first : Bool) (made : List AttemptData) where
     abbrev k : Known
     k = record {
@@ -135,7 +135,7 @@ module _ (m : SuiteData) (d : DecisionsData) (c : ClientData) (s : ServerData) (
       abbrev method : MethodData
       method = method_by m session r.user r.service r.proving
 
-      -- all required methods are reached behind a good request
+      -- all required methods are reached after a successful request
       done_same : (b : Bool) → is_successful m d s (length made + 1) r ≡ b → (b && completes (config_of_server s) k r.user r.service method b) ≡ is_accepted m d s made r
       done_same false e = rw e refl
       done_same true e =

@@ -1,4 +1,4 @@
--- By all that the other says, both sides come to the same keys and are strict alike.
+-- By all that the other sends, both sides come to the same keys and are strict alike.
 
 use Rattle.std.proofs.Common.{◌≡◌, ◌⊎◌, inl, inr, suc, ◌+◌, ◌==◌, ◌&&◌, Bool, true, false, not, if◌then◌else◌, [], ◌∷◌, ◌++◌, Result, Ok, Err, refl, sym, ap, ◌∙◌, subst}
 use Rattle.std.proofs.lemmas.Bool.{true≢false}
@@ -42,7 +42,7 @@ use Rattle.sshworld.proofs.Readable.{AreOffersRead, AreSound, IsRead}
 use Rattle.sshworld.proofs.SentLemmas.{asks, client_sends, server_sends}
 use Rattle.sshworld.proofs.ServerFollows.{begun}
 
--- where no NEWKEYS is said
+-- where no NEWKEYS is sent
 abbrev NoneSwitches : Units → Type 0
 NoneSwitches [] = Unit {0}
 NoneSwitches (x ∷ xs) = ((kind x == 21) ≡ false) × NoneSwitches xs

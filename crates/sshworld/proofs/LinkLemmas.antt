@@ -1,4 +1,4 @@
--- What one endpoint has said, the other reads.
+-- What one endpoint has sent, the other reads.
 
 use Rattle.std.proofs.Common.{◌≡◌, ℕ, ◌<◌, ◌==◌, Bool, true, cond, List, [], ◌∷◌, ◌++◌, length, Option, None, Some, inl, inr, refl, sym, ap, subst, ◌∙◌, append_assoc, arith}
 use Rattle.std.specs.Prelude.{◌^◌}
@@ -25,8 +25,8 @@ use Rattle.sshworld.specs.Laws.{Laws}
 use Rattle.sshworld.specs.Links.{CanBeReceived}
 use Rattle.sshworld.specs.Placed.{HaveSameKeys, IsInPlace}
 
--- A speaker stands in its course, once it has heard these units and said these answers: both are a prefix of all that is
--- said, what was said fits packets, and NEWKEYS is among it only where the speaker has heard the exchange message.
+-- A speaker stands in its course, once it has received these units and sent these answers: both are a prefix of all that is
+-- sent, what was sent fits packets, and NEWKEYS is among it only where the speaker has received the exchange message.
 pub record SpeaksInCourse (peer : Role) (own their : ConfigData) (ours theirs units answers : Units) : Type 0 where
   pub received : IsPrefix units (own.version ∷ ours)
   pub sent : IsPrefix answers theirs
@@ -50,7 +50,7 @@ abbrev pub SameSwitch : Role → ConfigData → Units → List ℕ → Type 0
 SameSwitch role own before p = kept role own.offer 21 before p ≡ (kind p == 21)
 
 module _ (role : Role) (own : ConfigData) where
-  -- the switch and the packets behind it are the same on both sides
+  -- the switch and the packets after it are the same on both sides
   pub switch_same : (xs : Units) → EachPlace (SameSwitch role own) [] xs → stood role own.offer 21 xs ≡ switched_out xs
   unfolding stood switched_out
   switch_same xs each = stands_same (kept role own.offer 21) is_newkeys [] xs each
@@ -62,7 +62,7 @@ module _ (role : Role) (own : ConfigData) where
 number_below : (switched strict : Bool) (since all : ℕ) → number_by switched strict since all < 2 ^ 32
 number_below switched strict since all = mod_below _ (2 ^ 32) (omega arith)
 
--- behind this NEWKEYS the hearer reads with what the speaker writes with, and both have hashed the same
+-- after this NEWKEYS the receiver reads with what the speaker writes with, and both have hashed the same
 pub record SameWay (m : SuiteData) (role peer : Role) (own their : ConfigData) (received before : Units) : Type 0 where
   pub exchange : exchange_at m role own their.version before ≡ exchange_at m peer their (version_in received) (payloads_in received)
   pub keys : keys_at m role own their.version before (other role) ≡ keys_at m peer their (version_in received) (payloads_in received) peer
@@ -128,7 +128,7 @@ none_offered : offered [] ≡ true → ⊥
 unfolding offered
 none_offered e = true≢false (sym e)
 
--- units of which a payload was heard begin with the version
+-- units of which a payload was received begin with the version
 begins_so : (us : Units) (version : List ℕ) (ps : Units) → IsPrefix us (version ∷ ps) → offered (payloads_in us) ≡ true → (version_in us ≡ version) × IsPrefix (payloads_in us) ps
 begins_so [] version ps f e = absurd (none_offered e)
 begins_so (u ∷ us) version ps f e =

@@ -1,4 +1,4 @@
--- The two nodes of a world on the course of their configs, behind a delivery.
+-- The two nodes of a world on the course of their configs, after a delivery.
 
 use Rattle.std.proofs.Common.{◌≡◌, ℕ, false, List, take, sym, subst}
 use Rattle.sshneg.specs.declared.role.Role.{Role}

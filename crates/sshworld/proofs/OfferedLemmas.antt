@@ -20,18 +20,18 @@ unasked_asks (ByPassword password) = refl
 unasked_asks (ByKey algorithm secret ask) = refl
 
 module _ (m : SuiteData) (d : DecisionsData) (s : ServerData) where
-  -- behind a request that is made of an attempt: the attempt itself where its query was confirmed, and the rest of the plan
+  -- after a request that is made of an attempt: the attempt itself where its query was confirmed, and the rest of the plan
   abbrev pub after_request : List AttemptData → AttemptData → List AttemptData → List AttemptData
   after_request made x later =
       if is_confirmed m d s made x then after_query x ∷ offered_after m d s (made ++ x ∷ after_query x ∷ []) later
       else offered_after m d s (made ++ x ∷ []) later
 
-  -- The requests of what is left of a plan, behind those made, where the first of it is made.
+  -- The requests of what is left of a plan, after those made, where the first of it is made.
   abbrev pub requests_left : List AttemptData → List AttemptData → List AttemptData
   requests_left made [] = []
   requests_left made (x ∷ later) = x ∷ after_request made x later
 
-  -- the requests of an attempt that is made, and those behind
+  -- the requests of an attempt that is made, and those that follow
   made_now : (made : List AttemptData) (x : AttemptData) (later : List AttemptData)
       → requests_for m d s made x ++ offered_after m d s (made ++ requests_for m d s made x) later ≡ x ∷ after_request made x later
   made_now made x later = by (is_confirmed m d s made x)
@@ -41,7 +41,7 @@ module _ (m : SuiteData) (d : DecisionsData) (s : ServerData) where
       by true = refl
       by false = refl
 
-  -- behind a request made, the first whose method is listed is made
+  -- after a request made, the first whose method is listed is made
   listed_left : (made : List AttemptData) (b : AttemptData) (later : List AttemptData)
       → requests_left (b ∷ made) (next_listed s.methods later) ≡ offered_after m d s (b ∷ made) later
   unfolding next_listed
@@ -56,7 +56,7 @@ module _ (m : SuiteData) (d : DecisionsData) (s : ServerData) where
   listed_after [] x later = listed_left [] x later
   listed_after (b ∷ made) x later = listed_left (made ++ x ∷ []) b later
 
-  -- what is left behind a FAILURE, where the request wasn't confirmed; and behind a PK_OK, where it was
+  -- what is left after a FAILURE, where the request wasn't confirmed; and after a PK_OK, where it was
   pub refused_left : (made : List AttemptData) (x : AttemptData) (later : List AttemptData) → is_confirmed m d s made x ≡ false
       → requests_left (made ++ x ∷ []) (next_after s.methods (x ∷ later)) ≡ after_request made x later
   refused_left made x later none = rw none (listed_after made x later)

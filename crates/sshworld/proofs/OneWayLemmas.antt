@@ -16,7 +16,7 @@ one_more u p us sent e (inl f) = inl (subst (λ (w : List ℕ). IsPrefix (w ∷ 
 one_more u p us sent e (inr f) = inr (subst (λ (w : List ℕ). IsPrefix (p ∷ sent) (w ∷ us)) (sym e) (prefix-cons p sent us f))
 
 module _ (parsers : Units → Parser) (spells : Units → List ℕ → List ℕ) where
-  -- the unit at the front is the one that was spelled there, and behind it stand the bytes that stand behind that
+  -- the unit at the front is the one that was spelled there, and after it stand the bytes that stand after that
   record First (p u : List ℕ) (len : ℕ) (bytes after : List ℕ) : Type 0 where
     same : u ≡ p
     left : drop len bytes ≡ after
@@ -46,7 +46,7 @@ module _ (parsers : Units → Parser) (spells : Units → List ℕ → List ℕ)
       one_more u p us sent f.same (one_way (before ++ p ∷ []) sent us (drop len bytes) tail rest f.left each.1
       (subst (λ (w : List ℕ). Read parsers (before ++ w ∷ []) (drop len bytes) us rest) f.same later))
 
-  -- Behind all that was spelled stands what stands behind its bytes.
+  -- After all that was spelled stands what stands after its bytes.
   pub after_all : (before sent : Units) (bytes tail rest : List ℕ) → bytes ≡ flat_places spells before sent ++ tail → EachPlace (Spelled parsers spells) before sent → Read parsers before bytes sent rest
       → rest ≡ tail
   after_all before [] bytes tail rest e each r = sym r ∙ e

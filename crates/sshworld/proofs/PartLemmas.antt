@@ -1,4 +1,4 @@
--- The places of a part, and what is said from one on.
+-- The places of a part, and what is sent from one on.
 
 use Rattle.std.proofs.Common.{◌≡◌, ℕ, zero, suc, ◌+◌, ◌-◌, ◌<◌, ◌≤◌, ◌==◌, true, false, List, [], ◌∷◌, ◌++◌, length, refl, sym, ap, subst, ◌∙◌, arith, append_assoc, append-nil, length-append, eq-eqb}
 use Rattle.std.proofs.lemmas.Bool.{ne_eqb}
@@ -44,7 +44,7 @@ answers_split f j (suc r) =
 pub answers_from : (f : ℕ → Units) (n : ℕ) → answers_to f n ≡ from f 0 n
 answers_from f n = ap (λ (k : ℕ). answers_to f k) (let e : n ≡ 0 + n = omega arith in e) ∙ answers_split f 0 n
 
--- the groups that come behind others
+-- the groups that come after others
 pub group_after : (groups : List Units) (f : ℕ → Units) (i n : ℕ) → n ≡ length groups + i → group_at groups f n ≡ f i
 group_after groups f i n e = ap (λ (k : ℕ). group_at groups f k) e ∙ here groups
   where
@@ -52,7 +52,7 @@ group_after groups f i n e = ap (λ (k : ℕ). group_at groups f k) e ∙ here g
     here [] = ap (λ (k : ℕ). f k) (let z : 0 + i ≡ i = omega arith in z)
     here (g ∷ groups) = ap (λ (k : ℕ). group_at (g ∷ groups) f k) (let z : length (g ∷ groups) + i ≡ suc (length groups + i) = omega arith in z) ∙ here groups
 
--- what a side has said at a place is a prefix of what it has said at a later one
+-- what a side has sent at a place is a prefix of what it has sent at a later one
 pub grows_to : (p : Part) (a b : ℕ) → a ≤ b → IsPrefix (sent_after p a) (sent_after p b)
 grows_to p a b h =
     let e : b ≡ a + (b - a) = omega (arith, h) in

@@ -43,7 +43,7 @@ from_standing m d role party kept i h s a whole = record {
     by e (Left reason was is) = absurd (true≢false (sym (ap by_owner is) ∙ whole))
 
 module _ (laws : Laws) (m : SuiteData) (d : DecisionsData) (own their : Partner) where
-  -- nothing was heard of nothing
+  -- nothing was received of nothing
   received_none : (node opposite : NodeData) → node.used ≡ 0 → (a : HasHistory m d own.role own.party node.end (take node.used opposite.sent) node.sent)
       → IsPrefix a.units (stream_of their) × (a.refusal ≡ None)
   received_none node opposite none a =
@@ -61,7 +61,7 @@ pub begins : (laws : Laws) (m : SuiteData) (d : DecisionsData) (own their : Part
     → NodeReplies m d own.role own.party node opposite → NodeReplies m d their.role their.party opposite node → BothOnCourse m d own their node opposite
 begins laws m d own their node opposite none other_none r q = record { own_side = begins_at laws m d own their node opposite none r; their_side = begins_at laws m d their own opposite node other_none q }
 
--- What a side that is on its course has heard and said: it stands in its part.
+-- What a side that is on its course has received and sent: it stands in its part.
 module _ (m : SuiteData) (d : DecisionsData) (own their : Partner) (receives : ReceivesCourse m d their own) (node opposite : NodeData) (on : OnCourse m d own their node opposite)
     (had : node.end ≢ Failed fault.Memory) (other_had : opposite.end ≢ Failed fault.Memory)
     (a : HasHistory m d own.role own.party node.end (take node.used opposite.sent) node.sent) where
@@ -73,7 +73,7 @@ module _ (m : SuiteData) (d : DecisionsData) (own their : Partner) (receives : R
   pub sent_prefix_of : IsPrefix a.answers (payloads_of own)
   sent_prefix_of = let is = in_part in subst (λ (q : Units). IsPrefix q (payloads_of own)) (sym is.sent) (grows own.part (length a.units) is.within)
 
--- What is heard of a speaker that is on its course; the speaker's half is the opposite one, beside the own half as it was.
+-- What is received of a speaker that is on its course; the speaker's node is the opposite one, beside the own node as it was.
 module _ (laws : Laws) (m : SuiteData) (d : DecisionsData) (lawful : IsLawful m) (own their : Partner) (receives : ReceivesCourse m d own their) (old opposite : NodeData)
     (on : OnCourse m d their own opposite old) (had : old.end ≢ Failed fault.Memory) (other_had : opposite.end ≢ Failed fault.Memory)
     (b : HasHistory m d their.role their.party opposite.end (take opposite.used old.sent) opposite.sent) where
@@ -114,7 +114,7 @@ module _ (m : SuiteData) (d : DecisionsData) (own their : Partner) (old new oppo
     replies = λ had. subst (λ (b : List ℕ). HasHistory m d their.role their.party opposite.end b opposite.sent) (sym same_taken) (on.replies.replies had);
   }
 
-  -- the speaker, beside a receiver that had memory and said more
+  -- the speaker, beside a receiver that had memory and sent more
   pub stays : old.end ≢ Failed fault.Memory → OnCourse m d their own opposite new
   stays had = record {
     replies = replies_on;
@@ -131,12 +131,12 @@ delivered laws m d lawful own their receives old new opposite on had r more = re
   their_side = stays m d own their old new opposite on.their_side more had;
 }
 
--- Two sides on their course, neither of which wanted memory.
+-- Two sides on their course, neither of which ran out of memory.
 module _ (laws : Laws) (m : SuiteData) (d : DecisionsData) (lawful : IsLawful m) (own their : Partner) (receives : ReceivesCourse m d own their) (node opposite : NodeData) (on : BothOnCourse m d own their node opposite)
     (had : node.end ≢ Failed fault.Memory) (other_had : opposite.end ≢ Failed fault.Memory)
     (a : HasHistory m d own.role own.party node.end (take node.used opposite.sent) node.sent)
     (b : HasHistory m d their.role their.party opposite.end (take opposite.used node.sent) opposite.sent) where
-  -- what one has heard is a prefix of what the other has said
+  -- what one has received is a prefix of what the other has sent
   pub received_of : IsPrefix a.units (their.party.version ∷ b.answers)
   received_of = (receives_prefix laws m d lawful own their receives node opposite on.their_side had other_had b (take node.used opposite.sent) (drop node.used opposite.sent) a.units a.rest a.refusal
       (sym (take-append-drop node.used opposite.sent)) a.history.received).prefix

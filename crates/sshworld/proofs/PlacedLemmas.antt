@@ -1,4 +1,4 @@
--- What each payload of the course finds where it is heard.
+-- What each payload of the course finds where it is received.
 
 use Rattle.std.proofs.Common.{◌≡◌, ℕ, ◌+◌, ◌==◌, ◌&&◌, Bool, true, false, not, if◌then◌else◌, List, [], ◌∷◌, ◌++◌, Result, Ok, Err, refl, sym, ap, ◌∙◌, subst}
 use Rattle.std.proofs.lemmas.Bool.{true≢false}
@@ -69,7 +69,7 @@ module _ (role : Role) (own : ConfigData) where
   other : (before : Units) (x : List ℕ) → (kind x == 21) ≡ false → (switched_out before ≡ true → IsReady role own before) → IsInPlace role own before x
   other before x e r = record { switch = rw e refl; ready = r }
 
-  -- behind the exchange
+  -- after the exchange
   after_exchange : (before xs : Units) → offered before ≡ true → stood role own.offer (leaving role phase.Exchange) before ≡ true → expects_guess role own.offer before ≡ false → EachPlace (IsInPlace role own) before xs
   after_exchange before [] off on none = tt
   after_exchange before (x ∷ xs) off on none = (

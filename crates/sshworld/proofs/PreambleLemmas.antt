@@ -1,4 +1,4 @@
--- The lines that an accepted config says first are a preamble of its version.
+-- The lines that an endpoint of an accepted config sends first are a preamble of its version.
 
 use Rattle.std.proofs.Common.{◌≡◌, ◌≢◌, ℕ, List, [], ◌∷◌, ◌++◌, length, length-append, map, refl, sym, ap, ◌∙◌, append_assoc, arith}
 use Rattle.std.specs.List.{AllByRecursion, flat_map}

@@ -83,7 +83,7 @@ module _ (m : SuiteData) (d : DecisionsData) (s : ServerData) (required : AllByR
       by true e = ap (λ (b : Bool). b && are_reached s.required r.user r.service (tried_of m d s (made ++ r ∷ []))) (sym is ∙ e) ∙ sym (complete e)
       by false e = ap (λ (b : Bool). b && are_reached s.required r.user r.service (tried_of m d s (made ++ r ∷ []))) (sym is ∙ e)
 
-  -- a good request is no query
+  -- a successful request is no query
   request_is : successful ≡ true → r ≡ after_query x
   request_is e =
       let asks_not : not (asks r.proving) ≡ true = (and_parts (not (asks r.proving)) (is_proved m d s (length made + 1) r) (sym is ∙ e)).0 in
@@ -115,7 +115,7 @@ module _ (m : SuiteData) (d : DecisionsData) (s : ServerData) (required : AllByR
     pub at_none : (tries : ℕ) → tries ≡ s.tries → done ≡ false → (new.requests ≡ tries → ⊥) → None ≡ ends_by m d s made r
     at_none tries granted more others = at_more more false (ne_eqb new.requests s.tries (λ e. others (e ∙ sym granted)))
 
--- it isn't done, where it isn't good or something is missing
+-- it isn't done, where it isn't successful or something is missing
 pub not_successful : (successful complete : Bool) → successful ≡ false → (successful && complete) ≡ false
 not_successful successful complete e = ap (λ (b : Bool). b && complete) e
 
@@ -123,7 +123,7 @@ pub not_complete : (successful complete : Bool) → complete ≡ false → (succ
 not_complete true complete e = e
 not_complete false complete e = refl
 
--- the attempt itself is behind its query what it was
+-- the attempt itself is after its query what it was
 pub twice_itself : (x : AttemptData) → after_query (after_query x) ≡ after_query x
 twice_itself x = ap (λ (p : CredentialData). record x { proving = p }) (by x.proving)
   where
@@ -133,11 +133,11 @@ twice_itself x = ap (λ (p : CredentialData). record x { proving = p }) (by x.pr
     by (ByKey algorithm secret ask) = refl
 
 module _ (m : SuiteData) (d : DecisionsData) (s : ServerData) (made : List AttemptData) (x : AttemptData) where
-  -- a query is never good
+  -- a query is never successful
   pub successful_query : asks x.proving ≡ true → false ≡ is_successful m d s (length made + 1) x
   successful_query asks_is = sym (ap (λ (b : Bool). not b && is_proved m d s (length made + 1) x) asks_is)
 
-  -- the attempt itself is good if it is proved
+  -- the attempt itself is successful if it is proved
   pub successful_itself : (requests : ℕ) (proved : Bool) → requests ≡ length (made ++ x ∷ []) → proved ≡ is_proved m d s (requests + 1) x
       → proved ≡ is_successful m d s (length (made ++ x ∷ []) + 1) (after_query x)
   successful_itself requests proved counted e = e ∙ (ap (λ (n : ℕ). is_proved m d s (n + 1) x) counted ∙ by (length (made ++ x ∷ []) + 1) x.proving)

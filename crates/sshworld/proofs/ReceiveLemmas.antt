@@ -1,4 +1,4 @@
--- Both directions of the course of two accepted configs are heard.
+-- Both directions of the course of two accepted configs are received.
 
 use Rattle.std.proofs.Common.{◌≡◌, ◌⊎◌, inl, inr, true, refl, sym}
 use Rattle.sshneg.specs.declared.role.Role.TheVariants.{Client, Server}

@@ -1,4 +1,4 @@
--- What a side has heard, by the law of version lines.
+-- What a side has received, by the law of version lines.
 
 use Rattle.std.proofs.Common.{◌≡◌, ℕ, ◌+◌, ◌-◌, ◌<◌, ◌≤◌, ◌↔◌, min, Bool, List, [], ◌++◌, length, take, drop, get_or, refl, sym, ap, ◌∙◌, arith, subst, IsTrue}
 use Rattle.std.proofs.Math.Seq.{take-add}
@@ -77,7 +77,7 @@ all_moved k all sent receiver d =
     let e : receiver.moved ≡ min all (length sent) = omega arith in
     ap (λ (n : ℕ). take n sent) e ∙ take_min all sent
 
--- What a side has heard has one reading.
+-- What a side has received has one reading.
 pub record Shows (k : ℕ) (received : List ℕ) (h : Reception) : Type 0 where
   pub reading : Reading
   pub means : ReadingMeans k received reading
@@ -255,7 +255,7 @@ rest_got law k all text sent progress h v is f e =
     (subst (λ (xs : List ℕ). Follows k (take all xs) progress h) is f)
     (subst (λ (xs : List ℕ). NothingWaits (take all xs) xs h) is e)
 
--- What a side has heard when the schedule is done.
+-- What a side has received when the schedule is done.
 pub record Done (k all : ℕ) (sent : List ℕ) (receiver : Receiver) : Type 0 where
   pub follows : Follows k (take all sent) receiver.reader.progress receiver.reception
 

@@ -45,7 +45,7 @@ more_groups_in group a (suc b) h = elim (dec_lt b a) [
 pub more_groups_of : (p : Part) (a b : ℕ) → units_sent p a < units_sent p b → groups_sent p.group a < groups_sent p.group b
 more_groups_of p a b h = more_groups_in p.group a b (omega (arith, h, length-append p.first (answers_to p.group a), length-append p.first (answers_to p.group b)))
 
--- no side has heard more than was said
+-- no side has received more than was sent
 pub record Received (p q : Part) (at : UnitsReceived) : Type 0 where
   pub client : at.client ≤ p.receives
   pub server : at.server ≤ q.receives
@@ -70,7 +70,7 @@ module _ (p q : Part) where
   received_after zero = record { client = omega arith; server = omega arith; of_server = omega arith; of_client = omega arith }
   received_after (suc r) = received_on (after_rounds p q r) (received_after r)
 
-  -- where the client said nothing in a round, both have ended
+  -- where the client sent nothing in a round, both have ended
   module _ (f : Fit p q) where
     meets : (k k' l : ℕ) → k' ≡ min p.receives (units_sent q l) → l ≡ min q.receives (units_sent p k) → units_sent p k' ≡ units_sent p k → (p.receives ≤ k') × (q.receives ≤ l)
     meets k k' l ek el same =
@@ -90,7 +90,7 @@ module _ (p q : Part) where
     quiet : (at : UnitsReceived) → Received p q at → units_sent p (round_from p q at).client ≤ units_sent p at.client → (p.receives ≤ (round_from p q at).client) × (q.receives ≤ (round_from p q at).server)
     quiet at h short = meets at.client (round_from p q at).client (round_from p q at).server refl refl (omega (arith, short, more_units_sent p at.client (round_from p q at).client (no_less at h).0))
 
-    -- after r rounds both have ended, or the client has sent r groups behind its first
+    -- after r rounds both have ended, or the client has sent r groups after its first
     pub ended_or_sent : (r : ℕ) → ((p.receives ≤ (after_rounds p q r).client) × (q.receives ≤ (after_rounds p q r).server)) ⊎ (r ≤ groups_sent p.group (after_rounds p q r).client)
     ended_or_sent zero = inr (omega arith)
     ended_or_sent (suc r) =

@@ -1,4 +1,4 @@
--- What each side says in the course, as a list.
+-- What each side sends in the course, as a list.
 
 use Rattle.std.proofs.Common.{◌≡◌, ℕ, zero, suc, ◌+◌, List, [], ◌∷◌, ◌++◌, length, map, refl, sym, ap, ◌∙◌, arith, append_assoc, append-nil}
 use Rattle.sshpacket.specs.Stream.{Units}
@@ -34,7 +34,7 @@ module _ (w : Wording) (v : Verdict) (end : EndData) where
       by WrongGuess = ap (λ (n : ℕ). w.server_offer ∷ answers_to (group_at (server_early w WrongGuess) (server_next w v)) n) (let e : 5 + 1 + v.requests + received_last v.how ≡ 6 + (v.requests + received_last v.how) = omega arith in e)
           ∙ ap (λ (b : Units). w.server_offer ∷ b) (groups_after (server_early w WrongGuess) (server_next w v) (v.requests + received_last v.how)) ∙ ap (λ (b : Units). w.server_offer ∷ w.reply ∷ w.new_keys ∷ b) tail
 
-  -- all that a client says behind its KEXINIT
+  -- all that a client sends after its KEXINIT
   abbrev pub asks : Guess → Units
   asks guess = guessed w guess ++ (init_anew w guess ++ (w.new_keys ∷ w.service_request ∷ from (client_next w v) 0 (suc v.requests)))
 

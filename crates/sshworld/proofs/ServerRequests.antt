@@ -45,7 +45,7 @@ server_early_length w NoGuess = refl
 server_early_length w RightGuess = refl
 server_early_length w WrongGuess = refl
 
--- an attempt behind its query has what it had
+-- an attempt after its query has what it had
 named_itself : (r : AttemptData) → IsTestedName r.proving → IsTestedName (unasked r.proving)
 named_itself r h = by r.proving h
   where
@@ -77,7 +77,7 @@ module _ (m : SuiteData) (d : DecisionsData) (c : ClientData) (s : ServerData) (
   abbrev Q : Units → List ℕ → Type 0
   Q = IsAsPart m d Server (config_of_server s) p
 
-  -- what is reached behind the first j requests
+  -- what is reached after the first j requests
   abbrev reached : ℕ → ReachedData
   reached j = reached_after nothing_reached (tried_of m d s (take j (offered m d s c.plan)))
 
@@ -104,7 +104,7 @@ module _ (m : SuiteData) (d : DecisionsData) (c : ClientData) (s : ServerData) (
   group_is : (before : Units) (j : ℕ) → length before ≡ 4 + length (unanswered guess) + j → p.group (length (version_of c.side ∷ before)) ≡ server_next w v j
   group_is before j at = group_after (server_early w guess) (server_next w v) j (suc (length before)) (omega (arith, at, server_early_length w guess))
 
-  -- behind the last request
+  -- after the last request
   ends_here : (before : Units) (j : ℕ) → j ≡ v.requests → sits before j → length before ≡ 4 + length (unanswered guess) + j → (how : How) → v.how ≡ how
       → EachPlace Q (version_of c.side ∷ before) (client_last w how ++ [])
   ends_here before j all here at Unknown e = tt

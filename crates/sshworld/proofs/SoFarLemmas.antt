@@ -1,4 +1,4 @@
--- What an endpoint had said and where it stood when it had heard some of its units.
+-- What an endpoint had sent and where it stood when it had received some of its units.
 
 use Rattle.std.proofs.Common.{◌≡◌, inl, inr, ℕ, ◌<◌, true, List, [], ◌∷◌, ◌++◌, length, Option, None, refl, sym, ap, subst, ◌∙◌, append_assoc, append-nil, length-append, arith}
 use Rattle.std.proofs.lemmas.Bool.{cases_Bool, true≢false}
@@ -33,7 +33,7 @@ module _ (m : SuiteData) (d : DecisionsData) (role : Role) (party : ConfigData) 
   abbrev pub open_at : Units → List ℕ → Type 0
   open_at before unit = end_at m d role party before unit ≡ Open
 
-  -- it stood open before the last of its units, and had replied to what it had heard
+  -- it stood open before the last of its units, and had replied to what it had received
   pub stays_so : (units us more : Units) (refusal : Option Refusal) (end : EndData) → units ≡ us ++ more → length us < length units → Ends m d role party units refusal end → StaysOpen m d role party us
   stays_so units us more refusal end e less (goes_on stays is) = each-prefix open_at [] us more (subst (λ (l : Units). EachPlace open_at [] l) e stays)
   stays_so units us more refusal end e less (ended before last are stays is shut none) =
@@ -46,7 +46,7 @@ module _ (m : SuiteData) (d : DecisionsData) (role : Role) (party : ConfigData) 
     ends = goes_on stays refl;
   }
 
-  -- what it had said is a prefix of all that it said, in payloads and in bytes
+  -- what it had sent is a prefix of all that it sent, in payloads and in bytes
   pub sent_more : (units us more answers : Units) (refusal : Option Refusal) (end : EndData) → units ≡ us ++ more → Replies m d role party units refusal answers end → IsPrefix (sent_so us) answers
   sent_more units us more answers refusal end e r =
       let first : Units = flat_places (answers_at m d role party) [] us in
@@ -77,7 +77,7 @@ module _ (m : SuiteData) (d : DecisionsData) (role : Role) (party : ConfigData) 
       }
 
   module _ (below : Below) where
-    -- NEWKEYS was said only where the exchange was heard
+    -- NEWKEYS was sent only where the exchange was received
     ready_from : (version : List ℕ) (before us : Units) → StaysOpen m d role party (version ∷ before) → EachPlace open_at (version ∷ before) us
         → switched_out (flat_places (answers_at m d role party) (version ∷ before) us) ≡ true → IsReady role party (before ++ us)
     ready_from version before [] stays each on = absurd (nothing_switched on)

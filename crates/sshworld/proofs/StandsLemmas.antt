@@ -1,4 +1,4 @@
--- How the nodes of a world stand behind a delivery.
+-- How the nodes of a world stand after a delivery.
 
 use Rattle.std.proofs.Common.{◌≡◌, ◌≢◌, ℕ, zero, suc, ◌+◌, ◌≤◌, Bool, true, false, List, [], ◌∷◌, ◌++◌, length, take, drop, refl, sym, ap, subst, ◌∙◌, arith}
 use Rattle.std.proofs.lemmas.List.{append-nil, length-append, length-take, take-append-le}
@@ -24,12 +24,12 @@ take_within [] (suc n) (suc u) h = refl
 take_within (x ∷ xs) zero (suc u) h = absurd (omega arith)
 take_within (x ∷ xs) (suc n) (suc u) h = ap (λ (q : List ℕ). x ∷ q) (take_within xs n u (omega arith))
 
--- what was used before, and then the first bytes of the piece behind it
+-- what was used before, and then the first bytes of the piece after it
 taken_more : (xs : List ℕ) (used moved n u : ℕ) → used ≡ moved → u ≤ n → take used xs ++ take u (take n (drop moved xs)) ≡ take (moved + u) xs
 taken_more xs used moved n u e h =
     ap (λ (q : ℕ). take q xs ++ take u (take n (drop moved xs))) e ∙ ap (λ (q : List ℕ). take moved xs ++ q) (take_within (drop moved xs) n u h) ∙ sym (take-add moved u xs)
 
--- behind a call that doesn't end an endpoint as its owner does, its owner hasn't ended it, if not before
+-- after a call that doesn't end an endpoint as its owner does, its owner hasn't ended it, if not before
 still_uncut : (old new : EndData) → (by_owner new ≡ true → old ≡ new) → by_owner old ≡ false → by_owner new ≡ false
 still_uncut old new stays uncut = by (by_owner new) refl
   where
@@ -66,7 +66,7 @@ module _ {S D : Type 0} (meaning : S → SuiteData) (policy : D → DecisionsDat
         uncut = still_uncut (endpoint_end old.endpoint) (endpoint_end new.endpoint) (f.fed.uncut (take old.used sent) old.sent.items (s.after had)) s.uncut;
       }
 
-  -- the node for which memory was wanting
+  -- the node for which memory ran out
   broken_stands : (role : Role) (party : ConfigData) (suite : S) (decisions : D) (sent : List ℕ) (old new : Node S D) (n : ℕ)
       → NodeStands meaning policy role party suite decisions old sent → BrokenWith meaning policy sent n old new → NodeStands meaning policy role party suite decisions new sent
   broken_stands role party suite decisions sent old new n s b = record {
@@ -88,7 +88,7 @@ module _ {S D : Type 0} (meaning : S → SuiteData) (policy : D → DecisionsDat
   receiver_stands role party suite decisions sent old new s (ReceivesSome n f) = fed_stands role party suite decisions sent old new n s f
   receiver_stands role party suite decisions sent old new s (ReceivesInto n b) = broken_stands role party suite decisions sent old new n s b
 
-  -- So callers see it: what was said before stands in front, and all of it is whole packets.
+  -- So callers see it: what was sent before stands in front, and all of it is whole packets.
   pub breaks_off : (role : Role) (party : ConfigData) (suite : S) (decisions : D) (old new their : Node S D) (n : ℕ)
       → NodeStands meaning policy role party suite decisions old their.sent.items → BrokenWith meaning policy their.sent.items n old new
       → BreaksOff (meaning suite) (policy decisions) role party n (node_data old) (node_data new) (node_data their)

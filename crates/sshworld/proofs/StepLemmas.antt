@@ -1,4 +1,4 @@
--- What a payload that is a message brings an endpoint, and where it stands behind it.
+-- What a payload that is a message brings an endpoint, and where it stands after it.
 
 use Rattle.std.proofs.Common.{◌≡◌, ℕ, ◌+◌, ◌==◌, Bool, true, false, List, [], ◌∷◌, ◌++◌, Option, None, Some, Ok, refl, sym, ap, subst, ◌∙◌, if◌then◌else◌}
 use Rattle.std.proofs.lemmas.Bool.{and_from, and_parts, and_right, true≢false}
@@ -136,7 +136,7 @@ module _ (m : SuiteData) (d : DecisionsData) (role : Role) (party : ConfigData) 
       → Sits m d role party version (before ++ payload ∷ []) p false (record x { first = false })
   goes_dropped before payload p x s one = standing.drops m d role party version before payload p x s one
 
-  -- a message behind the exchange
+  -- a message after the exchange
   pub goes_leaving : (before : Units) (payload : List ℕ) (p : Phase) (x : Known) (content : MessageData) → Sits m d role party version before p false x → past_exchange p ≡ true
       → message_in Mpint payload ≡ Ok content → number_of content ≡ leaving role p → Sits m d role party version (before ++ payload ∷ []) (next_phase p) false (after_content m d party x content)
   goes_leaving before payload p x content s past e n =

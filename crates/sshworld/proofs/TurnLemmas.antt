@@ -1,4 +1,4 @@
--- A side to which all was moved that waited for it has heard all that it hears, or all that the other has said.
+-- A side to which all was moved that waited for it has received all that it receives, or all that the other has sent.
 
 use Rattle.std.proofs.Common.{◌≡◌, ◌≢◌, inl, inr, ℕ, ◌+◌, ◌≤◌, List, length, min, take, refl, sym, ap, subst, ◌∙◌, arith}
 use Rattle.std.proofs.Math.Nat.{min-le_left, min-le_right}
@@ -26,7 +26,7 @@ use Rattle.sshworld.proofs.PartnerLemmas.{all_received_of, in_part}
 use Rattle.sshworld.proofs.HeadlineLemmas.{ends_as, fewer, open_or_not, sent_count}
 use Rattle.sshworld.proofs.RoundLemmas.{more_units_sent}
 
--- All that waited for a side, whose half is own, was moved to it: it has sent more, or the same, and nothing waits for it.
+-- All that waited for a side, whose node is own, was moved to it: it has sent more, or the same, and nothing waits for it.
 pub record HasTakenAll (old new opposite : NodeData) : Type 0 where
   pub more_sent : IsPrefix old.sent new.sent
   pub none_waits : waiting new opposite ≡ 0
@@ -96,7 +96,7 @@ module _ (laws : Laws) (m : SuiteData) (d : DecisionsData) (lawful : IsLawful m)
   none_waiting (Closed reason) sent moved not = refl
   none_waiting (Disconnected reason) sent moved not = refl
 
-  -- a side that has heard all that it hears has ended
+  -- a side that has received all that it receives has ended
   ended_by : (own their : Partner) → ReceivesCourse m d their own → own.part.final ≢ Open → (node opposite : NodeData) → OnCourse m d own their node opposite → node.end ≢ Failed fault.Memory → opposite.end ≢ Failed fault.Memory
       → ((a : HasHistory m d own.role own.party node.end (take node.used opposite.sent) node.sent) → own.part.receives ≤ length a.units) → node.end ≢ Open
   ended_by own their received final node opposite on had other_had all o =

@@ -1,4 +1,4 @@
--- Where the user is let in, each side hears all that the other says.
+-- Where the user is accepted, each side receives all that the other sends.
 
 use Rattle.std.proofs.Common.{◌≡◌, ◌≢◌, ℕ, zero, suc, ◌+◌, Bool, true, false, length, Result, Ok, Err, if◌then◌else◌, refl, sym, ap, subst, ◌∙◌, arith}
 use Rattle.sshneg.specs.declared.choice.NoCommon.{NoCommon}
@@ -18,7 +18,7 @@ use Rattle.sshworld.specs.Wording.{Wording}
 use Rattle.sshworld.proofs.CountLemmas.{counted_offered}
 use Rattle.sshworld.proofs.CourseLemmas.{all_sent, client_units, server_units}
 
--- the course has requests, and the last of them lets the user in
+-- the course has requests, and the last of them is accepted
 pub record AcceptsUser (way : Way) : Type 0 where
   pub v : Verdict
   pub attempt : AttemptData
@@ -52,7 +52,7 @@ module _ (m : SuiteData) (d : DecisionsData) (c : ClientData) (s : ServerData) (
   unfolding outcome
   accepts e = by_choice (choice m (client_offer c) (server_offer s)) e
 
--- each side hears as many units as the other sends
+-- each side receives as many units as the other sends
 pub record ReceiveAll (w : Wording) (guess : Guess) (way : Way) (ends : BothEnds) : Type 0 where
   pub client_all : (client_part w guess way ends).receives ≡ units_sent (server_part w guess way ends) (server_part w guess way ends).receives
   pub server_all : (server_part w guess way ends).receives ≡ units_sent (client_part w guess way ends) (client_part w guess way ends).receives

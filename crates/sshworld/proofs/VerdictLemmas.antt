@@ -12,7 +12,7 @@ use Rattle.sshworld.specs.VerdictLaw.{AtNone, AtOne, IsVerdict, NoneEnds}
 use Rattle.sshworld.specs.Verdicts.{Exhausted, How, Verdict, ends_by, verdict, verdict_after, verdict_here}
 
 module _ {R : Type 0} (ends : List R → R → Option How) where
-  -- what is left has a verdict, behind requests none of which ends them
+  -- what is left has a verdict, after requests none of which ends them
   is_after : (made later : List R) → NoneEnds ends made → IsVerdict ends (made ++ later) (verdict_after ends made later)
   is_after made [] none = subst (λ (q : List R). IsVerdict ends q (record { requests = length made; how = Exhausted })) (sym (append-nil made))
       (AtNone (record { number = refl; none = none; how = refl }))

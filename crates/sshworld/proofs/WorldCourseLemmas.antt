@@ -152,7 +152,7 @@ module _ {S D : Type 0} (meaning : S → SuiteData) (policy : D → DecisionsDat
         (server_turn laws (meaning suite) (policy decisions) lawful c s (wording_of (meaning suite) (policy decisions) c s) receive client server server_new received on_old on_new had.client_had had_new.server_had
         (taken_all server server_new client all.receiver on_old.their_side.replies.moved_within) counts)
 
-  -- All that waits to one side: both have heard what that turn brings.
+  -- All that waits to one side: both have received what that turn brings.
   pub turned : (old new : WorldData S D) → IsSameSetup old new → IsLawful (meaning old.suite) → (to : Side) → ReceivesAll meaning policy old → IsOnCourse meaning policy old → IsOnCourse meaning policy new
       → HadMemory old → HadMemory new → DeliveredAll to old new → (received : UnitsReceived) → HaveReceivedIn meaning policy old received
       → HaveReceivedIn meaning policy new (turn (part_of_client_in meaning policy old) (part_of_server_in meaning policy old) to received)
@@ -218,7 +218,7 @@ module _ {S D : Type 0} (meaning : S → SuiteData) (policy : D → DecisionsDat
       server = side_begins meaning policy role.Server (config_of_server server_config) suite decisions server fresh_server;
     }
 
-  -- It stands behind a delivery.
+  -- It stands after a delivery.
   pub received_world : Laws → IsLawful (meaning suite) → (to : Side) (own their next : Node S D) → WorldAt to own their → Receives meaning policy their.sent.items own next → WorldAt to next their
   received_world laws lawful Client own their next w r =
       let s = nodes_received meaning policy client_config server_config suite decisions Client own their next w.nodes r in
@@ -252,13 +252,13 @@ module _ {S D : Type 0} (meaning : S → SuiteData) (policy : D → DecisionsDat
     settles_in u = settles meaning policy laws (seen client_config server_config suite decisions client server) lawful understands_in w.on_course (understands_in u)
 
 module _ {S D : Type 0} (meaning : S → SuiteData) (policy : D → DecisionsData) where
-  -- Where both hear all that the other says in the course, and neither wanted memory, they have heard what so many rounds bring that
-  -- end at the new world.
+  -- Where both receive all that the other sends in the course, and neither ran out of memory, they have received what so many
+  -- rounds bring that end at the new world.
   abbrev pub ReceivedAfter : WorldData S D → WorldData S D → ℕ → Type 0
   ReceivedAfter old new n = ReceivesAll meaning policy old → HadMemory old
       → HaveReceivedIn meaning policy new (after_rounds (part_of_client_in meaning policy old) (part_of_server_in meaning policy old) n)
 
-  -- what both have heard behind one round more
+  -- what both have received after one round more
   pub received_more : (old mid new : WorldData S D) (n : ℕ) → IsSameSetup old mid → (HadMemory old → HadMemory mid) → ReceivedAfter old mid n → ReceivesRound meaning policy mid new → ReceivedAfter old new (n + 1)
   received_more old mid new n same still before round =
       let e = same_world old mid same in

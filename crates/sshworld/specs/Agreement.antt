@@ -19,7 +19,7 @@ host_key_of_server m server algorithm = m.blob algorithm (secret_of server.host_
 abbrev pub share_of_client : SuiteData → ClientData → List ℕ → List ℕ
 share_of_client m client kex = m.share kex client.side.random
 
--- f and K: the server's share and the shared number, as the server answers the client's share by its own random bytes.
+-- f and K: the server's share and the shared secret, as the server answers the client's share by its own random bytes.
 abbrev pub answer_of_server : SuiteData → ClientData → ServerData → List ℕ → ResponseData
 answer_of_server m client server kex = answer_or (m.respond kex server.side.random (share_of_client m client kex))
 

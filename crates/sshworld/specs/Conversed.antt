@@ -1,4 +1,4 @@
--- How the endpoints of a world stand: each has heard and said the bytes that were moved.
+-- How the endpoints of a world stand: each has received and sent the bytes that were moved.
 
 use Rattle.std.specs.Prelude.{◌≡◌, ℕ, List, []}
 use Rattle.sshneg.specs.declared.role.Role.{Role}
@@ -11,7 +11,7 @@ use Rattle.sshcore.specs.EndpointParts.{ConfigData, DecisionsData, config_of_cli
 use Rattle.sshworld.specs.Worlds.{HasReplied, NodeData, WorldData}
 
 module _ {S D : Type 0} (meaning : S → SuiteData) (policy : D → DecisionsData) where
-  -- An endpoint of this role, party, suite and decisions stands so, and has heard and said these bytes.
+  -- An endpoint of this role, party, suite and decisions stands so, and has received and sent these bytes.
   pub record HasConversed (role : Role) (party : ConfigData) (suite : S) (decisions : D) (end : EndData) (received_bytes sent_bytes : List ℕ) : Type 0 where
     pub endpoint : EndpointData S D
     pub is_role : endpoint.role ≡ role
@@ -21,8 +21,8 @@ module _ {S D : Type 0} (meaning : S → SuiteData) (policy : D → DecisionsDat
     pub is_end : endpoint_end endpoint ≡ end
     pub after : EndpointAfter meaning policy endpoint received_bytes sent_bytes
 
-  -- A side has used what was moved to it, up to its end; and unless memory was wanting, its endpoint has heard what it used, and has
-  -- said what it sent.
+  -- A side has used what was moved to it, up to its end; and unless memory ran out, its endpoint has received what the side used
+  -- and has sent what the side sent.
   abbrev pub SideReplies : Role → ConfigData → S → D → NodeData → NodeData → Type 0
   SideReplies role party suite decisions own their = HasReplied (HasConversed role party suite decisions own.end) own their
 

@@ -1,6 +1,6 @@
--- The course of a client and a server: which payloads each sends in answer to what it hears, if all that is sent is heard.
--- What a side hears are units, counted from 0: unit 0 is the other's version line, and the units behind it are the other's
--- payloads. What a side sends are groups of payloads: the first group stands behind its own version line, before it hears
+-- The course of a client and a server: which payloads each sends in answer to what it receives, if all that is sent is received.
+-- What a side receives are units, counted from 0: unit 0 is the other's version line, and the units after it are the other's
+-- payloads. What a side sends are groups of payloads: the first group stands after its own version line, before it receives
 -- anything, and group i answers unit i, perhaps by nothing.
 
 use Rattle.std.specs.Prelude.{◌+◌, ◌==◌, ◌++◌, ℕ, zero, suc, List, [], ◌∷◌, length, map, if◌then◌else◌, nat_lt, Result, Ok, Err}
@@ -19,7 +19,7 @@ use Rattle.sshworld.specs.Outcome.{BothEnds}
 use Rattle.sshworld.specs.Verdicts.{Exhausted, How, Limit, Success, Unknown, Verdict, verdict}
 use Rattle.sshworld.specs.Wording.{Wording}
 
--- One side's part of a course: its first group, the group that answers each unit, how many units it hears, and its end, which
+-- One side's part of a course: its first group, the group that answers each unit, how many units it receives, and its end, which
 -- the last of them brings.
 pub record Part : Type 0 where
   pub first : Units
@@ -32,11 +32,11 @@ abbrev pub answers_to : (ℕ → Units) → ℕ → Units
 answers_to group zero = []
 answers_to group (suc n) = answers_to group n ++ group n
 
--- The payloads that a side has said when it has heard n units.
+-- The payloads that a side has sent when it has received n units.
 abbrev pub sent_after : Part → ℕ → Units
 sent_after part n = part.first ++ answers_to part.group n
 
--- these groups, and those that come behind them
+-- these groups, and those that come after them
 abbrev pub group_at : List Units → (ℕ → Units) → ℕ → Units
 group_at [] after n = after n
 group_at (group ∷ groups) after zero = group
@@ -45,7 +45,7 @@ group_at (group ∷ groups) after (suc n) = group_at groups after n
 abbrev pub nothing : ℕ → Units
 nothing n = []
 
--- The KEXDH_INIT that is sent right behind the client's KEXINIT, as a guess (RFC 4253 section 7).
+-- The KEXDH_INIT that is sent right after the client's KEXINIT, as a guess (RFC 4253 section 7).
 abbrev pub guessed : Wording → Guess → Units
 guessed w NoGuess = []
 guessed w RightGuess = w.init ∷ []
@@ -70,7 +70,7 @@ unanswered NoGuess = []
 unanswered RightGuess = []
 unanswered WrongGuess = [] ∷ []
 
--- Where no algorithm is common, each side hears the other's version line and KEXINIT, and answers the KEXINIT by a DISCONNECT
+-- Where no algorithm is common, each side receives the other's version line and KEXINIT, and answers the KEXINIT by a DISCONNECT
 -- (RFC 4253 section 7.1).
 abbrev pub no_choice_groups : Wording → List Units
 no_choice_groups w = [] ∷ (w.disconnect SSH_DISCONNECT_KEY_EXCHANGE_FAILED ∷ []) ∷ []
@@ -81,7 +81,7 @@ client_no_choice w guess end = record { first = client_first w guess; group = gr
 abbrev pub server_no_choice : Wording → EndData → Part
 server_no_choice w end = record { first = server_first w; group = group_at (no_choice_groups w) nothing; receives = 2; final = end }
 
--- Where the client doesn't trust the host key, it hears the server's version line, KEXINIT and KEXDH_REPLY, and answers the
+-- Where the client doesn't trust the host key, it receives the server's version line, KEXINIT and KEXDH_REPLY, and answers the
 -- KEXDH_REPLY by a DISCONNECT (RFC 4253 section 8).
 abbrev pub client_no_trust : Wording → Guess → EndData → Part
 client_no_trust w guess end = record {
@@ -91,7 +91,7 @@ client_no_trust w guess end = record {
   final = end;
 }
 
--- The server hears the version line, KEXINIT, a wrong guess, KEXDH_INIT and that DISCONNECT. It answers the KEXDH_INIT by
+-- The server receives the version line, KEXINIT, a wrong guess, KEXDH_INIT and that DISCONNECT. It answers the KEXDH_INIT by
 -- KEXDH_REPLY and NEWKEYS.
 abbrev pub server_no_trust : Wording → Guess → EndData → Part
 server_no_trust w guess end = record {
@@ -101,18 +101,18 @@ server_no_trust w guess end = record {
   final = end;
 }
 
--- What the client says behind the last answer: a DISCONNECT, where it has no more to offer.
+-- What the client sends after the last answer: a DISCONNECT, where it has no more to offer.
 abbrev pub client_last : Wording → How → Units
 client_last w Unknown = []
 client_last w (Success attempt) = []
 client_last w Limit = []
 client_last w Exhausted = w.disconnect SSH_DISCONNECT_NO_MORE_AUTH_METHODS_AVAILABLE ∷ []
 
--- What it says behind i requests that were answered: the next request, if one is made.
+-- What it sends after i requests that were answered: the next request, if one is made.
 abbrev pub client_next : Wording → Verdict → ℕ → Units
 client_next w v i = if nat_lt i v.requests then w.request i ∷ [] else (if i == v.requests then client_last w v.how else [])
 
--- The server's answer to the last request, behind i others (RFC 4252 section 5): SUCCESS, or a DISCONNECT where the service is
+-- The server's answer to the last request, after i others (RFC 4252 section 5): SUCCESS, or a DISCONNECT where the service is
 -- unknown or it grants no more requests; or FAILURE, and the client has no more to offer.
 abbrev pub server_last : Wording → ℕ → How → Units
 server_last w i Unknown = w.disconnect SSH_DISCONNECT_SERVICE_NOT_AVAILABLE ∷ []
@@ -120,29 +120,29 @@ server_last w i (Success attempt) = w.success ∷ []
 server_last w i Limit = w.disconnect SSH_DISCONNECT_NO_MORE_AUTH_METHODS_AVAILABLE ∷ []
 server_last w i Exhausted = w.refusal i ∷ []
 
--- Its answer to the request behind i others: FAILURE (RFC 4252 section 5.1), if it isn't the last.
+-- Its answer to the request after i others: FAILURE (RFC 4252 section 5.1), if it isn't the last.
 abbrev pub server_next : Wording → Verdict → ℕ → Units
 server_next w v i = if nat_lt (i + 1) v.requests then w.refusal i ∷ [] else (if i + 1 == v.requests then server_last w i v.how else [])
 
 -- Where requests are made, the client answers the version line by nothing; KEXINIT by KEXDH_INIT, unless its guess was right;
 -- KEXDH_REPLY by NEWKEYS and SERVICE_REQUEST (RFC 4253 sections 7.3 and 10); NEWKEYS by nothing; SERVICE_ACCEPT by the first
--- request; and a BANNER by nothing. Behind these each FAILURE is answered by the next request.
+-- request; and a BANNER by nothing. After these each FAILURE is answered by the next request.
 abbrev pub client_early : Wording → Guess → Verdict → List Units
 client_early w guess v =
     [] ∷ init_anew w guess ∷ (w.new_keys ∷ w.service_request ∷ []) ∷ [] ∷ client_next w v 0 ∷ map (λ banner. []) w.banner
 
 -- The server answers the version line, KEXINIT and a wrong guess by nothing; KEXDH_INIT by KEXDH_REPLY and NEWKEYS; NEWKEYS by
--- nothing; and SERVICE_REQUEST by SERVICE_ACCEPT and the BANNER, if it has one (RFC 4252 section 5.4). Behind these each request
+-- nothing; and SERVICE_REQUEST by SERVICE_ACCEPT and the BANNER, if it has one (RFC 4252 section 5.4). After these each request
 -- is answered.
 abbrev pub server_early : Wording → Guess → List Units
 server_early w guess = [] ∷ [] ∷ unanswered guess ++ (w.reply ∷ w.new_keys ∷ []) ∷ [] ∷ (w.service_accept ∷ w.banner) ∷ []
 
--- How many units the client hears: where no request is made, up to SERVICE_ACCEPT; else up to the answer to the last one.
+-- How many units the client receives: where no request is made, up to SERVICE_ACCEPT; else up to the answer to the last one.
 abbrev pub client_receives : Wording → ℕ → ℕ
 client_receives w zero = 5
 client_receives w (suc n) = 5 + length w.banner + suc n
 
--- How many payloads the server hears behind the last request: the client's DISCONNECT, where it has no more to offer.
+-- How many payloads the server receives after the last request: the client's DISCONNECT, where it has no more to offer.
 abbrev pub received_last : How → ℕ
 received_last Unknown = 0
 received_last (Success attempt) = 0
@@ -157,7 +157,7 @@ client_requests w guess v end = record {
   final = end;
 }
 
--- The server hears the version line, KEXINIT, a wrong guess, KEXDH_INIT, NEWKEYS, SERVICE_REQUEST, all requests, and a
+-- The server receives the version line, KEXINIT, a wrong guess, KEXDH_INIT, NEWKEYS, SERVICE_REQUEST, all requests, and a
 -- DISCONNECT if the client has no more to offer.
 abbrev pub server_requests : Wording → Guess → Verdict → EndData → Part
 server_requests w guess v end = record {

@@ -1,4 +1,4 @@
--- The course of two configs, as both sides of a world hear and say it.
+-- The course of two configs, as both sides of a world receive and send it.
 
 use Rattle.std.specs.Prelude.{◌≡◌, take, None}
 use Rattle.sshneg.specs.declared.role.Role.TheVariants.{Client, Server}
@@ -19,13 +19,13 @@ module _ (m : SuiteData) (d : DecisionsData) (client : ClientData) (server : Ser
   abbrev pub server_partner : Partner
   server_partner = record { role = Server; party = config_of_server server; part = part_of_server m d client server w }
 
-  -- Both directions of their course are heard.
+  -- Both directions of their course are received.
   pub record BothReceive : Type 0 where
     pub to_client : ReceivesCourse m d client_partner server_partner
     pub to_server : ReceivesCourse m d server_partner client_partner
 
   -- Both sides of a world have such histories that they are in their course, without a refusal; and where nothing waits for either,
-  -- each that is open has heard all that the other has said.
+  -- each that is open has received all that the other has sent.
   pub record IsCourseReceived (of_client of_server : NodeData) : Type 0 where
     pub client_history : HasHistory m d Client (config_of_client client) of_client.end (take of_client.used of_server.sent) of_client.sent
     pub server_history : HasHistory m d Server (config_of_server server) of_server.end (take of_server.used of_client.sent) of_server.sent

@@ -15,8 +15,8 @@ use Rattle.sshworld.specs.Conversed.{EachReplies}
 use Rattle.sshworld.specs.WorldCourse.{KeepsHeadline}
 use Rattle.sshworld.specs.Worlds.{IsSameSetup, NodeData, WorldData, config_at, node_at, node_opposite, role_at, waiting_for}
 
--- The next n bytes were moved to a side: it used all of them, or those up to its end, and what it said stands behind what it had
--- sent; and memory wasn't wanting. Where none were moved, nothing changed.
+-- The next n bytes were moved to a side: it used all of them, or those up to its end, and what it sent by that is appended to
+-- what it had sent before; and memory didn't run out. Where none were moved, nothing changed.
 pub record TakesIn (n : ℕ) (old new : NodeData) : Type 0 where
   pub moved_on : new.moved ≡ old.moved + n
   pub used_on : old.used ≤ new.used
@@ -31,8 +31,9 @@ pub record Delivered {S D : Type 0} (to : Side) (n : ℕ) (old new : WorldData S
   pub receiver : TakesIn n (node_at to old) (node_at to new)
   pub sender : node_opposite to new ≡ node_opposite to old
 
--- The next n bytes were moved to a side, and memory was wanting: it has failed by that. It doesn't count those that it used of
--- them. Behind what it had sent stands what it said, so that it has sent whole packets, a prefix of those that it would have sent.
+-- The next n bytes were moved to a side, and memory ran out: it has failed by that. It doesn't count those that it used of them.
+-- What it sent by that is appended to what it had sent before, so that it has sent whole packets, a prefix of those that it would
+-- have sent.
 pub record BreaksOff (m : SuiteData) (d : DecisionsData) (role : Role) (party : ConfigData) (n : ℕ) (old new opposite : NodeData) : Type 0 where
   pub failed : new.end ≡ Failed fault.Memory
   pub moved_on : new.moved ≡ old.moved + n
@@ -73,7 +74,7 @@ module _ {S D : Type 0} (meaning : S → SuiteData) (policy : D → DecisionsDat
   Rounds zero old new = new ≡ old
   Rounds (suc n) old new = (mid : WorldData S D) × Round old mid × Rounds n mid new
 
-  -- A delivery of n bytes for which memory was wanting; the side that doesn't receive doesn't change.
+  -- A delivery of n bytes for which memory ran out; the side that doesn't receive doesn't change.
   pub record Refused (to : Side) (n : ℕ) (old new : WorldData S D) : Type 0 where
     pub receiver : BreaksOff (meaning old.suite) (policy old.decisions) (role_at to) (config_at to old) n (node_at to old) (node_at to new) (node_opposite to old)
     pub sender : node_opposite to new ≡ node_opposite to old

@@ -16,11 +16,11 @@ use Rattle.sshworld.specs.Guesses.{guess_of}
 use Rattle.sshworld.specs.Outcome.{outcome}
 use Rattle.sshworld.specs.Wording.{Wording}
 
--- How a side stands that has heard n units: it is open until it has heard all that it hears.
+-- How a side stands that has received n units: it is open until it has received all that it receives.
 abbrev pub end_after : Part → ℕ → EndData
 end_after part n = if n == part.receives then part.final else Open
 
--- The units that a side sends in a course: its version line, and all payloads that it says.
+-- The units that a side sends in a course: its version line, and all payloads that it sends.
 abbrev pub units_of : ConfigData → Part → Units
 units_of own part = own.version ∷ sent_after part part.receives
 
@@ -29,21 +29,21 @@ pub record IsAsPart (m : SuiteData) (d : DecisionsData) (role : Role) (own : Con
   pub answer : answers_at m d role own before unit ≡ part.group (length before)
   pub end : end_at m d role own before unit ≡ end_after part (suc (length before))
 
--- An endpoint follows its part, while it hears units of this stream: it says first what the part has first, and at each place up
--- to the part's end it answers and stands as the part has it.
+-- An endpoint follows its part, while it receives units of this stream: it sends first what the part has first, and at each
+-- place up to the part's end it answers and stands as the part has it.
 pub record FollowsPart (m : SuiteData) (d : DecisionsData) (role : Role) (own : ConfigData) (part : Part) (stream : Units) : Type 0 where
   pub making_is : making m role own ≡ part.first
   pub places : (before : Units) (unit : List ℕ) → IsPrefix (before ++ unit ∷ []) stream → length before < part.receives
       → IsAsPart m d role own part before unit
 
--- A side that has heard these units, has said these answers and has this end stands in its part: it has heard no more than the part
--- hears, and has said and stands as the part has it then.
+-- A side that has received these units, has sent these answers and has this end stands in its part: it has received no more than
+-- the part receives, and has sent and stands as the part has it then.
 pub record IsInPart (part : Part) (units answers : Units) (end : EndData) : Type 0 where
   pub within : length units ≤ part.receives
   pub sent : answers ≡ sent_after part (length units)
   pub ends : end ≡ end_after part (length units)
 
--- Whatever prefix of this stream an endpoint has heard, and whatever it replied, it stands in its part.
+-- Whatever prefix of this stream an endpoint has received, and whatever it replied, it stands in its part.
 abbrev pub KeepsPart : SuiteData → DecisionsData → Role → ConfigData → Part → Units → Type 0
 KeepsPart m d role own part stream =
     (units answers : Units) (end : EndData) → IsPrefix units stream → Replies m d role own units None answers end → IsInPart part units answers end
@@ -56,7 +56,7 @@ module _ (m : SuiteData) (d : DecisionsData) (client : ClientData) (server : Ser
   abbrev pub part_of_server : Part
   part_of_server = server_part w (guess_of client server) (way_of m d client server) (outcome m d client server)
 
-  -- Each of two endpoints with these configs follows its part, while it hears what the other says in the course.
+  -- Each of two endpoints with these configs follows its part, while it receives what the other sends in the course.
   pub record BothFollow : Type 0 where
     pub client_follows : FollowsPart m d Client (config_of_client client) part_of_client (units_of (config_of_server server) part_of_server)
     pub server_follows : FollowsPart m d Server (config_of_server server) part_of_server (units_of (config_of_client client) part_of_client)

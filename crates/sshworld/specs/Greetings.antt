@@ -1,4 +1,4 @@
--- What two sides have heard of each other after a schedule of deliveries.
+-- What two sides have received from each other after a schedule of deliveries.
 
 use Rattle.std.specs.Prelude.{◌≡◌, ◌↔◌, ℕ, ◌+◌, List, [], ◌∷◌, length, take, IsTrue}
 use Rattle.sshwire.specs.declared.fault.WireFault.{WireFault}
@@ -38,7 +38,7 @@ abbrev pub NothingWaits : List ℕ → List ℕ → Reception → Type 0
 NothingWaits bytes sent (Waiting n) = bytes ≡ sent
 NothingWaits bytes sent _ = Unit {0}
 
--- Each side has heard what the bytes moved to it say, and both have each other's version line
+-- Each side has received what the bytes moved to it read as, and both have each other's version line
 -- once the schedule is complete, if they sent one.
 pub record Greets (client server : List ℕ) (schedule : List Delivery) (greeting : Greeting) : Type 0 where
   pub to_client : IsReception OTHER_LINE_LIMIT (moved Client schedule server) greeting.client

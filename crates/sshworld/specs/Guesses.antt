@@ -4,7 +4,7 @@ use Rattle.std.specs.Prelude.{Bool, true, false}
 use Rattle.sshneg.specs.Strictness.{is_right_guess}
 use Rattle.sshcore.specs.ConfigParts.{ClientData, ServerData, client_offer, server_offer}
 
--- A client sends no guess behind its KEXINIT, or one that is right, or one that is wrong.
+-- A client sends no guess after its KEXINIT, or one that is right, or one that is wrong.
 pub data Guess : Type 0 where
   NoGuess : Guess
   RightGuess : Guess

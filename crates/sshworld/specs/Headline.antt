@@ -24,22 +24,22 @@ pub record Headline (ends : BothEnds) (client server : EndData) (complete : Type
   pub both_ended : complete → (client ≢ Open) × (server ≢ Open)
   pub together : complete → (a : AgreedData) → (client ≡ Authenticated a) ↔ (server ≡ Authenticated a)
 
--- What one side has heard and said: the units that it has heard, the payloads that it has said, and how it stands.
+-- What one side has received and sent: the units that it has received, the payloads that it has sent, and how it stands.
 pub record Told : Type 0 where
   pub units : Units
   pub answers : Units
   pub end : EndData
 
 module _ (m : SuiteData) (d : DecisionsData) (client : ClientData) (server : ServerData) (w : Wording) (of_client of_server : Told) where
-  -- Two sides with these configs are in their course: each stands in its part, and what it has heard is a prefix of what the other
-  -- has said behind its version line.
+  -- Two sides with these configs are in their course: each stands in its part, and what it has received is a prefix of what the
+  -- other has sent after its version line.
   pub record AreInCourse : Type 0 where
     pub client_in_part : IsInPart (part_of_client m d client server w) of_client.units of_client.answers of_client.end
     pub server_in_part : IsInPart (part_of_server m d client server w) of_server.units of_server.answers of_server.end
     pub client_received : IsPrefix of_client.units (version_of server.side ∷ of_server.answers)
     pub server_received : IsPrefix of_server.units (version_of client.side ∷ of_client.answers)
 
--- Each of two sides with these configs that is open has heard all that the other has said.
+-- Each of two sides with these configs that is open has received all that the other has sent.
 pub record HaveReceivedAll (client : ClientData) (server : ServerData) (of_client of_server : Told) : Type 0 where
   pub client_all : of_client.end ≡ Open → of_client.units ≡ version_of server.side ∷ of_server.answers
   pub server_all : of_server.end ≡ Open → of_server.units ≡ version_of client.side ∷ of_client.answers

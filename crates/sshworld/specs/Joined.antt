@@ -11,8 +11,8 @@ use Rattle.sshcore.specs.EndpointData.{EndpointData}
 use Rattle.sshcore.specs.Endpoints.{EndpointAfter}
 use Rattle.sshcore.specs.EndpointParts.{DecisionsData, config_of_client, config_of_server}
 
--- Two endpoints are joined: a client and a server with these configs, one suite and the same decisions; and what either has heard is a
--- prefix of what the other has said.
+-- Two endpoints are joined: a client and a server with these configs, one suite and the same decisions; and what either has
+-- received is a prefix of what the other has sent.
 pub record AreJoined {S D : Type 0} (meaning : S → SuiteData) (policy : D → DecisionsData) (client_config : ClientData) (server_config : ServerData) (client server : EndpointData S D)
     (client_received client_sent server_received server_sent : List ℕ) : Type 0 where
   pub is_client : client.role ≡ role.Client
@@ -27,8 +27,8 @@ pub record AreJoined {S D : Type 0} (meaning : S → SuiteData) (policy : D → 
   pub to_server : IsPrefix server_received client_sent
 
 -- Two sessions match crosswise: they agreed on the same; the version line of either is what the other has of its peer, and both have
--- one host key (RFC 4253 section 8); and the keys and the number of the next packet that either says are those of
--- the next packet that the other hears (RFC 4253 sections 6.4 and 7.2).
+-- one host key (RFC 4253 section 8); and the keys and the number of the next packet that either sends are those of
+-- the next packet that the other receives (RFC 4253 sections 6.4 and 7.2).
 pub record AreCrosswise (one other : Session) : Type 0 where
   pub same_agreed : agreed_data one.agreed ≡ agreed_data other.agreed
   pub there_version : one.own_version.items ≡ other.peer_version.items

@@ -12,7 +12,7 @@ use Rattle.sshworld.specs.declared.judge.Judged.TheVariants as judged
 use Rattle.sshworld.specs.declared.progress.Progress.{Progress}
 use Rattle.sshworld.specs.Verdicts.{Exhausted, How, Limit, Success, Unknown, tried_of}
 
--- A request that lets the user in is no query, so it is the attempt itself.
+-- A request that is accepted is no query, so it is the attempt itself.
 abbrev pub how_of : Judged → How
 how_of judged.Unknown = Unknown
 how_of (judged.Success attempt) = Success (after_query (attempt_data attempt.now))
@@ -25,7 +25,7 @@ first_end (Some how) later = Some how
 first_end None later = later
 
 module _ {R : Type 0} where
-  -- How these requests, which come behind those made, end those before them, if one does: the first one that does.
+  -- How these requests, which come after those made, end those before them, if one does: the first one that does.
   abbrev pub ends_among : (List R → R → Option How) → List R → List R → Option How
   ends_among ends made [] = None
   ends_among ends made (request ∷ later) = first_end (ends made request) (ends_among ends (made ++ request ∷ []) later)

@@ -26,6 +26,6 @@ abbrev pub is_proved : SuiteData → DecisionsData → ServerData → ℕ → At
 is_proved m d server j attempt =
     is_usable server.methods attempt.proving && d.user j attempt.user attempt.service (proved_by m attempt.proving)
 
--- The request is good: it is so proved, and no query.
+-- The request is successful: it is so proved, and no query.
 abbrev pub is_successful : SuiteData → DecisionsData → ServerData → ℕ → AttemptData → Bool
 is_successful m d server j attempt = not (asks attempt.proving) && is_proved m d server j attempt

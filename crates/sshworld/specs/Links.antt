@@ -1,6 +1,6 @@
--- What one endpoint says, another hears: what the two directions of a connection have to fit for. Of one direction, own is the
--- endpoint that hears, with this role, and their is the one that says, with the role peer. All payloads that the hearer says in
--- a course are ours, and all that it hears are theirs.
+-- What one endpoint sends, another receives: what the two directions of a connection have to fit for. Of one direction, own is
+-- the endpoint that receives, with this role, and their is the one that sends, with the role peer. All payloads that the
+-- receiver sends in a course are ours, and all that it receives are theirs.
 
 use Rattle.std.specs.Prelude.{◌≡◌, true, []}
 use Rattle.sshwire.specs.Lines.{Preamble}
@@ -14,8 +14,8 @@ use Rattle.sshcore.specs.Directions.{others_of, preamble_of}
 use Rattle.sshcore.specs.EndpointParts.{ConfigData}
 use Rattle.sshworld.specs.Placed.{HaveSameKeys, IsInPlace}
 
--- All that is said in one direction can be heard: the two roles differ; the lines that are said first are a preamble of the version
--- that is said; each payload is in its place; and where NEWKEYS is said at all, both come to the same keys.
+-- All that is sent in one direction can be received: the two roles differ; the lines that are sent first are a preamble of the
+-- version that is sent; each payload is in its place; and where NEWKEYS is sent at all, both come to the same keys.
 pub record CanBeReceived (m : SuiteData) (role peer : Role) (own their : ConfigData) (ours theirs : Units) : Type 0 where
   pub is_other : other role ≡ peer
   pub preamble : Preamble (others_of role) their.version (preamble_of their)

@@ -29,7 +29,8 @@ seen client_config server_config suite decisions client server = record {
 
 module _ {S D : Type 0} (meaning : S → SuiteData) (policy : D → DecisionsData) where
   -- A node beside another that has sent these bytes: it has used what was moved to it, or what of it stands before its end; and
-  -- unless memory was wanting, its endpoint has heard what it used, and has said what it sent. No call of a world ends it as its owner may.
+  -- unless memory ran out, its endpoint has received what the side used and has sent what the side sent. No call of a world ends it
+  -- as its owner may.
   pub record NodeStands (role : Role) (party : ConfigData) (suite : S) (decisions : D) (node : Node S D) (their_sent : List ℕ) : Type 0 where
     pub is_role : node.endpoint.role ≡ role
     pub is_config : node.endpoint.party ≡ party
@@ -52,7 +53,7 @@ module _ {S D : Type 0} (meaning : S → SuiteData) (policy : D → DecisionsDat
     pub client_stands : NodeStands role.Client (config_of_client client_config) suite decisions client server.sent.items
     pub server_stands : NodeStands role.Server (config_of_server server_config) suite decisions server client.sent.items
 
-  -- The next count of the other's bytes were moved to a node that was open, and its endpoint was fed with them: memory wasn't wanting.
+  -- The next count of the other's bytes were moved to a node that was open, and its endpoint was fed with them: memory didn't run out.
   pub record IsFed (their_sent : List ℕ) (count : ℕ) (old new : Node S D) : Type 0 where
     pub used : ℕ
     pub was_open : endpoint_end old.endpoint ≡ Open
@@ -64,7 +65,7 @@ module _ {S D : Type 0} (meaning : S → SuiteData) (policy : D → DecisionsDat
     pub all_used : endpoint_end new.endpoint ≡ Open → used ≡ count
     pub fed : Fed meaning policy old.endpoint new.endpoint (take used (take count (drop old.moved their_sent))) old.sent.items new.sent.items
 
-  -- The next count of them were, and memory was wanting.
+  -- The next count of them were, and memory ran out.
   pub record BrokenWith (their_sent : List ℕ) (count : ℕ) (old new : Node S D) : Type 0 where
     pub was_open : endpoint_end old.endpoint ≡ Open
     pub failed : endpoint_end new.endpoint ≡ Failed fault.Memory
@@ -73,7 +74,7 @@ module _ {S D : Type 0} (meaning : S → SuiteData) (policy : D → DecisionsDat
     pub same_used : new.used ≡ old.used
     pub breaks : Breaks meaning policy old.endpoint new.endpoint (take count (drop old.moved their_sent)) old.sent.items new.sent.items
 
-  -- what a delivery of so many bytes does to the node that receives, where memory isn't wanting
+  -- what a delivery of so many bytes does to the node that receives, where memory doesn't run out
   pub data Takes (their_sent : List ℕ) (count : ℕ) (old new : Node S D) : Type 0 where
     TakesNone : count ≡ 0 → new ≡ old → Takes their_sent count old new
     TakesSome : count ≢ 0 → IsFed their_sent count old new → Takes their_sent count old new

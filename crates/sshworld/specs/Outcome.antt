@@ -21,7 +21,7 @@ pub record BothEnds : Type 0 where
   pub server : EndData
 
 -- What can come of two configs: a field has no algorithm in common; the client doesn't trust the server's host key; a request
--- is for a service that the server doesn't have; the user is let in; the server grants no more requests; or the client has no
+-- is for a service that the server doesn't have; the user is accepted; the server grants no more requests; or the client has no
 -- more to offer.
 pub data Case : Type 0 where
   NothingCommon : NoCommon → Case

@@ -1,5 +1,5 @@
--- The two sides of a world on their course, in units, stated once for either role: own is the partner whose half it is, and
--- their is the other, whose half is the opposite one.
+-- The two sides of a world on their course, in units, stated once for either role: own is the partner whose node it is, and
+-- their is the other, whose node is the opposite one.
 
 use Rattle.std.specs.Prelude.{◌≡◌, ◌≢◌, ℕ, List, take, Option, None}
 use Rattle.sshneg.specs.declared.role.Role.{Role}
@@ -23,14 +23,14 @@ pub record Partner : Type 0 where
   pub party : ConfigData
   pub part : Part
 
--- all payloads that it says, and all units
+-- all payloads that it sends, and all units
 abbrev pub payloads_of : Partner → Units
 payloads_of p = sent_after p.part p.part.receives
 
 abbrev pub stream_of : Partner → Units
 stream_of p = units_of p.party p.part
 
--- An endpoint that stands so has heard and said these bytes: they are such units and answers.
+-- An endpoint that stands so has received and sent these bytes: they are such units and answers.
 pub record HasHistory (m : SuiteData) (d : DecisionsData) (role : Role) (party : ConfigData) (end : EndData) (received_bytes sent_bytes : List ℕ) : Type 0 where
   pub units : Units
   pub rest : List ℕ
@@ -38,23 +38,23 @@ pub record HasHistory (m : SuiteData) (d : DecisionsData) (role : Role) (party :
   pub answers : Units
   pub history : History m d role party units rest refusal answers end received_bytes sent_bytes
 
--- what it has heard and said, in units
+-- what it has received and sent, in units
 abbrev pub told : {m : SuiteData} {d : DecisionsData} {role : Role} {party : ConfigData} {end : EndData} {h s : List ℕ} → HasHistory m d role party end h s → Told
 told {end = end} a = record { units = a.units; answers = a.answers; end = end }
 
--- One direction of a course: all that the other says can be heard, and the other keeps its part whatever it has heard of what the
--- own side says.
+-- One direction of a course: all that the other sends can be received, and the other keeps its part whatever it has received of
+-- what the own side sends.
 pub record ReceivesCourse (m : SuiteData) (d : DecisionsData) (own their : Partner) : Type 0 where
   pub received : CanBeReceived m own.role their.role own.party their.party (payloads_of own) (payloads_of their)
   pub keeps : KeepsPart m d their.role their.party their.part (stream_of own)
 
--- A side has used what was moved to it, up to its end; and unless memory was wanting, it has a history with the bytes that it used
+-- A side has used what was moved to it, up to its end; and unless memory ran out, it has a history with the bytes that it used
 -- and those that it sent.
 abbrev pub NodeReplies : SuiteData → DecisionsData → Role → ConfigData → NodeData → NodeData → Type 0
 NodeReplies m d role party node opposite = HasReplied (HasHistory m d role party node.end) node opposite
 
--- A side is on its course: unless memory was wanting to one of the two, the units of each such history are a prefix of all that
--- the other says, and nothing was refused.
+-- A side is on its course: unless one of the two ran out of memory, the units of each such history are a prefix of all that the
+-- other sends, and nothing was refused.
 pub record OnCourse (m : SuiteData) (d : DecisionsData) (own their : Partner) (node opposite : NodeData) : Type 0 where
   pub replies : NodeReplies m d own.role own.party node opposite
   pub prefix : node.end ≢ Failed fault.Memory → opposite.end ≢ Failed fault.Memory

@@ -1,4 +1,4 @@
--- What a payload of the course finds where it is heard, and the keys that both sides come to.
+-- What a payload of the course finds where it is received, and the keys that both sides come to.
 
 use Rattle.std.specs.Prelude.{◌≡◌, ◌==◌, ℕ, true, List, []}
 use Rattle.sshmsg.specs.declared.numbers.TheConstants.{SSH_MSG_NEWKEYS}
@@ -18,13 +18,13 @@ use Rattle.sshworld.specs.Course.{sent_after}
 use Rattle.sshworld.specs.Follows.{part_of_client, part_of_server}
 use Rattle.sshworld.specs.Wordings.{wording_of}
 
--- NEWKEYS is never dropped, and what the other side says behind its NEWKEYS finds that the exchange was heard (RFC 4253 sections 7
--- and 7.3).
+-- NEWKEYS is never dropped, and what the other side sends after its NEWKEYS finds that the exchange was received (RFC 4253
+-- sections 7 and 7.3).
 pub record IsInPlace (role : Role) (own : ConfigData) (before : Units) (payload : List ℕ) : Type 0 where
   pub switch : kept role own.offer SSH_MSG_NEWKEYS before payload ≡ (kind payload == SSH_MSG_NEWKEYS)
   pub ready : switched_out before ≡ true → IsReady role own before
 
--- All payloads that each side says in the course of two configs.
+-- All payloads that each side sends in the course of two configs.
 abbrev pub sent_by_client : SuiteData → DecisionsData → ClientData → ServerData → Units
 sent_by_client m d client server =
     sent_after (part_of_client m d client server (wording_of m d client server)) (part_of_client m d client server (wording_of m d client server)).receives
@@ -33,13 +33,13 @@ abbrev pub sent_by_server : SuiteData → DecisionsData → ClientData → Serve
 sent_by_server m d client server =
     sent_after (part_of_server m d client server (wording_of m d client server)) (part_of_server m d client server (wording_of m d client server)).receives
 
--- All that either side says is in its place where the other hears it.
+-- All that either side sends is in its place where the other receives it.
 pub record BothInPlace (m : SuiteData) (d : DecisionsData) (client : ClientData) (server : ServerData) : Type 0 where
   pub received_by_client : EachPlace (IsInPlace Client (config_of_client client)) [] (sent_by_server m d client server)
   pub received_by_server : EachPlace (IsInPlace Server (config_of_server server)) [] (sent_by_client m d client server)
 
--- Of two endpoints own hears theirs, and the other hears ours: by that both hash the same, come to the same keys of each direction and
--- are strict alike (RFC 4253 section 7.2, OpenSSH PROTOCOL section 1.10).
+-- Of two endpoints own receives theirs, and the other receives ours: by that both hash the same, come to the same keys of each
+-- direction and are strict alike (RFC 4253 section 7.2, OpenSSH PROTOCOL section 1.10).
 pub record HaveSameKeys (m : SuiteData) (role peer : Role) (own their : ConfigData) (ours theirs : Units) : Type 0 where
   pub exchange : exchange_at m role own their.version theirs ≡ exchange_at m peer their own.version ours
   pub keys : (sender : Role) → keys_at m role own their.version theirs sender ≡ keys_at m peer their own.version ours sender

@@ -13,13 +13,13 @@ abbrev pub MayRead : Reception → Progress → Type 0
 MayRead (reception.Waiting n) progress = progress ≢ Finished
 MayRead _ progress = Unit {0}
 
--- what a side that accepts k other lines has heard is what these bytes are
+-- what a side that accepts k other lines has received is what these bytes are
 abbrev pub Follows : ℕ → List ℕ → Progress → Reception → Type 0
 Follows k received progress (reception.Waiting n) = StandsOpen k received progress × (n ≡ length received)
 Follows k received progress (reception.Got text) = BeginsPreamble k text received
 Follows k received progress (reception.Refused code) = IsLineRefused k received code
 
--- these bytes were moved to the side, and it has heard what they are
+-- these bytes were moved to the side, and it has received what they are
 pub record ReceiverStands (k : ℕ) (received : List ℕ) (receiver : Receiver) : Type 0 where
   pub counted : receiver.moved ≡ length received
   pub follows : Follows k received receiver.reader.progress receiver.reception

@@ -16,7 +16,7 @@ CanSign m ByNothing = Unit {0}
 CanSign m (ByPassword password) = Unit {0}
 CanSign m (ByKey algorithm secret ask) = Signs m algorithm secret
 
--- The chosen method comes to one shared number of both random values; the server's host key signs, if the client trusts it; and
+-- The chosen method comes to one shared secret of both random values; the server's host key signs, if the client trusts it; and
 -- so does each key of the client's plan.
 pub record AreUnderstood (m : SuiteData) (d : DecisionsData) (client : ClientData) (server : ServerData) : Type 0 where
   pub exchange : (a : AlgorithmsData) → choice m (client_offer client) (server_offer server) ≡ Ok a → Agrees m a.kex client.side.random server.side.random

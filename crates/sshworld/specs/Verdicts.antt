@@ -11,7 +11,8 @@ use Rattle.sshcore.specs.Reached.{Tried, are_reached}
 use Rattle.sshworld.specs.Judging.{is_successful}
 use Rattle.sshworld.specs.Offered.{offered}
 
--- What a request behind those made came to: for whom and for which service it was, and the method for which it was good, if it was.
+-- What a request after those made came to: for whom and for which service it was, and the method for which it was successful, if it
+-- was.
 abbrev pub tried_by : SuiteData → DecisionsData → ServerData → List AttemptData → AttemptData → Tried
 tried_by m d server made attempt = record {
   user = attempt.user;
@@ -23,13 +24,13 @@ tried_by m d server made attempt = record {
 abbrev pub tried_of : SuiteData → DecisionsData → ServerData → List AttemptData → List Tried
 tried_of m d server requests = flat_places (λ made attempt. tried_by m d server made attempt ∷ []) [] requests
 
--- A request behind those made lets the user in: it is good; and for all required methods requests were good in the unbroken run of
--- requests for its user and its service that it ends.
+-- A request after those made is accepted: it is successful; and for all required methods requests were successful in the unbroken
+-- run of requests for its user and its service that it ends.
 abbrev pub is_accepted : SuiteData → DecisionsData → ServerData → List AttemptData → AttemptData → Bool
 is_accepted m d server made attempt =
     is_successful m d server (length made + 1) attempt && are_reached server.required attempt.user attempt.service (tried_of m d server (made ++ attempt ∷ []))
 
--- How requests of authentication end: at one for a service that the server doesn't have; at one that lets the user in; at the
+-- How requests of authentication end: at one for a service that the server doesn't have; at one that is accepted; at the
 -- last that the server grants; or at none of them, and the client has no more to offer.
 pub data How : Type 0 where
   Unknown : How
@@ -37,7 +38,7 @@ pub data How : Type 0 where
   Limit : How
   Exhausted : How
 
--- How a request behind those made ends them, if it does: first its service is judged, then whether it lets the user in, then
+-- How a request after those made ends them, if it does: first its service is judged, then whether it is accepted, then
 -- whether it is the last that the server grants (the order is profile).
 abbrev pub ends_by : SuiteData → DecisionsData → ServerData → List AttemptData → AttemptData → Option How
 ends_by m d server made attempt =
@@ -52,12 +53,12 @@ pub record Verdict : Type 0 where
   pub how : How
 
 module _ {R : Type 0} where
-  -- The verdict at a request behind those made: it is the last one if it ends them, else what comes later decides.
+  -- The verdict at a request after those made: it is the last one if it ends them, else what comes later decides.
   abbrev pub verdict_here : List R → Option How → Verdict → Verdict
   verdict_here made (Some how) later = record { requests = length made + 1; how = how }
   verdict_here made None later = later
 
-  -- The verdict on what is left of requests, behind those made, by how each ends those before it, if it does: the first that
+  -- The verdict on what is left of requests, after those made, by how each ends those before it, if it does: the first that
   -- ends them is the last that is made.
   abbrev pub verdict_after : (List R → R → Option How) → List R → List R → Verdict
   verdict_after ends made [] = record { requests = length made; how = Exhausted }

@@ -40,7 +40,7 @@ request_or m session (Some attempt) = request_of m session attempt
 request_or m session None = []
 
 -- What answers a request that ends nothing, by whether its method may be used and the decision on it is yes: PK_OK to a query whose
--- key would do (RFC 4252 section 7), else FAILURE, which tells partial success where the request is good (section 5.1).
+-- key would do (RFC 4252 section 7), else FAILURE, which tells partial success where the request is successful (section 5.1).
 abbrev pub answer_by : SuiteData → List (List ℕ) → Bool → CredentialData → MessageData
 answer_by m methods proved ByNothing = UserauthFailure methods proved
 answer_by m methods proved (ByPassword password) = UserauthFailure methods proved

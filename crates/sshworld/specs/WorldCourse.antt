@@ -15,7 +15,7 @@ use Rattle.sshworld.specs.Wordings.{wording_of}
 use Rattle.sshworld.specs.Worlds.{Complete, HadMemory, WorldData}
 
 module _ {S D : Type 0} (meaning : S → SuiteData) (policy : D → DecisionsData) (w : WorldData S D) where
-  -- both sides hear all that the other says in the course of the world's configs
+  -- both sides receive all that the other sends in the course of the world's configs
   abbrev pub ReceivesAll : Type 0
   ReceivesAll = BothReceive (meaning w.suite) (policy w.decisions) w.client_config w.server_config (wording_of (meaning w.suite) (policy w.decisions) w.client_config w.server_config)
 
@@ -29,7 +29,7 @@ module _ {S D : Type 0} (meaning : S → SuiteData) (policy : D → DecisionsDat
   abbrev pub AreUnderstoodIn : Type 0
   AreUnderstoodIn = AreUnderstood (meaning w.suite) (policy w.decisions) w.client_config w.server_config
 
-  -- Where the two ends understand each other, and neither wanted memory, both sides are in the course of their configs.
+  -- Where the two ends understand each other, and neither ran out of memory, both sides are in the course of their configs.
   abbrev pub KeepsCourse : Type 0
   KeepsCourse = AreUnderstoodIn → HadMemory w
       → IsCourseReceived (meaning w.suite) (policy w.decisions) w.client_config w.server_config (wording_of (meaning w.suite) (policy w.decisions) w.client_config w.server_config) w.client w.server

@@ -18,7 +18,7 @@ pub record NodeData : Type 0 where
   pub used : ℕ
   pub end : EndData
 
--- A side has used what was moved to it, or what of it stands before its end; and unless memory was wanting to it, this is true of
+-- A side has used what was moved to it, or what of it stands before its end; and unless it ran out of memory, this is true of
 -- the bytes that it used and those that it sent.
 pub record HasReplied (conversed : List ℕ → List ℕ → Type 0) (own their : NodeData) : Type 0 where
   pub used_within : own.used ≤ own.moved
@@ -42,7 +42,7 @@ pub record IsSameSetup {S D : Type 0} (old new : WorldData S D) : Type 0 where
   pub same_suite : new.suite ≡ old.suite
   pub same_decisions : new.decisions ≡ old.decisions
 
--- This side's half, and the other's.
+-- This side's node, and the other's.
 abbrev pub node_at : {S D : Type 0} → Side → WorldData S D → NodeData
 node_at side.Client w = w.client
 node_at side.Server w = w.server
@@ -79,7 +79,7 @@ pub record Complete {S D : Type 0} (w : WorldData S D) : Type 0 where
   pub for_client : waiting w.client w.server ≡ 0
   pub for_server : waiting w.server w.client ≡ 0
 
--- neither side has failed for want of memory
+-- neither side has run out of memory
 pub record HadMemory {S D : Type 0} (w : WorldData S D) : Type 0 where
   pub client_had : w.client.end ≢ Failed fault.Memory
   pub server_had : w.server.end ≢ Failed fault.Memory

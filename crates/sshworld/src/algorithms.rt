@@ -90,7 +90,7 @@ fn name_at(list: &NameList, position: usize) -> &str
 }
 
 /// What is agreed with these algorithms, in this session, once this attempt has succeeded; all of it is
-/// copied. Answers `Memory` for want of memory, as each function below.
+/// copied. Answers `Memory` where an allocation failed, as each function below.
 pub(crate) fn agreed(
     alloc: Global,
     names: &AlgorithmNames<'_>,

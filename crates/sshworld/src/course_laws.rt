@@ -22,10 +22,10 @@ ghost use Rattle.sshworld.specs.Wording.{Wording};
 pub fn course_law()
     // Whatever the payloads, the guess, the way and the ends are, the two parts fit.
     ensures fit { (w : Wording) (guess : Guess) (way : Way) (ends : BothEnds) → Fit (client_part w guess way ends) (server_part w guess way ends) }
-    // Behind its first group a client says something in so many groups as there are requests, and in three more at most.
+    // After its first group a client sends something in so many groups as there are requests, and in three more at most.
     ensures groups { (w : Wording) (guess : Guess) (way : Way) (ends : BothEnds)
         → groups_sent (client_part w guess way ends).group (client_part w guess way ends).receives ≤ requests_of way + 3 }
-    // After four rounds more than there are requests each side has heard all that it hears.
+    // After four rounds more than there are requests each side has received all that it receives.
     ensures rounds { (w : Wording) (guess : Guess) (way : Way) (ends : BothEnds) (r : ℕ) → requests_of way + 4 ≤ r
         → after_rounds (client_part w guess way ends) (server_part w guess way ends) r ≡ all_received (client_part w guess way ends) (server_part w guess way ends) }
     // Of two configs the parts are a course, and no part ends open.
@@ -46,8 +46,8 @@ pub fn course_law()
         → most_requests client.plan + 4 ≤ r
         → after_rounds (client_part w guess (way_of m d client server) ends) (server_part w guess (way_of m d client server) ends) r
         ≡ all_received (client_part w guess (way_of m d client server) ends) (server_part w guess (way_of m d client server) ends) }
-    // An endpoint that answers and stands as its part has it, at each place of what the other says, has said what its part has it
-    // say, and is open until it has heard all that it hears.
+    // An endpoint that answers and stands as its part has it, at each place of what the other sends, has sent what its
+    // part has it send, and is open until it has received all that it receives.
     ensures keeps { (m : SuiteData) (d : DecisionsData) (client : ClientData) (server : ServerData) (w : Wording)
         → BothFollow m d client server w → BothKeep m d client server w }
 {}

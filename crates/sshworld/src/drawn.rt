@@ -87,7 +87,7 @@ impl<'a> DrawnClient<'a> {
         &self.draws.exchange_random
     }
 
-    /// The KEXINIT that is sent. Answers `Memory` for want of memory, as the next one.
+    /// The KEXINIT that is sent. Answers `Memory` where an allocation failed, as the next one.
     pub(crate) fn kexinit(&self) -> Result<KexInit<'_>, Memory>
         ensures offer { IfOk result (λ kexinit. kexinit_data kexinit ≡ client_offer self.now) }
         ensures fits { length (written_message (content.KexInit (client_offer self.now))) ≤ PAYLOAD_LIMIT }
@@ -95,7 +95,7 @@ impl<'a> DrawnClient<'a> {
         self.config.kexinit_with(&self.draws)
     }
 
-    /// A client that has heard nothing yet. What it says is appended to `out`.
+    /// A client that has received nothing yet. What it sends is appended to `out`.
     pub(crate) fn endpoint<S: Suite, D: Decisions>(
         &self,
         alloc: Global,
@@ -166,7 +166,7 @@ impl<'a> DrawnServer<'a> {
         &self.draws.exchange_random
     }
 
-    /// The KEXINIT that is sent. Answers `Memory` for want of memory, as the next one.
+    /// The KEXINIT that is sent. Answers `Memory` where an allocation failed, as the next one.
     pub(crate) fn kexinit(&self) -> Result<KexInit<'_>, Memory>
         ensures offer { IfOk result (λ kexinit. kexinit_data kexinit ≡ server_offer self.now) }
         ensures fits { length (written_message (content.KexInit (server_offer self.now))) ≤ PAYLOAD_LIMIT }
@@ -174,7 +174,7 @@ impl<'a> DrawnServer<'a> {
         self.config.kexinit_with(&self.draws)
     }
 
-    /// A server that has heard nothing yet. What it says is appended to `out`.
+    /// A server that has received nothing yet. What it sends is appended to `out`.
     pub(crate) fn endpoint<S: Suite, D: Decisions>(
         &self,
         alloc: Global,

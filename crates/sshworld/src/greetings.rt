@@ -1,4 +1,4 @@
-//! Two sides that hear each other's version line.
+//! Two sides that receive each other's version line.
 
 ghost use Rattle.std.specs.Prelude.{◌≡◌, ◌≢◌, ◌+◌, ◌≤◌, ◌++◌, ◌↔◌, ℕ, IfOk, IsTrue, List, OnOk, length, min, take};
 ghost use Rattle.sshwire.specs.Feeding.{StandsOpen};
@@ -14,7 +14,7 @@ use std::fmt;
 /// How many other lines a server accepts before the version line: none (profile).
 const SERVER_OTHERS: u32 = 0;
 
-/// What one side has heard of the other.
+/// What one side has received from the other.
 #[derive(Debug, Drop)]
 pub enum Reception {
     /// The other's version line.
@@ -35,19 +35,19 @@ impl fmt::Display for Reception {
     }
 }
 
-/// What both sides have heard after a schedule of deliveries.
+/// What both sides have received after a schedule of deliveries.
 #[derive(Debug, Drop)]
 pub struct Greeting {
-    /// What the client has heard of the server.
+    /// What the client has received from the server.
     pub client: Reception,
-    /// What the server has heard of the client.
+    /// What the server has received from the client.
     pub server: Reception,
-    /// Whether no bytes wait for a side that still hears.
+    /// Whether no bytes wait for a side that still receives.
     pub complete: bool,
 }
 
 impl fmt::Display for Greeting {
-    /// Writes three lines: what each side has heard, and whether nothing waits.
+    /// Writes three lines: what each side has received, and whether nothing waits.
     fn fmt<W: fmt::Write>(&self, f: &mut fmt::Formatter<W>) -> fmt::Result {
         let client = &self.client;
         let server = &self.server;
@@ -58,11 +58,11 @@ impl fmt::Display for Greeting {
     }
 }
 
-/// Moves the bytes that two sides send by the schedule to two line readers, and says what they heard.
+/// Moves the bytes that two sides send by the schedule to two line readers, and says what they received.
 ///
 /// The client accepts 20 other lines before the version line, the server none (profile). Each
 /// delivery moves the lesser of its count and the waiting bytes; bytes for a side that has ended
-/// are dropped. Answers `Memory` where a growth was refused.
+/// are dropped. Answers `Memory` where an allocation failed.
 pub fn greet(
     alloc: Global,
     client: &[u8],
@@ -170,7 +170,7 @@ impl Receiver {
     }
 }
 
-/// What a side has heard once its reader is fed the piece, with which so many bytes were moved.
+/// What a side has received once its reader is fed the piece, with which so many bytes were moved.
 fn reception_of(reader: &mut LineReader, piece: &[u8], moved: usize) -> Result<Reception, Memory>
     requires { reader.old.progress ≢ Finished }
     ensures may_read { IfOk result (λ reception. MayRead reception reader.new.progress) }

@@ -24,16 +24,16 @@ use std::alloc::Global;
 pub(crate) enum Judged<'a> {
     /// A request is for a service that the server doesn't have.
     Unknown,
-    /// A request of this attempt lets the user in.
+    /// A request of this attempt is accepted.
     Success(&'a Attempt),
-    /// A request is the last that the server grants, and doesn't let the user in.
+    /// A request is the last that the server grants, and isn't accepted.
     Limit,
     /// No request is left.
     Exhausted,
 }
 
 /// How the requests of the client's plan end (RFC 4252 section 5): the plan is gone through once, and
-/// the requests of each attempt that is made are judged. Answers `Memory` for want of memory, as each
+/// the requests of each attempt that is made are judged. Answers `Memory` where an allocation failed, as each
 /// function below.
 pub(crate) fn judge<'a, S: Suite, D: Decisions>(
     alloc: Global,
@@ -132,7 +132,7 @@ fn is_proved<S: Suite, D: Decisions>(
     decide(alloc, suite, decisions, number, attempt)
 }
 
-/// Whether a request that proves this may let a user in: `none` always, any other where the server lists
+/// Whether a request that proves this may be accepted: `none` always, any other where the server lists
 /// its method.
 fn is_usable(server: &ServerConfig, credential: &Credential) -> bool
     ensures { result ≡ is_usable server.now.methods (credential_data credential.now) }

@@ -1,5 +1,5 @@
 //! Two endpoints of SSH, a client and a server, and what comes of them; and two readers of version lines, which
-//! hear each other by the same deliveries.
+//! receive from each other by the same deliveries.
 #![tactic(auto)]
 
 mod algorithms;

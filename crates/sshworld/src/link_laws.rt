@@ -21,8 +21,8 @@ pub(crate) fn below_law()
     sshcore::history_law();
 }
 
-/// The law of hearing: of two accepted configs whose ends understand each other, each hears all that
-/// the other says in their course. Takes no memory.
+/// The law of receiving: of two accepted configs whose ends understand each other, each receives all
+/// that the other sends in their course. Takes no memory.
 pub(crate) fn course_receiving_law()
     ensures receive { (m : SuiteData) (d : DecisionsData) (client : ClientData) (server : ServerData) → IsLawful m → AreUnderstood m d client server
         → IsClient client → IsServer server → BothReceive m d client server (wording_of m d client server) }

@@ -43,7 +43,7 @@ pub(crate) fn nodes<'a, S: Suite, D: Decisions>(
 }
 
 impl<'a, S: Suite, D: Decisions> Node<'a, S, D> {
-    /// A client that has received nothing. Answers `Memory` for want of memory, as the next one.
+    /// A client that has received nothing. Answers `Memory` where an allocation failed, as the next one.
     pub(crate) fn client(
         alloc: Global,
         config: &DrawnClient<'a>,

@@ -33,9 +33,9 @@ use std::alloc::Global;
 /// How a client and a server of these configs end, the client's end first: without a message, where
 /// both use this suite and these decisions, and all that either sends reaches the other.
 ///
-/// Its premise is that the two understand each other (`AreUnderstood`): both come to one shared number,
+/// Its premise is that the two understand each other (`AreUnderstood`): both come to one shared secret,
 /// and the keys sign. It isn't looked at here: where it doesn't hold, two endpoints may end otherwise. So
-/// they may where either is in want of memory, or its input ends before.
+/// they may where either ran out of memory, or its input ends before.
 ///
 /// The algorithms are chosen (RFC 4253 section 7.1). The client decides on the server's host key, which
 /// is its first one with the chosen algorithm (RFC 4253 section 8). Then the server judges the requests
@@ -43,7 +43,7 @@ use std::alloc::Global;
 /// the algorithms, strictness (OpenSSH PROTOCOL section 1.10), the session identifier (RFC 4253 section
 /// 7.2), the user and the service.
 ///
-/// Answers `Memory` for want of memory alone.
+/// Answers `Memory` only where an allocation failed.
 pub fn predict<S: Suite, D: Decisions>(
     alloc: Global,
     client: &ClientConfig,
@@ -84,7 +84,7 @@ pub fn predict_with<S: Suite, D: Decisions>(
     predict_drawn(alloc, &client, &server, suite, decisions)
 }
 
-/// How both end. Answers `Memory` for want of memory, as each function below.
+/// How both end. Answers `Memory` where an allocation failed, as each function below.
 fn predict_drawn<S: Suite, D: Decisions>(
     alloc: Global,
     client: &DrawnClient<'_>,

@@ -21,7 +21,7 @@ use sshcore::{Attempt, ServerConfig};
 pub(crate) struct Progress<'a> {
     /// How many they are.
     pub(crate) requests: u32,
-    /// The user of the last good request.
+    /// The user of the last successful request.
     user: &'a str,
     /// Its service.
     service: &'a str,
@@ -43,7 +43,7 @@ impl<'a> Progress<'a> {
         }
     }
 
-    /// Judges one more request, which is of this attempt, by whether it is good: how it ends those before
+    /// Judges one more request, which is of this attempt, by whether it is successful: how it ends those before
     /// it, if it does.
     pub(crate) fn judge_request(
         &mut self,
@@ -76,7 +76,7 @@ impl<'a> Progress<'a> {
     }
 
     /// Counts a request of this attempt: one for another user or another service empties what was
-    /// reached, and a good one adds its method.
+    /// reached, and a successful one adds its method.
     fn count(&mut self, attempt: &'a Attempt, successful: bool)
         requires few { self.old.requests ≤ 127 }
         ensures counted { self.new.requests ≡ self.old.requests + 1 }

@@ -27,7 +27,7 @@ use sshpacket::{Response, Suite};
 use sshwire::{Memory, VersionLine};
 use std::alloc::Global;
 
-/// What a side says before the exchange: its version line, and the payload of its KEXINIT.
+/// What a side sends before the exchange: its version line, and the payload of its KEXINIT.
 #[derive(Drop)]
 struct Opening {
     version: VersionLine,
@@ -45,7 +45,7 @@ pub(crate) struct SharesGiven<'a> {
 }
 
 /// The session identifier of two configs with these algorithms, by the server's public host key: the
-/// exchange hash (RFC 4253 section 7.2). Answers `Memory` for want of memory, as each function below.
+/// exchange hash (RFC 4253 section 7.2). Answers `Memory` where an allocation failed, as each function below.
 pub(crate) fn session<S: Suite>(
     alloc: Global,
     client: &DrawnClient<'_>,
@@ -63,7 +63,7 @@ pub(crate) fn session<S: Suite>(
     suite.digest(alloc, names.kex, &input)
 }
 
-/// The shares of both sides and the shared number, beside the host key.
+/// The shares of both sides and the shared secret, beside the host key.
 fn shares_between<'a, S: Suite>(
     alloc: Global,
     client: &DrawnClient<'_>,
@@ -100,7 +100,7 @@ fn share_of<S: Suite>(
     suite.public(alloc, kex, client.exchange_random())
 }
 
-/// The server's share and the shared number, as the server answers the client's share; where it
+/// The server's share and the shared secret, as the server answers the client's share; where it
 /// answers nothing both are empty.
 fn answer_of<S: Suite>(
     alloc: Global,
@@ -153,7 +153,7 @@ fn input_of(
     )
 }
 
-/// What a client says before the exchange.
+/// What a client sends before the exchange.
 fn client_opening(alloc: Global, client: &DrawnClient<'_>) -> Result<Opening, Memory>
     ensures version { IfOk result (λ opening. opening.version ≡ version_of client.now.side) }
     ensures kexinit { IfOk result (λ opening. opening.kexinit.items ≡ written_message (content.KexInit (client_offer client.now))) }
@@ -163,7 +163,7 @@ fn client_opening(alloc: Global, client: &DrawnClient<'_>) -> Result<Opening, Me
     Ok(Opening { version, kexinit })
 }
 
-/// What a server says before the exchange, its notice lines left out.
+/// What a server sends before the exchange, its notice lines left out.
 fn server_opening(alloc: Global, server: &DrawnServer<'_>) -> Result<Opening, Memory>
     ensures version { IfOk result (λ opening. opening.version ≡ version_of server.now.side) }
     ensures kexinit { IfOk result (λ opening. opening.kexinit.items ≡ written_message (content.KexInit (server_offer server.now))) }

@@ -18,16 +18,16 @@ use sshcore::Decisions;
 use sshpacket::Suite;
 
 /// The law of sessions: of two endpoints that are joined and understand each other, and that both ended
-/// authenticated, each has heard all that the other has said, and what they hand over matches
+/// authenticated, each has received all that the other has sent, and what they hand over matches
 /// crosswise. Takes no memory.
 pub fn session_law<S: Suite, D: Decisions>()
-    // Each has heard all that the other has said, and both agreed on the same.
+    // Each has received all that the other has sent, and both agreed on the same.
     ensures received { (client_config : ClientData) (server_config : ServerData) (client server : EndpointData S D) (client_received client_sent server_received server_sent : List ℕ)
         → IsClient client_config → IsServer server_config → AreUnderstood (S.meaning client.suite) (D.policy client.decisions) client_config server_config
         → AreJoined S.meaning D.policy client_config server_config client server client_received client_sent server_received server_sent
         → (a b : AgreedData) → endpoint_end client ≡ Authenticated a → endpoint_end server ≡ Authenticated b
         → (client_received ≡ server_sent) × (server_received ≡ client_sent) × (a ≡ b) }
-    // The sessions of what both have heard and said match crosswise.
+    // The sessions of what both have received and sent match crosswise.
     ensures crosswise { (client_config : ClientData) (server_config : ServerData) (client server : EndpointData S D) (client_received client_sent server_received server_sent : List ℕ)
         → IsClient client_config → IsServer server_config → AreUnderstood (S.meaning client.suite) (D.policy client.decisions) client_config server_config
         → (j : AreJoined S.meaning D.policy client_config server_config client server client_received client_sent server_received server_sent)

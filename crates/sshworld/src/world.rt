@@ -28,10 +28,10 @@ use std::marker::Model;
 /// other side in the order in which they were sent, when a delivery moves them; those that wait for a
 /// side that has ended are dropped.
 ///
-/// Where the two ends understand each other, and neither wanted memory, every world keeps to the course
-/// of its configs: each side has heard and said a prefix of it, each that has ended has the end of the
+/// Where the two ends understand each other, and neither ran out of memory, every world keeps to the course
+/// of its configs: each side has received and sent a prefix of it, each that has ended has the end of the
 /// outcome, and where nothing waits for either, both have ended. The ends understand each other where
-/// the suite comes to one shared number of both random values, and the keys of both configs sign.
+/// the suite comes to one shared secret of both random values, and the keys of both configs sign.
 #[derive(Drop)]
 pub struct World<'a, S: Suite, D: Decisions> {
     client_config: DrawnClient<'a>,
@@ -63,7 +63,7 @@ impl<'a, S: Suite, D: Decisions> Model for World<'a, S, D> {
 
 impl<'a, S: Suite, D: Decisions> World<'a, S, D> {
     /// A client and a server that have received nothing; each has sent its first output. Answers
-    /// `Memory` for want of memory alone.
+    /// `Memory` only where an allocation failed.
     pub fn new(
         alloc: Global,
         client: &'a ClientConfig,
@@ -174,7 +174,7 @@ impl<'a, S: Suite, D: Decisions> World<'a, S, D> {
     /// are. The side uses all of them, unless it ends before; the other side doesn't change.
     ///
     /// For a side that has ended nothing waits: a delivery to it moves nothing, changes nothing and takes
-    /// no memory. Answers `Memory` where a growth was refused: the side has then failed by that.
+    /// no memory. Answers `Memory` where an allocation failed: the side has then failed by that.
     pub fn deliver(&mut self, to: Side, count: u32) -> Result<u32, Memory>
         ensures count { IfOk result (λ n. n ≡ min count (waiting_for to self.old)) }
         ensures delivered { IfOk result (λ n. Delivered to n self.old self.new) }
@@ -204,7 +204,7 @@ impl<'a, S: Suite, D: Decisions> World<'a, S, D> {
         Ok(())
     }
 
-    /// Does the deliveries of a schedule in order, up to the first one for which memory was wanting;
+    /// Does the deliveries of a schedule in order, up to the first one for which memory ran out;
     /// then it answers `Memory`.
     pub fn run(&mut self, schedule: &[Delivery]) -> Result<(), Memory>
         ensures runs { OnOk result (Runs S.meaning D.policy schedule.now self.old self.new) }
@@ -235,7 +235,7 @@ impl<'a, S: Suite, D: Decisions> World<'a, S, D> {
         Ok(())
     }
 
-    /// Does so many rounds, up to the first delivery for which memory was wanting; then it answers
+    /// Does so many rounds, up to the first delivery for which memory ran out; then it answers
     /// `Memory`. In each round all waiting bytes are moved to the server, and then all waiting bytes to
     /// the client.
     pub fn settle(&mut self, rounds: u32) -> Result<(), Memory>

@@ -3,7 +3,7 @@ use Rattle.sshmsg.specs.Form.{form_at}
 use Rattle.sshmsg.specs.Messages.{extensions}
 use Rattle.sshmsg.proofs.lists.pass_extensions.Given as goal
 
--- behind some pairs so many are left
+-- after some pairs so many are left
 abbrev pub invariant-loop : goal.invariant-loop
 invariant-loop l =
     (found : List (List ℕ × List ℕ)) × (form_at (extensions (l.count - l.counter) found) l.reader ≡ form_at (extensions l.count []) l.fn.reader)

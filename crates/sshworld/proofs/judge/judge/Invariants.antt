@@ -6,7 +6,7 @@ use Rattle.sshworld.specs.Verdicts.{verdict}
 use Rattle.sshworld.proofs.JudgeLemmas.{Left}
 use Rattle.sshworld.proofs.judge.judge.Given as goal
 
--- what is left of the plan has the verdict of the whole, behind the requests made
+-- what is left of the plan has the verdict of the whole, after the requests made
 abbrev pub invariant-loop-attempt : goal.invariant-loop-attempt
 invariant-loop-attempt g l = record {
   count : l.progress.requests ≤ l.attempt-index + l.attempt-index;

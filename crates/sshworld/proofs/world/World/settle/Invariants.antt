@@ -3,7 +3,7 @@ use Rattle.sshworld.specs.Worlds.{HadMemory, IsSameSetup}
 use Rattle.sshworld.proofs.WorldCourseLemmas.{ReceivedAfter}
 use Rattle.sshworld.proofs.world.World.settle.Given as goal
 
--- so many rounds were done, and both have heard what those bring
+-- so many rounds were done, and both have received what those bring
 abbrev pub invariant-loop : goal.invariant-loop
 invariant-loop g l = record {
   rounds : Rounds g.S.Suite.meaning g.D.Decisions.policy l.counter l.fn.self l.self;
