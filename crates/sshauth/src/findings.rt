@@ -7,7 +7,7 @@ use base64::engine::general_purpose::{STANDARD, STANDARD_NO_PAD};
 use sha2::{Digest, Sha256};
 use sshcore::End;
 use sshmsg::{KexInit, Message, MsgFault, read};
-use sshneg::{Chosen, Role, choose, strict_of};
+use sshneg::{Chosen, Side, choose, strict_of};
 use sshsuite::DeployedSuite;
 use sshwire::NameList;
 use std::alloc::{AllocError, Global};
@@ -74,7 +74,7 @@ fn put_kexinit(
     {
         put_choice(text, &ours, &theirs)?;
     }
-    let strict = strict_of(findings.strict, Role::Client, &theirs);
+    let strict = strict_of(findings.strict, Side::Client, &theirs);
     writeln!(text, "# strict {}", if strict { "yes" } else { "no" })?;
     Ok(())
 }

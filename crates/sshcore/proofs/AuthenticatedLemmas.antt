@@ -11,8 +11,8 @@ use Rattle.sshmsg.specs.Messages.{message_in}
 use Rattle.sshmsg.specs.Numbers.{kind}
 use Rattle.sshmsg.specs.Written.{method_name, written_message}
 use Rattle.sshneg.specs.declared.choice.NoCommon.{NoCommon}
-use Rattle.sshneg.specs.declared.role.Role.{Role}
-use Rattle.sshneg.specs.declared.role.Role.TheVariants.{Server}
+use Rattle.sshneg.specs.declared.side.Side.{Side}
+use Rattle.sshneg.specs.declared.side.Side.TheVariants.{Server}
 use Rattle.sshneg.specs.ChoiceReadings.{is_in}
 use Rattle.sshneg.specs.Derivations.{ExchangeData}
 use Rattle.sshneg.specs.ExchangeEnd.{exchange_hash}
@@ -83,7 +83,7 @@ pub data WorkEnds (m : SuiteData) (d : DecisionsData) (party : ConfigData) (know
   Succeeded : (made : AttemptData) (later : List AttemptData) → c ≡ UserauthSuccess → known.left ≡ made ∷ later
       → end ≡ Authenticated (agreed_by known made.user made.service) → WorkEnds m d party known c end
 
-module _ (m : SuiteData) (d : DecisionsData) (role : Role) (party : ConfigData) where
+module _ (m : SuiteData) (d : DecisionsData) (role : Side) (party : ConfigData) where
   early_chosen : (peer : KexInitData) (r : Result AlgorithmsData NoCommon) → IsEarly (chosen_reply m role party peer r).end
   early_chosen peer (Ok a) = refl
   early_chosen peer (Err f) = refl
@@ -179,7 +179,7 @@ was_accepted known payload made later a e succeeds left =
     subst (WasAccepted known payload) e (record { succeeds = succeeds; made = made; later = later; left_are = left; user_is = refl; service_is = refl })
 
 -- an endpoint that agreed on this at a payload in this phase
-record Agrees (m : SuiteData) (d : DecisionsData) (role : Role) (party : ConfigData) (p : Phase) (guess : Bool) (known : Known) (tried : List Tried) (payload : List ℕ) (a : AgreedData) : Type 0 where
+record Agrees (m : SuiteData) (d : DecisionsData) (role : Side) (party : ConfigData) (p : Phase) (guess : Bool) (known : Known) (tried : List Tried) (payload : List ℕ) (a : AgreedData) : Type 0 where
   at : p ≡ phase.Auth
   none_due : guess ≡ false
   leaves : kind payload ≡ leaving role phase.Auth
@@ -190,7 +190,7 @@ pub none_refused : (r : Option Refusal) (a : AgreedData) → Authenticated a ≡
 none_refused None a e = cc
 none_refused (Some r) a e = cc
 
-module _ (below : Below) (m : SuiteData) (d : DecisionsData) (role : Role) (party : ConfigData) where
+module _ (below : Below) (m : SuiteData) (d : DecisionsData) (role : Side) (party : ConfigData) where
   -- a successful request is read at a server, and a SUCCESS at a client
   requested : (p : Phase) (guess : Bool) (known : Known) (tried : List Tried) (payload user service : List ℕ) (method : MethodData) (a : AgreedData) → Reads role p guess (kind payload)
       → message_in known.shares payload ≡ Ok (UserauthRequest user service method) → is_in party.services service ≡ true → is_successful m d party known user service method ≡ true
@@ -203,7 +203,7 @@ module _ (below : Below) (m : SuiteData) (d : DecisionsData) (role : Role) (part
         none_due = at.none_due;
         leaves = is ∙ ap (λ side. leaving side phase.Auth) (sym at.side_is);
         agreed_is = agrees_by known user service a e;
-        accepted_user = subst (λ (side : Role). IsAcceptedUser m d side party known tried payload a) (sym at.side_is) (accepts m d party known tried payload user service method a e requests has successful
+        accepted_user = subst (λ (side : Side). IsAcceptedUser m d side party known tried payload a) (sym at.side_is) (accepts m d party known tried payload user service method a e requests has successful
             (complete_sound tried (tried_with user service method true) (method_name method) refl party.required
             (ap (λ (q : ReachedData). is_complete party.required (reached_after_one q (tried_with user service method true))) (sym kept) ∙ done)));
       }
@@ -218,7 +218,7 @@ module _ (below : Below) (m : SuiteData) (d : DecisionsData) (role : Role) (part
         none_due = at.none_due;
         leaves = is ∙ ap (λ side. leaving side phase.Auth) (sym at.side_is);
         agreed_is = agrees_by known made.user made.service a e;
-        accepted_user = subst (λ (side : Role). IsAcceptedUser m d side party known tried payload a) (sym at.side_is) (was_accepted known payload made later a e succeeds left);
+        accepted_user = subst (λ (side : Side). IsAcceptedUser m d side party known tried payload a) (sym at.side_is) (was_accepted known payload made later a e succeeds left);
       }
 
   -- a message that is read
@@ -297,7 +297,7 @@ module _ (below : Below) (m : SuiteData) (d : DecisionsData) (role : Role) (part
   tried_last version before last p t a end server =
       let at = at_last version before last p t a end in
       let known : Known = known_at m d role party version before in
-      let r : AcceptsUser m d party known (tried_at m d role party version before) last a = subst (λ (side : Role). IsAcceptedUser m d side party known (tried_at m d role party version before) last a) server at.accepted_user in
+      let r : AcceptsUser m d party known (tried_at m d role party version before) last a = subst (λ (side : Side). IsAcceptedUser m d side party known (tried_at m d role party version before) last a) server at.accepted_user in
       let is : kind last ≡ 50 = below.numbers known.shares last (UserauthRequest a.user a.service r.method) r.requests in
       let read : message_in Mpint last ≡ Ok (UserauthRequest a.user a.service r.method) = below.alike Mpint known.shares last (λ q. omega (arith, q, is)) (λ q. omega (arith, q, is)) ∙ r.requests in
       let here : kept role party.offer 50 before last ≡ true = kept_free role party.offer before last 50 at.none_due ∙ rw is refl in (
@@ -317,5 +317,5 @@ module _ (below : Below) (m : SuiteData) (d : DecisionsData) (role : Role) (part
       (tried_at m d role party version before, x.0, ap (λ (l : Units). tried_at m d role party (version_in l) (payloads_in l)) units_are ∙ x.1)
 
 -- an endpoint in phase auth has received NEWKEYS
-pub auth_switched : (role : Role) (own : KexInitData) (payloads : Units) → phase_at role own payloads ≡ phase.Auth → stood role own 21 payloads ≡ true
+pub auth_switched : (role : Side) (own : KexInitData) (payloads : Units) → phase_at role own payloads ≡ phase.Auth → stood role own 21 payloads ≡ true
 auth_switched role own payloads at = (past_parts _ _ _ _ (ap past_newkeys at)).1

@@ -2,7 +2,7 @@
 
 use Rattle.std.proofs.Common.{◌≡◌, ℕ, Bool, true, false, List, [], ◌∷◌, ◌++◌, None, refl, sym, ap, ◌∙◌, subst}
 use Rattle.std.proofs.lemmas.Bool.{true≢false}
-use Rattle.sshneg.specs.declared.role.Role.{Role}
+use Rattle.sshneg.specs.declared.side.Side.{Side}
 use Rattle.sshneg.specs.Markers.{other}
 use Rattle.sshpacket.specs.KeysData.{KeysData}
 use Rattle.sshpacket.specs.Places.{flat_places}
@@ -35,12 +35,12 @@ use Rattle.sshcore.proofs.PlanLemmas.{no_successful_key}
 use Rattle.sshcore.proofs.SendingLemmas as sending_lemmas
 use Rattle.sshcore.proofs.StandingLemmas as standing
 
-first_input : (m : SuiteData) (role : Role) (party : ConfigData) (i : Input) → Begins role i → IsInput m role party [] [] i
+first_input : (m : SuiteData) (role : Side) (party : ConfigData) (i : Input) → Begins role i → IsInput m role party [] [] i
 first_input m role party (input.Lines reader) b = (refl, b.0)
 first_input m role party (input.Packets reader) b = absurd b
 
 -- nothing was sent, and nothing is sealed
-speaks_first : (m : SuiteData) (role : Role) (party : ConfigData) → Speaks m role party [] [] (record { keys = None; number = 0 })
+speaks_first : (m : SuiteData) (role : Side) (party : ConfigData) → Speaks m role party [] [] (record { keys = None; number = 0 })
 speaks_first m role party =
     let none = sending_lemmas.none_sent (strict_at role party []) in
     record { keys = rw none.0 refl; number = sym none.1 }
@@ -48,7 +48,7 @@ speaks_first m role party =
 not_past : (p : Phase) → p ≡ phase.KexInit → past_kexinit p ≡ true → ⊥
 not_past p e past = true≢false (sym past ∙ ap past_kexinit e)
 
-module _ (below : Below) (streams : Streams) (m : SuiteData) (d : DecisionsData) (role : Role) (party : ConfigData) (new : StateData) (i : Input) (lines sent : List ℕ) (strict : Bool) (next : KeysData) where
+module _ (below : Below) (streams : Streams) (m : SuiteData) (d : DecisionsData) (role : Side) (party : ConfigData) (new : StateData) (i : Input) (lines sent : List ℕ) (strict : Bool) (next : KeysData) where
   pub begins_stands : new ≡ record (begun party) { sending = new.sending } → Gives m party.seed strict next (begun party) new lines sent (goes (making m role party)) → lines ≡ preamble_of party → Begins role i
       → EndpointStands m d role party new i [] sent
   begins_stands is gives lines_are reads =

@@ -7,7 +7,7 @@ use Rattle.sshmsg.specs.MessageData.{Unimplemented}
 use Rattle.sshmsg.specs.Messages.{message_in}
 use Rattle.sshmsg.specs.Numbers.{kind}
 use Rattle.sshmsg.specs.Written.{written_message}
-use Rattle.sshneg.specs.declared.role.Role.{Role}
+use Rattle.sshneg.specs.declared.side.Side.{Side}
 use Rattle.sshpacket.specs.KeysData.{KeysData}
 use Rattle.sshpacket.specs.Suite.{SuiteData}
 use Rattle.sshcore.specs.declared.end.Fault.{Fault}
@@ -29,13 +29,13 @@ use Rattle.sshcore.proofs.TableLemmas.{Closing, Dropped, Leaving, OffGuess, OffP
 use Rattle.sshcore.proofs.WorksLemmas.{failed_ends, silent}
 
 -- the line that the code has found
-pub line_is : (l : Line) (role same_role : Role) (p : Phase) (strict guess waits same_waits : Bool) (n same_number : ℕ) → same_role ≡ role → same_waits ≡ waits
+pub line_is : (l : Line) (role same_role : Side) (p : Phase) (strict guess waits same_waits : Bool) (n same_number : ℕ) → same_role ≡ role → same_waits ≡ waits
     → same_number ≡ n → l ≡ line_by same_role p strict guess same_waits same_number → line_by role p strict guess waits n ≡ l
 line_is l role same_role p strict guess waits same_waits n same_number r w k e =
-    sym (e ∙ (ap (λ (x : Role). line_by x p strict guess same_waits same_number) r ∙ (ap (λ (x : Bool). line_by role p strict guess x same_number) w
+    sym (e ∙ (ap (λ (x : Side). line_by x p strict guess same_waits same_number) r ∙ (ap (λ (x : Bool). line_by role p strict guess x same_number) w
     ∙ ap (λ (x : ℕ). line_by role p strict guess waits x) k)))
 
-module _ (role : Role) (p : Phase) (strict guess waits : Bool) (n : ℕ) where
+module _ (role : Side) (p : Phase) (strict guess waits : Bool) (n : ℕ) where
   -- what holds where a packet is dropped, and where its number is unknown
   dropped : (l : Line) → Sees role p strict guess n l → l ≡ line.Drops → (guess ≡ true) × ((n == 1) ≡ false)
   dropped l (Closing is e) q = absurd cc
@@ -91,7 +91,7 @@ module _ (role : Role) (p : Phase) (strict guess waits : Bool) (n : ℕ) where
 not_unknown : (n : ℕ) → is_unknown n ≡ true → (n ≢ 50) × (n ≢ 51) × (n ≢ 60)
 not_unknown n e = (λ q. absurd (true≢false (sym e ∙ rw q refl)), λ q. absurd (true≢false (sym e ∙ rw q refl)), λ q. absurd (true≢false (sym e ∙ rw q refl)))
 
-module _ (m : SuiteData) (d : DecisionsData) (role : Role) (party : ConfigData) (old new : StateData) (packet : ℕ) (payload before after : List ℕ) where
+module _ (m : SuiteData) (d : DecisionsData) (role : Side) (party : ConfigData) (old new : StateData) (packet : ℕ) (payload before after : List ℕ) where
   pub reads_brings : line_by role old.phase old.known.strict old.guess (is_waiting old.known.left) (kind payload) ≡ line.Reads
       → Works m d role party old new payload before after (read_reply m d role party old.known (kind payload) (message_in old.known.shares payload))
       → Brings m d role party old new packet payload before after
@@ -136,7 +136,7 @@ module _ (m : SuiteData) (d : DecisionsData) (role : Role) (party : ConfigData) 
       rw is works
 
 -- the packet of a wrong guess is dropped, and nothing is sent
-pub drops_brings : (m : SuiteData) (d : DecisionsData) (role : Role) (party : ConfigData) (old new : StateData) (packet : ℕ) (payload before : List ℕ)
+pub drops_brings : (m : SuiteData) (d : DecisionsData) (role : Side) (party : ConfigData) (old new : StateData) (packet : ℕ) (payload before : List ℕ)
     → line_by role old.phase old.known.strict old.guess (is_waiting old.known.left) (kind payload) ≡ line.Drops → old.end ≡ Open
     → new ≡ record old { guess = false; known = received_one old.known }
     → Brings m d role party old new packet payload before before

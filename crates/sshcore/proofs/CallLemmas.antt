@@ -5,7 +5,7 @@ use Rattle.std.proofs.lemmas.Bool.{true≢false}
 use Rattle.std.proofs.lemmas.List.{append-nil, length-drop}
 use Rattle.std.proofs.Math.Seq.{take-add, take-length}
 use Rattle.std.specs.Result.{OnErr}
-use Rattle.sshneg.specs.declared.role.Role.{Role}
+use Rattle.sshneg.specs.declared.side.Side.{Side}
 use Rattle.sshpacket.specs.KeysData.{KeysData}
 use Rattle.sshpacket.specs.Suite.{SuiteData}
 use Rattle.sshcore.specs.Brings.{Gives}
@@ -80,9 +80,9 @@ module _ {S D : Type 0} (meaning : S → SuiteData) (policy : D → DecisionsDat
     same = same;
   }
 
-  broken_as : (m n : SuiteData) (d c : DecisionsData) (r q : Role) (p o : ConfigData) (h k s t : List ℕ) → m ≡ n → d ≡ c → r ≡ q → p ≡ o → h ≡ k → s ≡ t → BrokenOff m d r p h s → BrokenOff n c q o k t
+  broken_as : (m n : SuiteData) (d c : DecisionsData) (r q : Side) (p o : ConfigData) (h k s t : List ℕ) → m ≡ n → d ≡ c → r ≡ q → p ≡ o → h ≡ k → s ≡ t → BrokenOff m d r p h s → BrokenOff n c q o k t
   broken_as m n d c r q p o h k s t em ed er ep eh es x =
-      subst (λ (m : SuiteData). BrokenOff m c q o k t) em (subst (λ (d : DecisionsData). BrokenOff m d q o k t) ed (subst (λ (r : Role). BrokenOff m d r o k t) er
+      subst (λ (m : SuiteData). BrokenOff m c q o k t) em (subst (λ (d : DecisionsData). BrokenOff m d q o k t) ed (subst (λ (r : Side). BrokenOff m d r o k t) er
       (subst (λ (p : ConfigData). BrokenOff m d r p k t) ep (subst (λ (h : List ℕ). BrokenOff m d r p h t) eh (subst (λ (s : List ℕ). BrokenOff m d r p h s) es x)))))
 
   -- memory runs out after what went well
@@ -106,7 +106,7 @@ module _ {S D : Type 0} (meaning : S → SuiteData) (policy : D → DecisionsDat
       }
 
   -- a step of what an endpoint keeps is a call that used these bytes
-  pub fed_by : (role : Role) (party : ConfigData) (suite : S) (decisions : D) (i j : Input) (x y : State) (taken before after : List ℕ)
+  pub fed_by : (role : Side) (party : ConfigData) (suite : S) (decisions : D) (i j : Input) (x y : State) (taken before after : List ℕ)
       → (added : List ℕ) × (after ≡ before ++ added) × Steps (meaning suite) (policy decisions) role party i (state_data x) j (state_data y) taken [] added
       → Fed meaning policy (record { role = role; party = party; suite = suite; decisions = decisions; input = i; state = x })
       (record { role = role; party = party; suite = suite; decisions = decisions; input = j; state = y }) taken before after
@@ -120,7 +120,7 @@ module _ {S D : Type 0} (meaning : S → SuiteData) (policy : D → DecisionsDat
   }
 
   -- what was sent for its owner, at an endpoint that stood open, is a call that ended it
-  pub leaves_by : SentMore → (role : Role) (party : ConfigData) (suite : S) (decisions : D) (i : Input) (x y : State) (reason : ℕ) (description before after : List ℕ) (strict : Bool) (next : KeysData)
+  pub leaves_by : SentMore → (role : Side) (party : ConfigData) (suite : S) (decisions : D) (i : Input) (x y : State) (reason : ℕ) (description before after : List ℕ) (strict : Bool) (next : KeysData)
       → end_data x.end ≡ Open → Gives (meaning suite) party.seed strict next (state_data x) (state_data y) before after (disconnects reason description)
       → Leaves meaning policy (record { role = role; party = party; suite = suite; decisions = decisions; input = i; state = x })
       (record { role = role; party = party; suite = suite; decisions = decisions; input = i; state = y }) reason description before after

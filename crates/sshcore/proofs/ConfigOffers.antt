@@ -10,8 +10,8 @@ use Rattle.sshwire.specs.Types.{AreNames, IsName, names_body}
 use Rattle.sshmsg.specs.MessageData.{KexInit, MessageData}
 use Rattle.sshmsg.specs.Lengths.{payload_length}
 use Rattle.sshmsg.specs.Written.{IsNameList, IsOffer, written_message}
-use Rattle.sshneg.specs.declared.role.Role.{Role}
-use Rattle.sshneg.specs.declared.role.Role.TheVariants.{Client, Server}
+use Rattle.sshneg.specs.declared.side.Side.{Side}
+use Rattle.sshneg.specs.declared.side.Side.TheVariants.{Client, Server}
 use Rattle.sshneg.specs.Markers.{is_marker, strict_marker}
 use Rattle.sshcore.specs.declared.config_fault.ConfigFault.TheVariants as fault
 use Rattle.sshcore.specs.ConfigParts.{ClientData, HostKeyData, ServerData, SideData, key_algorithms, client_offer, own_marker, server_offer, side_offer}
@@ -47,13 +47,13 @@ few_names body names short =
     let within : sum_by (λ (n : List ℕ). length n + 1) names ≤ 1001 = room_within body names short in
     omega arith
 
-marker_needs : (role : Role) (flag : Bool) → sum_by (λ (n : List ℕ). length n + 1) (own_marker role flag) ≤ 29
+marker_needs : (role : Side) (flag : Bool) → sum_by (λ (n : List ℕ). length n + 1) (own_marker role flag) ≤ 29
 marker_needs Client true = omega arith
 marker_needs Server true = omega arith
 marker_needs Client false = omega arith
 marker_needs Server false = omega arith
 
-marked_short : BodyLaw → (role : Role) (flag : Bool) (kex : List (List ℕ)) → IsShortList kex → length (names_body (kex ++ own_marker role flag)) ≤ 1030
+marked_short : BodyLaw → (role : Side) (flag : Bool) (kex : List (List ℕ)) → IsShortList kex → length (names_body (kex ++ own_marker role flag)) ≤ 1030
 marked_short body role flag kex short =
     let within : sum_by (λ (n : List ℕ). length n + 1) kex ≤ 1001 = room_within body kex short in
     let marker : sum_by (λ (n : List ℕ). length n + 1) (own_marker role flag) ≤ 29 = marker_needs role flag in
@@ -65,7 +65,7 @@ all_append : {X : Type 0} (P : X → Type 0) (xs ys : List X) → AllByRecursion
 all_append P [] ys h k = k
 all_append P (x ∷ xs) ys h k = (h.0, all_append P xs ys h.1 k)
 
-marker_named : NameLaw → (role : Role) (flag : Bool) → AreNames (own_marker role flag)
+marker_named : NameLaw → (role : Side) (flag : Bool) → AreNames (own_marker role flag)
 marker_named law Client true = ((law (strict_marker Client)).0 refl, tt)
 marker_named law Server true = ((law (strict_marker Server)).0 refl, tt)
 marker_named law Client false = tt
@@ -80,7 +80,7 @@ none_list law = record { each = ((law (codes "none")).0 refl, tt); short = lit< 
 empty_list : IsNameList []
 empty_list = record { each = tt; short = lit< tt }
 
-offer_formed : BodyLaw → NameLaw → (role : Role) (side : SideData) (host_keys : List (List ℕ)) (guess : Bool)
+offer_formed : BodyLaw → NameLaw → (role : Side) (side : SideData) (host_keys : List (List ℕ)) (guess : Bool)
     → AllByRecursion AreNames (lists_of side host_keys) → AllByRecursion IsShortList (lists_of side host_keys) → HasLengths side
     → IsOffer (side_offer role side host_keys guess)
 offer_formed body law role side host_keys guess each short lengths = record {
@@ -103,7 +103,7 @@ offer_formed body law role side host_keys guess each short lengths = record {
 abbrev pub LengthLaw : Type 0
 LengthLaw = (m : MessageData) → length (written_message m) ≡ payload_length m
 
-offer_fits : BodyLaw → LengthLaw → (role : Role) (side : SideData) (host_keys : List (List ℕ)) (guess : Bool)
+offer_fits : BodyLaw → LengthLaw → (role : Side) (side : SideData) (host_keys : List (List ℕ)) (guess : Bool)
     → AllByRecursion IsShortList (lists_of side host_keys) → HasLengths side
     → length (written_message (KexInit (side_offer role side host_keys guess))) ≤ 32768
 offer_fits body law role side host_keys guess short lengths =
@@ -130,11 +130,11 @@ method_at [] methods k name l e = absurd (omega (arith, l))
 method_at (x ∷ kex) methods zero name l e = rw (← e) methods.0
 method_at (x ∷ kex) methods (suc k) name l e = method_at kex methods.1 k name (omega (arith, l)) e
 
-marker_is : (role : Role) → is_marker (strict_marker role) ≡ true
+marker_is : (role : Side) → is_marker (strict_marker role) ≡ true
 marker_is Client = refl
 marker_is Server = refl
 
-unmarked : (kex : List (List ℕ)) → AllByRecursion IsUnmarked kex → (role : Role) → Contains kex (strict_marker role) → ⊥
+unmarked : (kex : List (List ℕ)) → AllByRecursion IsUnmarked kex → (role : Side) → Contains kex (strict_marker role) → ⊥
 unmarked kex methods role found =
     both_ways (is_marker (strict_marker role)) (method_at kex methods found.0 (strict_marker role) found.1 found.2) (marker_is role)
 
@@ -160,10 +160,10 @@ pub server_fits : BodyLaw → LengthLaw → (server : ServerData) → IsServer s
 server_fits body law server is =
     offer_fits body law Server server.side (key_algorithms server.host_keys) false (first_lists IsShortList server (is.keeps fault.ListTooLong)) (is.keeps fault.Random)
 
-pub client_unmarked : (client : ClientData) → IsClient client → (role : Role) → Contains client.side.kex_algorithms (strict_marker role) → ⊥
+pub client_unmarked : (client : ClientData) → IsClient client → (role : Side) → Contains client.side.kex_algorithms (strict_marker role) → ⊥
 client_unmarked client is = unmarked client.side.kex_algorithms (is.keeps fault.Name).1
 
-pub server_unmarked : (server : ServerData) → IsServer server → (role : Role) → Contains server.side.kex_algorithms (strict_marker role) → ⊥
+pub server_unmarked : (server : ServerData) → IsServer server → (role : Side) → Contains server.side.kex_algorithms (strict_marker role) → ⊥
 server_unmarked server is = unmarked server.side.kex_algorithms (is.keeps fault.Name).1
 
 pub client_few : BodyLaw → (client : ClientData) → IsClient client → FitsKexInit client.side × (length client.host_key_algorithms ≤ 1001)

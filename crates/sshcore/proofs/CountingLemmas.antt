@@ -4,7 +4,7 @@ use Rattle.std.proofs.Common.{◌≡◌, ◌⊎◌, inl, inr, ℕ, ◌+◌, Bool
 use Rattle.std.specs.Prelude.{◌%◌, ◌^◌}
 use Rattle.std.proofs.Math.Nat.{suc-mod}
 use Rattle.std.proofs.Math.Numerals.{add-one}
-use Rattle.sshneg.specs.declared.role.Role.{Role}
+use Rattle.sshneg.specs.declared.side.Side.{Side}
 use Rattle.sshpacket.specs.Places.{after_first}
 use Rattle.sshpacket.specs.Stream.{Units}
 use Rattle.sshpacket.proofs.Places.{after-push}
@@ -26,7 +26,7 @@ pub switched : (strict : Bool) (all : ℕ) → number_by true strict 0 (all + 1)
 switched true all = refl
 switched false all = mod_more all
 
-module _ (role : Role) (party : ConfigData) (before : Units) (payload : List ℕ) where
+module _ (role : Side) (party : ConfigData) (before : Units) (payload : List ℕ) where
   since_on : stood role party.offer 21 before ≡ true → since role party.offer 21 (before ++ payload ∷ []) ≡ since role party.offer 21 before + 1
   unfolding since stood
   since_on on =

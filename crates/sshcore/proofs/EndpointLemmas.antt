@@ -2,7 +2,7 @@
 
 use Rattle.std.proofs.Common.{◌≡◌, ℕ, true, false, List, [], ◌++◌, Option, sym, ap, ◌∙◌, subst}
 use Rattle.std.proofs.lemmas.Bool.{true≢false}
-use Rattle.sshneg.specs.declared.role.Role.{Role}
+use Rattle.sshneg.specs.declared.side.Side.{Side}
 use Rattle.sshpacket.specs.Parse.{Refusal}
 use Rattle.sshpacket.specs.Stream.{Units}
 use Rattle.sshpacket.specs.Suite.{SuiteData}
@@ -27,7 +27,7 @@ as_received received_end end (AsReceived e) uncut = sym e
 as_received received_end end (CutOff h e) uncut = absurd (true≢false (sym (ap by_owner e) ∙ uncut))
 as_received received_end end (Left reason h e) uncut = absurd (true≢false (sym (ap by_owner e) ∙ uncut))
 
-module _ (m : SuiteData) (d : DecisionsData) (role : Role) (party : ConfigData) where
+module _ (m : SuiteData) (d : DecisionsData) (role : Side) (party : ConfigData) where
   -- an endpoint that its owner ended stood open
   pub cut_open : (units : Units) (r : Option Refusal) (received_end end : EndData) → Ends m d role party units r received_end → StandsSo received_end end → by_owner end ≡ true → received_end ≡ Open
   cut_open units r received_end end e (AsReceived same) owned = absurd (true≢false (sym (ap by_owner (sym same) ∙ owned) ∙ uncut_received m d role party units r received_end e))
@@ -36,7 +36,7 @@ module _ (m : SuiteData) (d : DecisionsData) (role : Role) (party : ConfigData) 
 
 -- the law of histories' clause of joined inputs
 abbrev pub Joined : Type 0
-Joined = (m : SuiteData) (d : DecisionsData) (role : Role) (party : ConfigData) (units other_units : Units) (rest other_rest : List ℕ) (r other_r : Option Refusal) (answers other_answers : Units)
+Joined = (m : SuiteData) (d : DecisionsData) (role : Side) (party : ConfigData) (units other_units : Units) (rest other_rest : List ℕ) (r other_r : Option Refusal) (answers other_answers : Units)
     (end other_end : EndData) (h g s t x y : List ℕ) → History m d role party units rest r answers end h s → History m d role party other_units other_rest other_r other_answers other_end g t
     → h ++ x ≡ g ++ y → (end ≡ Open → x ≡ []) → (other_end ≡ Open → y ≡ [])
     → (h ≡ g) × IsOneHistory units other_units rest other_rest r other_r answers other_answers end other_end s t
@@ -49,7 +49,7 @@ module _ {S D : Type 0} (meaning : S → SuiteData) (policy : D → DecisionsDat
   same_history one other same units rest r answers end h s a =
       subst (λ (v : S). History (meaning v) (policy one.decisions) one.role one.party units rest r answers end h s) same.same_suite
       (subst (λ (v : D). History (meaning other.suite) (policy v) one.role one.party units rest r answers end h s) same.same_decisions
-      (subst (λ (v : Role). History (meaning other.suite) (policy other.decisions) v one.party units rest r answers end h s) same.same_role
+      (subst (λ (v : Side). History (meaning other.suite) (policy other.decisions) v one.party units rest r answers end h s) same.same_role
       (subst (λ (v : ConfigData). History (meaning other.suite) (policy other.decisions) other.role v units rest r answers end h s) same.same_config a)))
 
   -- endpoints that were given one input used the same bytes of it, and sent and came to the same by them
@@ -71,6 +71,6 @@ module _ {S D : Type 0} (meaning : S → SuiteData) (policy : D → DecisionsDat
       (j.0, j.1, sym one_end ∙ j.2 ∙ other_end)
 
 -- an endpoint that ended authenticated was in phase auth, so a strict one was given a strict sequence first
-pub authenticated_strictly : (m : SuiteData) (d : DecisionsData) (role : Role) (party : ConfigData) (units : Units) (g : AgreedData) (end : EndData) → KeepsStrict role party units end
+pub authenticated_strictly : (m : SuiteData) (d : DecisionsData) (role : Side) (party : ConfigData) (units : Units) (g : AgreedData) (end : EndData) → KeepsStrict role party units end
     → IsAuthenticated m d role party units g → strict_at role party (payloads_in units) ≡ true → BeginsStrictly role party.offer (payloads_in units)
 authenticated_strictly m d role party units g end keeps is strict = keeps.sequence strict (ap past_newkeys is.stays_in_auth)

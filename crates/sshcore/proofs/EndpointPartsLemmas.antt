@@ -8,8 +8,8 @@ use Rattle.std.proofs.lemmas.Slice.Eq.{bytes_eq-Decides}
 use Rattle.sshwire.specs.Lines.{IsVersionText, version_line}
 use Rattle.sshwire.specs.Types.{AreNames, IsName, names_body}
 use Rattle.sshneg.specs.ChoiceReadings.{is_in}
-use Rattle.sshneg.specs.declared.role.Role.{Role}
-use Rattle.sshneg.specs.declared.role.Role.TheVariants.{Client, Server}
+use Rattle.sshneg.specs.declared.side.Side.{Side}
+use Rattle.sshneg.specs.declared.side.Side.TheVariants.{Client, Server}
 use Rattle.sshneg.specs.Markers.{first_name, methods}
 use Rattle.sshcore.specs.declared.config_fault.ConfigFault.TheVariants as fault
 use Rattle.sshcore.specs.declared.config_parts.Attempt as attempt_parts
@@ -38,7 +38,7 @@ pub server_line : (server : ServerData) → IsServer server → length (version_
 server_line server is = line_short (config_of_server server).version (is.keeps fault.Line).0
 
 -- a side's own marker is no method
-marked : (role : Role) (strict : Bool) (names : List (List ℕ)) → AllByRecursion IsUnmarked names → methods (names ++ own_marker role strict) ≡ names
+marked : (role : Side) (strict : Bool) (names : List (List ℕ)) → AllByRecursion IsUnmarked names → methods (names ++ own_marker role strict) ≡ names
 marked Client true [] _ = refl
 marked Server true [] _ = refl
 marked role false [] _ = refl

@@ -8,8 +8,8 @@ use Rattle.sshwire.specs.declared.share_form.ShareForm.TheVariants.{Hybrid, Mpin
 use Rattle.sshmsg.specs.MessageData.{MessageData, NewKeys, ServiceRequest}
 use Rattle.sshmsg.specs.Numbers.{kind}
 use Rattle.sshmsg.specs.Written.{written_message}
-use Rattle.sshneg.specs.declared.role.Role.{Role}
-use Rattle.sshneg.specs.declared.role.Role.TheVariants.{Client, Server}
+use Rattle.sshneg.specs.declared.side.Side.{Side}
+use Rattle.sshneg.specs.declared.side.Side.TheVariants.{Client, Server}
 use Rattle.sshneg.specs.Derivations.{ExchangeData}
 use Rattle.sshneg.specs.ExchangeEnd.{exchange_by, exchange_hash}
 use Rattle.sshneg.specs.Fields.{AlgorithmsData}
@@ -110,7 +110,7 @@ reply_kind OctetString host_key share signature = refl
 reply_kind Hybrid host_key share signature = refl
 
 -- the keys of an exchange, by its shared secret and its hash
-keys_of_exchange : (m : SuiteData) (a : AlgorithmsData) (x : ExchangeData) (role : Role) → kex_keys m a x.shared (exchange_hash m a.kex x) role ≡ keys_by m a x role
+keys_of_exchange : (m : SuiteData) (a : AlgorithmsData) (x : ExchangeData) (role : Side) → kex_keys m a x.shared (exchange_hash m a.kex x) role ≡ keys_by m a x role
 keys_of_exchange m a x Client = refl
 keys_of_exchange m a x Server = refl
 
@@ -119,7 +119,7 @@ not_ongoing : (end : EndData) (f : Fault) → end ≡ Failed f → IsOngoing end
 not_ongoing end f e (inl on) = cc
 not_ongoing end f e (inr (a, on)) = cc
 
-module _ (m : SuiteData) (role : Role) (party : ConfigData) (old new : StateData) (before after : List ℕ) (message : MessageData) where
+module _ (m : SuiteData) (role : Side) (party : ConfigData) (old new : StateData) (before after : List ℕ) (message : MessageData) where
   -- by what is hashed and what is replied
   receives : (x : ExchangeData) (r : Reply) → exchange_of_message m role party old.known message ≡ x
       → Gives m party.seed old.known.strict (keys_by m old.known.algorithms x role) old new before after r
@@ -214,14 +214,14 @@ module _ (m : SuiteData) (party : ConfigData) (old new : StateData) (before afte
       (ap (λ (k : KeysData). with_newkeys old.known.strict k (with_packet old.sending)) keys ∙ sym two.1)
       (signed.fits, (newkeys_fits, tt)))
 
-  pub init_answers : (role : Role) (answer : ResponseData) (shared hash host_key reply : List ℕ) → role ≡ Server → shared ≡ answer.shared
+  pub init_answers : (role : Side) (answer : ResponseData) (shared hash host_key reply : List ℕ) → role ≡ Server → shared ≡ answer.shared
       → m.respond old.known.algorithms.kex party.random share ≡ Some answer → old.end ≡ Open → old.phase ≡ phase.Exchange → HasForm m old
       → IsSigned m role party old.known share answer hash host_key reply → AnswersInit m role party old new host_key shared hash reply before after
       → ReceivesExchange m Server party old new before after message (init_reply m Server party old.known message)
   init_answers role answer shared hash host_key reply is same given ongoing at form signed sent =
-      answers_as_server answer hash host_key reply given ongoing at form (subst (λ (r : Role). IsSigned m r party old.known share answer hash host_key reply) is signed)
+      answers_as_server answer hash host_key reply given ongoing at form (subst (λ (r : Side). IsSigned m r party old.known share answer hash host_key reply) is signed)
       (subst (λ (l : List ℕ). AnswersInit m Server party old new host_key l hash reply before after) same
-      (subst (λ (r : Role). AnswersInit m r party old new host_key shared hash reply before after) is sent))
+      (subst (λ (r : Side). AnswersInit m r party old new host_key shared hash reply before after) is sent))
 
 -- A client, that receives this host key and share.
 module _ (m : SuiteData) (d : DecisionsData) (party : ConfigData) (old new : StateData) (before after : List ℕ) (message : MessageData) (host_key share signature : List ℕ)
@@ -280,11 +280,11 @@ module _ (m : SuiteData) (d : DecisionsData) (party : ConfigData) (old new : Sta
       (ap (λ (k : KeysData). with_packet (with_newkeys old.known.strict k old.sending)) keys ∙ sym two.1)
       (newkeys_fits, (request_fits, tt)))
 
-  pub reply_judged : (role : Role) (shared body : List ℕ) → role ≡ Client → shared ≡ body → d.host_key old.known.algorithms.host_key host_key ≡ true
+  pub reply_judged : (role : Side) (shared body : List ℕ) → role ≡ Client → shared ≡ body → d.host_key old.known.algorithms.host_key host_key ≡ true
       → m.shared old.known.algorithms.kex party.random share ≡ Some body → old.end ≡ Open → old.phase ≡ phase.Exchange → HasForm m old
       → JudgesReply m role party old new (client_shares m party old.known host_key share shared) signature before after
       → ReceivesExchange m Client party old new before after message (reply_reply m d Client party old.known message signature)
   reply_judged role shared body is same trusts given ongoing at form judged =
       judged_as_client body trusts given ongoing at form
       (subst (λ (l : List ℕ). JudgesReply m Client party old new (client_shares m party old.known host_key share l) signature before after) same
-      (subst (λ (r : Role). JudgesReply m r party old new (client_shares m party old.known host_key share shared) signature before after) is judged))
+      (subst (λ (r : Side). JudgesReply m r party old new (client_shares m party old.known host_key share shared) signature before after) is judged))

@@ -4,7 +4,7 @@ use Rattle.std.proofs.Common.{◌≡◌, inl, inr, ℕ, ◌+◌, ◌≤◌, ◌=
 use Rattle.std.proofs.lemmas.Bool.{cases_Bool, true≢false}
 use Rattle.sshmsg.specs.Numbers.{kind}
 use Rattle.sshmsg.specs.Written.{written_message}
-use Rattle.sshneg.specs.declared.role.Role.{Role}
+use Rattle.sshneg.specs.declared.side.Side.{Side}
 use Rattle.sshneg.specs.Markers.{other}
 use Rattle.sshpacket.specs.KeysData.{KeysData}
 use Rattle.sshpacket.specs.declared.fault.PacketFault.{PacketFault}
@@ -82,7 +82,7 @@ received_open received_end end (AsReceived e) o = sym e ∙ o
 received_open received_end end (CutOff h e) o = absurd cc
 received_open received_end end (Left reason h e) o = absurd cc
 
-pub none_refused : (m : SuiteData) (d : DecisionsData) (role : Role) (party : ConfigData) (units : Units) (r : Option Refusal) (end : EndData) → end ≡ Open → Ends m d role party units r end → r ≡ None
+pub none_refused : (m : SuiteData) (d : DecisionsData) (role : Side) (party : ConfigData) (units : Units) (r : Option Refusal) (end : EndData) → end ≡ Open → Ends m d role party units r end → r ≡ None
 none_refused m d role party units r end o (goes_on stays e) = no_refusal r (sym e ∙ o)
 none_refused m d role party units r end o (ended before last is stays e shut none) = none
 
@@ -90,7 +90,7 @@ none_refused m d role party units r end o (ended before last is stays e shut non
 clear_by : (b : Bool) (k : KeysData) → b ≡ false → cond b (Some k) None ≡ None
 clear_by b k e = rw e refl
 
-pub clear_before : (m : SuiteData) (role : Role) (party : ConfigData) (units answers : Units) (p : Phase) (o : Sending)
+pub clear_before : (m : SuiteData) (role : Side) (party : ConfigData) (units answers : Units) (p : Phase) (o : Sending)
     → stood role party.offer (leaving role phase.Exchange) (payloads_in units) ≡ past_exchange p → Speaks m role party units answers o
     → (switched_out answers ≡ true → IsReady role party (payloads_in units)) → past_exchange p ≡ false → o.keys ≡ None
 clear_before m role party units answers p o exchange speaks keyed not_past = elim (cases_Bool (switched_out answers)) [
@@ -98,7 +98,7 @@ clear_before m role party units answers p o exchange speaks keyed not_past = eli
   | inr off ↦ speaks.keys ∙ clear_by (switched_out answers) (keys_at m role party (version_in units) (payloads_in units) role) off
 ]
 
-clear_at : (m : SuiteData) (d : DecisionsData) (role : Role) (party : ConfigData) (version : List ℕ) (before : Units) (payload : List ℕ) (last : StateData)
+clear_at : (m : SuiteData) (d : DecisionsData) (role : Side) (party : ConfigData) (version : List ℕ) (before : Units) (payload : List ℕ) (last : StateData)
     → Sits m d role party version (before ++ payload ∷ []) last.phase last.guess last.known → {units_after : Units} → units_after ≡ version ∷ (before ++ payload ∷ [])
     → (answers : Units) → Speaks m role party units_after answers last.sending → (switched_out answers ≡ true → IsReady role party (payloads_in units_after))
     → past_exchange last.phase ≡ false → last.sending.keys ≡ None
@@ -116,7 +116,7 @@ abbrev pub SentMore : Type 0
 SentMore = (spelled : Units → List ℕ → List ℕ) (stream : List ℕ) (us more : Units) → Sent spelled stream us → Sent spelled (stream ++ flat_places spelled us more) (us ++ more)
 
 -- Its owner tells an endpoint that stands open to disconnect.
-module _ (m : SuiteData) (d : DecisionsData) (role : Role) (party : ConfigData) (kept : StateData) (i : Input) (h s : List ℕ) (is : kept.end ≡ Open) (a : EndpointStands m d role party kept i h s) where
+module _ (m : SuiteData) (d : DecisionsData) (role : Side) (party : ConfigData) (kept : StateData) (i : Input) (h s : List ℕ) (is : kept.end ≡ Open) (a : EndpointStands m d role party kept i h s) where
   -- it has received and sent the same before that
   pub stands_left : (new : StateData) (reason : ℕ) → new.end ≡ Disconnected reason → EndpointStands m d role party new i h s
   stands_left new reason ends = record {
@@ -138,7 +138,7 @@ module _ (m : SuiteData) (d : DecisionsData) (role : Role) (party : ConfigData) 
       subst (λ (l : List ℕ). Sent (spells m role party a.units) (s ++ l) (party.version ∷ (a.answers ++ parting reason description ∷ []))) (sym spoken.0)
       (more (spells m role party a.units) s (party.version ∷ a.answers) (parting reason description ∷ []) a.history.sent)
 
-module _ (below : Below) (streams : Streams) (m : SuiteData) (d : DecisionsData) (role : Role) (party : ConfigData) (kept : StateData) (i : Input) (h s : List ℕ) (is : kept.end ≡ Open) (a : EndpointStands m d role party kept i h s) where
+module _ (below : Below) (streams : Streams) (m : SuiteData) (d : DecisionsData) (role : Side) (party : ConfigData) (kept : StateData) (i : Input) (h s : List ℕ) (is : kept.end ≡ Open) (a : EndpointStands m d role party kept i h s) where
   received_is : a.received_end ≡ Open
   received_is = received_open a.received_end kept.end a.ends is
 

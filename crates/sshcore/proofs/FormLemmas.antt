@@ -6,7 +6,7 @@ use Rattle.sshmsg.specs.declared.fault.MsgFault.{MsgFault}
 use Rattle.sshmsg.specs.MessageData.{KexEcdhInit, KexEcdhReply, KexInit, KexdhInit, KexdhReply, MessageData}
 use Rattle.sshmsg.specs.Messages.{message_in}
 use Rattle.sshmsg.specs.Numbers.{kind, number_of}
-use Rattle.sshneg.specs.declared.role.Role.{Role}
+use Rattle.sshneg.specs.declared.side.Side.{Side}
 use Rattle.sshpacket.specs.Suite.{SuiteData}
 use Rattle.sshcore.specs.declared.table.Line.{Line}
 use Rattle.sshcore.specs.declared.table.Line.TheVariants as line
@@ -22,7 +22,7 @@ use Rattle.sshcore.proofs.Below.{Below}
 use Rattle.sshcore.proofs.StrictLemmas.{leaving_kexinit}
 use Rattle.sshcore.proofs.TableLemmas.{Closing, Dropped, Leaving, OffGuess, OffPhase, Sees, Staying, Useless, sees}
 
-no_share : (role : Role) (strict : Bool) (n : ℕ) → Sees role phase.KexInit strict false n line.Reads → (n ≢ 30) × (n ≢ 31)
+no_share : (role : Side) (strict : Bool) (n : ℕ) → Sees role phase.KexInit strict false n line.Reads → (n ≢ 30) × (n ≢ 31)
 no_share role strict n (Closing one is) = (λ q. omega arith, λ q. omega arith)
 no_share role strict n (Dropped one due r is) = absurd cc
 no_share role strict n (OffGuess one due r out is) = absurd cc
@@ -33,7 +33,7 @@ no_share role strict n (Leaving none here is) =
 no_share role strict n (Staying none off out calm e) = (calm.init, calm.reply)
 no_share role strict n (Useless none off out is) = absurd cc
 
-module _ (below : Below) (m : SuiteData) (d : DecisionsData) (role : Role) (party : ConfigData) where
+module _ (below : Below) (m : SuiteData) (d : DecisionsData) (role : Side) (party : ConfigData) where
   alike_work : (known : Known) (form : ShareForm) (c : MessageData) → number_of c ≢ 30 → number_of c ≢ 31 → work m d role party (record known { shares = form }) c ≡ work m d role party known c
   unfolding work kexinit_reply request_reply
   alike_work known form (KexInit peer) a b = refl

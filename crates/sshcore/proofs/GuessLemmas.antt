@@ -7,7 +7,7 @@ use Rattle.sshmsg.specs.declared.fault.MsgFault.{MsgFault}
 use Rattle.sshmsg.specs.MessageData.{KexInit, KexInitData, MessageData}
 use Rattle.sshmsg.specs.Messages.{message_in}
 use Rattle.sshmsg.specs.Numbers.{kind}
-use Rattle.sshneg.specs.declared.role.Role.{Role}
+use Rattle.sshneg.specs.declared.side.Side.{Side}
 use Rattle.sshneg.specs.ExchangeEnd.{offer_by, offer_in}
 use Rattle.sshpacket.specs.Places.{after_first, first_where, stands}
 use Rattle.sshpacket.specs.Stream.{Units}
@@ -28,12 +28,12 @@ not_false : (b : Bool) → not b ≡ false → b ≡ true
 not_false true e = refl
 not_false false e = sym e
 
-pub wrong_sound : Below → (role : Role) (own peer : KexInitData) → wrong_guess role own (Some peer) ≡ true → IsWrongGuess role own peer
+pub wrong_sound : Below → (role : Side) (own peer : KexInitData) → wrong_guess role own (Some peer) ≡ true → IsWrongGuess role own peer
 wrong_sound below role own peer e =
     let p = and_parts _ _ e in
     record { announced = p.0; not_right = λ r. true≢false (sym ((below.right _ _).1 r) ∙ not_true _ p.1) }
 
-pub wrong_complete : Below → (role : Role) (own peer : KexInitData) → wrong_guess role own (Some peer) ≡ false → IsWrongGuess role own peer → ⊥
+pub wrong_complete : Below → (role : Side) (own peer : KexInitData) → wrong_guess role own (Some peer) ≡ false → IsWrongGuess role own peer → ⊥
 wrong_complete below role own peer e w = elim (and_cases _ _ e) [
   | inl a ↦ true≢false (sym w.announced ∙ a)
   | inr a ↦ w.not_right ((below.right _ _).0 (not_false _ a))
@@ -47,7 +47,7 @@ since_push before payload is =
     ∙ ne_eqb (length (xs ++ payload ∷ [])) 0 (λ e. let more : length (xs ++ payload ∷ []) ≡ length xs + 1 = length-append xs (payload ∷ []) in omega arith)
 
 -- a guess is due right after the KEXINIT alone
-pub no_guess : (role : Role) (own : KexInitData) (before : Units) (payload : List ℕ) → offered before ≡ true → expects_guess role own (before ++ payload ∷ []) ≡ false
+pub no_guess : (role : Side) (own : KexInitData) (before : Units) (payload : List ℕ) → offered before ≡ true → expects_guess role own (before ++ payload ∷ []) ≡ false
 unfolding expects_guess
 no_guess role own before payload is = and_right _ _ (and_left _ _ (since_push before payload is))
 
@@ -67,11 +67,11 @@ pub none_offered : (before : Units) → offered before ≡ false → peer_offer 
 unfolding message_in
 none_offered before none = ap offer_in (none_stood before none)
 
-pub none_due : (role : Role) (own : KexInitData) (before : Units) → offered before ≡ false → expects_guess role own before ≡ false
+pub none_due : (role : Side) (own : KexInitData) (before : Units) → offered before ≡ false → expects_guess role own before ≡ false
 unfolding expects_guess
 none_due role own before none = rw none refl
 
-pub none_chosen : (m : SuiteData) (role : Role) (party : ConfigData) (before : Units) → offered before ≡ false → shares_at m role party before ≡ Mpint
+pub none_chosen : (m : SuiteData) (role : Side) (party : ConfigData) (before : Units) → offered before ≡ false → shares_at m role party before ≡ Mpint
 none_chosen m role party before none = ap (λ (peer : Option KexInitData). shares_by m (choice_with m role party.offer peer)) (none_offered before none)
 
 -- the first KEXINIT
@@ -86,7 +86,7 @@ none_since before payload none =
     let same : after_first is_kexinit [] (before ++ payload ∷ []) ≡ [] = after-push is_kexinit [] before payload ∙ rw none refl in
     ap (λ (l : Units). length l) same
 
-pub first_guess : (role : Role) (own : KexInitData) (before : Units) (payload : List ℕ) → offered before ≡ false → kind payload ≡ 20
+pub first_guess : (role : Side) (own : KexInitData) (before : Units) (payload : List ℕ) → offered before ≡ false → kind payload ≡ 20
     → expects_guess role own (before ++ payload ∷ []) ≡ wrong_guess role own (offer_in payload)
 unfolding expects_guess
 first_guess role own before payload none is =
@@ -95,25 +95,25 @@ first_guess role own before payload none is =
     rw (on, none_since before payload none) (ap (λ (k : List ℕ). wrong_guess role own (offer_in k)) (first_kexinit before payload none is))
 
 -- strictness once the KEXINIT has stood, and with it
-pub strict_push : (role : Role) (party : ConfigData) (before : Units) (payload : List ℕ) → offered before ≡ true → strict_at role party (before ++ payload ∷ []) ≡ strict_at role party before
+pub strict_push : (role : Side) (party : ConfigData) (before : Units) (payload : List ℕ) → offered before ≡ true → strict_at role party (before ++ payload ∷ []) ≡ strict_at role party before
 strict_push role party before payload is = ap (λ (k : List ℕ). strict_towards role party.strict (offer_in k)) (kexinit_push before payload ∙ rw is refl)
 
-pub strict_none : (role : Role) (party : ConfigData) (before : Units) (payload : List ℕ) → offered before ≡ false → (kind payload == 20) ≡ false → strict_at role party (before ++ payload ∷ []) ≡ false
+pub strict_none : (role : Side) (party : ConfigData) (before : Units) (payload : List ℕ) → offered before ≡ false → (kind payload == 20) ≡ false → strict_at role party (before ++ payload ∷ []) ≡ false
 unfolding message_in
 strict_none role party before payload none other_kind =
     let e : kexinit (before ++ payload ∷ []) ≡ [] = kexinit_push before payload ∙ rw (none, other_kind) refl in
     ap (λ (k : List ℕ). strict_towards role party.strict (offer_in k)) e
 
-pub strict_first : (role : Role) (party : ConfigData) (before : Units) (payload : List ℕ) → offered before ≡ false → kind payload ≡ 20
+pub strict_first : (role : Side) (party : ConfigData) (before : Units) (payload : List ℕ) → offered before ≡ false → kind payload ≡ 20
     → strict_at role party (before ++ payload ∷ []) ≡ strict_towards role party.strict (offer_in payload)
 strict_first role party before payload none is = ap (λ (k : List ℕ). strict_towards role party.strict (offer_in k)) (first_kexinit before payload none is)
 
 -- a payload with a marker is a KEXINIT
-shown_by : (role : Role) (flag : Bool) (r : Option KexInitData) → strict_towards role flag r ≡ true → (peer : KexInitData) × (r ≡ Some peer)
+shown_by : (role : Side) (flag : Bool) (r : Option KexInitData) → strict_towards role flag r ≡ true → (peer : KexInitData) × (r ≡ Some peer)
 shown_by role flag (Some peer) e = (peer, refl)
 shown_by role flag None e = absurd (true≢false (sym e))
 
-pub shown : (role : Role) (flag : Bool) (payload : List ℕ) → strict_towards role flag (offer_in payload) ≡ true → (peer : KexInitData) × (offer_in payload ≡ Some peer)
+pub shown : (role : Side) (flag : Bool) (payload : List ℕ) → strict_towards role flag (offer_in payload) ≡ true → (peer : KexInitData) × (offer_in payload ≡ Some peer)
 shown role flag payload e = shown_by role flag (offer_in payload) e
 
 read_by : (r : Result MessageData MsgFault) (peer : KexInitData) → offer_by r ≡ Some peer → r ≡ Ok (KexInit peer)

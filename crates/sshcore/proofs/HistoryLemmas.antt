@@ -3,7 +3,7 @@
 use Rattle.std.proofs.Common.{◌≡◌, ◌≢◌, ◌⊎◌, inl, inr, ℕ, ◌+◌, ◌≤◌, Bool, true, false, List, [], ◌∷◌, ◌++◌, length, take, Option, None, Some, refl, sym, ap, ◌∙◌, append_assoc}
 use Rattle.std.proofs.lemmas.Bool.{true≢false}
 use Rattle.std.proofs.lemmas.List.{append-nil}
-use Rattle.sshneg.specs.declared.role.Role.{Role}
+use Rattle.sshneg.specs.declared.side.Side.{Side}
 use Rattle.sshpacket.specs.Parse.{ProtectionData, Refusal, parse_packet, refused, unfinished, whole}
 use Rattle.sshpacket.specs.Places.{EachPlace, IsPrefix, flat_places}
 use Rattle.sshpacket.specs.PreambleParser.{preamble_parser}
@@ -64,12 +64,12 @@ is_open (Failed f) = inr (λ e. absurd cc)
 is_open (Closed reason) = inr (λ e. absurd cc)
 is_open (Disconnected reason) = inr (λ e. absurd cc)
 
-module _ (streams : Streams) (m : SuiteData) (role : Role) (party : ConfigData) where
+module _ (streams : Streams) (m : SuiteData) (role : Side) (party : ConfigData) where
   pub each : (us : Units) → IsIncremental (parsers m role party us)
   each [] = streams.lines (others_of role)
   each (version ∷ before) = streams.packets (protection_in m role party version before)
 
-module _ (below : Below) (streams : Streams) (m : SuiteData) (d : DecisionsData) (role : Role) (party : ConfigData) where
+module _ (below : Below) (streams : Streams) (m : SuiteData) (d : DecisionsData) (role : Side) (party : ConfigData) where
   open_stays : (units : Units) (r : Option Refusal) (end : EndData) → end ≡ Open → Ends m d role party units r end → StaysOpen m d role party units
   open_stays units r end is (goes_on stays e) = stays
   open_stays units r end is (ended before last units_are stays e shut none) = absurd (shut is)
@@ -184,7 +184,7 @@ module _ (below : Below) (streams : Streams) (m : SuiteData) (d : DecisionsData)
         }
 
 -- and before any of them
-pub broken : (m : SuiteData) (d : DecisionsData) (role : Role) (party : ConfigData) (units : Units) (rest : List ℕ) (refusal : Option Refusal) (answers : Units) (end : EndData) (h s : List ℕ)
+pub broken : (m : SuiteData) (d : DecisionsData) (role : Side) (party : ConfigData) (units : Units) (rest : List ℕ) (refusal : Option Refusal) (answers : Units) (end : EndData) (h s : List ℕ)
     → History m d role party units rest refusal answers end h s → BrokenOff m d role party h s
 broken m d role party units rest refusal answers end h s a = record {
   units = units;

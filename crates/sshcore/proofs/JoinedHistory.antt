@@ -2,7 +2,7 @@
 
 use Rattle.std.proofs.Common.{◌≡◌, ◌≢◌, ◌⊎◌, inl, inr, ℕ, ◌+◌, List, [], ◌∷◌, ◌++◌, length, drop, Option, None, Some, refl, sym, ap, ◌∙◌, subst, append_assoc, arith}
 use Rattle.std.proofs.lemmas.List.{append-nil, length-append}
-use Rattle.sshneg.specs.declared.role.Role.{Role}
+use Rattle.sshneg.specs.declared.side.Side.{Side}
 use Rattle.sshpacket.specs.Parse.{Refusal, refused, unfinished}
 use Rattle.sshpacket.specs.Places.{IsPrefix}
 use Rattle.sshpacket.specs.Stream.{IsIncremental, IsRest, Parser, Read, Units}
@@ -80,7 +80,7 @@ module _ (parsers : Units → Parser) where
         let again : parsers us (rest ++ z) ≡ refused f (length rest) = (each us).more rest z (λ none. cc) ∙ k in
         absurd cc
 
-module _ (m : SuiteData) (d : DecisionsData) (role : Role) (party : ConfigData) where
+module _ (m : SuiteData) (d : DecisionsData) (role : Side) (party : ConfigData) where
   -- where more units were received after one, it left the endpoint open
   open_within : (units before : Units) (u w : List ℕ) (ws : Units) (r : Option Refusal) (end : EndData)
       → Ends m d role party units r end → units ≡ before ++ u ∷ w ∷ ws → end_at m d role party before u ≡ Open
@@ -97,7 +97,7 @@ module _ (m : SuiteData) (d : DecisionsData) (role : Role) (party : ConfigData) 
   shut_after units before u r end (goes_on stays e) are shut = absurd (shut (last_open m d role party units before u are stays))
   shut_after units before u r end (ended front last is stays e closed none) are shut = (closed, none)
 
-module _ (streams : Streams) (m : SuiteData) (d : DecisionsData) (role : Role) (party : ConfigData) where
+module _ (streams : Streams) (m : SuiteData) (d : DecisionsData) (role : Side) (party : ConfigData) where
   -- an endpoint that isn't open uses no byte more
   none_used : (units other_units : Units) (rest other_rest : List ℕ) (r other_r : Option Refusal) (answers other_answers : Units) (end other_end : EndData) (h z s t : List ℕ)
       → History m d role party units rest r answers end h s → History m d role party other_units other_rest other_r other_answers other_end (h ++ z) t

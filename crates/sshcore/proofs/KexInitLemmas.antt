@@ -4,8 +4,8 @@ use Rattle.std.proofs.Common.{◌≡◌, ℕ, Bool, true, false, List, [], ◌�
 use Rattle.std.specs.Prelude.{◌&&◌, not}
 use Rattle.sshmsg.specs.MessageData.{KexInitData}
 use Rattle.sshneg.specs.declared.choice.NoCommon.{NoCommon}
-use Rattle.sshneg.specs.declared.role.Role.{Role}
-use Rattle.sshneg.specs.declared.role.Role.TheVariants.{Client, Server}
+use Rattle.sshneg.specs.declared.side.Side.{Side}
+use Rattle.sshneg.specs.declared.side.Side.TheVariants.{Client, Server}
 use Rattle.sshneg.specs.ExchangeEnd.{client_of, server_of}
 use Rattle.sshneg.specs.Strictness.{is_right_guess}
 use Rattle.sshpacket.specs.Suite.{SuiteData}
@@ -19,7 +19,7 @@ use Rattle.sshcore.specs.Negotiated.{IsNegotiated, sends_init}
 use Rattle.sshcore.specs.EndpointParts.{ConfigData}
 use Rattle.sshcore.specs.Work.{chosen_reply, init_for, kexinit_reply, opening}
 
-module _ (m : SuiteData) (role : Role) (party : ConfigData) (known : Known) (peer : KexInitData) where
+module _ (m : SuiteData) (role : Side) (party : ConfigData) (known : Known) (peer : KexInitData) where
   -- something stood before it, and the endpoint is strict
   pub strictly_refused : strict_towards role party.strict (Some peer) ≡ true → known.first ≡ false → fails (fault.Strict 20) ≡ kexinit_reply m role party known peer
   unfolding kexinit_reply
@@ -42,12 +42,12 @@ module _ (m : SuiteData) (role : Role) (party : ConfigData) (known : Known) (pee
       ap (chosen_reply m role party peer) (sym none) ∙ by_choice off
 
 -- what is sent by whether a guess is right
-opened : (m : SuiteData) (role : Role) (party : ConfigData) (peer : KexInitData) (right : Bool) (kex : List ℕ) → right ≡ is_right_guess (client_of role party.offer peer) (server_of role party.offer peer)
+opened : (m : SuiteData) (role : Side) (party : ConfigData) (peer : KexInitData) (right : Bool) (kex : List ℕ) → right ≡ is_right_guess (client_of role party.offer peer) (server_of role party.offer peer)
     → sends_init m role party right kex ≡ opening m role party peer kex
 opened m Server party peer right kex e = refl
 opened m Client party peer right kex e = ap (λ (b : Bool). cond (party.offer.first_kex_packet_follows && b) [] (init_for m party kex ∷ [])) e
 
-module _ (m : SuiteData) (role : Role) (party : ConfigData) (known : Known) (peer : KexInitData) where
+module _ (m : SuiteData) (role : Side) (party : ConfigData) (known : Known) (peer : KexInitData) where
   -- there is one
   pub chosen : (strict_towards role party.strict (Some peer) && not known.first) ≡ false → (found : Result Negotiated NoCommon) (n : Negotiated)
       → IsNegotiated m (client_of role party.offer peer) (server_of role party.offer peer) found → found ≡ Ok n

@@ -12,8 +12,8 @@ use Rattle.sshmsg.specs.Messages.{message_in}
 use Rattle.sshmsg.specs.Numbers.{kind, number_of}
 use Rattle.sshmsg.specs.Written.{written_message}
 use Rattle.sshneg.specs.declared.choice.NoCommon.{NoCommon}
-use Rattle.sshneg.specs.declared.role.Role.{Role}
-use Rattle.sshneg.specs.declared.role.Role.TheVariants.{Client, Server}
+use Rattle.sshneg.specs.declared.side.Side.{Side}
+use Rattle.sshneg.specs.declared.side.Side.TheVariants.{Client, Server}
 use Rattle.sshneg.specs.Fields.{AlgorithmsData}
 use Rattle.sshneg.specs.Strictness.{is_right_guess}
 use Rattle.sshpacket.specs.Stream.{Units}
@@ -85,22 +85,22 @@ module _ (m : SuiteData) (party : ConfigData) where
   still_init : (kex : List ℕ) → IsStill (init_for m party kex ∷ [])
   still_init kex = still_one (init_for m party kex) (init_kind (m.share_form kex) (m.share kex party.random))
 
-  still_opening : (role : Role) (peer : KexInitData) (kex : List ℕ) → IsStill (opening m role party peer kex)
+  still_opening : (role : Side) (peer : KexInitData) (kex : List ℕ) → IsStill (opening m role party peer kex)
   still_opening Server peer kex = still_none
   still_opening Client peer kex =
       still_units (party.offer.first_kex_packet_follows && is_right_guess party.offer peer) [] (init_for m party kex ∷ []) still_none (still_init kex)
 
-  still_chosen : (role : Role) (peer : KexInitData) (r : Result AlgorithmsData NoCommon) → IsStill (chosen_reply m role party peer r).answers
+  still_chosen : (role : Side) (peer : KexInitData) (r : Result AlgorithmsData NoCommon) → IsStill (chosen_reply m role party peer r).answers
   still_chosen role peer (Ok a) = still_opening role peer a.kex
   still_chosen role peer (Err f) = still_fails (fault.NoCommon f)
 
-  still_kexinit : (role : Role) (known : Known) (peer : KexInitData) → IsStill (kexinit_reply m role party known peer).answers
+  still_kexinit : (role : Side) (known : Known) (peer : KexInitData) → IsStill (kexinit_reply m role party known peer).answers
   unfolding kexinit_reply
   still_kexinit role known peer =
       still_cond (strict_towards role party.strict (Some peer) && not known.first) (fails (fault.Strict 20)) (chosen_reply m role party peer (choice_with m role party.offer (Some peer)))
       (still_fails (fault.Strict 20)) (still_chosen role peer (choice_with m role party.offer (Some peer)))
 
-  still_guess : (role : Role) → IsStill (guess_of m role party)
+  still_guess : (role : Side) → IsStill (guess_of m role party)
   still_guess Server = still_none
   still_guess Client = still_units party.offer.first_kex_packet_follows (init_for m party (guessed_method party) ∷ []) [] (still_init (guessed_method party)) still_none
 
@@ -153,12 +153,12 @@ still_confirmed m known algorithm key (a ∷ later) =
     (still_attempt m known.session (after_query a ∷ [])) (still_fails (fault.Unexpected 60))
 
 -- at this place the exchange message comes
-pub record IsExchangePlace (role : Role) (party : ConfigData) (before : Units) (payload : List ℕ) (p : Phase) : Type 0 where
+pub record IsExchangePlace (role : Side) (party : ConfigData) (before : Units) (payload : List ℕ) (p : Phase) : Type 0 where
   pub at : p ≡ phase.Exchange
   pub none_due : expects_guess role party.offer before ≡ false
   pub leaves : kind payload ≡ leaving role phase.Exchange
 
-module _ (below : Below) (m : SuiteData) (d : DecisionsData) (role : Role) (party : ConfigData) where
+module _ (below : Below) (m : SuiteData) (d : DecisionsData) (role : Side) (party : ConfigData) where
   -- a message that isn't an exchange message is answered without one
   still_work : (known : Known) (c : MessageData) → number_of c ≢ 30 → number_of c ≢ 31 → IsStill (work m d role party known c).answers
   unfolding work
@@ -188,32 +188,32 @@ module _ (below : Below) (m : SuiteData) (d : DecisionsData) (role : Role) (part
   still_unknown known packet payload = refl
 
   -- a number that leaves a phase and is an exchange message's leaves phase exchange
-  from_exchange : (r : Role) (p : Phase) (n : ℕ) → n ≡ leaving r p → (n ≡ 30) ⊎ (n ≡ 31) → p ≡ phase.Exchange
+  from_exchange : (r : Side) (p : Phase) (n : ℕ) → n ≡ leaving r p → (n ≡ 30) ⊎ (n ≡ 31) → p ≡ phase.Exchange
   from_exchange r phase.Exchange n here two = refl
   from_exchange r phase.KexInit n here two = absurd (by r here two)
     where
-      by : (r : Role) → n ≡ leaving r phase.KexInit → (n ≡ 30) ⊎ (n ≡ 31) → ⊥
+      by : (r : Side) → n ≡ leaving r phase.KexInit → (n ≡ 30) ⊎ (n ≡ 31) → ⊥
       by Client h (inl e) = absurd (omega arith)
       by Client h (inr e) = absurd (omega arith)
       by Server h (inl e) = absurd (omega arith)
       by Server h (inr e) = absurd (omega arith)
   from_exchange r phase.NewKeys n here two = absurd (by r here two)
     where
-      by : (r : Role) → n ≡ leaving r phase.NewKeys → (n ≡ 30) ⊎ (n ≡ 31) → ⊥
+      by : (r : Side) → n ≡ leaving r phase.NewKeys → (n ≡ 30) ⊎ (n ≡ 31) → ⊥
       by Client h (inl e) = absurd (omega arith)
       by Client h (inr e) = absurd (omega arith)
       by Server h (inl e) = absurd (omega arith)
       by Server h (inr e) = absurd (omega arith)
   from_exchange r phase.Service n here two = absurd (by r here two)
     where
-      by : (r : Role) → n ≡ leaving r phase.Service → (n ≡ 30) ⊎ (n ≡ 31) → ⊥
+      by : (r : Side) → n ≡ leaving r phase.Service → (n ≡ 30) ⊎ (n ≡ 31) → ⊥
       by Client h (inl e) = absurd (omega arith)
       by Client h (inr e) = absurd (omega arith)
       by Server h (inl e) = absurd (omega arith)
       by Server h (inr e) = absurd (omega arith)
   from_exchange r phase.Auth n here two = absurd (by r here two)
     where
-      by : (r : Role) → n ≡ leaving r phase.Auth → (n ≡ 30) ⊎ (n ≡ 31) → ⊥
+      by : (r : Side) → n ≡ leaving r phase.Auth → (n ≡ 30) ⊎ (n ≡ 31) → ⊥
       by Client h (inl e) = absurd (omega arith)
       by Client h (inr e) = absurd (omega arith)
       by Server h (inl e) = absurd (omega arith)
@@ -277,6 +277,6 @@ module _ (below : Below) (m : SuiteData) (d : DecisionsData) (role : Role) (part
         let e = told_at p t on in
         ready_after p t e.none_due e.at e.leaves
 
-pub still_making : (m : SuiteData) (role : Role) (party : ConfigData) → IsStill (making m role party)
+pub still_making : (m : SuiteData) (role : Side) (party : ConfigData) → IsStill (making m role party)
 unfolding switched_out written_message
 still_making m role party = newkeys_anywhere (own_kexinit party ∷ []) [] (guess_of m role party) ∙ still_guess m party role

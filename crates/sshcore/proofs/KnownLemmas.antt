@@ -6,7 +6,7 @@ use Rattle.sshwire.specs.declared.share_form.ShareForm.{ShareForm}
 use Rattle.sshmsg.specs.MessageData.{KexInitData}
 use Rattle.sshmsg.specs.Messages.{message_in}
 use Rattle.sshmsg.specs.Numbers.{kind}
-use Rattle.sshneg.specs.declared.role.Role.{Role}
+use Rattle.sshneg.specs.declared.side.Side.{Side}
 use Rattle.sshneg.specs.Derivations.{ExchangeData}
 use Rattle.sshneg.specs.ExchangeEnd.{exchange_hash, offer_in}
 use Rattle.sshneg.specs.Fields.{AlgorithmsData}
@@ -50,7 +50,7 @@ some_stood (u ∷ us) e = ne_eqb (length (u ∷ us)) 0 (λ q. omega (arith, q))
 one_more : (before : Units) (payload : List ℕ) → (length (before ++ payload ∷ []) == 0) ≡ false
 one_more before payload = ne_eqb (length (before ++ payload ∷ [])) 0 (λ e. let more : length (before ++ payload ∷ []) ≡ length before + 1 = length-append before (payload ∷ []) in omega arith)
 
-module _ (m : SuiteData) (role : Role) (party : ConfigData) (version : List ℕ) where
+module _ (m : SuiteData) (role : Side) (party : ConfigData) (version : List ℕ) where
   abbrev algorithms_of : List ℕ → AlgorithmsData
   algorithms_of k = chosen_or (choice_with m role party.offer (offer_in k))
 
@@ -63,7 +63,7 @@ module _ (m : SuiteData) (role : Role) (party : ConfigData) (version : List ℕ)
   abbrev session_by_payloads : List ℕ → List ℕ → List ℕ
   session_by_payloads k message = exchange_hash m (algorithms_of k).kex (exchange_by_payloads k message)
 
-  abbrev pub keys_by_payloads : Role → List ℕ → List ℕ → KeysData
+  abbrev pub keys_by_payloads : Side → List ℕ → List ℕ → KeysData
   keys_by_payloads sender k message = keys_by m (algorithms_of k) (exchange_by_payloads k message) sender
 
   message_push : (before : Units) (payload : List ℕ) → exchange_message role party (before ++ payload ∷ [])
@@ -87,7 +87,7 @@ module _ (m : SuiteData) (role : Role) (party : ConfigData) (version : List ℕ)
         ap (λ (k : List ℕ). exchange_by_payloads k (exchange_message role party (before ++ payload ∷ []))) (kexinit_stays before payload is)
         ∙ ap (λ (l : List ℕ). exchange_by_payloads (kexinit before) l) message_stays
 
-    pub keys_stay : (sender : Role) → keys_at m role party version (before ++ payload ∷ []) sender ≡ keys_at m role party version before sender
+    pub keys_stay : (sender : Side) → keys_at m role party version (before ++ payload ∷ []) sender ≡ keys_at m role party version before sender
     keys_stay sender =
         ap (λ (k : List ℕ). keys_by_payloads sender k (exchange_message role party (before ++ payload ∷ []))) (kexinit_stays before payload is)
         ∙ ap (λ (l : List ℕ). keys_by_payloads sender (kexinit before) l) message_stays
@@ -108,7 +108,7 @@ module _ (m : SuiteData) (role : Role) (party : ConfigData) (version : List ℕ)
         ap (λ (k : List ℕ). exchange_by_payloads k (exchange_message role party (before ++ payload ∷ []))) (kexinit_stays before payload is)
         ∙ ap (λ (l : List ℕ). exchange_by_payloads (kexinit before) l) message_is
 
-    pub keys_are : (d : DecisionsData) (sender : Role) → keys_at m role party version (before ++ payload ∷ []) sender
+    pub keys_are : (d : DecisionsData) (sender : Side) → keys_at m role party version (before ++ payload ∷ []) sender
         ≡ keys_by m (algorithms_at m role party before) (exchange_received m role party (known_at m d role party version before) payload) sender
     keys_are d sender =
         ap (λ (k : List ℕ). keys_by_payloads sender k (exchange_message role party (before ++ payload ∷ []))) (kexinit_stays before payload is)
@@ -141,7 +141,7 @@ module _ (m : SuiteData) (role : Role) (party : ConfigData) (version : List ℕ)
             rw (off, now) refl
 
 -- what is known
-module _ (m : SuiteData) (d : DecisionsData) (role : Role) (party : ConfigData) (version : List ℕ) where
+module _ (m : SuiteData) (d : DecisionsData) (role : Side) (party : ConfigData) (version : List ℕ) where
   module _ (before : Units) (payload : List ℕ) (is : offered before ≡ true) (none : stood role party.offer (leaving role phase.Exchange) before ≡ false)
       (here : kept role party.offer (leaving role phase.Exchange) before payload ≡ true) where
     pub known_exchanged : known_at m d role party version (before ++ payload ∷ []) ≡ after_exchange m role party (known_at m d role party version before) payload

@@ -8,7 +8,7 @@ use Rattle.sshwire.specs.Feeding.{StandsOpen}
 use Rattle.sshwire.specs.LineReaderData.{Finished, LineReaderData, Progress, Refused, Waits}
 use Rattle.sshwire.specs.Lines.{LineRefused, Preamble}
 use Rattle.sshwire.specs.declared.fault.WireFault.{WireFault}
-use Rattle.sshneg.specs.declared.role.Role.{Role}
+use Rattle.sshneg.specs.declared.side.Side.{Side}
 use Rattle.sshneg.specs.Markers.{other}
 use Rattle.sshpacket.specs.declared.reader.PacketReader.{PacketReader}
 use Rattle.sshpacket.specs.KeysData.{KeysData}
@@ -64,24 +64,24 @@ gives_nothing : (m : SuiteData) (seed : List ℕ) (strict : Bool) (next : KeysDa
 unfolding sent_from sending_from
 gives_nothing m seed strict next kept before = record { ends = refl; output = sym (append-nil before); sends = refl; fits = tt }
 
-number_none : (role : Role) (party : ConfigData) → number_in role party [] ≡ 0
+number_none : (role : Side) (party : ConfigData) → number_in role party [] ≡ 0
 number_none role party = rw ((tied_none role party.offer).newkeys) refl
 
-keys_none : (m : SuiteData) (role : Role) (party : ConfigData) (version : List ℕ) → keys_in m role party version [] ≡ None
+keys_none : (m : SuiteData) (role : Side) (party : ConfigData) (version : List ℕ) → keys_in m role party version [] ≡ None
 keys_none m role party version = rw ((tied_none role party.offer).newkeys) refl
 
 -- where an endpoint stands that has received no line
-first_phase : (m : SuiteData) (d : DecisionsData) (role : Role) (party : ConfigData) (p : Phase) (g : Bool) (k : Known) → Sits m d role party [] [] p g k → p ≡ phase.KexInit
+first_phase : (m : SuiteData) (d : DecisionsData) (role : Side) (party : ConfigData) (p : Phase) (g : Bool) (k : Known) → Sits m d role party [] [] p g k → p ≡ phase.KexInit
 first_phase m d role party p g k s = sym (tied_phase role party.offer [] p s.tied) ∙ tied_phase role party.offer [] phase.KexInit (tied_none role party.offer)
 
-first_guess : (m : SuiteData) (d : DecisionsData) (role : Role) (party : ConfigData) (p : Phase) (g : Bool) (k : Known) → Sits m d role party [] [] p g k → g ≡ false
+first_guess : (m : SuiteData) (d : DecisionsData) (role : Side) (party : ConfigData) (p : Phase) (g : Bool) (k : Known) → Sits m d role party [] [] p g k → g ≡ false
 first_guess m d role party p g k s = sym s.due ∙ (standing.begins m d role party []).due
 
-first_known : (m : SuiteData) (d : DecisionsData) (role : Role) (party : ConfigData) (p : Phase) (g : Bool) (k : Known) → Sits m d role party [] [] p g k → k ≡ nothing_known party []
+first_known : (m : SuiteData) (d : DecisionsData) (role : Side) (party : ConfigData) (p : Phase) (g : Bool) (k : Known) → Sits m d role party [] [] p g k → k ≡ nothing_known party []
 first_known m d role party p g k s = sym s.knows ∙ (standing.begins m d role party []).knows
 
 -- a version line is answered by nothing
-module _ (below : Below) (streams : Streams) (m : SuiteData) (d : DecisionsData) (role : Role) (party : ConfigData) (h s : List ℕ) where
+module _ (below : Below) (streams : Streams) (m : SuiteData) (d : DecisionsData) (role : Side) (party : ConfigData) (h s : List ℕ) where
   at_first : (rest : List ℕ) (answers : Units) → History m d role party [] rest None answers Open h s → (piece version : List ℕ) (used : ℕ) → used ≤ length piece
       → parsers m role party [] (rest ++ piece) ≡ whole version (length rest + used)
       → History m d role party (version ∷ []) [] None (answers ++ []) Open (h ++ take used piece) (s ++ [])
@@ -93,7 +93,7 @@ module _ (below : Below) (streams : Streams) (m : SuiteData) (d : DecisionsData)
   version_history [] rest answers none a piece version used low seen = at_first rest answers a piece version used low seen
   version_history (u ∷ us) rest answers none a piece version used low seen = absurd cc
 
-module _ (laws : LineLaws) (below : Below) (streams : Streams) (m : SuiteData) (d : DecisionsData) (role : Role) (party : ConfigData) (kept : StateData) (i : Input) (h s : List ℕ) (is : kept.end ≡ Open) (a : EndpointStands m d role party kept i h s) (none : a.units ≡ []) where
+module _ (laws : LineLaws) (below : Below) (streams : Streams) (m : SuiteData) (d : DecisionsData) (role : Side) (party : ConfigData) (kept : StateData) (i : Input) (h s : List ℕ) (is : kept.end ≡ Open) (a : EndpointStands m d role party kept i h s) (none : a.units ≡ []) where
   lines_are : (bytes : List ℕ) → parsers m role party a.units bytes ≡ preamble_parser (others_of role) bytes
   lines_are bytes = ap (λ (us : Units). parsers m role party us bytes) none
 
@@ -174,7 +174,7 @@ module _ (laws : LineLaws) (below : Below) (streams : Streams) (m : SuiteData) (
         uncut = open_stays kept.end is;
       }
 
-module _ (laws : LineLaws) (below : Below) (streams : Streams) (m : SuiteData) (d : DecisionsData) (role : Role) (party : ConfigData) (next : KeysData) (old : LineReaderData) (kept : StateData) (piece before : List ℕ) (is : kept.end ≡ Open) where
+module _ (laws : LineLaws) (below : Below) (streams : Streams) (m : SuiteData) (d : DecisionsData) (role : Side) (party : ConfigData) (next : KeysData) (old : LineReaderData) (kept : StateData) (piece before : List ℕ) (is : kept.end ≡ Open) where
   goes_as : (new last : StateData) (j : Input) (h s : List ℕ) (n k : ℕ) → last ≡ new → k ≡ n → GoesOn m d role party new j h s (take n piece) before before → GoesOn m d role party last j h s (take k piece) before before
   goes_as new last j h s n k e f g =
       subst (λ (x : ℕ). GoesOn m d role party last j h s (take x piece) before before) (sym f) (subst (λ (x : StateData). GoesOn m d role party x j h s (take n piece) before before) (sym e) g)

@@ -6,8 +6,8 @@ use Rattle.std.proofs.lemmas.Bool.{true≢false}
 use Rattle.sshmsg.specs.MessageData.{KexInit}
 use Rattle.sshmsg.specs.Numbers.{kind}
 use Rattle.sshwire.specs.declared.share_form.ShareForm.TheVariants.{Mpint}
-use Rattle.sshneg.specs.declared.role.Role.{Role}
-use Rattle.sshneg.specs.declared.role.Role.TheVariants.{Client, Server}
+use Rattle.sshneg.specs.declared.side.Side.{Side}
+use Rattle.sshneg.specs.declared.side.Side.TheVariants.{Client, Server}
 use Rattle.sshneg.specs.Derivations.{ExchangeData}
 use Rattle.sshneg.specs.Fields.{AlgorithmsData}
 use Rattle.sshneg.specs.Markers.{other}
@@ -44,15 +44,15 @@ abbrev pub keys_with : Option KeysData → Option KeysData → Option KeysData
 keys_with None keys = keys
 keys_with (Some set) keys = Some set
 
-exchange_number : (role : Role) (n : ℕ) → n ≡ leaving role phase.Exchange → (n == 21) ≡ false
+exchange_number : (role : Side) (n : ℕ) → n ≡ leaving role phase.Exchange → (n == 21) ≡ false
 exchange_number Client n e = rw e refl
 exchange_number Server n e = rw e refl
 
-exchange_request : (role : Role) (n : ℕ) → n ≡ leaving role phase.Exchange → (n == 50) ≡ false
+exchange_request : (role : Side) (n : ℕ) → n ≡ leaving role phase.Exchange → (n == 50) ≡ false
 exchange_request Client n e = rw e refl
 exchange_request Server n e = rw e refl
 
-module _ (below : Below) (m : SuiteData) (d : DecisionsData) (role : Role) (party : ConfigData) (version : List ℕ) (before : Units) (payload : List ℕ) where
+module _ (below : Below) (m : SuiteData) (d : DecisionsData) (role : Side) (party : ConfigData) (version : List ℕ) (before : Units) (payload : List ℕ) where
   -- the keys of what is received from the peer: before, and after the payload
   abbrev pub keys_so_far : KeysData
   keys_so_far = keys_at m role party version before (other role)
@@ -142,7 +142,7 @@ module _ (below : Below) (m : SuiteData) (d : DecisionsData) (role : Role) (part
     number = standing.counts_anew m d role party version before payload known s (newkeys_kind role (kind payload) is);
   }
     where
-      newkeys_kind : (role : Role) (n : ℕ) → n ≡ leaving role phase.NewKeys → n ≡ 21
+      newkeys_kind : (role : Side) (n : ℕ) → n ≡ leaving role phase.NewKeys → n ≡ 21
       newkeys_kind Client n e = e
       newkeys_kind Server n e = e
   leaving_turn phase.Service b known next s t past is = record {

@@ -1,7 +1,7 @@
 -- The bytes that an endpoint received decide what it has sent and how it ends.
 
 use Rattle.std.proofs.Common.{◌≡◌, ℕ, List, [], ◌∷◌, ◌++◌, Option, refl, sym, ap, ◌∙◌, subst}
-use Rattle.sshneg.specs.declared.role.Role.{Role}
+use Rattle.sshneg.specs.declared.side.Side.{Side}
 use Rattle.sshpacket.specs.Parse.{Refusal}
 use Rattle.sshpacket.specs.Places.{flat_places}
 use Rattle.sshpacket.specs.Stream.{Same, Units}
@@ -22,7 +22,7 @@ last_same (b ∷ []) [] x y e = absurd cc
 last_same (b ∷ c ∷ cs) [] x y e = absurd cc
 last_same (b ∷ bs) (c ∷ cs) x y e = let t = last_same bs cs x y cc in (let first : b ≡ c = cc in let after : bs ≡ cs = t.0 in cc, t.1)
 
-module _ (m : SuiteData) (d : DecisionsData) (role : Role) (party : ConfigData) where
+module _ (m : SuiteData) (d : DecisionsData) (role : Side) (party : ConfigData) where
   -- where an endpoint stays open, its last unit leaves it open
   pub last_open : (units before : Units) (last : List ℕ) → units ≡ before ++ last ∷ [] → StaysOpen m d role party units → end_at m d role party before last ≡ Open
   last_open units before last is stays =

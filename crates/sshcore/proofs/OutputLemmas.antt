@@ -5,7 +5,7 @@ use Rattle.std.specs.Prelude.{◌%◌, ◌^◌}
 use Rattle.std.proofs.lemmas.Bool.{cases_Bool}
 use Rattle.std.proofs.lemmas.List.{append-nil}
 use Rattle.sshmsg.specs.Numbers.{kind}
-use Rattle.sshneg.specs.declared.role.Role.{Role}
+use Rattle.sshneg.specs.declared.side.Side.{Side}
 use Rattle.sshpacket.specs.KeysData.{KeysData}
 use Rattle.sshpacket.specs.Places.{EachPlace, flat_places}
 use Rattle.sshpacket.specs.Stream.{Units}
@@ -68,7 +68,7 @@ module _ (m : SuiteData) (seed : List ℕ) (strict : Bool) (next : KeysData) (o 
     ap (λ (p : Sending). after_sending strict next p b) (after_switch strict next o a clear on) ∙ after_quiet strict next (with_newkeys strict next o) b none,
   )
 
-module _ (m : SuiteData) (role : Role) (party : ConfigData) where
+module _ (m : SuiteData) (role : Side) (party : ConfigData) where
   -- what was sent goes on with the same keys and number, whatever is received afterwards
   pub speaks_received : (units more sent : Units) (o : Sending) → (switched_out sent ≡ true → IsReady role party (payloads_in units))
       → Speaks m role party units sent o → Speaks m role party (units ++ more) sent o

@@ -4,8 +4,8 @@ use Rattle.std.proofs.Common.{◌≡◌, ℕ, ◌==◌, ◌&&◌, Bool, true, fa
 use Rattle.std.proofs.lemmas.Bool.{and_parts, and_right}
 use Rattle.sshmsg.specs.MessageData.{KexInitData}
 use Rattle.sshmsg.specs.Numbers.{kind}
-use Rattle.sshneg.specs.declared.role.Role.{Role}
-use Rattle.sshneg.specs.declared.role.Role.TheVariants.{Client, Server}
+use Rattle.sshneg.specs.declared.side.Side.{Side}
+use Rattle.sshneg.specs.declared.side.Side.TheVariants.{Client, Server}
 use Rattle.sshpacket.specs.Stream.{Units}
 use Rattle.sshpacket.proofs.Places.{first-push, stands-push}
 use Rattle.sshcore.specs.declared.table.Phase.{Phase}
@@ -31,7 +31,7 @@ pub kexinit_push : (before : Units) (payload : List ℕ)
 unfolding offered kexinit
 kexinit_push before payload = first-push [] is_kexinit [] before payload
 
-module _ (role : Role) (own : KexInitData) (before : Units) (payload : List ℕ) where
+module _ (role : Side) (own : KexInitData) (before : Units) (payload : List ℕ) where
   pub stood_push : (k : ℕ) → stood role own k (before ++ payload ∷ []) ≡ cond (stood role own k before) true (kept role own k before payload)
   unfolding stood
   stood_push k = stands-push (kept role own k) [] before payload
@@ -73,13 +73,13 @@ module _ (role : Role) (own : KexInitData) (before : Units) (payload : List ℕ)
   leaves_by k p b e none is = stood_push k ∙ (rw (kept_free k none, e) refl ∙ ap (λ n. cond b true (n == k)) is)
 
 -- the number that leaves a phase adds what is past in the phase after it
-record LeavesTo (role : Role) (p : Phase) : Type 0 where
+record LeavesTo (role : Side) (p : Phase) : Type 0 where
   kexinit : cond (past_kexinit p) true (leaving role p == 20) ≡ past_kexinit (next_phase p)
   exchange : cond (past_exchange p) true (leaving role p == leaving role phase.Exchange) ≡ past_exchange (next_phase p)
   newkeys : cond (past_newkeys p) true (leaving role p == 21) ≡ past_newkeys (next_phase p)
   service : cond (past_service p) true (leaving role p == leaving role phase.Service) ≡ past_service (next_phase p)
 
-leaves_to : (role : Role) (p : Phase) → LeavesTo role p
+leaves_to : (role : Side) (p : Phase) → LeavesTo role p
 leaves_to Client phase.KexInit = record { kexinit = refl; exchange = refl; newkeys = refl; service = refl }
 leaves_to Client phase.Exchange = record { kexinit = refl; exchange = refl; newkeys = refl; service = refl }
 leaves_to Client phase.NewKeys = record { kexinit = refl; exchange = refl; newkeys = refl; service = refl }
@@ -91,7 +91,7 @@ leaves_to Server phase.NewKeys = record { kexinit = refl; exchange = refl; newke
 leaves_to Server phase.Service = record { kexinit = refl; exchange = refl; newkeys = refl; service = refl }
 leaves_to Server phase.Auth = record { kexinit = refl; exchange = refl; newkeys = refl; service = refl }
 
-pub tied_leaves : (role : Role) (own : KexInitData) (before : Units) (payload : List ℕ) (p : Phase) → Tied role own before p → expects_guess role own before ≡ false
+pub tied_leaves : (role : Side) (own : KexInitData) (before : Units) (payload : List ℕ) (p : Phase) → Tied role own before p → expects_guess role own before ≡ false
     → kind payload ≡ leaving role p → Tied role own (before ++ payload ∷ []) (next_phase p)
 tied_leaves role own before payload p t none is =
     let to = leaves_to role p in
@@ -110,9 +110,9 @@ phase_by_past phase.NewKeys = refl
 phase_by_past phase.Service = refl
 phase_by_past phase.Auth = refl
 
-pub tied_phase : (role : Role) (own : KexInitData) (before : Units) (p : Phase) → Tied role own before p → phase_at role own before ≡ p
+pub tied_phase : (role : Side) (own : KexInitData) (before : Units) (p : Phase) → Tied role own before p → phase_at role own before ≡ p
 tied_phase role own before p t = rw (t.kexinit, t.exchange, t.newkeys, t.service) (phase_by_past p)
 
-pub tied_none : (role : Role) (own : KexInitData) → Tied role own [] phase.KexInit
+pub tied_none : (role : Side) (own : KexInitData) → Tied role own [] phase.KexInit
 unfolding offered stood
 tied_none role own = record { offer = refl; kexinit = refl; exchange = refl; newkeys = refl; service = refl }

@@ -6,8 +6,8 @@ use Rattle.std.proofs.lemmas.Bool.{and_parts, eqb-true, ne_eqb}
 use Rattle.std.proofs.lemmas.List.{append-nil}
 use Rattle.sshmsg.specs.MessageData.{KexInitData}
 use Rattle.sshmsg.specs.Numbers.{kind}
-use Rattle.sshneg.specs.declared.role.Role.{Role}
-use Rattle.sshneg.specs.declared.role.Role.TheVariants.{Client, Server}
+use Rattle.sshneg.specs.declared.side.Side.{Side}
+use Rattle.sshneg.specs.declared.side.Side.TheVariants.{Client, Server}
 use Rattle.sshpacket.specs.Stream.{Units}
 use Rattle.sshpacket.specs.Suite.{SuiteData}
 use Rattle.sshpacket.proofs.Places.{count-push, flat-push}
@@ -27,7 +27,7 @@ unfolding left_after
 left_push plan [] u = refl
 left_push plan (v ∷ us) u = left_push (left_after_one plan v) us u
 
-module _ (role : Role) (own : KexInitData) (before : Units) (payload : List ℕ) where
+module _ (role : Side) (own : KexInitData) (before : Units) (payload : List ℕ) where
   pub count_push : (k : ℕ) → count_kept role own k (before ++ payload ∷ []) ≡ cond (kept role own k before payload) (count_kept role own k before + 1) (count_kept role own k before)
   unfolding count_kept
   count_push k = count-push (kept role own k) [] before payload
@@ -44,7 +44,7 @@ module _ (role : Role) (own : KexInitData) (before : Units) (payload : List ℕ)
   pub kept_exchange : (j : ℕ) → j ≢ 30 → j ≢ 31 → kept role own (leaving role phase.Exchange) before payload ≡ true → kept role own j before payload ≡ false
   kept_exchange j init reply is = kept_kind (leaving role phase.Exchange) j (by role) (eqb-true (kind payload) (leaving role phase.Exchange) (and_parts _ _ is).0)
     where
-      by : (r : Role) → leaving r phase.Exchange ≢ j
+      by : (r : Side) → leaving r phase.Exchange ≢ j
       by Client = λ e. reply (sym e)
       by Server = λ e. init (sym e)
 
@@ -77,7 +77,7 @@ module _ (role : Role) (own : KexInitData) (before : Units) (payload : List ℕ)
       by false = refl
 
 -- what is left of the plan
-module _ (role : Role) (party : ConfigData) (before : Units) (payload : List ℕ) where
+module _ (role : Side) (party : ConfigData) (before : Units) (payload : List ℕ) where
   pub left_stays : is_answered role party.offer before payload ≡ false → left_at role party (before ++ payload ∷ []) ≡ left_at role party before
   left_stays none = ap (left_after party.plan) (all_push role party.offer before payload is_answer ∙ rw none (append-nil (all_kept role party.offer is_answer before)))
 
@@ -100,7 +100,7 @@ pub reached_push : (r : ReachedData) (xs ys : List Tried) → reached_after r (x
 reached_push r [] ys = refl
 reached_push r (x ∷ xs) ys = reached_push (reached_after_one r x) xs ys
 
-module _ (m : SuiteData) (d : DecisionsData) (role : Role) (party : ConfigData) (version : List ℕ) (before : Units) (payload : List ℕ) where
+module _ (m : SuiteData) (d : DecisionsData) (role : Side) (party : ConfigData) (version : List ℕ) (before : Units) (payload : List ℕ) where
   pub tried_push : tried_at m d role party version (before ++ payload ∷ []) ≡ tried_at m d role party version before ++ tried_place m d role party version before payload
   unfolding tried_at
   tried_push = flat-push (tried_place m d role party version) [] before payload
@@ -133,7 +133,7 @@ last_push : (key : Option UserKeyData) (xs ys : List UserKeyData) → last_key k
 last_push key [] ys = refl
 last_push key (x ∷ xs) ys = last_push (Some x) xs ys
 
-module _ (m : SuiteData) (d : DecisionsData) (role : Role) (party : ConfigData) (version : List ℕ) where
+module _ (m : SuiteData) (d : DecisionsData) (role : Side) (party : ConfigData) (version : List ℕ) where
   abbrev pub last_successful_key : Units → Option UserKeyData
   last_successful_key before = last_key None (successful_keys_at m d role party version before)
 

@@ -4,7 +4,7 @@ use Rattle.std.proofs.Common.{◌≡◌, ℕ, zero, suc, ◌+◌, ◌<◌, ◌�
 use Rattle.std.specs.Prelude.{◌%◌, ◌^◌, Bool, if◌then◌else◌}
 use Rattle.std.proofs.lemmas.List.{append-nil}
 use Rattle.std.proofs.Math.Seq.{take-append-add, take-length}
-use Rattle.sshneg.specs.declared.role.Role.{Role}
+use Rattle.sshneg.specs.declared.side.Side.{Side}
 use Rattle.sshpacket.specs.declared.fault.PacketFault.{PacketFault}
 use Rattle.sshpacket.specs.declared.reader.PacketReader.{PacketReader}
 use Rattle.sshpacket.specs.KeysData.{KeysData}
@@ -34,7 +34,7 @@ reader_with None strict r = r
 reader_with (Some keys) strict r = record r { keys = Some keys; seq = if strict then 0 else r.seq }
 
 -- what is read after these units is read as the reader reads
-read_as : (m : SuiteData) (role : Role) (party : ConfigData) (units : Units) (version : List ℕ) (before : Units) (rest piece : List ℕ) (r : PacketReaderData) → units ≡ version ∷ before
+read_as : (m : SuiteData) (role : Side) (party : ConfigData) (units : Units) (version : List ℕ) (before : Units) (rest piece : List ℕ) (r : PacketReaderData) → units ≡ version ∷ before
     → r ≡ record { keys = keys_in m role party version before; seq = number_in role party before; held = rest; fault = None }
     → parsers m role party units (rest ++ piece) ≡ ahead m r piece
 read_as m role party units version before rest piece r e f =
@@ -51,7 +51,7 @@ refused_some parser inc rest piece zero r e f =
     apart r n e = absurd cc
 refused_some parser inc rest piece (suc used) r e f = omega arith
 
-module _ (below : Below) (streams : Streams) (m : SuiteData) (d : DecisionsData) (role : Role) (party : ConfigData) (r q : PacketReader) (kept : StateData) (piece before after : List ℕ) (is : kept.end ≡ Open) where
+module _ (below : Below) (streams : Streams) (m : SuiteData) (d : DecisionsData) (role : Side) (party : ConfigData) (r q : PacketReader) (kept : StateData) (piece before after : List ℕ) (is : kept.end ≡ Open) where
   -- more bytes are wanted
   pub packets_part : ahead m (packet_reader_data r) piece ≡ unfinished → packet_reader_data q ≡ record (packet_reader_data r) { held = (packet_reader_data r).held ++ piece }
       → Steps m d role party (input.Packets r) kept (input.Packets q) kept (take (length piece) piece) before before

@@ -3,8 +3,8 @@
 use Rattle.std.proofs.Common.{◌≡◌, ◌≢◌, ◌⊎◌, inl, inr, ℕ, ◌<◌, ◌≤◌, ◌==◌, Bool, true, false, refl, arith}
 use Rattle.std.specs.Prelude.{◌&&◌}
 use Rattle.std.proofs.lemmas.Bool.{and_parts, cases_Bool, eqb-true, ne_eqb, or_cases}
-use Rattle.sshneg.specs.declared.role.Role.{Role}
-use Rattle.sshneg.specs.declared.role.Role.TheVariants.{Client, Server}
+use Rattle.sshneg.specs.declared.side.Side.{Side}
+use Rattle.sshneg.specs.declared.side.Side.TheVariants.{Client, Server}
 use Rattle.sshcore.specs.declared.table.Line.TheVariants as line
 use Rattle.sshcore.specs.declared.table.Phase.{Phase}
 use Rattle.sshcore.specs.declared.table.Phase.TheVariants as phase
@@ -21,13 +21,13 @@ pub record IsCalm (n : ℕ) : Type 0 where
   pub accept : n ≢ 6
 
 -- the messages of authentication: a request at a server; a FAILURE, a BANNER or a PK_OK at a client
-pub data IsOfAuth (role : Role) (p : Phase) (n : ℕ) : Type 0 where
+pub data IsOfAuth (role : Side) (p : Phase) (n : ℕ) : Type 0 where
   Request : role ≡ Server → p ≡ phase.Auth → n ≡ 50 → IsOfAuth role p n
   Failure : role ≡ Client → p ≡ phase.Auth → n ≡ 51 → IsOfAuth role p n
   Banner : role ≡ Client → p ≡ phase.Auth → n ≡ 53 → IsOfAuth role p n
   Confirmation : role ≡ Client → p ≡ phase.Auth → n ≡ 60 → IsOfAuth role p n
 
-pub of_auth : (role : Role) (p : Phase) (waits : Bool) (n : ℕ) → is_of_auth role p waits n ≡ true → IsOfAuth role p n
+pub of_auth : (role : Side) (p : Phase) (waits : Bool) (n : ℕ) → is_of_auth role p waits n ≡ true → IsOfAuth role p n
 of_auth Server phase.Auth waits n h = Request refl refl (eqb-true n 50 h)
 of_auth Client phase.Auth waits n h = elim (or_cases _ _ h) [
   | inl a ↦ Failure refl refl (eqb-true n 51 a)
@@ -46,7 +46,7 @@ of_auth Client phase.Service waits n h = absurd cc
 of_auth Server phase.Service waits n h = absurd cc
 
 -- What is read: a DISCONNECT; and where no guess is due, what leaves the phase, what is of authentication and what is calm.
-pub data Reads (role : Role) (p : Phase) (guess : Bool) (n : ℕ) : Type 0 where
+pub data Reads (role : Side) (p : Phase) (guess : Bool) (n : ℕ) : Type 0 where
   Closes : n ≡ 1 → Reads role p guess n
   Leaves : guess ≡ false → n ≡ leaving role p → Reads role p guess n
   OfAuth : guess ≡ false → IsOfAuth role p n → Reads role p guess n
@@ -63,7 +63,7 @@ extension n h =
     let same : n ≡ 7 = eqb-true n 7 h in
     record { least = omega arith; most = omega arith; request = λ q. omega arith; accept = λ q. omega arith }
 
-module _ (role : Role) (p : Phase) (strict waits : Bool) (n : ℕ) where
+module _ (role : Side) (p : Phase) (strict waits : Bool) (n : ℕ) where
   -- no guess is due, and strictness rules nothing
   free : (n == 1) ≡ false → is_ruled p strict ≡ false → line_by role p strict false waits n ≡ line.Reads → Reads role p false n
   unfolding line_by
@@ -115,7 +115,7 @@ module _ (role : Role) (p : Phase) (strict waits : Bool) (n : ℕ) where
       ]
 
 -- a calm number leaves no phase
-calm_leaves : (role : Role) (n : ℕ) → IsCalm n → LeavesNone role n
+calm_leaves : (role : Side) (n : ℕ) → IsCalm n → LeavesNone role n
 calm_leaves Client n calm =
     let most : n ≤ 7 = calm.most in
     record {
@@ -134,13 +134,13 @@ calm_leaves Server n calm =
     }
 
 -- a number is read at this side alone, in this phase, where no guess is due
-pub record IsAt (role side : Role) (p at : Phase) (guess : Bool) : Type 0 where
+pub record IsAt (role side : Side) (p at : Phase) (guess : Bool) : Type 0 where
   pub side_is : role ≡ side
   pub phase_is : p ≡ at
   pub none_due : guess ≡ false
 
 -- which phase a number leaves, and at which side
-kexinit_at : (role : Role) (p : Phase) → 20 ≡ leaving role p → p ≡ phase.KexInit
+kexinit_at : (role : Side) (p : Phase) → 20 ≡ leaving role p → p ≡ phase.KexInit
 kexinit_at role phase.KexInit e = refl
 kexinit_at Client phase.Exchange e = absurd (omega arith)
 kexinit_at Server phase.Exchange e = absurd (omega arith)
@@ -150,7 +150,7 @@ kexinit_at Server phase.Service e = absurd (omega arith)
 kexinit_at Client phase.Auth e = absurd (omega arith)
 kexinit_at Server phase.Auth e = absurd (omega arith)
 
-newkeys_at : (role : Role) (p : Phase) → 21 ≡ leaving role p → p ≡ phase.NewKeys
+newkeys_at : (role : Side) (p : Phase) → 21 ≡ leaving role p → p ≡ phase.NewKeys
 newkeys_at role phase.KexInit e = absurd (omega arith)
 newkeys_at Client phase.Exchange e = absurd (omega arith)
 newkeys_at Server phase.Exchange e = absurd (omega arith)
@@ -160,7 +160,7 @@ newkeys_at Server phase.Service e = absurd (omega arith)
 newkeys_at Client phase.Auth e = absurd (omega arith)
 newkeys_at Server phase.Auth e = absurd (omega arith)
 
-init_at : (role : Role) (p : Phase) → 30 ≡ leaving role p → (role ≡ Server) × (p ≡ phase.Exchange)
+init_at : (role : Side) (p : Phase) → 30 ≡ leaving role p → (role ≡ Server) × (p ≡ phase.Exchange)
 init_at role phase.KexInit e = absurd (omega arith)
 init_at Client phase.Exchange e = absurd (omega arith)
 init_at Server phase.Exchange e = (refl, refl)
@@ -170,7 +170,7 @@ init_at Server phase.Service e = absurd (omega arith)
 init_at Client phase.Auth e = absurd (omega arith)
 init_at Server phase.Auth e = absurd (omega arith)
 
-reply_at : (role : Role) (p : Phase) → 31 ≡ leaving role p → (role ≡ Client) × (p ≡ phase.Exchange)
+reply_at : (role : Side) (p : Phase) → 31 ≡ leaving role p → (role ≡ Client) × (p ≡ phase.Exchange)
 reply_at role phase.KexInit e = absurd (omega arith)
 reply_at Client phase.Exchange e = (refl, refl)
 reply_at Server phase.Exchange e = absurd (omega arith)
@@ -180,7 +180,7 @@ reply_at Server phase.Service e = absurd (omega arith)
 reply_at Client phase.Auth e = absurd (omega arith)
 reply_at Server phase.Auth e = absurd (omega arith)
 
-request_at : (role : Role) (p : Phase) → 5 ≡ leaving role p → (role ≡ Server) × (p ≡ phase.Service)
+request_at : (role : Side) (p : Phase) → 5 ≡ leaving role p → (role ≡ Server) × (p ≡ phase.Service)
 request_at role phase.KexInit e = absurd (omega arith)
 request_at Client phase.Exchange e = absurd (omega arith)
 request_at Server phase.Exchange e = absurd (omega arith)
@@ -190,7 +190,7 @@ request_at Server phase.Service e = (refl, refl)
 request_at Client phase.Auth e = absurd (omega arith)
 request_at Server phase.Auth e = absurd (omega arith)
 
-accept_at : (role : Role) (p : Phase) → 6 ≡ leaving role p → (role ≡ Client) × (p ≡ phase.Service)
+accept_at : (role : Side) (p : Phase) → 6 ≡ leaving role p → (role ≡ Client) × (p ≡ phase.Service)
 accept_at role phase.KexInit e = absurd (omega arith)
 accept_at Client phase.Exchange e = absurd (omega arith)
 accept_at Server phase.Exchange e = absurd (omega arith)
@@ -200,7 +200,7 @@ accept_at Server phase.Service e = absurd (omega arith)
 accept_at Client phase.Auth e = absurd (omega arith)
 accept_at Server phase.Auth e = absurd (omega arith)
 
-user_request_at : (role : Role) (p : Phase) → 50 ≡ leaving role p → (role ≡ Server) × (p ≡ phase.Auth)
+user_request_at : (role : Side) (p : Phase) → 50 ≡ leaving role p → (role ≡ Server) × (p ≡ phase.Auth)
 user_request_at role phase.KexInit e = absurd (omega arith)
 user_request_at Client phase.Exchange e = absurd (omega arith)
 user_request_at Server phase.Exchange e = absurd (omega arith)
@@ -210,7 +210,7 @@ user_request_at Server phase.Service e = absurd (omega arith)
 user_request_at Client phase.Auth e = absurd (omega arith)
 user_request_at Server phase.Auth e = (refl, refl)
 
-success_at : (role : Role) (p : Phase) → 52 ≡ leaving role p → (role ≡ Client) × (p ≡ phase.Auth)
+success_at : (role : Side) (p : Phase) → 52 ≡ leaving role p → (role ≡ Client) × (p ≡ phase.Auth)
 success_at role phase.KexInit e = absurd (omega arith)
 success_at Client phase.Exchange e = absurd (omega arith)
 success_at Server phase.Exchange e = absurd (omega arith)
@@ -220,7 +220,7 @@ success_at Server phase.Service e = absurd (omega arith)
 success_at Client phase.Auth e = (refl, refl)
 success_at Server phase.Auth e = absurd (omega arith)
 
-failure_at : (role : Role) (p : Phase) → 51 ≡ leaving role p → ⊥
+failure_at : (role : Side) (p : Phase) → 51 ≡ leaving role p → ⊥
 failure_at role phase.KexInit e = omega arith
 failure_at Client phase.Exchange e = omega arith
 failure_at Server phase.Exchange e = omega arith
@@ -230,7 +230,7 @@ failure_at Server phase.Service e = omega arith
 failure_at Client phase.Auth e = omega arith
 failure_at Server phase.Auth e = omega arith
 
-confirmation_at : (role : Role) (p : Phase) → 60 ≡ leaving role p → ⊥
+confirmation_at : (role : Side) (p : Phase) → 60 ≡ leaving role p → ⊥
 confirmation_at role phase.KexInit e = omega arith
 confirmation_at Client phase.Exchange e = omega arith
 confirmation_at Server phase.Exchange e = omega arith
@@ -297,7 +297,7 @@ plain_other n (inr banner) = record {
   confirmation = λ q. omega arith;
 }
 
-none_at : (role : Role) (p : Phase) (n : ℕ) → n ≡ leaving role p → IsPlain n → ⊥
+none_at : (role : Side) (p : Phase) (n : ℕ) → n ≡ leaving role p → IsPlain n → ⊥
 none_at role phase.KexInit n e plain = plain.kexinit e
 none_at Client phase.Exchange n e plain = plain.reply e
 none_at Server phase.Exchange n e plain = plain.init e
@@ -308,14 +308,14 @@ none_at Client phase.Auth n e plain = plain.success e
 none_at Server phase.Auth n e plain = plain.user_request e
 
 -- none of the numbers up to 49 is of authentication
-early : (role : Role) (p : Phase) (n : ℕ) → n < 50 → IsOfAuth role p n → ⊥
+early : (role : Side) (p : Phase) (n : ℕ) → n < 50 → IsOfAuth role p n → ⊥
 early role p n least (Request side at is) = omega arith
 early role p n least (Failure side at is) = omega arith
 early role p n least (Banner side at is) = omega arith
 early role p n least (Confirmation side at is) = omega arith
 
 -- no number after those of the exchange leaves a phase before authentication
-pub late_leaves : (role : Role) (n : ℕ) → 31 < n → LeavesNone role n
+pub late_leaves : (role : Side) (n : ℕ) → 31 < n → LeavesNone role n
 late_leaves Client n late = record {
   kexinit = ne_eqb n 20 (λ q. omega arith);
   exchange = ne_eqb n 31 (λ q. omega arith);
@@ -330,7 +330,7 @@ late_leaves Server n late = record {
 }
 
 -- where each number that leaves a phase is read
-module _ (role : Role) (p : Phase) (guess : Bool) where
+module _ (role : Side) (p : Phase) (guess : Bool) where
   pub kexinit_read : Reads role p guess 20 → IsAt role role p phase.KexInit guess
   kexinit_read (Closes e) = absurd (omega arith)
   kexinit_read (Leaves none e) = record { side_is = refl; phase_is = kexinit_at role p e; none_due = none }

@@ -6,7 +6,7 @@ use Rattle.std.specs.Str.{bytes_eq}
 use Rattle.sshwire.specs.declared.share_form.ShareForm.TheVariants.{Mpint, OctetString}
 use Rattle.sshmsg.specs.MessageData.{KexInit, KexInitData}
 use Rattle.sshmsg.specs.Written.{written_message}
-use Rattle.sshneg.specs.declared.role.Role.{Role}
+use Rattle.sshneg.specs.declared.side.Side.{Side}
 use Rattle.sshneg.specs.Strictness.{marked_list}
 use Rattle.sshpacket.specs.declared.suite.Need.TheVariants.{Signature}
 use Rattle.sshpacket.specs.Packet.{number}
@@ -54,7 +54,7 @@ kexinit_data kex follows = record {
   first_kex_packet_follows = follows;
 }
 
-unfoldable pub config_data : Role → Bool → List (List ℕ) → Bool → ConfigData
+unfoldable pub config_data : Side → Bool → List (List ℕ) → Bool → ConfigData
 config_data role strict kex follows = record {
   version = codes "SSH-2.0-lab_1";
   notices = [];
@@ -72,7 +72,7 @@ config_data role strict kex follows = record {
 }
 
 -- the KEXINIT that such a party sends
-unfoldable pub kexinit_of : Role → Bool → List (List ℕ) → Bool → List ℕ
+unfoldable pub kexinit_of : Side → Bool → List (List ℕ) → Bool → List ℕ
 kexinit_of role strict kex follows = written_message (KexInit (kexinit_data (marked_list role strict kex) follows))
 
 unfoldable pub a : List (List ℕ)

@@ -14,7 +14,7 @@ use Rattle.sshneg.specs.ChoiceReadings.{choice, choice_of_directions}
 use Rattle.sshneg.specs.Derivations.{derived, exchange_text, key, signed_text}
 use Rattle.sshneg.specs.ExchangeEnd.{exchange_by}
 use Rattle.sshneg.specs.declared.choice.NoCommon.TheVariants as field
-use Rattle.sshneg.specs.declared.role.Role.TheVariants.{Client, Server}
+use Rattle.sshneg.specs.declared.side.Side.TheVariants.{Client, Server}
 use Rattle.sshpacket.specs.KeysData.{KeysData}
 use Rattle.sshcore.specs.Directions.{keys_in, keys_out}
 use Rattle.sshpacket.specs.Suite.{SuiteData}

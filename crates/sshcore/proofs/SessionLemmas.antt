@@ -12,8 +12,8 @@ use Rattle.sshmsg.specs.MessageData.{KexEcdhInit, KexEcdhReply, KexdhInit, Kexdh
 use Rattle.sshmsg.specs.Messages.{message_in}
 use Rattle.sshmsg.specs.Numbers.{kind, number_of}
 use Rattle.sshmsg.specs.Written.{method_name, written_message}
-use Rattle.sshneg.specs.declared.role.Role.{Role}
-use Rattle.sshneg.specs.declared.role.Role.TheVariants.{Client, Server}
+use Rattle.sshneg.specs.declared.side.Side.{Side}
+use Rattle.sshneg.specs.declared.side.Side.TheVariants.{Client, Server}
 use Rattle.sshneg.specs.Derivations.{ExchangeData}
 use Rattle.sshneg.specs.ExchangeEnd.{exchange_hash}
 use Rattle.sshneg.specs.Markers.{other}
@@ -113,7 +113,7 @@ module _ (m : SuiteData) (d : DecisionsData) (party : ConfigData) (known : Known
 failed_open : (f : Fault) → Failed f ≡ Open → ⊥
 failed_open f e = cc
 
-module _ (below : Below) (m : SuiteData) (d : DecisionsData) (role : Role) (party : ConfigData) where
+module _ (below : Below) (m : SuiteData) (d : DecisionsData) (role : Side) (party : ConfigData) where
   exchange_switches : (known : Known) (c : MessageData) → (number_of c ≡ 30) ⊎ (number_of c ≡ 31) → (work m d role party known c).end ≡ Open → Switches (work m d role party known c).answers
   unfolding work init_reply reply_reply
   exchange_switches known (KexdhInit e) two is_open = answered_switches m d party known (exchange_with m role party known.algorithms known.version known.kexinit (Ok (KexdhInit e)))
@@ -136,11 +136,11 @@ module _ (below : Below) (m : SuiteData) (d : DecisionsData) (role : Role) (part
       numbered (inr n) = inr (sym (below.numbers known.shares payload c e) ∙ n)
   read_switches known payload (Err f) e two is_open = absurd cc
 
-  exchange_number : (r : Role) (n : ℕ) → n ≡ leaving r phase.Exchange → (n ≡ 30) ⊎ (n ≡ 31)
+  exchange_number : (r : Side) (n : ℕ) → n ≡ leaving r phase.Exchange → (n ≡ 30) ⊎ (n ≡ 31)
   exchange_number Client n e = inr e
   exchange_number Server n e = inl e
 
-  not_closing : (r : Role) (n : ℕ) → n ≡ leaving r phase.Exchange → n ≡ 1 → ⊥
+  not_closing : (r : Side) (n : ℕ) → n ≡ leaving r phase.Exchange → n ≡ 1 → ⊥
   not_closing Client n e one = omega arith
   not_closing Server n e one = omega arith
 
@@ -217,7 +217,7 @@ module _ (below : Below) (m : SuiteData) (d : DecisionsData) (role : Role) (part
           (open_switches version [] before phase.KexInit (begun_none below m d role party) stays.1 none_stood tied.exchange))
 
 -- What an endpoint keeps that ended authenticated: the keys of both directions, and the numbers of the next packets.
-pub record HandsOver (m : SuiteData) (role : Role) (party : ConfigData) (units answers : Units) (reading : PacketReaderData) (sending : Sending) : Type 0 where
+pub record HandsOver (m : SuiteData) (role : Side) (party : ConfigData) (units answers : Units) (reading : PacketReaderData) (sending : Sending) : Type 0 where
   pub incoming : KeysData
   pub outgoing : KeysData
   pub reads_with : reading.keys ≡ Some incoming
@@ -228,7 +228,7 @@ pub record HandsOver (m : SuiteData) (role : Role) (party : ConfigData) (units a
   pub outgoing_number : sending.number ≡ number_out (strict_at role party (payloads_in units)) answers
 
 -- an endpoint that ended authenticated was refused nothing, and isn't open
-none_refused_at : (m : SuiteData) (d : DecisionsData) (role : Role) (party : ConfigData) (units : Units) (refusal : Option Refusal) (a : AgreedData) → Ends m d role party units refusal (Authenticated a) → refusal ≡ None
+none_refused_at : (m : SuiteData) (d : DecisionsData) (role : Side) (party : ConfigData) (units : Units) (refusal : Option Refusal) (a : AgreedData) → Ends m d role party units refusal (Authenticated a) → refusal ≡ None
 none_refused_at m d role party units refusal a (goes_on stays is) = absurd (none_refused refusal a is)
 none_refused_at m d role party units refusal a (ended before last units_are stays is shut none) = none
 
@@ -240,7 +240,7 @@ uncut_end received_end end a (AsReceived same) is = sym same ∙ is
 uncut_end received_end end a (CutOff was_open cut) is = absurd cc
 uncut_end received_end end a (Left reason was_open left) is = absurd cc
 
-module _ (below : Below) (m : SuiteData) (d : DecisionsData) (role : Role) (party : ConfigData) where
+module _ (below : Below) (m : SuiteData) (d : DecisionsData) (role : Side) (party : ConfigData) where
   module _ (kept : StateData) (i : Input) (h s : List ℕ) (p : EndpointStands m d role party kept i h s) (a : AgreedData) (is : kept.end ≡ Authenticated a) where
     replies : Replies m d role party p.units p.refusal p.answers (Authenticated a)
     replies = subst (Replies m d role party p.units p.refusal p.answers) (uncut_end p.received_end kept.end a p.ends is) p.history.replies
@@ -308,7 +308,7 @@ authenticated_at (end.Closed reason) a is = absurd cc
 authenticated_at (end.Disconnected reason) a is = absurd cc
 
 -- what is handed over besides: both version lines, the host key, and how the user was accepted
-pub record HandsOn (m : SuiteData) (d : DecisionsData) (role : Role) (party : ConfigData) (units : Units) (a : AgreedData) (own_version peer_version host_key : List ℕ) (accepted : Option Accepted) : Type 0 where
+pub record HandsOn (m : SuiteData) (d : DecisionsData) (role : Side) (party : ConfigData) (units : Units) (a : AgreedData) (own_version peer_version host_key : List ℕ) (accepted : Option Accepted) : Type 0 where
   pub own_version_is : own_version ≡ party.version
   pub peer_version_is : peer_version ≡ version_in units
   pub host_key_is : host_key ≡ (exchange_at m role party (version_in units) (payloads_in units)).host_key
@@ -319,7 +319,7 @@ key_there : (b : Bool) (key : Option UserKey) → user_key_data (cond b key None
 key_there true key = refl
 key_there false key = refl
 
-module _ (below : Below) (m : SuiteData) (d : DecisionsData) (role : Role) (party : ConfigData) (kept : StateData) (i : Input) (h s : List ℕ) (p : EndpointStands m d role party kept i h s) (a : AgreedData) (is : kept.end ≡ Authenticated a) where
+module _ (below : Below) (m : SuiteData) (d : DecisionsData) (role : Side) (party : ConfigData) (kept : StateData) (i : Input) (h s : List ℕ) (p : EndpointStands m d role party kept i h s) (a : AgreedData) (is : kept.end ≡ Authenticated a) where
   abbrev tried : List Tried
   tried = tried_at m d role party (version_in p.units) (payloads_in p.units)
 
@@ -354,12 +354,12 @@ module _ (below : Below) (m : SuiteData) (d : DecisionsData) (role : Role) (part
 
   module _ (accepted : Option Accepted) (key : Option UserKey) (same : user_key_data key ≡ kept.carried.user_key) (at_client : role ≡ Client → accepted ≡ None)
       (at_server : role ≡ Server → accepted ≡ Some (record { password = kept.known.reached.password; key = cond kept.known.reached.publickey key None })) where
-    accepted_as : (side : Role) → role ≡ side → HasAccepted m d side party (version_in p.units) (payloads_in p.units) a accepted
+    accepted_as : (side : Side) → role ≡ side → HasAccepted m d side party (version_in p.units) (payloads_in p.units) a accepted
     accepted_as Client e = at_client e
     accepted_as Server e =
         let here : Accepted = record { password = kept.known.reached.password; key = cond kept.known.reached.publickey key None } in
         subst (λ (o : Option Accepted). HasAccepted m d Server party (version_in p.units) (payloads_in p.units) a o) (sym (at_server e))
-        (subst (λ (r : Role). AcceptedBy (tried_at m d r party (version_in p.units) (payloads_in p.units)) (successful_keys_at m d r party (version_in p.units) (payloads_in p.units)) a.user a.service here) e (came_in e key same))
+        (subst (λ (r : Side). AcceptedBy (tried_at m d r party (version_in p.units) (payloads_in p.units)) (successful_keys_at m d r party (version_in p.units) (payloads_in p.units)) a.user a.service here) e (came_in e key same))
 
     pub hands_on : HandsOn m d role party p.units a kept.carried.own_version kept.known.version kept.carried.host_key accepted
     hands_on = record {
@@ -370,7 +370,7 @@ module _ (below : Below) (m : SuiteData) (d : DecisionsData) (role : Role) (part
     }
 
 -- what is made of what is handed over is the session
-pub session_is : (m : SuiteData) (d : DecisionsData) (role : Role) (party : ConfigData) (units answers : Units) (rest : List ℕ) (reading : PacketReaderData) (sending : Sending) → HandsOver m role party units answers reading sending → rest ≡ []
+pub session_is : (m : SuiteData) (d : DecisionsData) (role : Side) (party : ConfigData) (units answers : Units) (rest : List ℕ) (reading : PacketReaderData) (sending : Sending) → HandsOver m role party units answers reading sending → rest ≡ []
     → (agreed : Agreed) (a : AgreedData) → Authenticated (agreed_data agreed) ≡ Authenticated a → (own peer host_key : Vec ℕ Global) (accepted : Option Accepted) → HandsOn m d role party units a own.items peer.items host_key.items accepted
     → (keys : Option KeysData) (number : ℕ) → keys ≡ reading.keys → number ≡ reading.seq → (result : Option Session)
     → ((x y : KeysData) → keys ≡ Some x → sending.keys ≡ Some y → result ≡ Some (record {

@@ -6,7 +6,7 @@ use Rattle.std.proofs.lemmas.Bool.{eq-eqb, true≢false}
 use Rattle.sshwire.specs.declared.share_form.ShareForm.TheVariants.{Mpint}
 use Rattle.sshmsg.specs.MessageData.{KexInit, KexInitData}
 use Rattle.sshmsg.specs.Numbers.{kind}
-use Rattle.sshneg.specs.declared.role.Role.{Role}
+use Rattle.sshneg.specs.declared.side.Side.{Side}
 use Rattle.sshneg.specs.ExchangeEnd.{offer_in}
 use Rattle.sshpacket.specs.Stream.{Units}
 use Rattle.sshpacket.specs.Suite.{SuiteData}
@@ -47,7 +47,7 @@ switched_past phase.NewKeys e = absurd (true≢false (sym e))
 switched_past phase.Service e = refl
 switched_past phase.Auth e = refl
 
-module _ (m : SuiteData) (d : DecisionsData) (role : Role) (party : ConfigData) (version : List ℕ) where
+module _ (m : SuiteData) (d : DecisionsData) (role : Side) (party : ConfigData) (version : List ℕ) where
   pub begins : Sits m d role party version [] phase.KexInit false (nothing_known party version)
   begins = record {
     tied = tied_none role party.offer;
@@ -161,7 +161,7 @@ module _ (m : SuiteData) (d : DecisionsData) (role : Role) (party : ConfigData) 
             }
 
     -- keys
-    pub makes_keys : (known : Known) → Sits m d role party version before phase.Exchange false known → kind payload ≡ leaving role phase.Exchange → (sender : Role)
+    pub makes_keys : (known : Known) → Sits m d role party version before phase.Exchange false known → kind payload ≡ leaving role phase.Exchange → (sender : Side)
         → keys_at m role party version (before ++ payload ∷ []) sender ≡ keys_by m known.algorithms (exchange_received m role party known payload) sender
     makes_keys known s is sender =
         let here : kept role party.offer (leaving role phase.Exchange) before payload ≡ true = kept_free role party.offer before payload (leaving role phase.Exchange) s.due ∙ eq-eqb (kind payload) (leaving role phase.Exchange) is in
@@ -178,7 +178,7 @@ module _ (m : SuiteData) (d : DecisionsData) (role : Role) (party : ConfigData) 
         → exchange_at m role party version (before ++ payload ∷ []) ≡ exchange_at m role party version before
     keeps_exchange p guess known s past = exchange_stays m role party version before payload (s.tied.offer ∙ past_past p past) (s.tied.exchange ∙ past)
 
-    pub keeps_keys : (p : Phase) (guess : Bool) (known : Known) → Sits m d role party version before p guess known → past_exchange p ≡ true → (sender : Role)
+    pub keeps_keys : (p : Phase) (guess : Bool) (known : Known) → Sits m d role party version before p guess known → past_exchange p ≡ true → (sender : Side)
         → keys_at m role party version (before ++ payload ∷ []) sender ≡ keys_at m role party version before sender
     keeps_keys p guess known s past sender = keys_stay m role party version before payload (s.tied.offer ∙ past_past p past) (s.tied.exchange ∙ past) sender
 

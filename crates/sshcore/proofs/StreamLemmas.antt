@@ -2,7 +2,7 @@
 
 use Rattle.std.proofs.Common.{◌≡◌, inl, inr, ℕ, Bool, true, false, cond, List, [], ◌∷◌, ◌++◌, None, Some, refl, sym, ap, ◌∙◌, append_assoc}
 use Rattle.std.proofs.lemmas.Bool.{cases_Bool, true≢false}
-use Rattle.sshneg.specs.declared.role.Role.{Role}
+use Rattle.sshneg.specs.declared.side.Side.{Side}
 use Rattle.sshneg.specs.ExchangeEnd.{offer_in}
 use Rattle.sshpacket.specs.KeysData.{KeysData}
 use Rattle.sshpacket.specs.Places.{EachPlace, stands}
@@ -24,7 +24,7 @@ kexinit_stays : (before more : Units) → offered before ≡ true → kexinit (b
 unfolding offered kexinit
 kexinit_stays before more is = first-append [] is_kexinit [] before more ∙ rw is refl
 
-message_stays : (role : Role) (party : ConfigData) (before more : Units) → stood role party.offer (leaving role phase.Exchange) before ≡ true
+message_stays : (role : Side) (party : ConfigData) (before more : Units) → stood role party.offer (leaving role phase.Exchange) before ≡ true
     → exchange_message role party (before ++ more) ≡ exchange_message role party before
 unfolding stood first_kept
 message_stays role party before more is = first-append [] (kept role party.offer (leaving role phase.Exchange)) [] before more ∙ rw is refl
@@ -33,11 +33,11 @@ offered_more : (before more : Units) → offered before ≡ true → offered (be
 unfolding offered
 offered_more before more is = stands-append is_kexinit [] before more ∙ rw is refl
 
-stood_more : (role : Role) (party : ConfigData) (k : ℕ) (before more : Units) → stood role party.offer k before ≡ true → stood role party.offer k (before ++ more) ≡ true
+stood_more : (role : Side) (party : ConfigData) (k : ℕ) (before more : Units) → stood role party.offer k before ≡ true → stood role party.offer k (before ++ more) ≡ true
 unfolding stood
 stood_more role party k before more is = stands-append (kept role party.offer k) [] before more ∙ rw is refl
 
-module _ (role : Role) (party : ConfigData) where
+module _ (role : Side) (party : ConfigData) where
   pub ready_more : (before more : Units) → IsReady role party before → IsReady role party (before ++ more)
   ready_more before more r = record {
     offer = offered_more before more r.offer;
@@ -55,9 +55,9 @@ pub unready : (strict other_strict : Bool) (sent : Units) → switched_out sent 
 unfolding number_out
 unready strict other_strict sent none = rw none refl
 
-module _ (m : SuiteData) (role : Role) (party : ConfigData) where
+module _ (m : SuiteData) (role : Side) (party : ConfigData) where
   -- the keys and the strictness of an endpoint that is ready stay, whatever is received afterwards
-  pub keys_stay : (version : List ℕ) (before more : Units) (sender : Role) → IsReady role party before → keys_at m role party version (before ++ more) sender ≡ keys_at m role party version before sender
+  pub keys_stay : (version : List ℕ) (before more : Units) (sender : Side) → IsReady role party before → keys_at m role party version (before ++ more) sender ≡ keys_at m role party version before sender
   keys_stay version before more sender r =
       ap (λ (k : List ℕ). keys_by_payloads m role party version sender k (exchange_message role party (before ++ more))) (kexinit_stays before more r.offer)
       ∙ ap (λ (l : List ℕ). keys_by_payloads m role party version sender (kexinit before) l) (message_stays role party before more r.exchange)

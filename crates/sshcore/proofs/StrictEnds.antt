@@ -2,7 +2,7 @@
 
 use Rattle.std.proofs.Common.{◌≡◌, inl, inr, ℕ, true, List, [], ◌∷◌, ◌++◌, Option, sym, ap, ◌∙◌, subst}
 use Rattle.sshmsg.specs.Numbers.{kind}
-use Rattle.sshneg.specs.declared.role.Role.{Role}
+use Rattle.sshneg.specs.declared.side.Side.{Side}
 use Rattle.sshpacket.specs.Parse.{Refusal}
 use Rattle.sshpacket.specs.Stream.{Units}
 use Rattle.sshpacket.specs.Suite.{SuiteData}
@@ -19,7 +19,7 @@ use Rattle.sshcore.specs.StrictSequence.{BeginsStrictly, Conforms, EndsStrictly}
 use Rattle.sshcore.proofs.Below.{Below}
 use Rattle.sshcore.proofs.StrictLaws.{begun_none, cut, deviates, not_open, past, past_open, stands}
 
-module _ (below : Below) (m : SuiteData) (d : DecisionsData) (role : Role) (party : ConfigData) where
+module _ (below : Below) (m : SuiteData) (d : DecisionsData) (role : Side) (party : ConfigData) where
   abbrev IsPast : Units → Type 0
   IsPast payloads = past_newkeys (phase_at role party.offer payloads) ≡ true
 

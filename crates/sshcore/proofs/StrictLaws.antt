@@ -4,8 +4,8 @@ use Rattle.std.proofs.Common.{◌≡◌, ◌≢◌, ◌⊎◌, inl, inr, ℕ, �
 use Rattle.std.proofs.lemmas.Bool.{and_parts, cases_Bool, eqb-true, true≢false}
 use Rattle.std.proofs.lemmas.List.{append-nil}
 use Rattle.sshmsg.specs.Numbers.{kind}
-use Rattle.sshneg.specs.declared.role.Role.{Role}
-use Rattle.sshneg.specs.declared.role.Role.TheVariants.{Client, Server}
+use Rattle.sshneg.specs.declared.side.Side.{Side}
+use Rattle.sshneg.specs.declared.side.Side.TheVariants.{Client, Server}
 use Rattle.sshpacket.specs.Places.{EachPlace}
 use Rattle.sshpacket.specs.Stream.{Units}
 use Rattle.sshpacket.specs.Suite.{SuiteData}
@@ -25,7 +25,7 @@ use Rattle.sshcore.proofs.StrictStages.{Follows, SoFar}
 use Rattle.sshcore.proofs.StrictSteps.{Fails, Goes, Off, Step, step}
 
 -- where an endpoint stands, the payloads conform
-conforms : (role : Role) (party : ConfigData) (us : Units) (q : Phase) → SoFar role party.offer us q → (q ≢ phase.KexInit) → Conforms role party.offer us
+conforms : (role : Side) (party : ConfigData) (us : Units) (q : Phase) → SoFar role party.offer us q → (q ≢ phase.KexInit) → Conforms role party.offer us
 conforms role party us phase.KexInit s not = absurd (not refl)
 conforms role party us phase.Exchange s not = elim (cases_Bool (expects_guess role party.offer us)) [
   | inl due ↦ IsBegun (s.1.kexinit ∷ ((30 ∷ []) ∷ (share_number role ∷ []) ∷ (21 ∷ []) ∷ [])) ((30 ∷ []) ∷ (share_number role ∷ []) ∷ (21 ∷ []) ∷ []) (record {
@@ -75,11 +75,11 @@ past_parts true true false s h = absurd (true≢false (sym h))
 past_parts true false n s h = absurd (true≢false (sym h))
 past_parts false e n s h = absurd (true≢false (sym h))
 
-apart : (role : Role) (n : ℕ) → n ≡ 21 → n ≡ leaving role phase.Exchange → ⊥
+apart : (role : Side) (n : ℕ) → n ≡ 21 → n ≡ leaving role phase.Exchange → ⊥
 apart Client n a b = absurd (omega arith)
 apart Server n a b = absurd (omega arith)
 
-module _ (role : Role) (party : ConfigData) (before : Units) (payload : List ℕ) where
+module _ (role : Side) (party : ConfigData) (before : Units) (payload : List ℕ) where
   stood_now : (k : ℕ) → stood role party.offer k before ≡ false → stood role party.offer k (before ++ payload ∷ []) ≡ true → kind payload ≡ k
   stood_now k none now =
       let here : kept role party.offer k before payload ≡ true = sym (stood_push role party.offer before payload k ∙ rw none refl) ∙ now in
@@ -101,7 +101,7 @@ module _ (role : Role) (party : ConfigData) (before : Units) (payload : List ℕ
       by phase.Auth f two = begins_more role party.offer before payload (f.so_far (strict_before role party before payload phase.Auth f.tied refl s))
 
 -- and one that stands open
-pub past_open : (role : Role) (party : ConfigData) (us : Units) (p : Phase) → Follows role party us p → strict_at role party us ≡ true
+pub past_open : (role : Side) (party : ConfigData) (us : Units) (p : Phase) → Follows role party us p → strict_at role party us ≡ true
     → past_newkeys (phase_at role party.offer us) ≡ true → BeginsStrictly role party.offer us
 past_open role party us p f s h = by p f (past_parts _ _ _ _ h)
   where
@@ -117,7 +117,7 @@ not_open n end (AsStrict e) q = absurd cc
 not_open n end (AsClosed one reason e) q = absurd cc
 not_open n end (AsMalformed one e) q = absurd cc
 
-module _ (below : Below) (m : SuiteData) (d : DecisionsData) (role : Role) (party : ConfigData) where
+module _ (below : Below) (m : SuiteData) (d : DecisionsData) (role : Side) (party : ConfigData) where
   module _ (version : List ℕ) (before : Units) (payload : List ℕ) where
     -- a payload that shows the marker and a deviation
     pub deviates : (p : Phase) → Follows role party before p → strict_at role party (before ++ payload ∷ []) ≡ true → (Conforms role party.offer (before ++ payload ∷ []) → ⊥)

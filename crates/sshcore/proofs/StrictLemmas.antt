@@ -5,8 +5,8 @@ use Rattle.std.proofs.lemmas.Bool.{true≢false}
 use Rattle.std.proofs.lemmas.List.{append-nil}
 use Rattle.sshmsg.specs.MessageData.{KexInitData}
 use Rattle.sshmsg.specs.Numbers.{kind}
-use Rattle.sshneg.specs.declared.role.Role.{Role}
-use Rattle.sshneg.specs.declared.role.Role.TheVariants.{Client, Server}
+use Rattle.sshneg.specs.declared.side.Side.{Side}
+use Rattle.sshneg.specs.declared.side.Side.TheVariants.{Client, Server}
 use Rattle.sshneg.specs.ExchangeEnd.{offer_in}
 use Rattle.sshpacket.specs.Stream.{Units}
 use Rattle.sshcore.specs.declared.table.Phase.{Phase}
@@ -23,23 +23,23 @@ use Rattle.sshcore.proofs.PhaseLemmas.{guess_offered}
 use Rattle.sshcore.proofs.StrictStages.{Follows, SoFar, StoodKexinit, StoodShare}
 use Rattle.sshcore.proofs.TableLemmas.{in_range}
 
-pub leaving_kexinit : (role : Role) → leaving role phase.KexInit ≡ 20
+pub leaving_kexinit : (role : Side) → leaving role phase.KexInit ≡ 20
 leaving_kexinit Client = refl
 leaving_kexinit Server = refl
 
-pub leaving_newkeys : (role : Role) → leaving role phase.NewKeys ≡ 21
+pub leaving_newkeys : (role : Side) → leaving role phase.NewKeys ≡ 21
 leaving_newkeys Client = refl
 leaving_newkeys Server = refl
 
-pub leaving_exchange : (role : Role) → leaving role phase.Exchange ≡ share_number role
+pub leaving_exchange : (role : Side) → leaving role phase.Exchange ≡ share_number role
 leaving_exchange Client = refl
 leaving_exchange Server = refl
 
-pub share_some : (role : Role) → 0 < share_number role
+pub share_some : (role : Side) → 0 < share_number role
 share_some Client = omega arith
 share_some Server = omega arith
 
-pub begins_more : (role : Role) (own : KexInitData) (before : Units) (payload : List ℕ) → BeginsStrictly role own before → BeginsStrictly role own (before ++ payload ∷ [])
+pub begins_more : (role : Side) (own : KexInitData) (before : Units) (payload : List ℕ) → BeginsStrictly role own before → BeginsStrictly role own (before ++ payload ∷ [])
 begins_more role own before payload b = record {
   sequence = b.sequence;
   rest = b.rest ++ payload ∷ [];
@@ -47,7 +47,7 @@ begins_more role own before payload b = record {
   payloads_are = ap (λ (l : Units). l ++ payload ∷ []) b.payloads_are ∙ append_assoc b.sequence b.rest (payload ∷ []);
 }
 
-module _ (role : Role) (party : ConfigData) (before : Units) (payload : List ℕ) where
+module _ (role : Side) (party : ConfigData) (before : Units) (payload : List ℕ) where
   abbrev pub more : Units
   more = before ++ payload ∷ []
 

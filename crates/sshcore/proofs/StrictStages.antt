@@ -2,7 +2,7 @@
 
 use Rattle.std.proofs.Common.{◌≡◌, ℕ, true, false, List, [], ◌∷◌, ◌++◌}
 use Rattle.sshmsg.specs.MessageData.{KexInitData}
-use Rattle.sshneg.specs.declared.role.Role.{Role}
+use Rattle.sshneg.specs.declared.side.Side.{Side}
 use Rattle.sshpacket.specs.Stream.{Units}
 use Rattle.sshcore.specs.declared.table.Phase.{Phase}
 use Rattle.sshcore.specs.declared.table.Phase.TheVariants as phase
@@ -13,7 +13,7 @@ use Rattle.sshcore.specs.Standing.{Tied}
 use Rattle.sshcore.specs.StrictSequence.{BeginsStrictly, HasNumber, IsGuessPart, IsOffered, IsWrongGuess, share_number}
 
 -- the KEXINIT and what came of a guess
-pub record StoodKexinit (role : Role) (own : KexInitData) (before : Units) (guess : Units) : Type 0 where
+pub record StoodKexinit (role : Side) (own : KexInitData) (before : Units) (guess : Units) : Type 0 where
   pub peer : KexInitData
   pub kexinit : List ℕ
   pub payloads_are : before ≡ kexinit ∷ guess
@@ -23,7 +23,7 @@ pub record StoodKexinit (role : Role) (own : KexInitData) (before : Units) (gues
   pub due : expects_guess role own before ≡ true → guess ≡ []
 
 -- and the share
-pub record StoodShare (role : Role) (own : KexInitData) (before : Units) : Type 0 where
+pub record StoodShare (role : Side) (own : KexInitData) (before : Units) : Type 0 where
   pub peer : KexInitData
   pub kexinit : List ℕ
   pub guess : Units
@@ -34,14 +34,14 @@ pub record StoodShare (role : Role) (own : KexInitData) (before : Units) : Type 
   pub has : HasNumber (share_number role) share
 
 -- so much of the strict sequence in each phase
-abbrev pub SoFar : Role → KexInitData → Units → Phase → Type 0
+abbrev pub SoFar : Side → KexInitData → Units → Phase → Type 0
 SoFar role own before phase.KexInit = Unit {0}
 SoFar role own before phase.Exchange = (guess : Units) × StoodKexinit role own before guess
 SoFar role own before phase.NewKeys = StoodShare role own before
 SoFar role own before phase.Service = BeginsStrictly role own before
 SoFar role own before phase.Auth = BeginsStrictly role own before
 
-pub record Follows (role : Role) (party : ConfigData) (before : Units) (p : Phase) : Type 0 where
+pub record Follows (role : Side) (party : ConfigData) (before : Units) (p : Phase) : Type 0 where
   pub tied : Tied role party.offer before p
   pub none_due : past_exchange p ≡ true → expects_guess role party.offer before ≡ false
   pub so_far : strict_at role party before ≡ true → SoFar role party.offer before p

@@ -8,7 +8,7 @@ use Rattle.sshmsg.specs.declared.fault.MsgFault.{MsgFault}
 use Rattle.sshmsg.specs.MessageData.{Disconnect, KexInit, MessageData}
 use Rattle.sshmsg.specs.Messages.{message_in}
 use Rattle.sshmsg.specs.Numbers.{kind, number_of}
-use Rattle.sshneg.specs.declared.role.Role.{Role}
+use Rattle.sshneg.specs.declared.side.Side.{Side}
 use Rattle.sshneg.specs.ExchangeEnd.{offer_in}
 use Rattle.sshpacket.specs.Stream.{Units}
 use Rattle.sshpacket.specs.Suite.{SuiteData}
@@ -36,12 +36,12 @@ use Rattle.sshcore.proofs.StrictStages.{Follows, SoFar}
 use Rattle.sshcore.proofs.TableLemmas.{Closing, Dropped, Leaving, OffGuess, OffPhase, Sees, Staying, Useless, sees}
 
 -- what a payload does: the endpoint stands where the next phase wants; it deviates; or it fails without deviating
-pub data Step (role : Role) (party : ConfigData) (before : Units) (payload : List ℕ) (end : EndData) : Type 0 where
+pub data Step (role : Side) (party : ConfigData) (before : Units) (payload : List ℕ) (end : EndData) : Type 0 where
   Goes : (q : Phase) → Follows role party (before ++ payload ∷ []) q → Step role party before payload end
   Off : EndsStrictly (kind payload) end → Step role party before payload end
   Fails : end ≢ Open → (strict_at role party (before ++ payload ∷ []) ≡ true → Conforms role party.offer (before ++ payload ∷ [])) → Step role party before payload end
 
-module _ (below : Below) (m : SuiteData) (d : DecisionsData) (role : Role) (party : ConfigData) where
+module _ (below : Below) (m : SuiteData) (d : DecisionsData) (role : Side) (party : ConfigData) where
   closes : (known : Known) (payload : List ℕ) (c : MessageData) → kind payload ≡ 1 → number_of c ≡ 1 → EndsStrictly (kind payload) (work m d role party known c).end
   unfolding work
   closes known payload (Disconnect reason description language) is e = AsClosed is reason refl

@@ -3,8 +3,8 @@
 use Rattle.std.proofs.Common.{◌≡◌, ◌≢◌, ◌⊎◌, inl, inr, ℕ, ◌≤◌, ◌==◌, Bool, true, false, refl, sym, ◌∙◌, arith}
 use Rattle.std.specs.Prelude.{◌&&◌}
 use Rattle.std.proofs.lemmas.Bool.{and_parts, cases_Bool, eq-eqb, eqb-true, leb-true, ne_eqb, or_cases, true≢false}
-use Rattle.sshneg.specs.declared.role.Role.{Role}
-use Rattle.sshneg.specs.declared.role.Role.TheVariants.{Client, Server}
+use Rattle.sshneg.specs.declared.side.Side.{Side}
+use Rattle.sshneg.specs.declared.side.Side.TheVariants.{Client, Server}
 use Rattle.sshcore.specs.declared.table.Line.{Line}
 use Rattle.sshcore.specs.declared.table.Line.TheVariants as line
 use Rattle.sshcore.specs.declared.table.Phase.{Phase}
@@ -14,13 +14,13 @@ use Rattle.sshcore.specs.Standing.{LeavesNone}
 use Rattle.sshcore.specs.Table.{is_ignored, is_of_auth, is_of_method, is_ruled, is_unknown, line_by, takes_extensions, within}
 
 -- a number that leaves no phase, and is no exchange message's
-pub record IsQuiet (role : Role) (n : ℕ) : Type 0 where
+pub record IsQuiet (role : Side) (n : ℕ) : Type 0 where
   pub leaves : LeavesNone role n
   pub init : n ≢ 30
   pub reply : n ≢ 31
 
 -- the lines of the table, with what holds where each decides
-pub data Sees (role : Role) (p : Phase) (strict guess : Bool) (n : ℕ) (l : Line) : Type 0 where
+pub data Sees (role : Side) (p : Phase) (strict guess : Bool) (n : ℕ) (l : Line) : Type 0 where
   Closing : n ≡ 1 → l ≡ line.Reads → Sees role p strict guess n l
   Dropped : (n == 1) ≡ false → guess ≡ true → (is_ruled p strict ≡ true → is_of_method n ≡ true) → l ≡ line.Drops → Sees role p strict guess n l
   OffGuess : (n == 1) ≡ false → guess ≡ true → is_ruled p strict ≡ true → is_of_method n ≡ false → l ≡ line.Deviates → Sees role p strict guess n l
@@ -30,7 +30,7 @@ pub data Sees (role : Role) (p : Phase) (strict guess : Bool) (n : ℕ) (l : Lin
   Useless : guess ≡ false → is_ruled p strict ≡ false → (n == leaving role p) ≡ false → l ≡ line.Unexpected → Sees role p strict guess n l
 
 -- no number of these leaves a phase
-none_from : (role : Role) (n : ℕ) → n ≢ 20 → n ≢ 21 → n ≢ 30 → n ≢ 31 → n ≢ 5 → n ≢ 6 → IsQuiet role n
+none_from : (role : Side) (n : ℕ) → n ≢ 20 → n ≢ 21 → n ≢ 30 → n ≢ 31 → n ≢ 5 → n ≢ 6 → IsQuiet role n
 none_from Client n a b c d e f = record {
   leaves = record { kexinit = ne_eqb n 20 a; exchange = ne_eqb n 31 d; newkeys = ne_eqb n 21 b; service = ne_eqb n 6 f };
   init = c;
@@ -47,7 +47,7 @@ in_range low high n h =
     let p = and_parts _ _ h in
     (leb-true low n p.0, leb-true n high p.1)
 
-module _ (role : Role) (n : ℕ) where
+module _ (role : Side) (n : ℕ) where
   extension : (n == 7) ≡ true → IsQuiet role n
   extension h =
       let same : n ≡ 7 = eqb-true n 7 h in
@@ -88,7 +88,7 @@ module _ (role : Role) (n : ℕ) where
   ]
 
 -- the messages of authentication leave no earlier phase
-auth_leaves : (role : Role) (p : Phase) (waits : Bool) (n : ℕ) → is_of_auth role p waits n ≡ true → IsQuiet role n
+auth_leaves : (role : Side) (p : Phase) (waits : Bool) (n : ℕ) → is_of_auth role p waits n ≡ true → IsQuiet role n
 auth_leaves Server phase.Auth waits n h =
     let same : n ≡ 50 = eqb-true n 50 h in
     none_from Server n (λ q. omega arith) (λ q. omega arith) (λ q. omega arith) (λ q. omega arith) (λ q. omega arith) (λ q. omega arith)
@@ -111,7 +111,7 @@ auth_leaves Server phase.NewKeys waits n h = absurd cc
 auth_leaves Client phase.Service waits n h = absurd cc
 auth_leaves Server phase.Service waits n h = absurd cc
 
-module _ (role : Role) (p : Phase) (strict waits : Bool) (n : ℕ) where
+module _ (role : Side) (p : Phase) (strict waits : Bool) (n : ℕ) where
   -- no guess is due, and strictness rules nothing
   free : (n == 1) ≡ false → is_ruled p strict ≡ false → Sees role p strict false n (line_by role p strict false waits n)
   unfolding line_by
@@ -167,7 +167,7 @@ module _ (role : Role) (p : Phase) (strict waits : Bool) (n : ℕ) where
       ]
 
 -- a number that is read or unknown, and neither closes nor leaves the phase, leaves none
-pub quiet : (role : Role) (p : Phase) (strict waits : Bool) (n : ℕ) → (n == 1) ≡ false → (n == leaving role p) ≡ false
+pub quiet : (role : Side) (p : Phase) (strict waits : Bool) (n : ℕ) → (n == 1) ≡ false → (n == leaving role p) ≡ false
     → (line_by role p strict false waits n ≡ line.Reads) ⊎ (line_by role p strict false waits n ≡ line.Unknown) → LeavesNone role n
 quiet role p strict waits n one not_here side = by (line_by role p strict false waits n) (sees role p strict waits n false) side
   where

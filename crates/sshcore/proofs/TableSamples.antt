@@ -1,8 +1,8 @@
 -- The phase table, evaluated at all 256 numbers, as runs of one line each: 0, 1, 2 to 4, 5, 6, and so on.
 
 use Rattle.std.proofs.Common.{◌≡◌, ℕ, zero, suc, Bool, true, false, List, [], ◌∷◌, ◌++◌, refl}
-use Rattle.sshneg.specs.declared.role.Role.{Role}
-use Rattle.sshneg.specs.declared.role.Role.TheVariants.{Client, Server}
+use Rattle.sshneg.specs.declared.side.Side.{Side}
+use Rattle.sshneg.specs.declared.side.Side.TheVariants.{Client, Server}
 use Rattle.sshcore.specs.declared.table.Line.{Line}
 use Rattle.sshcore.specs.declared.table.Line.TheVariants as line
 use Rattle.sshcore.specs.declared.table.Phase.{Phase}
@@ -19,11 +19,11 @@ runs [] = []
 runs (x ∷ xs) = repeated x.0 x.1 (runs xs)
 
 -- the lines of the first so many numbers
-lines_up_to : Role → Phase → Bool → Bool → Bool → ℕ → List Line
+lines_up_to : Side → Phase → Bool → Bool → Bool → ℕ → List Line
 lines_up_to role p strict guess waits zero = []
 lines_up_to role p strict guess waits (suc n) = lines_up_to role p strict guess waits n ++ line_by role p strict guess waits n ∷ []
 
-all_lines : Role → Phase → Bool → Bool → Bool → List Line
+all_lines : Side → Phase → Bool → Bool → Bool → List Line
 all_lines role p strict guess waits = lines_up_to role p strict guess waits 256
 
 -- phase kexinit, strict or not

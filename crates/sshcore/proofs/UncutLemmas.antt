@@ -5,7 +5,7 @@ use Rattle.sshmsg.specs.declared.fault.MsgFault.{MsgFault}
 use Rattle.sshmsg.specs.MessageData.{MessageData}
 use Rattle.sshmsg.specs.Messages.{message_in}
 use Rattle.sshmsg.specs.Numbers.{kind}
-use Rattle.sshneg.specs.declared.role.Role.{Role}
+use Rattle.sshneg.specs.declared.side.Side.{Side}
 use Rattle.sshpacket.specs.declared.fault.PacketFault.TheVariants as packet
 use Rattle.sshpacket.specs.Parse.{OfLine, OfPacket, Refusal}
 use Rattle.sshpacket.specs.Stream.{Units}
@@ -33,7 +33,7 @@ uncut_refusal (Some (OfPacket packet.Empty)) = refl
 uncut_refusal (Some (OfPacket packet.Mac)) = refl
 uncut_refusal (Some (OfPacket packet.Memory)) = refl
 
-module _ (m : SuiteData) (d : DecisionsData) (role : Role) (party : ConfigData) where
+module _ (m : SuiteData) (d : DecisionsData) (role : Side) (party : ConfigData) where
   uncut_work : (known : Known) (c : MessageData) → IsUncut (work m d role party known c).end
   uncut_work known c = by (work_ends m d role party known c)
     where
@@ -72,6 +72,6 @@ open_stays end is = still_uncut end Open is refl
 pub refusal_stays : (r : Refusal) (end : EndData) → end ≡ Failed (fault_of r) → IsUncut end
 refusal_stays r end is = still_uncut end (Failed (fault_of r)) is (uncut_refusal (Some r))
 
-pub unit_stays : (m : SuiteData) (d : DecisionsData) (role : Role) (party : ConfigData) (before : Units) (unit : List ℕ) (end : EndData)
+pub unit_stays : (m : SuiteData) (d : DecisionsData) (role : Side) (party : ConfigData) (before : Units) (unit : List ℕ) (end : EndData)
     → end ≡ end_at m d role party before unit → IsUncut end
 unit_stays m d role party before unit end is = still_uncut end (end_at m d role party before unit) is (uncut_unit m d role party before unit)

@@ -14,8 +14,8 @@ use Rattle.sshmsg.specs.declared.message.Message.{Message}
 use Rattle.sshmsg.specs.declared.message.Method as method
 use Rattle.sshmsg.specs.declared.message.Message.TheVariants as message
 use Rattle.sshmsg.specs.View.{message_data}
-use Rattle.sshneg.specs.declared.role.Role.{Role}
-use Rattle.sshneg.specs.declared.role.Role.TheVariants.{Client, Server}
+use Rattle.sshneg.specs.declared.side.Side.{Side}
+use Rattle.sshneg.specs.declared.side.Side.TheVariants.{Client, Server}
 use Rattle.sshneg.specs.ExchangeEnd.{offer_by, offer_in}
 use Rattle.sshpacket.specs.KeysData.{KeysData}
 use Rattle.sshpacket.specs.Suite.{SuiteData}
@@ -59,7 +59,7 @@ on_four (Ok x) a b c d f = f a b c d
 on_four (Err e) a b c d f = tt
 
 -- a payload of this message is read
-pub record HasPlace (role : Role) (old : StateData) (payload : List ℕ) (c : MessageData) : Type 0 where
+pub record HasPlace (role : Side) (old : StateData) (payload : List ℕ) (c : MessageData) : Type 0 where
   pub reads_it : Reads role old.phase old.guess (number_of c)
   pub read_is : message_in old.known.shares payload ≡ Ok c
   pub kind_is : kind payload ≡ number_of c
@@ -70,7 +70,7 @@ pub record HasPlace (role : Role) (old : StateData) (payload : List ℕ) (c : Me
 pub has_place : ((form : ShareForm) (payload : List ℕ) (c : MessageData) → Spells form c payload → message_in form payload ≡ Ok c)
     → ((form : ShareForm) (payload : List ℕ) (c : MessageData) → message_in form payload ≡ Ok c → kind payload ≡ number_of c)
     → ((form other : ShareForm) (payload : List ℕ) → kind payload ≢ 30 → kind payload ≢ 31 → message_in form payload ≡ message_in other payload)
-    → (role : Role) (old : StateData) (payload : List ℕ) (c : MessageData) → line_by role old.phase old.known.strict old.guess (is_waiting old.known.left) (kind payload) ≡ line.Reads → Spells old.known.shares c payload
+    → (role : Side) (old : StateData) (payload : List ℕ) (c : MessageData) → line_by role old.phase old.known.strict old.guess (is_waiting old.known.left) (kind payload) ≡ line.Reads → Spells old.known.shares c payload
     → HasPlace role old payload c
 unfolding listed_in
 has_place complete number alike role old payload c line_is spelled =
@@ -106,7 +106,7 @@ pub silent : (m : SuiteData) (seed : List ℕ) (strict : Bool) (next : KeysData)
 unfolding sent_from sending_from
 silent m seed strict next old new before end e s = record { ends = e; output = sym (append-nil before); sends = s; fits = tt }
 
-module _ (role : Role) (old : StateData) (payload : List ℕ) (c : MessageData) (has : HasPlace role old payload c) where
+module _ (role : Side) (old : StateData) (payload : List ℕ) (c : MessageData) (has : HasPlace role old payload c) where
   -- where it is read
   at_number : (n : ℕ) → number_of c ≡ n → Reads role old.phase old.guess n
   at_number n is = subst (λ (k : ℕ). Reads role old.phase old.guess k) is has.reads_it
@@ -141,7 +141,7 @@ module _ (role : Role) (old : StateData) (payload : List ℕ) (c : MessageData) 
   pub at_success : number_of c ≡ 52 → IsAt role Client old.phase phase.Auth old.guess
   at_success is = table.success_read role old.phase old.guess (at_number 52 is)
 
-module _ (m : SuiteData) (d : DecisionsData) (role : Role) (party : ConfigData) (old new : StateData) (payload before after : List ℕ) (c : MessageData) (has : HasPlace role old payload c) where
+module _ (m : SuiteData) (d : DecisionsData) (role : Side) (party : ConfigData) (old new : StateData) (payload before after : List ℕ) (c : MessageData) (has : HasPlace role old payload c) where
   -- a message that is worked on so
   by_reply : (r : Reply) → work m d role party old.known c ≡ r → Works m d role party old new payload before after r → Works m d role party old new payload before after (work m d role party old.known c)
   by_reply r is w = subst (λ (x : Reply). Works m d role party old new payload before after x) (sym is) w
@@ -161,7 +161,7 @@ module _ (m : SuiteData) (d : DecisionsData) (role : Role) (party : ConfigData) 
       })
 
   -- the exchange message, at the side that receives it
-  exchange_works : (side : Role) (n : ℕ) (r : Reply) → number_of c ≡ n → leaving side phase.Exchange ≡ n → IsAt role side old.phase phase.Exchange old.guess
+  exchange_works : (side : Side) (n : ℕ) (r : Reply) → number_of c ≡ n → leaving side phase.Exchange ≡ n → IsAt role side old.phase phase.Exchange old.guess
       → ReceivesExchange m side party old new before after c r → Works m d role party old new payload before after r
   exchange_works side n r number leaves at h =
       let same : role ≡ side = at.side_is in
@@ -170,7 +170,7 @@ module _ (m : SuiteData) (d : DecisionsData) (role : Role) (party : ConfigData) 
       record {
         gives = rw (same, read) h.gives;
         moves = λ goes_on. Exchanges at.phase_is none
-            (has.kind_is ∙ (number ∙ sym leaves ∙ ap (λ (x : Role). leaving x phase.Exchange) (sym same)))
+            (has.kind_is ∙ (number ∙ sym leaves ∙ ap (λ (x : Side). leaving x phase.Exchange) (sym same)))
             (rw (same, read) (h.carries goes_on))
             (rw (same, read, ← none) (h.stands goes_on));
       }
@@ -180,7 +180,7 @@ module _ (m : SuiteData) (d : DecisionsData) (role : Role) (party : ConfigData) 
       → Works m d role party old new payload before after (work m d role party old.known c)
   init_works number is h =
       let at = at_init role old payload c has number in
-      by_reply (init_reply m Server party old.known c) (is ∙ ap (λ (x : Role). init_reply m x party old.known c) at.side_is)
+      by_reply (init_reply m Server party old.known c) (is ∙ ap (λ (x : Side). init_reply m x party old.known c) at.side_is)
       (exchange_works Server 30 (init_reply m Server party old.known c) number refl at h)
 
   pub reply_works : (signature : List ℕ) → number_of c ≡ 31 → work m d role party old.known c ≡ reply_reply m d role party old.known c signature
@@ -188,11 +188,11 @@ module _ (m : SuiteData) (d : DecisionsData) (role : Role) (party : ConfigData) 
       → Works m d role party old new payload before after (work m d role party old.known c)
   reply_works signature number is h =
       let at = at_reply role old payload c has number in
-      by_reply (reply_reply m d Client party old.known c signature) (is ∙ ap (λ (x : Role). reply_reply m d x party old.known c signature) at.side_is)
+      by_reply (reply_reply m d Client party old.known c signature) (is ∙ ap (λ (x : Side). reply_reply m d x party old.known c signature) at.side_is)
       (exchange_works Client 31 (reply_reply m d Client party old.known c signature) number refl at h)
 
   -- a message that leaves a phase after the exchange
-  leaves_works : (side : Role) (p q : Phase) (n : ℕ) (k : Known) (r : Reply) → number_of c ≡ n → leaving side p ≡ n → past_exchange p ≡ true → next_phase p ≡ q
+  leaves_works : (side : Side) (p q : Phase) (n : ℕ) (k : Known) (r : Reply) → number_of c ≡ n → leaving side p ≡ n → past_exchange p ≡ true → next_phase p ≡ q
       → IsAt role side old.phase p old.guess → after_payload m d party old.known payload ≡ k
       → ((strict : Bool) (next : KeysData) → Gives m party.seed strict next old new before after r)
       → (IsOngoing new.end → new.carried ≡ carried_after m d party old.known old.carried payload)
@@ -330,7 +330,7 @@ fits_method (PublicKeyQuery algorithm key) short = tt
 fits_method (OtherMethod name fields) short = tt
 
 -- messages to which nothing is sent
-module _ (m : SuiteData) (d : DecisionsData) (role : Role) (party : ConfigData) (old new : StateData) (payload before : List ℕ) (c : MessageData) (has : HasPlace role old payload c) where
+module _ (m : SuiteData) (d : DecisionsData) (role : Side) (party : ConfigData) (old new : StateData) (payload before : List ℕ) (c : MessageData) (has : HasPlace role old payload c) where
   pub disconnect_works : (reason : ℕ) (description language : List ℕ) → c ≡ Disconnect reason description language → new.end ≡ Closed reason → new.sending ≡ old.sending
       → Works m d role party old new payload before before (work m d role party old.known c)
   unfolding work
@@ -375,7 +375,7 @@ module _ (m : SuiteData) (d : DecisionsData) (role : Role) (party : ConfigData) 
       })
 
 -- what the messages of the exchange are answered
-module _ (m : SuiteData) (d : DecisionsData) (role : Role) (party : ConfigData) (known : Known) (c : MessageData) where
+module _ (m : SuiteData) (d : DecisionsData) (role : Side) (party : ConfigData) (known : Known) (c : MessageData) where
   pub kexdh_init : (e : List ℕ) → c ≡ KexdhInit e → work m d role party known c ≡ init_reply m role party known c
   unfolding work
   kexdh_init e is = rw is refl
@@ -393,7 +393,7 @@ module _ (m : SuiteData) (d : DecisionsData) (role : Role) (party : ConfigData) 
   kex_ecdh_reply host_key share signature is = rw is refl
 
 -- every other message is read and ignored
-pub record IsIgnored (m : SuiteData) (d : DecisionsData) (role : Role) (party : ConfigData) (known : Known) (c : MessageData) : Type 0 where
+pub record IsIgnored (m : SuiteData) (d : DecisionsData) (role : Side) (party : ConfigData) (known : Known) (c : MessageData) : Type 0 where
   pub plain : IsPlain (number_of c)
   pub work_is : work m d role party known c ≡ goes []
 
@@ -413,7 +413,7 @@ pub record IsNone (x : Message) : Type 0 where
   pub success : x ≡ message.UserauthSuccess → ⊥
   pub confirmation : (algorithm key : Bor (List ℕ)) → x ≡ message.UserauthPkOk algorithm key → ⊥
 
-module _ (m : SuiteData) (d : DecisionsData) (role : Role) (party : ConfigData) (known : Known) where
+module _ (m : SuiteData) (d : DecisionsData) (role : Side) (party : ConfigData) (known : Known) where
   pub ignores : (x : Message) → IsNone x → IsIgnored m d role party known (message_data x)
   unfolding work
   ignores (message.Disconnect reason description language) h = absurd (h.disconnect reason description language refl)

@@ -3,8 +3,8 @@
 use Rattle.std.specs.Prelude.{◌≡◌, ℕ, true, List, [], ◌∷◌, ◌++◌, Ok}
 use Rattle.sshmsg.specs.MessageData.{MethodData, UserauthRequest, UserauthSuccess}
 use Rattle.sshmsg.specs.Messages.{message_in}
-use Rattle.sshneg.specs.declared.role.Role.{Role}
-use Rattle.sshneg.specs.declared.role.Role.TheVariants.{Client, Server}
+use Rattle.sshneg.specs.declared.side.Side.{Side}
+use Rattle.sshneg.specs.declared.side.Side.TheVariants.{Client, Server}
 use Rattle.sshneg.specs.ChoiceReadings.{is_in}
 use Rattle.sshpacket.specs.Stream.{Units}
 use Rattle.sshpacket.specs.Suite.{SuiteData}
@@ -41,14 +41,14 @@ pub record WasAccepted (known : Known) (payload : List ℕ) (a : AgreedData) : T
   pub service_is : a.service ≡ made.service
 
 -- by what a user is accepted, by the role
-abbrev pub IsAcceptedUser : SuiteData → DecisionsData → Role → ConfigData → Known → List Tried → List ℕ → AgreedData → Type 0
+abbrev pub IsAcceptedUser : SuiteData → DecisionsData → Side → ConfigData → Known → List Tried → List ℕ → AgreedData → Type 0
 IsAcceptedUser m d Client party known tried payload a = WasAccepted known payload a
 IsAcceptedUser m d Server party known tried payload a = AcceptsUser m d party known tried payload a
 
 -- An endpoint ended authenticated: its last payload came in phase auth, and the phase is the same after it. It agreed on what
 -- the payloads before have given, which are the algorithms, strictness and the session identifier; and by what they have given
 -- this user is accepted by the last payload for this service.
-pub record IsAuthenticated (m : SuiteData) (d : DecisionsData) (role : Role) (party : ConfigData) (units : Units) (a : AgreedData) : Type 0 where
+pub record IsAuthenticated (m : SuiteData) (d : DecisionsData) (role : Side) (party : ConfigData) (units : Units) (a : AgreedData) : Type 0 where
   pub version : List ℕ
   pub before : Units
   pub last : List ℕ

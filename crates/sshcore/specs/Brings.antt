@@ -4,7 +4,7 @@ use Rattle.std.specs.Prelude.{◌≡◌, ◌⊎◌, ℕ, ◌==◌, Bool, true, f
 use Rattle.sshmsg.specs.declared.numbers.TheConstants.{SSH_MSG_DISCONNECT, SSH_MSG_USERAUTH_REQUEST}
 use Rattle.sshmsg.specs.MessageData.{KexInitData}
 use Rattle.sshmsg.specs.Numbers.{kind}
-use Rattle.sshneg.specs.declared.role.Role.{Role}
+use Rattle.sshneg.specs.declared.side.Side.{Side}
 use Rattle.sshneg.specs.ExchangeEnd.{offer_in}
 use Rattle.sshneg.specs.Markers.{other}
 use Rattle.sshpacket.specs.KeysData.{KeysData}
@@ -57,7 +57,7 @@ pub record StandsAt (new : StateData) (p : Phase) (guess : Bool) (known : Known)
 -- How a payload moves what is kept: after the peer's KEXINIT; after the packet of a wrong guess; after the exchange
 -- message, which brings the keys of what is received; after every other message that leaves a phase; and after one that
 -- leaves none.
-pub data Moves (m : SuiteData) (d : DecisionsData) (role : Role) (party : ConfigData) (payload : List ℕ) (old new : StateData) : Type 0 where
+pub data Moves (m : SuiteData) (d : DecisionsData) (role : Side) (party : ConfigData) (payload : List ℕ) (old new : StateData) : Type 0 where
   Offers : (peer : KexInitData) → old.phase ≡ phase.KexInit → old.guess ≡ false → offer_in payload ≡ Some peer → new.carried ≡ old.carried
       → new.known.shares ≡ m.share_form new.known.algorithms.kex
       → StandsAt new phase.Exchange (wrong_guess role party.offer (Some peer)) (after_offer m role party old.known payload peer) → Moves m d role party payload old new
@@ -73,12 +73,12 @@ pub data Moves (m : SuiteData) (d : DecisionsData) (role : Role) (party : Config
       → StandsAt new old.phase false (after_payload m d party old.known payload) → Moves m d role party payload old new
 
 -- What a packet brings: this reply, and where the session goes on the endpoint stands after the packet.
-pub record Works (m : SuiteData) (d : DecisionsData) (role : Role) (party : ConfigData) (old new : StateData) (payload before after : List ℕ) (r : Reply) : Type 0 where
+pub record Works (m : SuiteData) (d : DecisionsData) (role : Side) (party : ConfigData) (old new : StateData) (payload before after : List ℕ) (r : Reply) : Type 0 where
   pub gives : Gives m party.seed old.known.strict (keys_by m old.known.algorithms (exchange_received m role party old.known payload) role) old new before after r
   pub moves : IsOngoing new.end → Moves m d role party payload old new
 
 -- What a packet with this sequence number brings: the reply of its line of the phase table.
-abbrev pub Brings : SuiteData → DecisionsData → Role → ConfigData → StateData → StateData → ℕ → List ℕ → List ℕ → List ℕ → Type 0
+abbrev pub Brings : SuiteData → DecisionsData → Side → ConfigData → StateData → StateData → ℕ → List ℕ → List ℕ → List ℕ → Type 0
 Brings m d role party old new packet payload before after =
     Works m d role party old new payload before after
     (line_reply m d role party old.known packet (line_by role old.phase old.known.strict old.guess (is_waiting old.known.left) (kind payload)) payload)

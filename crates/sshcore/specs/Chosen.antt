@@ -6,8 +6,8 @@ use Rattle.sshwire.specs.Types.{IsName}
 use Rattle.sshmsg.specs.MessageData.{KexInitData}
 use Rattle.sshneg.specs.declared.choice.Chosen.{Chosen}
 use Rattle.sshneg.specs.declared.choice.NoCommon.{NoCommon}
-use Rattle.sshneg.specs.declared.role.Role.{Role}
-use Rattle.sshneg.specs.declared.role.Role.TheVariants.{Client, Server}
+use Rattle.sshneg.specs.declared.side.Side.{Side}
+use Rattle.sshneg.specs.declared.side.Side.TheVariants.{Client, Server}
 use Rattle.sshneg.specs.Fields.{AlgorithmsData, list_of, name_of, position_of}
 
 -- each of them is a name
@@ -23,10 +23,10 @@ abbrev pub AreAt : KexInitData → Chosen → AlgorithmsData → Type 0
 AreAt client chosen a = (f : NoCommon) → slice_get (list_of f client) (position_of f chosen) ≡ Some (name_of f a)
 
 -- the cipher and the MAC of what this role sends
-abbrev pub cipher_of : AlgorithmsData → Role → List ℕ
+abbrev pub cipher_of : AlgorithmsData → Side → List ℕ
 cipher_of a Client = a.encryption_client_to_server
 cipher_of a Server = a.encryption_server_to_client
 
-abbrev pub mac_of : AlgorithmsData → Role → List ℕ
+abbrev pub mac_of : AlgorithmsData → Side → List ℕ
 mac_of a Client = a.mac_client_to_server
 mac_of a Server = a.mac_server_to_client

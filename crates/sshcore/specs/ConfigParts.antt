@@ -3,8 +3,8 @@
 use Rattle.std.specs.Prelude.{ℕ, Bool, true, false, List, [], ◌∷◌, ◌++◌, codes, map, Option}
 use Rattle.sshwire.specs.Lines.{version_text}
 use Rattle.sshmsg.specs.MessageData.{KexInitData}
-use Rattle.sshneg.specs.declared.role.Role.{Role}
-use Rattle.sshneg.specs.declared.role.Role.TheVariants.{Client, Server}
+use Rattle.sshneg.specs.declared.side.Side.{Side}
+use Rattle.sshneg.specs.declared.side.Side.TheVariants.{Client, Server}
 use Rattle.sshneg.specs.Markers.{strict_marker}
 
 -- how a client proves who its user is (RFC 4252 sections 5.2, 7 and 8): not at all, by a password, or by the private key
@@ -64,13 +64,13 @@ abbrev pub key_algorithms : List HostKeyData → List (List ℕ)
 key_algorithms keys = map (λ (key : HostKeyData). key.algorithm) keys
 
 -- the marker of a side of this role that is willing to be strict (OpenSSH PROTOCOL section 1.10), else none
-abbrev pub own_marker : Role → Bool → List (List ℕ)
+abbrev pub own_marker : Side → Bool → List (List ℕ)
 own_marker role true = strict_marker role ∷ []
 own_marker role false = []
 
 -- The KEXINIT of a side (RFC 4253 section 7.1), of its host key algorithms and whether it announces a guess: its marker
 -- stands last in the kex list, there is no compression and no language.
-abbrev pub side_offer : Role → SideData → List (List ℕ) → Bool → KexInitData
+abbrev pub side_offer : Side → SideData → List (List ℕ) → Bool → KexInitData
 side_offer role side host_keys guess = record {
   cookie = side.cookie;
   kex_algorithms = side.kex_algorithms ++ own_marker role side.strict;

@@ -4,7 +4,7 @@
 use Rattle.std.specs.Prelude.{ℕ, ◌%◌, ◌^◌, ◌==◌, ◌&&◌, Bool, if◌then◌else◌, List, [], length}
 use Rattle.sshmsg.specs.declared.numbers.TheConstants.{SSH_MSG_NEWKEYS}
 use Rattle.sshmsg.specs.Numbers.{kind}
-use Rattle.sshneg.specs.declared.role.Role.{Role}
+use Rattle.sshneg.specs.declared.side.Side.{Side}
 use Rattle.sshpacket.specs.Places.{after_first, stands}
 use Rattle.sshpacket.specs.Stream.{Units}
 use Rattle.sshcore.specs.Before.{since, stood, strict_at}
@@ -15,7 +15,7 @@ abbrev pub number_by : Bool → Bool → ℕ → ℕ → ℕ
 number_by switched strict since all = (if switched && strict then since else all) % 2 ^ 32
 
 -- of what is received: the switch is the first NEWKEYS that isn't dropped
-abbrev pub number_in : Role → ConfigData → Units → ℕ
+abbrev pub number_in : Side → ConfigData → Units → ℕ
 number_in role party before =
     number_by (stood role party.offer SSH_MSG_NEWKEYS before) (strict_at role party before)
     (since role party.offer SSH_MSG_NEWKEYS before) (length before)

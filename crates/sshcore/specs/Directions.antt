@@ -5,8 +5,8 @@ use Rattle.std.specs.Prelude.{ℕ, if◌then◌else◌, List, [], ◌∷◌, ◌
 use Rattle.sshwire.specs.declared.limits.TheConstants.{OTHER_LINE_LIMIT}
 use Rattle.sshwire.specs.Lines.{version_line}
 use Rattle.sshmsg.specs.declared.numbers.TheConstants.{SSH_MSG_NEWKEYS}
-use Rattle.sshneg.specs.declared.role.Role.{Role}
-use Rattle.sshneg.specs.declared.role.Role.TheVariants.{Client, Server}
+use Rattle.sshneg.specs.declared.side.Side.{Side}
+use Rattle.sshneg.specs.declared.side.Side.TheVariants.{Client, Server}
 use Rattle.sshneg.specs.Markers.{other}
 use Rattle.sshpacket.specs.KeysData.{KeysData}
 use Rattle.sshpacket.specs.Parse.{ProtectionData, parse_packet, protection}
@@ -28,21 +28,21 @@ abbrev pub payloads_in : Units → Units
 payloads_in units = drop 1 units
 
 -- how many other lines are taken before the version line (profile)
-abbrev pub others_of : Role → ℕ
+abbrev pub others_of : Side → ℕ
 others_of Client = OTHER_LINE_LIMIT
 others_of Server = 0
 
 -- the keys of what is received: none up to the key switch, which is the first NEWKEYS that isn't dropped (RFC 4253 section 7.3)
-abbrev pub keys_in : SuiteData → Role → ConfigData → List ℕ → Units → Option KeysData
+abbrev pub keys_in : SuiteData → Side → ConfigData → List ℕ → Units → Option KeysData
 keys_in m role party version before =
     if stood role party.offer SSH_MSG_NEWKEYS before then Some (keys_at m role party version before (other role)) else None
 
 -- how the next packet is protected
-abbrev pub protection_in : SuiteData → Role → ConfigData → List ℕ → Units → ProtectionData
+abbrev pub protection_in : SuiteData → Side → ConfigData → List ℕ → Units → ProtectionData
 protection_in m role party version before = protection m (keys_in m role party version before) (number_in role party before)
 
 -- how the next unit is read after these: lines first, then packets
-abbrev pub parsers : SuiteData → Role → ConfigData → Units → Parser
+abbrev pub parsers : SuiteData → Side → ConfigData → Units → Parser
 parsers m role party [] = preamble_parser (others_of role)
 parsers m role party (version ∷ before) = parse_packet (protection_in m role party version before)
 
@@ -51,7 +51,7 @@ abbrev pub preamble_of : ConfigData → List ℕ
 preamble_of party = flat_map version_line party.notices ++ version_line party.version
 
 -- the keys of what is sent: none up to the NEWKEYS that was sent, the exchange's after it
-abbrev pub keys_out : SuiteData → Role → ConfigData → Units → Units → Option KeysData
+abbrev pub keys_out : SuiteData → Side → ConfigData → Units → Units → Option KeysData
 keys_out m role party received sent =
     if switched_out sent then Some (keys_at m role party (version_in received) (payloads_in received) role) else None
 
@@ -61,7 +61,7 @@ spelled_by m None seed seq payload = written_clear m seed seq payload
 spelled_by m (Some keys) seed seq payload = written_sealed m keys seed seq payload
 
 -- how a unit is spelled after those sent before, by an endpoint that has received these units
-abbrev pub spells : SuiteData → Role → ConfigData → Units → Units → List ℕ → List ℕ
+abbrev pub spells : SuiteData → Side → ConfigData → Units → Units → List ℕ → List ℕ
 spells m role party received [] version = preamble_of party
 spells m role party received (version ∷ sent) payload =
     spelled_by m (keys_out m role party received sent) party.seed (number_out (strict_at role party (payloads_in received)) sent) payload

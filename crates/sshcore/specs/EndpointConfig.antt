@@ -1,13 +1,13 @@
 -- The config of an endpoint of either role with the draws of its connection, as plain data.
 
-use Rattle.sshneg.specs.declared.role.Role.{Role}
-use Rattle.sshneg.specs.declared.role.Role.TheVariants as role
+use Rattle.sshneg.specs.declared.side.Side.{Side}
+use Rattle.sshneg.specs.declared.side.Side.TheVariants as role
 use Rattle.sshcore.specs.declared.config.Config.{Config}
 use Rattle.sshcore.specs.declared.config.Config.TheVariants as config
 use Rattle.sshcore.specs.EndpointParts.{ConfigData, config_of_client, config_of_server}
 use Rattle.sshcore.specs.Redrawn.{redrawn_client, redrawn_server}
 
-abbrev pub role_of : Config → Role
+abbrev pub role_of : Config → Side
 role_of (config.Client client draws) = role.Client
 role_of (config.Server server draws) = role.Server
 

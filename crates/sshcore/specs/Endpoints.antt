@@ -2,7 +2,7 @@
 
 use Rattle.std.specs.Prelude.{◌≡◌, ℕ, ◌≤◌, true, List, [], ◌∷◌, ◌++◌, length, take}
 use Rattle.sshwire.specs.Lines.{LineOpen}
-use Rattle.sshneg.specs.declared.role.Role.{Role}
+use Rattle.sshneg.specs.declared.side.Side.{Side}
 use Rattle.sshpacket.specs.Stream.{Sent, Units}
 use Rattle.sshpacket.specs.Suite.{SuiteData}
 use Rattle.sshcore.specs.declared.end.Fault.TheVariants as fault
@@ -49,7 +49,7 @@ pub record Breaks {S D : Type 0} (meaning : S → SuiteData) (policy : D → Dec
   pub same : IsSameEndpoint old new
 
 -- an endpoint before any byte is received
-pub record EndpointMade {S D : Type 0} (meaning : S → SuiteData) (policy : D → DecisionsData) (role : Role) (party : ConfigData) (suite : S) (decisions : D) (new : EndpointData S D) (before after : List ℕ) : Type 0 where
+pub record EndpointMade {S D : Type 0} (meaning : S → SuiteData) (policy : D → DecisionsData) (role : Side) (party : ConfigData) (suite : S) (decisions : D) (new : EndpointData S D) (before after : List ℕ) : Type 0 where
   pub added : List ℕ
   pub appended : after ≡ before ++ added
   pub begins : EndpointAfter meaning policy new [] added
@@ -89,7 +89,7 @@ abbrev pub buffered_of : {S D : Type 0} → EndpointData S D → ℕ
 buffered_of e = held_at (endpoint_end e) (held_by e.input)
 
 -- how many bytes that is, of what was received: of the unfinished line before the version line, of the unfinished packet after it
-abbrev pub HasUnfinished : Role → Units → List ℕ → EndData → ℕ → Type 0
+abbrev pub HasUnfinished : Side → Units → List ℕ → EndData → ℕ → Type 0
 HasUnfinished role [] rest Open n = (left : ℕ) × (line : List ℕ) × LineOpen (others_of role) rest left line × (n ≡ length line)
 HasUnfinished role (version ∷ before) rest Open n = n ≡ length rest
 HasUnfinished role units rest (Authenticated a) n = n ≡ 0

@@ -3,7 +3,7 @@
 use Rattle.std.specs.Prelude.{◌≡◌, ℕ, ◌≤◌, Bool, true, false, List, ◌++◌, length, None, Ok}
 use Rattle.sshmsg.specs.MessageData.{MessageData, NewKeys, ServiceRequest}
 use Rattle.sshmsg.specs.Written.{written_message}
-use Rattle.sshneg.specs.declared.role.Role.{Role}
+use Rattle.sshneg.specs.declared.side.Side.{Side}
 use Rattle.sshneg.specs.Derivations.{ExchangeData, derived}
 use Rattle.sshneg.specs.ExchangeEnd.{client_of, exchange_hash, server_of}
 use Rattle.sshneg.specs.Fields.{AlgorithmsData}
@@ -39,7 +39,7 @@ pub record SharesData : Type 0 where
   pub shared : List ℕ
 
 -- what is hashed of that at an endpoint of this role
-abbrev pub exchanged : Role → ConfigData → Known → SharesData → ExchangeData
+abbrev pub exchanged : Side → ConfigData → Known → SharesData → ExchangeData
 exchanged role party known shares = record {
   client_version = client_of role party.version known.version;
   server_version = server_of role party.version known.version;
@@ -53,17 +53,17 @@ exchanged role party known shares = record {
 
 -- the keys with which this role sends, by the shared secret and the exchange hash, which in a first exchange is the session
 -- identifier (RFC 4253 section 7.2)
-abbrev pub kex_keys : SuiteData → AlgorithmsData → List ℕ → List ℕ → Role → KeysData
+abbrev pub kex_keys : SuiteData → AlgorithmsData → List ℕ → List ℕ → Side → KeysData
 kex_keys m a shared hash sender =
     derived m (record { kex = a.kex; shared = shared; hash = hash; session = hash }) sender (cipher_of a sender) (mac_of a sender)
 
 -- what is hashed, once this message has come
-abbrev pub exchange_of_message : SuiteData → Role → ConfigData → Known → MessageData → ExchangeData
+abbrev pub exchange_of_message : SuiteData → Side → ConfigData → Known → MessageData → ExchangeData
 exchange_of_message m role party known message = exchange_with m role party known.algorithms known.version known.kexinit (Ok message)
 
 -- It receives the exchange message: it gives this reply; and where it goes on it stands after the exchange, with the keys of what
 -- is received and the host key.
-pub record ReceivesExchange (m : SuiteData) (role : Role) (party : ConfigData) (old new : StateData) (before after : List ℕ) (message : MessageData) (r : Reply) : Type 0 where
+pub record ReceivesExchange (m : SuiteData) (role : Side) (party : ConfigData) (old new : StateData) (before after : List ℕ) (message : MessageData) (r : Reply) : Type 0 where
   pub gives : Gives m party.seed old.known.strict (keys_by m old.known.algorithms (exchange_of_message m role party old.known message) role) old new before after r
   pub carries : IsOngoing new.end → new.carried ≡ with_exchange party (keys_by m old.known.algorithms (exchange_of_message m role party old.known message) (other role))
       (exchange_of_message m role party old.known message).host_key old.carried
@@ -90,7 +90,7 @@ server_shares m party known share answer = record {
 }
 
 -- The exchange hash of a server that has answered so, its host key, and the message with its signature.
-pub record IsSigned (m : SuiteData) (role : Role) (party : ConfigData) (known : Known) (share : List ℕ) (answer : ResponseData) (hash host_key reply : List ℕ) : Type 0 where
+pub record IsSigned (m : SuiteData) (role : Side) (party : ConfigData) (known : Known) (share : List ℕ) (answer : ResponseData) (hash host_key reply : List ℕ) : Type 0 where
   pub hash_is : hash ≡ exchange_hash m known.algorithms.kex (exchanged role party known (server_shares m party known share answer))
   pub short : length hash ≤ DIGEST_LIMIT
   pub host_key_is : host_key ≡ (server_shares m party known share answer).host_key
@@ -99,7 +99,7 @@ pub record IsSigned (m : SuiteData) (role : Role) (party : ConfigData) (known : 
   pub fits : FitsPacket reply
 
 -- what is kept after an exchange of this host key, shared secret and hash, with these packets sent
-pub record StandsAfter (m : SuiteData) (role : Role) (party : ConfigData) (old new : StateData) (host_key shared hash : List ℕ) (o : Sending) : Type 0 where
+pub record StandsAfter (m : SuiteData) (role : Side) (party : ConfigData) (old new : StateData) (host_key shared hash : List ℕ) (o : Sending) : Type 0 where
   pub kept : new ≡ record old {
     phase = phase.NewKeys;
     known = record old.known { session = hash };
@@ -108,20 +108,20 @@ pub record StandsAfter (m : SuiteData) (role : Role) (party : ConfigData) (old n
   }
 
 -- A server sends its answer and NEWKEYS, and stands after the exchange.
-pub record AnswersInit (m : SuiteData) (role : Role) (party : ConfigData) (old new : StateData) (host_key shared hash reply before after : List ℕ) : Type 0 where
+pub record AnswersInit (m : SuiteData) (role : Side) (party : ConfigData) (old new : StateData) (host_key shared hash reply before after : List ℕ) : Type 0 where
   pub output : after ≡ (before ++ spelled_by m old.sending.keys party.seed old.sending.number reply)
       ++ spelled_by m old.sending.keys party.seed (with_packet old.sending).number (written_message NewKeys)
   pub stands : StandsAfter m role party old new host_key shared hash (with_newkeys old.known.strict (kex_keys m old.known.algorithms shared hash role) (with_packet old.sending))
 
 -- the same of a client, which sends NEWKEYS and requests the service
-pub record AcceptsReply (m : SuiteData) (role : Role) (party : ConfigData) (old new : StateData) (host_key shared hash before after : List ℕ) : Type 0 where
+pub record AcceptsReply (m : SuiteData) (role : Side) (party : ConfigData) (old new : StateData) (host_key shared hash before after : List ℕ) : Type 0 where
   pub output : let o = with_newkeys old.known.strict (kex_keys m old.known.algorithms shared hash role) old.sending in
       after ≡ (before ++ spelled_by m old.sending.keys party.seed old.sending.number (written_message NewKeys))
       ++ spelled_by m o.keys party.seed o.number (written_message (ServiceRequest userauth))
   pub stands : StandsAfter m role party old new host_key shared hash (with_packet (with_newkeys old.known.strict (kex_keys m old.known.algorithms shared hash role) old.sending))
 
 -- A client judges the signature over what both have given: it accepts, or fails.
-pub data JudgesReply (m : SuiteData) (role : Role) (party : ConfigData) (old new : StateData) (shares : SharesData) (signature before after : List ℕ) : Type 0 where
+pub data JudgesReply (m : SuiteData) (role : Side) (party : ConfigData) (old new : StateData) (shares : SharesData) (signature before after : List ℕ) : Type 0 where
   Accepts : m.verify old.known.algorithms.host_key shares.host_key (exchange_hash m old.known.algorithms.kex (exchanged role party old.known shares)) signature ≡ true
       → AcceptsReply m role party old new shares.host_key shares.shared (exchange_hash m old.known.algorithms.kex (exchanged role party old.known shares)) before after
       → JudgesReply m role party old new shares signature before after

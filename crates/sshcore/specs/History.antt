@@ -3,7 +3,7 @@
 use Rattle.std.specs.Prelude.{◌≡◌, ◌≢◌, ℕ, ◌<◌, ◌≤◌, true, List, [], ◌∷◌, length, Option, None}
 use Rattle.sshwire.specs.declared.limits.TheConstants.{PAYLOAD_LIMIT}
 use Rattle.sshwire.specs.Types.{IsBytes}
-use Rattle.sshneg.specs.declared.role.Role.{Role}
+use Rattle.sshneg.specs.declared.side.Side.{Side}
 use Rattle.sshpacket.specs.Parse.{Refusal}
 use Rattle.sshpacket.specs.Places.{EachPlace, IsPrefix}
 use Rattle.sshpacket.specs.Stream.{Received, Sent, Units}
@@ -27,14 +27,14 @@ abbrev pub AllFit : Units → Type 0
 AllFit answers = EachPlace (λ before payload. FitsPacket payload) [] answers
 
 -- the exchange was received, so both directions have their keys
-pub record IsReady (role : Role) (party : ConfigData) (payloads : Units) : Type 0 where
+pub record IsReady (role : Side) (party : ConfigData) (payloads : Units) : Type 0 where
   pub offer : offered payloads ≡ true
   pub exchange : stood role party.offer (leaving role phase.Exchange) payloads ≡ true
 
 -- An endpoint that stands or ends so has received bytes that read as these units with a rest, which may be refused, and has sent
 -- bytes that spell its version line and these answers. What was sent fits packets; it is sealed only where the exchange was
 -- received; and nothing was taken after the unit that ended the endpoint.
-pub record History (m : SuiteData) (d : DecisionsData) (role : Role) (party : ConfigData) (units : Units) (rest : List ℕ) (refusal : Option Refusal) (answers : Units) (end : EndData) (received_bytes sent_bytes : List ℕ) : Type 0 where
+pub record History (m : SuiteData) (d : DecisionsData) (role : Side) (party : ConfigData) (units : Units) (rest : List ℕ) (refusal : Option Refusal) (answers : Units) (end : EndData) (received_bytes sent_bytes : List ℕ) : Type 0 where
   pub received : Received (parsers m role party) received_bytes units rest refusal
   pub sent : Sent (spells m role party units) sent_bytes (party.version ∷ answers)
   pub replies : Replies m d role party units refusal answers end
@@ -43,7 +43,7 @@ pub record History (m : SuiteData) (d : DecisionsData) (role : Role) (party : Co
   pub last : end ≢ Open → refusal ≡ None → rest ≡ []
 
 -- What was sent where memory ran out: whole packets, a prefix of the answers that would have been given.
-pub record BrokenOff (m : SuiteData) (d : DecisionsData) (role : Role) (party : ConfigData) (received_bytes sent_bytes : List ℕ) : Type 0 where
+pub record BrokenOff (m : SuiteData) (d : DecisionsData) (role : Side) (party : ConfigData) (received_bytes sent_bytes : List ℕ) : Type 0 where
   pub units : Units
   pub rest : List ℕ
   pub refusal : Option Refusal

@@ -3,7 +3,7 @@
 use Rattle.std.specs.Prelude.{◌≡◌, ◌≢◌, ◌&&◌, ℕ, true, false, not, if◌then◌else◌, List, [], ◌∷◌, ◌++◌, length, Option, None, Some}
 use Rattle.sshwire.specs.Feeding.{StandsOpen}
 use Rattle.sshwire.specs.LineReaderData.{Finished, held}
-use Rattle.sshneg.specs.declared.role.Role.{Role}
+use Rattle.sshneg.specs.declared.side.Side.{Side}
 use Rattle.sshneg.specs.Markers.{other}
 use Rattle.sshpacket.specs.KeysData.{KeysData}
 use Rattle.sshpacket.specs.Parse.{Refusal}
@@ -50,7 +50,7 @@ turns_left (Disconnected reason) i = 0
 
 -- The reader of what is received: of lines, up to the version line; then of packets, with the keys and the number of the next one,
 -- and with the bytes of the unfinished one.
-abbrev pub IsInput : SuiteData → Role → ConfigData → Units → List ℕ → Input → Type 0
+abbrev pub IsInput : SuiteData → Side → ConfigData → Units → List ℕ → Input → Type 0
 IsInput m role party units rest (input.Lines reader) = (units ≡ []) × StandsOpen (others_of role) rest reader.progress
 IsInput m role party units rest (input.Packets reader) =
     (version : List ℕ) × (before : Units) × (units ≡ version ∷ before)
@@ -62,14 +62,14 @@ pending_at p keys = if past_exchange p && not (past_newkeys p) then Some keys el
 
 -- what is carried along agrees with what was received: the keys of what is received; from the exchange on the own version line
 -- and the exchange's host key; and the key of the last request that was successful by one
-pub record IsCarried (m : SuiteData) (d : DecisionsData) (role : Role) (party : ConfigData) (version : List ℕ) (before : Units) (p : Phase) (carried : Carried) : Type 0 where
+pub record IsCarried (m : SuiteData) (d : DecisionsData) (role : Side) (party : ConfigData) (version : List ℕ) (before : Units) (p : Phase) (carried : Carried) : Type 0 where
   pub pending : carried.pending ≡ pending_at p (keys_at m role party version before (other role))
   pub own_version : past_exchange p ≡ true → carried.own_version ≡ party.version
   pub host_key : past_exchange p ≡ true → carried.host_key ≡ (exchange_at m role party version before).host_key
   pub user_key : carried.user_key ≡ last_key None (successful_keys_at m d role party version before)
 
 -- what an endpoint keeps agrees with what was received and sent, while its session goes on
-pub record IsInside (m : SuiteData) (d : DecisionsData) (role : Role) (party : ConfigData) (units answers : Units) (rest : List ℕ) (kept : StateData) (i : Input) : Type 0 where
+pub record IsInside (m : SuiteData) (d : DecisionsData) (role : Side) (party : ConfigData) (units answers : Units) (rest : List ℕ) (kept : StateData) (i : Input) : Type 0 where
   pub sits : Sits m d role party (version_in units) (payloads_in units) kept.phase kept.guess kept.known
   pub form : HasForm m kept
   pub reads : IsInput m role party units rest i
@@ -83,7 +83,7 @@ pub data StandsSo (received_end end : EndData) : Type 0 where
   Left : (reason : ℕ) → received_end ≡ Open → end ≡ Disconnected reason → StandsSo received_end end
 
 -- An endpoint that keeps this, with this reader, has received and sent these bytes; of one that left, what it sent before that.
-pub record EndpointStands (m : SuiteData) (d : DecisionsData) (role : Role) (party : ConfigData) (kept : StateData) (i : Input) (received_bytes sent_bytes : List ℕ) : Type 0 where
+pub record EndpointStands (m : SuiteData) (d : DecisionsData) (role : Side) (party : ConfigData) (kept : StateData) (i : Input) (received_bytes sent_bytes : List ℕ) : Type 0 where
   pub units : Units
   pub rest : List ℕ
   pub refusal : Option Refusal
@@ -94,17 +94,17 @@ pub record EndpointStands (m : SuiteData) (d : DecisionsData) (role : Role) (par
   pub inside : IsOngoing kept.end → IsInside m d role party units answers rest kept i
 
 -- An endpoint that goes on from here has received these bytes more, and sent what was appended; its owner didn't end it.
-pub record GoesOn (m : SuiteData) (d : DecisionsData) (role : Role) (party : ConfigData) (new : StateData) (j : Input) (h s taken before after : List ℕ) : Type 0 where
+pub record GoesOn (m : SuiteData) (d : DecisionsData) (role : Side) (party : ConfigData) (new : StateData) (j : Input) (h s taken before after : List ℕ) : Type 0 where
   pub added : List ℕ
   pub appended : after ≡ before ++ added
   pub stands : EndpointStands m d role party new j (h ++ taken) (s ++ added)
   pub uncut : by_owner new.end ≡ false
 
 -- what a step did that used these bytes, whatever was received and sent before
-abbrev pub Steps : SuiteData → DecisionsData → Role → ConfigData → Input → StateData → Input → StateData → List ℕ → List ℕ → List ℕ → Type 0
+abbrev pub Steps : SuiteData → DecisionsData → Side → ConfigData → Input → StateData → Input → StateData → List ℕ → List ℕ → List ℕ → Type 0
 Steps m d role party i old j new taken before after = (h s : List ℕ) → EndpointStands m d role party old i h s → GoesOn m d role party new j h s taken before after
 
 -- before any byte is received
-abbrev pub Begins : Role → Input → Type 0
+abbrev pub Begins : Side → Input → Type 0
 Begins role (input.Lines reader) = (StandsOpen (others_of role) [] reader.progress) × (reader.progress ≢ Finished)
 Begins role (input.Packets reader) = ⊥

@@ -3,7 +3,7 @@
 use Rattle.std.specs.Prelude.{ℕ, ◌+◌, ◌==◌, Bool, List, length}
 use Rattle.sshwire.specs.declared.share_form.ShareForm.{ShareForm}
 use Rattle.sshmsg.specs.declared.numbers.TheConstants.{SSH_MSG_USERAUTH_REQUEST}
-use Rattle.sshneg.specs.declared.role.Role.{Role}
+use Rattle.sshneg.specs.declared.side.Side.{Side}
 use Rattle.sshneg.specs.Fields.{AlgorithmsData}
 use Rattle.sshpacket.specs.Stream.{Units}
 use Rattle.sshpacket.specs.Suite.{SuiteData}
@@ -32,13 +32,13 @@ pub record Known : Type 0 where
   pub first : Bool
 
 -- what is left of the plan, and whether a query waits for its answer
-abbrev pub left_at : Role → ConfigData → Units → List AttemptData
+abbrev pub left_at : Side → ConfigData → Units → List AttemptData
 left_at role party before = left_after party.plan (all_kept role party.offer is_answer before)
 
-abbrev pub waits_at : Role → ConfigData → Units → Bool
+abbrev pub waits_at : Side → ConfigData → Units → Bool
 waits_at role party before = is_waiting (left_at role party before)
 
-abbrev pub known_at : SuiteData → DecisionsData → Role → ConfigData → List ℕ → Units → Known
+abbrev pub known_at : SuiteData → DecisionsData → Side → ConfigData → List ℕ → Units → Known
 known_at m d role party version before = record {
   version = version;
   kexinit = kexinit before;

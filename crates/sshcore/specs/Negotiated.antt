@@ -3,8 +3,8 @@
 use Rattle.std.specs.Prelude.{◌≡◌, ◌&&◌, Bool, List, [], ◌∷◌, ℕ, if◌then◌else◌, Result, Ok, Err}
 use Rattle.sshmsg.specs.MessageData.{KexInitData}
 use Rattle.sshneg.specs.declared.choice.NoCommon.{NoCommon}
-use Rattle.sshneg.specs.declared.role.Role.{Role}
-use Rattle.sshneg.specs.declared.role.Role.TheVariants.{Client, Server}
+use Rattle.sshneg.specs.declared.side.Side.{Side}
+use Rattle.sshneg.specs.declared.side.Side.TheVariants.{Client, Server}
 use Rattle.sshneg.specs.ChoiceReadings.{choice}
 use Rattle.sshneg.specs.Strictness.{is_right_guess}
 use Rattle.sshpacket.specs.Stream.{Units}
@@ -21,6 +21,6 @@ IsNegotiated m client server (Ok n) =
 IsNegotiated m client server (Err f) = choice m client server ≡ Err f
 
 -- what is sent at KEXINIT, by whether a guess is right
-abbrev pub sends_init : SuiteData → Role → ConfigData → Bool → List ℕ → Units
+abbrev pub sends_init : SuiteData → Side → ConfigData → Bool → List ℕ → Units
 sends_init m Client party right kex = if party.offer.first_kex_packet_follows && right then [] else init_for m party kex ∷ []
 sends_init m Server party right kex = []

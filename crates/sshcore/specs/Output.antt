@@ -3,7 +3,7 @@
 use Rattle.std.specs.Prelude.{◌≡◌, ℕ, ◌+◌, ◌%◌, ◌^◌, ◌==◌, Bool, if◌then◌else◌, List, [], ◌∷◌, ◌++◌, Option, None, Some}
 use Rattle.sshmsg.specs.declared.numbers.TheConstants.{SSH_MSG_NEWKEYS}
 use Rattle.sshmsg.specs.Numbers.{kind}
-use Rattle.sshneg.specs.declared.role.Role.{Role}
+use Rattle.sshneg.specs.declared.side.Side.{Side}
 use Rattle.sshpacket.specs.KeysData.{KeysData}
 use Rattle.sshpacket.specs.Stream.{Units}
 use Rattle.sshpacket.specs.Suite.{SuiteData}
@@ -45,6 +45,6 @@ sending_from strict next o [] = o
 sending_from strict next o (a ∷ more) = sending_from strict next (after_sending strict next o a) more
 
 -- what is kept is what was received and sent: the keys and the number of the next packet
-pub record Speaks (m : SuiteData) (role : Role) (party : ConfigData) (units sent : Units) (o : Sending) : Type 0 where
+pub record Speaks (m : SuiteData) (role : Side) (party : ConfigData) (units sent : Units) (o : Sending) : Type 0 where
   pub keys : o.keys ≡ keys_out m role party units sent
   pub number : o.number ≡ number_out (strict_at role party (payloads_in units)) sent

@@ -3,8 +3,8 @@
 use Rattle.std.specs.Prelude.{ℕ, Bool, true, false, not, if◌then◌else◌}
 use Rattle.sshmsg.specs.declared.numbers.TheConstants.{SSH_MSG_KEXDH_INIT, SSH_MSG_KEXDH_REPLY, SSH_MSG_KEXINIT, SSH_MSG_NEWKEYS, SSH_MSG_SERVICE_ACCEPT, SSH_MSG_SERVICE_REQUEST, SSH_MSG_USERAUTH_REQUEST, SSH_MSG_USERAUTH_SUCCESS}
 use Rattle.sshmsg.specs.MessageData.{KexInitData}
-use Rattle.sshneg.specs.declared.role.Role.{Role}
-use Rattle.sshneg.specs.declared.role.Role.TheVariants.{Client, Server}
+use Rattle.sshneg.specs.declared.side.Side.{Side}
+use Rattle.sshneg.specs.declared.side.Side.TheVariants.{Client, Server}
 use Rattle.sshpacket.specs.Stream.{Units}
 use Rattle.sshcore.specs.declared.table.Phase.{Phase}
 use Rattle.sshcore.specs.declared.table.Phase.TheVariants as phase
@@ -12,7 +12,7 @@ use Rattle.sshcore.specs.Before.{stood}
 
 -- The number of the message that leaves a phase: RFC 4253 sections 7.1, 8, 7.3 and 10, RFC 4252 sections 5 and 5.1. A request
 -- leaves phase auth where it is successful, and the endpoint has then ended.
-abbrev pub leaving : Role → Phase → ℕ
+abbrev pub leaving : Side → Phase → ℕ
 leaving role phase.KexInit = SSH_MSG_KEXINIT
 leaving Client phase.Exchange = SSH_MSG_KEXDH_REPLY
 leaving Server phase.Exchange = SSH_MSG_KEXDH_INIT
@@ -31,7 +31,7 @@ phase_by kexinit exchange newkeys service =
     else if not service then phase.Service
     else phase.Auth
 
-abbrev pub phase_at : Role → KexInitData → Units → Phase
+abbrev pub phase_at : Side → KexInitData → Units → Phase
 phase_at role own before =
     phase_by (stood role own SSH_MSG_KEXINIT before) (stood role own (leaving role phase.Exchange) before)
     (stood role own SSH_MSG_NEWKEYS before) (stood role own (leaving role phase.Service) before)

@@ -7,7 +7,7 @@ use Rattle.sshmsg.specs.MessageData.{MessageData, Unimplemented}
 use Rattle.sshmsg.specs.Messages.{message_in}
 use Rattle.sshmsg.specs.Numbers.{kind}
 use Rattle.sshmsg.specs.Written.{written_message}
-use Rattle.sshneg.specs.declared.role.Role.{Role}
+use Rattle.sshneg.specs.declared.side.Side.{Side}
 use Rattle.sshpacket.specs.declared.fault.PacketFault.TheVariants as packet
 use Rattle.sshpacket.specs.Parse.{OfLine, OfPacket, Refusal}
 use Rattle.sshpacket.specs.Places.{EachPlace, flat_places}
@@ -27,12 +27,12 @@ use Rattle.sshcore.specs.Table.{line_by}
 use Rattle.sshcore.specs.Work.{making, work}
 
 -- a message that is read is worked on, and one that can't be read is malformed
-abbrev pub read_reply : SuiteData → DecisionsData → Role → ConfigData → Known → ℕ → Result MessageData MsgFault → Reply
+abbrev pub read_reply : SuiteData → DecisionsData → Side → ConfigData → Known → ℕ → Result MessageData MsgFault → Reply
 read_reply m d role party known n (Ok content) = work m d role party known content
 read_reply m d role party known n (Err e) = fails (fault.Malformed n)
 
 -- what a line of the table says of a packet with this number; UNIMPLEMENTED tells it (RFC 4253 section 11.4)
-unfoldable pub line_reply : SuiteData → DecisionsData → Role → ConfigData → Known → ℕ → Line → List ℕ → Reply
+unfoldable pub line_reply : SuiteData → DecisionsData → Side → ConfigData → Known → ℕ → Line → List ℕ → Reply
 line_reply m d role party known packet line.Reads payload = read_reply m d role party known (kind payload) (message_in known.shares payload)
 line_reply m d role party known packet line.Drops payload = goes []
 line_reply m d role party known packet line.Deviates payload = fails (fault.Strict (kind payload))
@@ -40,25 +40,25 @@ line_reply m d role party known packet line.Unknown payload = goes (written_mess
 line_reply m d role party known packet line.Unexpected payload = fails (fault.Unexpected (kind payload))
 
 -- the line that decides at a place
-abbrev pub line_at : Role → ConfigData → Units → List ℕ → Line
+abbrev pub line_at : Side → ConfigData → Units → List ℕ → Line
 line_at role party before payload =
     line_by role (phase_at role party.offer before) (strict_at role party before) (expects_guess role party.offer before) (waits_at role party before)
     (kind payload)
 
 -- what a payload brings after those before it
-abbrev pub reply_at : SuiteData → DecisionsData → Role → ConfigData → List ℕ → Units → List ℕ → Reply
+abbrev pub reply_at : SuiteData → DecisionsData → Side → ConfigData → List ℕ → Units → List ℕ → Reply
 reply_at m d role party version before payload =
     line_reply m d role party (known_at m d role party version before) (number_in role party before) (line_at role party before payload) payload
 
 -- the same of a unit: the version line is answered by nothing
-abbrev pub unit_reply : SuiteData → DecisionsData → Role → ConfigData → Units → List ℕ → Reply
+abbrev pub unit_reply : SuiteData → DecisionsData → Side → ConfigData → Units → List ℕ → Reply
 unit_reply m d role party [] version = goes []
 unit_reply m d role party (version ∷ before) payload = reply_at m d role party version before payload
 
-abbrev pub answers_at : SuiteData → DecisionsData → Role → ConfigData → Units → List ℕ → Units
+abbrev pub answers_at : SuiteData → DecisionsData → Side → ConfigData → Units → List ℕ → Units
 answers_at m d role party before unit = (unit_reply m d role party before unit).answers
 
-abbrev pub end_at : SuiteData → DecisionsData → Role → ConfigData → Units → List ℕ → EndData
+abbrev pub end_at : SuiteData → DecisionsData → Side → ConfigData → Units → List ℕ → EndData
 end_at m d role party before unit = (unit_reply m d role party before unit).end
 
 -- the failure at bytes that are refused (lines are refused for what they are, never because memory ran out)
@@ -75,16 +75,16 @@ refusal_reply None = goes []
 refusal_reply (Some r) = fails (fault_of r)
 
 -- the endpoint stays open at each of these units
-abbrev pub StaysOpen : SuiteData → DecisionsData → Role → ConfigData → Units → Type 0
+abbrev pub StaysOpen : SuiteData → DecisionsData → Side → ConfigData → Units → Type 0
 StaysOpen m d role party units = EachPlace (λ before unit. end_at m d role party before unit ≡ Open) [] units
 
 -- how it stands: open or refused after all units; or the last unit ended it, and nothing follows
-pub data Ends (m : SuiteData) (d : DecisionsData) (role : Role) (party : ConfigData) (units : Units) (refusal : Option Refusal) (end : EndData) : Type 0 where
+pub data Ends (m : SuiteData) (d : DecisionsData) (role : Side) (party : ConfigData) (units : Units) (refusal : Option Refusal) (end : EndData) : Type 0 where
   goes_on : StaysOpen m d role party units → end ≡ (refusal_reply refusal).end → Ends m d role party units refusal end
   ended : (before : Units) (last : List ℕ) → units ≡ before ++ last ∷ [] → StaysOpen m d role party before
       → end ≡ end_at m d role party before last → end ≢ Open → refusal ≡ None → Ends m d role party units refusal end
 
 -- What an endpoint sends: its first payloads, then the answers to each unit received, in order, and to a refusal.
-pub record Replies (m : SuiteData) (d : DecisionsData) (role : Role) (party : ConfigData) (units : Units) (refusal : Option Refusal) (answers : Units) (end : EndData) : Type 0 where
+pub record Replies (m : SuiteData) (d : DecisionsData) (role : Side) (party : ConfigData) (units : Units) (refusal : Option Refusal) (answers : Units) (end : EndData) : Type 0 where
   pub in_order : answers ≡ making m role party ++ (flat_places (answers_at m d role party) [] units ++ (refusal_reply refusal).answers)
   pub ends : Ends m d role party units refusal end

@@ -2,8 +2,8 @@
 
 use Rattle.std.specs.Prelude.{◌≡◌, if◌then◌else◌, List, ℕ, codes, Option, None, Some}
 use Rattle.std.specs.List.{list_any}
-use Rattle.sshneg.specs.declared.role.Role.{Role}
-use Rattle.sshneg.specs.declared.role.Role.TheVariants.{Client, Server}
+use Rattle.sshneg.specs.declared.side.Side.{Side}
+use Rattle.sshneg.specs.declared.side.Side.TheVariants.{Client, Server}
 use Rattle.sshpacket.specs.Stream.{Units}
 use Rattle.sshpacket.specs.Suite.{SuiteData}
 use Rattle.sshcore.specs.declared.session.Accepted.{Accepted}
@@ -26,7 +26,7 @@ pub record AcceptedBy (tried : List Tried) (keys : List UserKeyData) (user servi
   pub key : user_key_data accepted.key ≡ (if list_any (is_successful_for (codes "publickey")) (run_of user service tried) then last_key None keys else None)
 
 -- a server says so, and a client nothing
-abbrev pub HasAccepted : SuiteData → DecisionsData → Role → ConfigData → List ℕ → Units → AgreedData → Option Accepted → Type 0
+abbrev pub HasAccepted : SuiteData → DecisionsData → Side → ConfigData → List ℕ → Units → AgreedData → Option Accepted → Type 0
 HasAccepted m d Client party version before a accepted = accepted ≡ None
 HasAccepted m d Server party version before a None = ⊥
 HasAccepted m d Server party version before a (Some accepted) =
@@ -35,7 +35,7 @@ HasAccepted m d Server party version before a (Some accepted) =
 -- The session of an endpoint that has received these units and sent these payloads: what was agreed; both version lines; the
 -- server's public host key, which is the exchange's; how the user was accepted; and of each direction the keys that are in use,
 -- which are the exchange's, and the number of the next packet.
-pub record IsSession (m : SuiteData) (d : DecisionsData) (role : Role) (party : ConfigData) (units sent : Units) (agreed : AgreedData) (session : Session) : Type 0 where
+pub record IsSession (m : SuiteData) (d : DecisionsData) (role : Side) (party : ConfigData) (units sent : Units) (agreed : AgreedData) (session : Session) : Type 0 where
   pub agreed_is : agreed_data session.agreed ≡ agreed
   pub own_version : session.own_version.items ≡ party.version
   pub peer_version : session.peer_version.items ≡ version_in units

@@ -6,7 +6,7 @@ use Rattle.sshmsg.specs.declared.numbers.TheConstants.{SSH_MSG_KEXINIT, SSH_MSG_
 use Rattle.sshmsg.specs.MessageData.{KexInitData}
 use Rattle.sshmsg.specs.Messages.{message_in}
 use Rattle.sshmsg.specs.Numbers.{kind}
-use Rattle.sshneg.specs.declared.role.Role.{Role}
+use Rattle.sshneg.specs.declared.side.Side.{Side}
 use Rattle.sshneg.specs.Derivations.{ExchangeData}
 use Rattle.sshneg.specs.ExchangeEnd.{exchange_hash}
 use Rattle.sshpacket.specs.Stream.{Units}
@@ -23,7 +23,7 @@ use Rattle.sshcore.specs.Reached.{nothing_reached, reached_after}
 use Rattle.sshcore.specs.Tries.{tried_in}
 
 -- of the messages that leave phases, those stood that are past in the phase
-pub record Tied (role : Role) (own : KexInitData) (before : Units) (p : Phase) : Type 0 where
+pub record Tied (role : Side) (own : KexInitData) (before : Units) (p : Phase) : Type 0 where
   pub offer : offered before ≡ past_kexinit p
   pub kexinit : stood role own SSH_MSG_KEXINIT before ≡ past_kexinit p
   pub exchange : stood role own (leaving role phase.Exchange) before ≡ past_exchange p
@@ -31,7 +31,7 @@ pub record Tied (role : Role) (own : KexInitData) (before : Units) (p : Phase) :
   pub service : stood role own (leaving role phase.Service) before ≡ past_service p
 
 -- a number that leaves no phase
-pub record LeavesNone (role : Role) (n : ℕ) : Type 0 where
+pub record LeavesNone (role : Side) (n : ℕ) : Type 0 where
   pub kexinit : (n == SSH_MSG_KEXINIT) ≡ false
   pub exchange : (n == leaving role phase.Exchange) ≡ false
   pub newkeys : (n == SSH_MSG_NEWKEYS) ≡ false
@@ -53,7 +53,7 @@ nothing_known party version = record {
 }
 
 -- what is known after the first KEXINIT, which is this payload and offers this
-abbrev pub after_offer : SuiteData → Role → ConfigData → Known → List ℕ → KexInitData → Known
+abbrev pub after_offer : SuiteData → Side → ConfigData → Known → List ℕ → KexInitData → Known
 after_offer m role party known payload peer = record {
   version = known.version;
   kexinit = payload;
@@ -79,17 +79,17 @@ after_payload m d party known payload = record known {
 }
 
 -- what is hashed, once this payload is the exchange message
-abbrev pub exchange_received : SuiteData → Role → ConfigData → Known → List ℕ → ExchangeData
+abbrev pub exchange_received : SuiteData → Side → ConfigData → Known → List ℕ → ExchangeData
 exchange_received m role party known payload =
     exchange_with m role party known.algorithms known.version known.kexinit (message_in known.shares payload)
 
 -- and what is known after it
-abbrev pub after_exchange : SuiteData → Role → ConfigData → Known → List ℕ → Known
+abbrev pub after_exchange : SuiteData → Side → ConfigData → Known → List ℕ → Known
 after_exchange m role party known payload =
     record known { session = exchange_hash m known.algorithms.kex (exchange_received m role party known payload) }
 
 -- An endpoint that has received this version and these payloads stands so.
-pub record Sits (m : SuiteData) (d : DecisionsData) (role : Role) (party : ConfigData) (version : List ℕ) (before : Units) (p : Phase) (guess : Bool) (known : Known) : Type 0 where
+pub record Sits (m : SuiteData) (d : DecisionsData) (role : Side) (party : ConfigData) (version : List ℕ) (before : Units) (p : Phase) (guess : Bool) (known : Known) : Type 0 where
   pub tied : Tied role party.offer before p
   pub due : expects_guess role party.offer before ≡ guess
   pub knows : known_at m d role party version before ≡ known

@@ -2,7 +2,7 @@
 
 use Rattle.std.specs.Prelude.{◌≡◌, ℕ, true, List, [], ◌∷◌, ◌++◌}
 use Rattle.sshmsg.specs.Numbers.{kind}
-use Rattle.sshneg.specs.declared.role.Role.{Role}
+use Rattle.sshneg.specs.declared.side.Side.{Side}
 use Rattle.sshpacket.specs.Stream.{Units}
 use Rattle.sshcore.specs.Before.{strict_at}
 use Rattle.sshcore.specs.Directions.{payloads_in}
@@ -13,7 +13,7 @@ use Rattle.sshcore.specs.StrictSequence.{BeginsStrictly, Conforms, EndsStrictly}
 
 -- A strict endpoint that is past phase newkeys, open or ended, was given a strict sequence first. And a payload that shows the
 -- marker and a deviation, with those before it, ended the endpoint, and was the last.
-pub record KeepsStrict (role : Role) (party : ConfigData) (units : Units) (end : EndData) : Type 0 where
+pub record KeepsStrict (role : Side) (party : ConfigData) (units : Units) (end : EndData) : Type 0 where
   pub sequence : strict_at role party (payloads_in units) ≡ true → past_newkeys (phase_at role party.offer (payloads_in units)) ≡ true
       → BeginsStrictly role party.offer (payloads_in units)
   pub deviation : (version : List ℕ) (before : Units) (payload : List ℕ) (more : Units) → units ≡ version ∷ (before ++ payload ∷ more)

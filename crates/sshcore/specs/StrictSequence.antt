@@ -3,8 +3,8 @@
 
 use Rattle.std.specs.Prelude.{◌≡◌, ◌≤◌, ℕ, true, List, [], ◌∷◌, ◌++◌, Some}
 use Rattle.sshmsg.specs.MessageData.{KexInitData}
-use Rattle.sshneg.specs.declared.role.Role.{Role}
-use Rattle.sshneg.specs.declared.role.Role.TheVariants.{Client, Server}
+use Rattle.sshneg.specs.declared.side.Side.{Side}
+use Rattle.sshneg.specs.declared.side.Side.TheVariants.{Client, Server}
 use Rattle.sshneg.specs.ExchangeEnd.{client_of, offer_in, server_of}
 use Rattle.sshneg.specs.Markers.{IsRightGuess}
 use Rattle.sshpacket.specs.Stream.{Units}
@@ -17,12 +17,12 @@ pub record HasNumber (n : ℕ) (payload : List ℕ) : Type 0 where
   pub payload_is : payload ≡ n ∷ fields
 
 -- the number of the message by which the peer of this role gives its share (RFC 4253 section 8)
-abbrev pub share_number : Role → ℕ
+abbrev pub share_number : Side → ℕ
 share_number Client = 31
 share_number Server = 30
 
 -- a guess was announced, and it isn't right
-pub record IsWrongGuess (role : Role) (own peer : KexInitData) : Type 0 where
+pub record IsWrongGuess (role : Side) (own peer : KexInitData) : Type 0 where
   pub announced : peer.first_kex_packet_follows ≡ true
   pub not_right : IsRightGuess (client_of role own peer) (server_of role own peer) → ⊥
 
@@ -34,7 +34,7 @@ pub record IsGuess (payload : List ℕ) : Type 0 where
   pub has : HasNumber number payload
 
 -- between KEXINIT and the share: the packet of a wrong guess, exactly where one was announced
-pub data IsGuessPart (role : Role) (own peer : KexInitData) (payloads : Units) : Type 0 where
+pub data IsGuessPart (role : Side) (own peer : KexInitData) (payloads : Units) : Type 0 where
   Guessed : IsWrongGuess role own peer → (payload : List ℕ) → IsGuess payload → payloads ≡ payload ∷ [] → IsGuessPart role own peer payloads
   NotGuessed : (IsWrongGuess role own peer → ⊥) → payloads ≡ [] → IsGuessPart role own peer payloads
 
@@ -44,7 +44,7 @@ pub record IsOffered (peer : KexInitData) (payload : List ℕ) : Type 0 where
   pub offers : offer_in payload ≡ Some peer
 
 -- KEXINIT, a wrong guess's packet, the peer's share, NEWKEYS, and nothing else
-pub record IsStrictSequence (role : Role) (own : KexInitData) (payloads : Units) : Type 0 where
+pub record IsStrictSequence (role : Side) (own : KexInitData) (payloads : Units) : Type 0 where
   pub peer : KexInitData
   pub kexinit : List ℕ
   pub guess : Units
@@ -57,14 +57,14 @@ pub record IsStrictSequence (role : Role) (own : KexInitData) (payloads : Units)
   pub newkeys_has : HasNumber 21 newkeys
 
 -- a strict sequence stands first
-pub record BeginsStrictly (role : Role) (own : KexInitData) (payloads : Units) : Type 0 where
+pub record BeginsStrictly (role : Side) (own : KexInitData) (payloads : Units) : Type 0 where
   pub sequence : Units
   pub rest : Units
   pub is_sequence : IsStrictSequence role own sequence
   pub payloads_are : payloads ≡ sequence ++ rest
 
 -- the payloads don't deviate: they begin with a strict sequence, or are a prefix of one
-pub data Conforms (role : Role) (own : KexInitData) (payloads : Units) : Type 0 where
+pub data Conforms (role : Side) (own : KexInitData) (payloads : Units) : Type 0 where
   Begins : BeginsStrictly role own payloads → Conforms role own payloads
   IsBegun : (sequence rest : Units) → IsStrictSequence role own sequence → sequence ≡ payloads ++ rest → Conforms role own payloads
 

@@ -3,8 +3,8 @@
 
 use Rattle.std.specs.Prelude.{ℕ, ◌==◌, ◌&&◌, ◌||◌, Bool, true, false, not, nat_le, if◌then◌else◌}
 use Rattle.sshmsg.specs.declared.numbers.TheConstants.{SSH_MSG_DISCONNECT, SSH_MSG_EXT_INFO, SSH_MSG_USERAUTH_BANNER, SSH_MSG_USERAUTH_FAILURE, SSH_MSG_USERAUTH_PK_OK, SSH_MSG_USERAUTH_REQUEST}
-use Rattle.sshneg.specs.declared.role.Role.{Role}
-use Rattle.sshneg.specs.declared.role.Role.TheVariants.{Client, Server}
+use Rattle.sshneg.specs.declared.side.Side.{Side}
+use Rattle.sshneg.specs.declared.side.Side.TheVariants.{Client, Server}
 use Rattle.sshcore.specs.declared.table.Line.{Line}
 use Rattle.sshcore.specs.declared.table.Line.TheVariants as line
 use Rattle.sshcore.specs.declared.table.Phase.{Phase}
@@ -26,7 +26,7 @@ is_of_method n = within 30 49 n
 
 -- The messages of authentication: a server receives requests, a client FAILUREs and banners, and a PK_OK while a query waits for
 -- its answer (RFC 4252 sections 5, 5.1, 5.4 and 7). A SUCCESS leaves the phase.
-abbrev pub is_of_auth : Role → Phase → Bool → ℕ → Bool
+abbrev pub is_of_auth : Side → Phase → Bool → ℕ → Bool
 is_of_auth Server phase.Auth waits n = n == SSH_MSG_USERAUTH_REQUEST
 is_of_auth Client phase.Auth waits n = n == SSH_MSG_USERAUTH_FAILURE || (n == SSH_MSG_USERAUTH_BANNER || (waits && n == SSH_MSG_USERAUTH_PK_OK))
 is_of_auth role _ waits n = false
@@ -48,7 +48,7 @@ is_unknown n = within 8 19 n || (within 22 29 n || (within 32 49 n || (within 54
 -- The table; `guess` says that the packet of a wrong guess is due, `waits` that a query waits for its answer. Its lines: a DISCONNECT; that packet, where strictness
 -- doesn't rule; that packet, with a number of the method's own; what strictness doesn't require; what leaves the phase; what
 -- is of authentication; what is ignored; EXT_INFO; what has no meaning; and what has no use.
-unfoldable pub line_by : Role → Phase → Bool → Bool → Bool → ℕ → Line
+unfoldable pub line_by : Side → Phase → Bool → Bool → Bool → ℕ → Line
 line_by role p strict guess waits n =
     if n == SSH_MSG_DISCONNECT then line.Reads
     else if guess && not (is_ruled p strict) then line.Drops

@@ -8,7 +8,7 @@ use Rattle.sshmsg.specs.declared.numbers.TheConstants.{SSH_MSG_USERAUTH_REQUEST}
 use Rattle.sshmsg.specs.MessageData.{MessageData, MethodData, NoMethod, Password, PublicKey, UserauthRequest}
 use Rattle.sshmsg.specs.Messages.{message_in}
 use Rattle.sshmsg.specs.Written.{method_name}
-use Rattle.sshneg.specs.declared.role.Role.{Role}
+use Rattle.sshneg.specs.declared.side.Side.{Side}
 use Rattle.sshneg.specs.ChoiceReadings.{is_in}
 use Rattle.sshneg.specs.Derivations.{signed_text}
 use Rattle.sshpacket.specs.Places.{flat_places}
@@ -60,17 +60,17 @@ unfoldable pub tried_in : SuiteData → DecisionsData → ConfigData → List �
 tried_in m d party session request payload = tried_by m d party session request (message_in Mpint payload)
 
 -- the session identifier, once it is known
-abbrev pub session_known : SuiteData → Role → ConfigData → List ℕ → Units → List ℕ
+abbrev pub session_known : SuiteData → Side → ConfigData → List ℕ → Units → List ℕ
 session_known m role party version before = if stood role party.offer (leaving role phase.Exchange) before then session_at m role party version before else []
 
 -- What the requests of these payloads came to, in order: each with its number from 1.
-abbrev pub tried_place : SuiteData → DecisionsData → Role → ConfigData → List ℕ → Units → List ℕ → List Tried
+abbrev pub tried_place : SuiteData → DecisionsData → Side → ConfigData → List ℕ → Units → List ℕ → List Tried
 tried_place m d role party version before payload =
     if kept role party.offer SSH_MSG_USERAUTH_REQUEST before payload
     then tried_in m d party (session_known m role party version before) (count_kept role party.offer SSH_MSG_USERAUTH_REQUEST before + 1) payload
     else []
 
-unfoldable pub tried_at : SuiteData → DecisionsData → Role → ConfigData → List ℕ → Units → List Tried
+unfoldable pub tried_at : SuiteData → DecisionsData → Side → ConfigData → List ℕ → Units → List Tried
 tried_at m d role party version before = flat_places (tried_place m d role party version) [] before
 
 -- The key of a signed request, whose algorithm is a name.
@@ -88,13 +88,13 @@ unfoldable pub successful_key_in : SuiteData → DecisionsData → ConfigData �
 successful_key_in m d party session request payload = successful_key_by m d party session request (message_in Mpint payload)
 
 -- The keys by which the requests of these payloads were successful, in order.
-abbrev pub successful_key_place : SuiteData → DecisionsData → Role → ConfigData → List ℕ → Units → List ℕ → List UserKeyData
+abbrev pub successful_key_place : SuiteData → DecisionsData → Side → ConfigData → List ℕ → Units → List ℕ → List UserKeyData
 successful_key_place m d role party version before payload =
     if kept role party.offer SSH_MSG_USERAUTH_REQUEST before payload
     then successful_key_in m d party (session_known m role party version before) (count_kept role party.offer SSH_MSG_USERAUTH_REQUEST before + 1) payload
     else []
 
-unfoldable pub successful_keys_at : SuiteData → DecisionsData → Role → ConfigData → List ℕ → Units → List UserKeyData
+unfoldable pub successful_keys_at : SuiteData → DecisionsData → Side → ConfigData → List ℕ → Units → List UserKeyData
 successful_keys_at m d role party version before = flat_places (successful_key_place m d role party version) [] before
 
 -- the last of these, or this one where there are none

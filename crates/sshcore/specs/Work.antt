@@ -9,8 +9,8 @@ use Rattle.sshmsg.specs.declared.numbers.TheConstants.{SSH_MSG_KEXINIT, SSH_MSG_
 use Rattle.sshmsg.specs.MessageData.{Disconnect, KexEcdhInit, KexEcdhReply, KexInit, KexInitData, KexdhInit, KexdhReply, MessageData, NewKeys, ServiceAccept, ServiceRequest, UserauthBanner, UserauthFailure, UserauthPkOk, UserauthRequest, UserauthSuccess}
 use Rattle.sshmsg.specs.Written.{written_message}
 use Rattle.sshneg.specs.declared.choice.NoCommon.{NoCommon}
-use Rattle.sshneg.specs.declared.role.Role.{Role}
-use Rattle.sshneg.specs.declared.role.Role.TheVariants.{Client, Server}
+use Rattle.sshneg.specs.declared.side.Side.{Side}
+use Rattle.sshneg.specs.declared.side.Side.TheVariants.{Client, Server}
 use Rattle.sshneg.specs.Derivations.{ExchangeData}
 use Rattle.sshneg.specs.ExchangeEnd.{exchange_hash}
 use Rattle.sshneg.specs.Fields.{AlgorithmsData}
@@ -51,26 +51,26 @@ abbrev pub guessed_method : ConfigData → List ℕ
 guessed_method party = name_or (first_name (methods party.offer.kex_algorithms))
 
 -- a client's guess (RFC 4253 section 7); a server guesses nothing (profile)
-abbrev pub guess_of : SuiteData → Role → ConfigData → Units
+abbrev pub guess_of : SuiteData → Side → ConfigData → Units
 guess_of m Server party = []
 guess_of m Client party = if party.offer.first_kex_packet_follows then init_for m party (guessed_method party) ∷ [] else []
 
 -- what is sent before anything is received: KEXINIT, and a guess
-abbrev pub making : SuiteData → Role → ConfigData → Units
+abbrev pub making : SuiteData → Side → ConfigData → Units
 making m role party = own_kexinit party ∷ guess_of m role party
 
 -- at KEXINIT a client sends the first message of the exchange, unless it was sent as a guess, and that was right (RFC 4253 section 7)
-abbrev pub opening : SuiteData → Role → ConfigData → KexInitData → List ℕ → Units
+abbrev pub opening : SuiteData → Side → ConfigData → KexInitData → List ℕ → Units
 opening m Server party peer kex = []
 opening m Client party peer kex =
     if party.offer.first_kex_packet_follows && is_right_guess party.offer peer then [] else init_for m party kex ∷ []
 
-abbrev pub chosen_reply : SuiteData → Role → ConfigData → KexInitData → Result AlgorithmsData NoCommon → Reply
+abbrev pub chosen_reply : SuiteData → Side → ConfigData → KexInitData → Result AlgorithmsData NoCommon → Reply
 chosen_reply m role party peer (Ok a) = goes (opening m role party peer a.kex)
 chosen_reply m role party peer (Err f) = fails (fault.NoCommon f)
 
 -- KEXINIT: strictness, which punishes what stood before it (OpenSSH PROTOCOL section 1.10); then the choice; then the guess
-unfoldable pub kexinit_reply : SuiteData → Role → ConfigData → Known → KexInitData → Reply
+unfoldable pub kexinit_reply : SuiteData → Side → ConfigData → Known → KexInitData → Reply
 kexinit_reply m role party known peer =
     if strict_towards role party.strict (Some peer) && not known.first then fails (fault.Strict SSH_MSG_KEXINIT)
     else chosen_reply m role party peer (choice_with m role party.offer (Some peer))
@@ -84,7 +84,7 @@ answered_by m party known x (Some answer) =
     (m.sign known.algorithms.host_key (secret_of party.host_keys known.algorithms.host_key) (exchange_hash m known.algorithms.kex x)))
     ∷ written_message NewKeys ∷ [])
 
-unfoldable pub init_reply : SuiteData → Role → ConfigData → Known → MessageData → Reply
+unfoldable pub init_reply : SuiteData → Side → ConfigData → Known → MessageData → Reply
 init_reply m role party known message =
     answered_by m party known (exchange_with m role party known.algorithms known.version known.kexinit (Ok message))
     (answer_with m role party known.algorithms (Ok message))
@@ -106,7 +106,7 @@ abbrev pub trusted_by : SuiteData → DecisionsData → Known → ExchangeData �
 trusted_by m d known x signature answer =
     if d.host_key known.algorithms.host_key x.host_key then signed_by m known x signature answer else fails fault.HostKey
 
-unfoldable pub reply_reply : SuiteData → DecisionsData → Role → ConfigData → Known → MessageData → List ℕ → Reply
+unfoldable pub reply_reply : SuiteData → DecisionsData → Side → ConfigData → Known → MessageData → List ℕ → Reply
 reply_reply m d role party known message signature =
     trusted_by m d known (exchange_with m role party known.algorithms known.version known.kexinit (Ok message)) signature
     (answer_with m role party known.algorithms (Ok message))
@@ -127,7 +127,7 @@ accept_reply m known service =
     if bytes_eq service userauth then attempt_reply m known.session known.left else fails (fault.Unexpected SSH_MSG_SERVICE_ACCEPT)
 
 -- what a message is answered; every other is read and ignored
-unfoldable pub work : SuiteData → DecisionsData → Role → ConfigData → Known → MessageData → Reply
+unfoldable pub work : SuiteData → DecisionsData → Side → ConfigData → Known → MessageData → Reply
 work m d role party known (Disconnect reason description language) = record { answers = []; end = Closed reason }
 work m d role party known (KexInit peer) = kexinit_reply m role party known peer
 work m d role party known (KexdhInit e) = init_reply m role party known (KexdhInit e)

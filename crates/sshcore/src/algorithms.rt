@@ -12,7 +12,7 @@ ghost use Rattle.sshcore.specs.NamesView.{names_of};
 use crate::chosen_names::ChosenNames;
 use crate::end::Agreed;
 use sshmsg::KexInit;
-use sshneg::{Chosen, Role};
+use sshneg::{Chosen, Side};
 use sshwire::{Memory, NameList};
 use std::alloc::Global;
 use std::marker::Model;
@@ -161,24 +161,24 @@ impl Algorithms {
     }
 
     /// The cipher of what this role sends.
-    pub(crate) fn cipher(&self, sender: Role) -> &str
+    pub(crate) fn cipher(&self, sender: Side) -> &str
         ensures cipher { result.now ≡ cipher_of self.now sender }
         ensures name { IsName (cipher_of self.now sender) }
     {
         match sender {
-            Role::Client => &self.encryption.client_to_server,
-            Role::Server => &self.encryption.server_to_client,
+            Side::Client => &self.encryption.client_to_server,
+            Side::Server => &self.encryption.server_to_client,
         }
     }
 
     /// The MAC of what this role sends.
-    pub(crate) fn mac(&self, sender: Role) -> &str
+    pub(crate) fn mac(&self, sender: Side) -> &str
         ensures mac { result.now ≡ mac_of self.now sender }
         ensures name { IsName (mac_of self.now sender) }
     {
         match sender {
-            Role::Client => &self.mac.client_to_server,
-            Role::Server => &self.mac.server_to_client,
+            Side::Client => &self.mac.client_to_server,
+            Side::Server => &self.mac.server_to_client,
         }
     }
 }

@@ -20,7 +20,7 @@ use crate::config_parts::ClientParts;
 use crate::config_version::{side_law, version_line};
 use crate::draws::{Draws, cookie_of, draws_of};
 use sshmsg::KexInit;
-use sshneg::Role;
+use sshneg::Side;
 use sshwire::{Memory, VersionLine};
 use std::alloc::Global;
 use std::marker::Model;
@@ -131,7 +131,7 @@ impl ClientConfig {
         let host_keys = list_of(self.alloc, &self.parts.server_host_key_algorithms)?;
         kexinit_of(
             self.alloc,
-            Role::Client,
+            Side::Client,
             &self.parts.side,
             cookie,
             host_keys,

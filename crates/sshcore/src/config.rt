@@ -22,7 +22,7 @@ use crate::config_parts::{Attempt, HostKey, SideParts};
 use crate::draws::Draws;
 use crate::server_config::ServerConfig;
 use sshmsg::KexInit;
-use sshneg::Role;
+use sshneg::Side;
 use sshwire::{Memory, VersionLine};
 
 /// The config of an endpoint, which tells its role, and the draws of its connection.
@@ -33,12 +33,12 @@ pub(crate) enum Config<'a> {
 }
 
 impl<'a> Config<'a> {
-    pub(crate) fn role(&self) -> Role
+    pub(crate) fn role(&self) -> Side
         ensures { result ≡ role_of self.now }
     {
         match self {
-            Config::Client(..) => Role::Client,
-            Config::Server(..) => Role::Server,
+            Config::Client(..) => Side::Client,
+            Config::Server(..) => Side::Server,
         }
     }
 

@@ -8,7 +8,7 @@ ghost use Rattle.sshcore.specs.ConfigView.{host_key_data, side_data};
 
 use crate::config_parts::{HostKey, SideParts};
 use sshmsg::KexInit;
-use sshneg::{Role, strict_marker};
+use sshneg::{Side, strict_marker};
 use sshwire::{Memory, NameList};
 use std::alloc::Global;
 
@@ -34,7 +34,7 @@ struct Alike {
 /// guess or not. Answers `Memory` where an allocation failed, as each function below.
 pub(crate) fn kexinit_of<'a>(
     alloc: Global,
-    role: Role,
+    role: Side,
     side: &SideParts,
     cookie: &'a [u8; 16],
     host_keys: NameList,
@@ -63,7 +63,7 @@ pub(crate) fn kexinit_of<'a>(
 }
 
 /// The kex list with the marker, where the side is willing to be strict.
-fn kex_list(alloc: Global, role: Role, side: &SideParts) -> Result<NameList, Memory>
+fn kex_list(alloc: Global, role: Side, side: &SideParts) -> Result<NameList, Memory>
     requires { length (side_data side.now).kex_algorithms + 1 < 2 ^ 25 }
     ensures { IfOk result (λ list. list ≡ (side_data side.now).kex_algorithms ++ own_marker role side.now.strict) }
 {

@@ -4,7 +4,7 @@ ghost use Rattle.std.specs.Prelude.{◌+◌, ◌≤◌, Contains, length};
 ghost use Rattle.sshwire.specs.declared.limits.TheConstants.{PAYLOAD_LIMIT};
 ghost use Rattle.sshmsg.specs.MessageData.{KexInit};
 ghost use Rattle.sshmsg.specs.Written.{IsOffer, written_message};
-ghost use Rattle.sshneg.specs.declared.role.Role.{Role};
+ghost use Rattle.sshneg.specs.declared.side.Side.{Side};
 ghost use Rattle.sshneg.specs.Markers.{strict_marker};
 ghost use Rattle.sshcore.specs.declared.config_parts.TheConstants.{LIST_LIMIT};
 ghost use Rattle.sshcore.specs.ConfigParts.{ClientData, ServerData, client_offer, server_offer};
@@ -23,8 +23,8 @@ pub fn config_law()
     ensures server_offer { (server : ServerData) → IsServer server → IsOffer (server_offer server) }
     ensures client_fits { (client : ClientData) → IsClient client → length (written_message (KexInit (client_offer client))) ≤ PAYLOAD_LIMIT }
     ensures server_fits { (server : ServerData) → IsServer server → length (written_message (KexInit (server_offer server))) ≤ PAYLOAD_LIMIT }
-    ensures client_unmarked { (client : ClientData) → IsClient client → (role : Role) → Contains client.side.kex_algorithms (strict_marker role) → ⊥ }
-    ensures server_unmarked { (server : ServerData) → IsServer server → (role : Role) → Contains server.side.kex_algorithms (strict_marker role) → ⊥ }
+    ensures client_unmarked { (client : ClientData) → IsClient client → (role : Side) → Contains client.side.kex_algorithms (strict_marker role) → ⊥ }
+    ensures server_unmarked { (server : ServerData) → IsServer server → (role : Side) → Contains server.side.kex_algorithms (strict_marker role) → ⊥ }
 
     // Lists have so few names that they fit the fields of a KEXINIT.
     ensures client_few { (client : ClientData) → IsClient client → FitsKexInit client.side × (length client.host_key_algorithms ≤ LIST_LIMIT + 1) }

@@ -5,7 +5,7 @@ ghost use Rattle.sshmsg.specs.MessageData as content;
 ghost use Rattle.sshmsg.specs.Written.{written_message};
 ghost use Rattle.sshpacket.specs.declared.limits.TheConstants.{DIGEST_LIMIT, PACKET_LIMIT, SHARE_LIMIT};
 ghost use Rattle.sshpacket.specs.Suite.{FitsShare, ResponseData, response_data};
-ghost use Rattle.sshneg.specs.declared.role.Role.TheVariants.{Client, Server};
+ghost use Rattle.sshneg.specs.declared.side.Side.TheVariants.{Client, Server};
 ghost use Rattle.sshneg.specs.Derivations.{exchange_text};
 ghost use Rattle.sshneg.specs.ExchangeEnd.{client_of, exchange_hash, server_of};
 ghost use Rattle.sshneg.specs.Markers.{other};
@@ -30,7 +30,7 @@ use crate::payloads::{USERAUTH, kexinit_payload, payload_of, reply_payload};
 use crate::state::State;
 use crate::table::Phase;
 use sshmsg::Message;
-use sshneg::{Exchange, KeyMaterial, Role, exchange_input, keys_of};
+use sshneg::{Exchange, KeyMaterial, Side, exchange_input, keys_of};
 use sshpacket::{Keys, Response, Suite};
 use sshwire::Memory;
 use std::alloc::Global;
@@ -411,7 +411,7 @@ fn direction_keys<S: Suite>(
     algorithms: &Algorithms,
     shared: &[u8],
     hash: &[u8],
-    sender: Role,
+    sender: Side,
 ) -> Result<Keys, Memory>
     requires shared { length shared.now ≤ SHARE_LIMIT }
     requires hash { length hash.now ≤ DIGEST_LIMIT }

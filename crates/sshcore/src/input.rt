@@ -26,7 +26,7 @@ use crate::end::{End, Fault};
 use crate::lent::set;
 use crate::notice::{line_of, tell_lines};
 use crate::state::State;
-use sshneg::Role;
+use sshneg::Side;
 use sshpacket::{Keys, PacketFault, PacketReader, PacketStep, Suite};
 use sshwire::{LineReader, LineStep, Memory, OTHER_LINE_LIMIT, WireFault};
 use std::alloc::Global;
@@ -40,12 +40,12 @@ pub(crate) enum Input {
 
 impl Input {
     /// Before any byte. A client accepts 20 other lines before the version line, a server none (profile).
-    pub(crate) fn new(alloc: Global, role: Role) -> Input
+    pub(crate) fn new(alloc: Global, role: Side) -> Input
         ensures { Begins role result }
     {
         let others = match role {
-            Role::Client => OTHER_LINE_LIMIT,
-            Role::Server => 0,
+            Side::Client => OTHER_LINE_LIMIT,
+            Side::Server => 0,
         };
         Input::Lines(LineReader::new(alloc, others))
     }

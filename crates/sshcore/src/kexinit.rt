@@ -4,7 +4,7 @@ ghost use Rattle.std.specs.Prelude.{◌≡◌, ◌≢◌, ◌≤◌, ◌++◌, �
 ghost use Rattle.sshmsg.specs.View.{kexinit_data};
 ghost use Rattle.sshpacket.specs.declared.limits.TheConstants.{PACKET_LIMIT};
 ghost use Rattle.sshpacket.specs.KeysData.{KeysData};
-ghost use Rattle.sshneg.specs.declared.role.Role.TheVariants.{Client, Server};
+ghost use Rattle.sshneg.specs.declared.side.Side.TheVariants.{Client, Server};
 ghost use Rattle.sshneg.specs.ExchangeEnd.{client_of, server_of};
 ghost use Rattle.sshcore.specs.declared.end.Fault.TheVariants as fault;
 ghost use Rattle.sshcore.specs.declared.table.Phase.TheVariants as phase;
@@ -25,7 +25,7 @@ use crate::payloads::init_payload;
 use crate::state::State;
 use crate::table::Phase;
 use sshmsg::{KexInit, SSH_MSG_KEXINIT};
-use sshneg::{NoCommon, Role, choose, guess_right, strict_of};
+use sshneg::{NoCommon, Side, choose, guess_right, strict_of};
 use sshpacket::{ShareForm, Suite};
 use sshwire::Memory;
 use std::alloc::Global;
@@ -167,7 +167,7 @@ fn negotiate<S: Suite>(
 fn agree_as<S: Suite>(
     alloc: Global,
     suite: &S,
-    role: Role,
+    role: Side,
     own: &KexInit<'_>,
     peer: &KexInit<'_>,
 ) -> Result<Result<Negotiated, NoCommon>, Memory>
@@ -175,8 +175,8 @@ fn agree_as<S: Suite>(
         (client_of role (kexinit_data own.now) (kexinit_data peer.now)) (server_of role (kexinit_data own.now) (kexinit_data peer.now)) found) }
 {
     match role {
-        Role::Client => agree(alloc, suite, own, peer),
-        Role::Server => agree(alloc, suite, peer, own),
+        Side::Client => agree(alloc, suite, own, peer),
+        Side::Server => agree(alloc, suite, peer, own),
     }
 }
 

@@ -10,8 +10,8 @@ ghost use Rattle.sshpacket.specs.Parse.{Refusal, refused, unfinished, whole};
 ghost use Rattle.sshpacket.specs.Places.{IsPrefix, flat_places};
 ghost use Rattle.sshpacket.specs.Stream.{IsIncremental, Sent, Units};
 ghost use Rattle.sshpacket.specs.Suite.{SuiteData};
-ghost use Rattle.sshneg.specs.declared.role.Role.{Role};
-ghost use Rattle.sshneg.specs.declared.role.Role.TheVariants.{Server};
+ghost use Rattle.sshneg.specs.declared.side.Side.{Side};
+ghost use Rattle.sshneg.specs.declared.side.Side.TheVariants.{Server};
 ghost use Rattle.sshneg.specs.ExchangeEnd.{offer_in};
 ghost use Rattle.sshcore.specs.declared.table.Line.TheVariants as line;
 ghost use Rattle.sshcore.specs.declared.table.Phase.{Phase};
@@ -38,7 +38,7 @@ ghost use Rattle.sshcore.specs.Work.{making};
 /// The law of strictness (OpenSSH PROTOCOL section 1.10): an endpoint that received these units and
 /// ended so, or stands open, keeps it, whoever sent them.
 pub fn strict_law()
-    ensures keeps { (m : SuiteData) (d : DecisionsData) (role : Role) (party : ConfigData) (units : Units) (refusal : Option Refusal) (end : EndData)
+    ensures keeps { (m : SuiteData) (d : DecisionsData) (role : Side) (party : ConfigData) (units : Units) (refusal : Option Refusal) (end : EndData)
         → Ends m d role party units refusal end → KeepsStrict role party units end }
 {
     sshmsg::numbers_law();
@@ -49,7 +49,7 @@ pub fn strict_law()
 /// auth, and agreed on what the payloads before have given. At a server that was a request for a
 /// service that it has, and successful; at a client the answer to the attempt that it made last.
 pub fn authentication_law()
-    ensures authenticated { (m : SuiteData) (d : DecisionsData) (role : Role) (party : ConfigData) (units : Units) (refusal : Option Refusal) (a : AgreedData)
+    ensures authenticated { (m : SuiteData) (d : DecisionsData) (role : Side) (party : ConfigData) (units : Units) (refusal : Option Refusal) (a : AgreedData)
         → Ends m d role party units refusal (Authenticated a) → IsAuthenticated m d role party units a }
     // While a server stays open, fewer requests stood than it grants, so the number of the next one is among those that it grants.
     ensures granted { (m : SuiteData) (d : DecisionsData) (party : ConfigData) (version : List ℕ) (before : Units) → 1 ≤ party.tries
@@ -75,52 +75,52 @@ pub fn reached_law()
 /// and where it stands after it.
 pub fn standing_law()
     // Before anything but the peer's version line was received.
-    ensures begins { (m : SuiteData) (d : DecisionsData) (role : Role) (party : ConfigData) (version : List ℕ) → Sits m d role party version [] phase.KexInit false (nothing_known party version) }
+    ensures begins { (m : SuiteData) (d : DecisionsData) (role : Side) (party : ConfigData) (version : List ℕ) → Sits m d role party version [] phase.KexInit false (nothing_known party version) }
     // What a payload brings is what its line of the phase table says.
-    ensures replies { (m : SuiteData) (d : DecisionsData) (role : Role) (party : ConfigData) (version : List ℕ) (before : Units) (payload : List ℕ) (p : Phase) (guess : Bool) (known : Known)
+    ensures replies { (m : SuiteData) (d : DecisionsData) (role : Side) (party : ConfigData) (version : List ℕ) (before : Units) (payload : List ℕ) (p : Phase) (guess : Bool) (known : Known)
         → Sits m d role party version before p guess known → reply_at m d role party version before payload
         ≡ line_reply m d role party known (number_in role party before) (line_by role p known.strict guess (is_waiting known.left) (kind payload)) payload }
 
     // After the peer's KEXINIT; after the packet of a wrong guess; after the exchange message; after every other message that
     // leaves a phase; and after one that leaves none.
-    ensures offers { (m : SuiteData) (d : DecisionsData) (role : Role) (party : ConfigData) (version : List ℕ) (before : Units) (payload : List ℕ) (peer : KexInitData) (known : Known)
+    ensures offers { (m : SuiteData) (d : DecisionsData) (role : Side) (party : ConfigData) (version : List ℕ) (before : Units) (payload : List ℕ) (peer : KexInitData) (known : Known)
         → Sits m d role party version before phase.KexInit false known → offer_in payload ≡ Some peer
         → Sits m d role party version (before ++ payload ∷ []) phase.Exchange (wrong_guess role party.offer (Some peer)) (after_offer m role party known payload peer) }
-    ensures drops { (m : SuiteData) (d : DecisionsData) (role : Role) (party : ConfigData) (version : List ℕ) (before : Units) (payload : List ℕ) (p : Phase) (known : Known)
+    ensures drops { (m : SuiteData) (d : DecisionsData) (role : Side) (party : ConfigData) (version : List ℕ) (before : Units) (payload : List ℕ) (p : Phase) (known : Known)
         → Sits m d role party version before p true known → (kind payload == SSH_MSG_DISCONNECT) ≡ false
         → Sits m d role party version (before ++ payload ∷ []) p false (record known { first = false }) }
-    ensures exchanges { (m : SuiteData) (d : DecisionsData) (role : Role) (party : ConfigData) (version : List ℕ) (before : Units) (payload : List ℕ) (known : Known)
+    ensures exchanges { (m : SuiteData) (d : DecisionsData) (role : Side) (party : ConfigData) (version : List ℕ) (before : Units) (payload : List ℕ) (known : Known)
         → Sits m d role party version before phase.Exchange false known → kind payload ≡ leaving role phase.Exchange
         → Sits m d role party version (before ++ payload ∷ []) phase.NewKeys false (after_exchange m role party known payload) }
-    ensures leaves { (m : SuiteData) (d : DecisionsData) (role : Role) (party : ConfigData) (version : List ℕ) (before : Units) (payload : List ℕ) (p : Phase) (known : Known)
+    ensures leaves { (m : SuiteData) (d : DecisionsData) (role : Side) (party : ConfigData) (version : List ℕ) (before : Units) (payload : List ℕ) (p : Phase) (known : Known)
         → Sits m d role party version before p false known → past_exchange p ≡ true → kind payload ≡ leaving role p
         → Sits m d role party version (before ++ payload ∷ []) (next_phase p) false (after_payload m d party known payload) }
-    ensures stays { (m : SuiteData) (d : DecisionsData) (role : Role) (party : ConfigData) (version : List ℕ) (before : Units) (payload : List ℕ) (p : Phase) (known : Known)
+    ensures stays { (m : SuiteData) (d : DecisionsData) (role : Side) (party : ConfigData) (version : List ℕ) (before : Units) (payload : List ℕ) (p : Phase) (known : Known)
         → Sits m d role party version before p false known → LeavesNone role (kind payload)
         → Sits m d role party version (before ++ payload ∷ []) p false (after_payload m d party known payload) }
 
     // A number that is read or unknown where no guess is due, and neither closes nor leaves the phase, leaves none.
-    ensures quiet { (role : Role) (p : Phase) (strict waits : Bool) (n : ℕ) → (n == SSH_MSG_DISCONNECT) ≡ false → (n == leaving role p) ≡ false
+    ensures quiet { (role : Side) (p : Phase) (strict waits : Bool) (n : ℕ) → (n == SSH_MSG_DISCONNECT) ≡ false → (n == leaving role p) ≡ false
         → (line_by role p strict false waits n ≡ line.Reads) ⊎ (line_by role p strict false waits n ≡ line.Unknown) → LeavesNone role n }
 
     // Before a choice nothing depends on the form of shares.
-    ensures formless { (m : SuiteData) (d : DecisionsData) (role : Role) (party : ConfigData) (known : Known) (packet : ℕ) (payload : List ℕ) (form : ShareForm)
+    ensures formless { (m : SuiteData) (d : DecisionsData) (role : Side) (party : ConfigData) (known : Known) (packet : ℕ) (payload : List ℕ) (form : ShareForm)
         → line_reply m d role party (record known { shares = form }) packet (line_by role phase.KexInit known.strict false (is_waiting known.left) (kind payload)) payload
         ≡ line_reply m d role party known packet (line_by role phase.KexInit known.strict false (is_waiting known.left) (kind payload)) payload }
 
     // The keys of both directions come of the exchange message, and stay.
-    ensures makes_keys { (m : SuiteData) (d : DecisionsData) (role : Role) (party : ConfigData) (version : List ℕ) (before : Units) (payload : List ℕ) (known : Known)
-        → Sits m d role party version before phase.Exchange false known → kind payload ≡ leaving role phase.Exchange → (sender : Role)
+    ensures makes_keys { (m : SuiteData) (d : DecisionsData) (role : Side) (party : ConfigData) (version : List ℕ) (before : Units) (payload : List ℕ) (known : Known)
+        → Sits m d role party version before phase.Exchange false known → kind payload ≡ leaving role phase.Exchange → (sender : Side)
         → keys_at m role party version (before ++ payload ∷ []) sender ≡ keys_by m known.algorithms (exchange_received m role party known payload) sender }
-    ensures keeps_keys { (m : SuiteData) (d : DecisionsData) (role : Role) (party : ConfigData) (version : List ℕ) (before : Units) (payload : List ℕ) (p : Phase) (guess : Bool) (known : Known)
-        → Sits m d role party version before p guess known → past_exchange p ≡ true → (sender : Role)
+    ensures keeps_keys { (m : SuiteData) (d : DecisionsData) (role : Side) (party : ConfigData) (version : List ℕ) (before : Units) (payload : List ℕ) (p : Phase) (guess : Bool) (known : Known)
+        → Sits m d role party version before p guess known → past_exchange p ≡ true → (sender : Side)
         → keys_at m role party version (before ++ payload ∷ []) sender ≡ keys_at m role party version before sender }
 
     // After the key switch a strict endpoint counts packets anew; after every other packet it counts one more.
-    ensures counts_anew { (m : SuiteData) (d : DecisionsData) (role : Role) (party : ConfigData) (version : List ℕ) (before : Units) (payload : List ℕ) (known : Known)
+    ensures counts_anew { (m : SuiteData) (d : DecisionsData) (role : Side) (party : ConfigData) (version : List ℕ) (before : Units) (payload : List ℕ) (known : Known)
         → Sits m d role party version before phase.NewKeys false known → kind payload ≡ SSH_MSG_NEWKEYS
         → number_in role party (before ++ payload ∷ []) ≡ (if known.strict then 0 else (number_in role party before + 1) % 2 ^ 32) }
-    ensures counts_on { (m : SuiteData) (d : DecisionsData) (role : Role) (party : ConfigData) (version : List ℕ) (before : Units) (payload : List ℕ) (p : Phase) (guess : Bool) (known : Known)
+    ensures counts_on { (m : SuiteData) (d : DecisionsData) (role : Side) (party : ConfigData) (version : List ℕ) (before : Units) (payload : List ℕ) (p : Phase) (guess : Bool) (known : Known)
         → Sits m d role party version before p guess known → (past_newkeys p ≡ true) ⊎ (kept role party.offer SSH_MSG_NEWKEYS before payload ≡ false)
         → number_in role party (before ++ payload ∷ []) ≡ (number_in role party before + 1) % 2 ^ 32 }
 {
@@ -143,7 +143,7 @@ pub fn sending_law()
     ensures unswitched { (strict other : Bool) (sent : Units) → switched_out sent ≡ false → number_out strict sent ≡ number_out other sent }
 
     // What was sent stays spelled as it is when more is received, once both directions have their keys.
-    ensures stays { (m : SuiteData) (role : Role) (party : ConfigData) (units more answers : Units) (s : List ℕ)
+    ensures stays { (m : SuiteData) (role : Side) (party : ConfigData) (units more answers : Units) (s : List ℕ)
         → (switched_out answers ≡ true → IsReady role party (payloads_in units))
         → Sent (spells m role party units) s (party.version ∷ answers) → Sent (spells m role party (units ++ more)) s (party.version ∷ answers) }
 {}
@@ -155,38 +155,38 @@ pub fn sending_law()
 /// refusal, or a unit with its answers. That NEWKEYS is sent only where the exchange was received comes of
 /// the definitions; that the answers fit packets is for the code to see to.
 pub fn history_law()
-    ensures parsers { (m : SuiteData) (role : Role) (party : ConfigData) (units : Units) → IsIncremental (parsers m role party units) }
-    ensures begins { (m : SuiteData) (d : DecisionsData) (role : Role) (party : ConfigData) → AllFit (making m role party)
+    ensures parsers { (m : SuiteData) (role : Side) (party : ConfigData) (units : Units) → IsIncremental (parsers m role party units) }
+    ensures begins { (m : SuiteData) (d : DecisionsData) (role : Side) (party : ConfigData) → AllFit (making m role party)
         → History m d role party [] [] None (making m role party) Open [] (flat_places (spells m role party []) [] (party.version ∷ making m role party)) }
-    ensures part { (m : SuiteData) (d : DecisionsData) (role : Role) (party : ConfigData) (units : Units) (rest : List ℕ) (answers : Units) (h s : List ℕ)
+    ensures part { (m : SuiteData) (d : DecisionsData) (role : Side) (party : ConfigData) (units : Units) (rest : List ℕ) (answers : Units) (h s : List ℕ)
         → History m d role party units rest None answers Open h s → (piece : List ℕ) → parsers m role party units (rest ++ piece) ≡ unfinished
         → History m d role party units (rest ++ piece) None answers Open (h ++ piece) s }
-    ensures refusal { (m : SuiteData) (d : DecisionsData) (role : Role) (party : ConfigData) (units : Units) (rest : List ℕ) (answers : Units) (h s : List ℕ)
+    ensures refusal { (m : SuiteData) (d : DecisionsData) (role : Side) (party : ConfigData) (units : Units) (rest : List ℕ) (answers : Units) (h s : List ℕ)
         → History m d role party units rest None answers Open h s → (piece : List ℕ) (used : ℕ) (r : Refusal) → used ≤ length piece
         → parsers m role party units (rest ++ piece) ≡ refused r (length rest + used) → AllFit (disconnect (fault_of r))
         → History m d role party units (rest ++ take used piece) (Some r) (answers ++ disconnect (fault_of r)) (Failed (fault_of r)) (h ++ take used piece)
         (s ++ flat_places (spells m role party units) (party.version ∷ answers) (disconnect (fault_of r))) }
-    ensures unit { (m : SuiteData) (d : DecisionsData) (role : Role) (party : ConfigData) (units : Units) (rest : List ℕ) (answers : Units) (h s : List ℕ)
+    ensures unit { (m : SuiteData) (d : DecisionsData) (role : Side) (party : ConfigData) (units : Units) (rest : List ℕ) (answers : Units) (h s : List ℕ)
         → History m d role party units rest None answers Open h s → (piece u : List ℕ) (used : ℕ) → used ≤ length piece
         → parsers m role party units (rest ++ piece) ≡ whole u (length rest + used) → AllFit (answers_at m d role party units u)
         → History m d role party (units ++ u ∷ []) [] None (answers ++ answers_at m d role party units u) (end_at m d role party units u) (h ++ take used piece)
         (s ++ flat_places (spells m role party (units ++ u ∷ [])) (party.version ∷ answers) (answers_at m d role party units u)) }
 
     // Where memory runs out: before anything was sent, or after some of the answers to a unit.
-    ensures broken { (m : SuiteData) (d : DecisionsData) (role : Role) (party : ConfigData) (units : Units) (rest : List ℕ) (r : Option Refusal) (answers : Units) (end : EndData) (h s : List ℕ)
+    ensures broken { (m : SuiteData) (d : DecisionsData) (role : Side) (party : ConfigData) (units : Units) (rest : List ℕ) (r : Option Refusal) (answers : Units) (end : EndData) (h s : List ℕ)
         → History m d role party units rest r answers end h s → BrokenOff m d role party h s }
-    ensures breaks { (m : SuiteData) (d : DecisionsData) (role : Role) (party : ConfigData) (units : Units) (rest : List ℕ) (answers : Units) (h s : List ℕ)
+    ensures breaks { (m : SuiteData) (d : DecisionsData) (role : Side) (party : ConfigData) (units : Units) (rest : List ℕ) (answers : Units) (h s : List ℕ)
         → History m d role party units rest None answers Open h s → (piece u : List ℕ) (used : ℕ) (some : Units) → used ≤ length piece
         → parsers m role party units (rest ++ piece) ≡ whole u (length rest + used) → IsPrefix some (answers_at m d role party units u)
         → BrokenOff m d role party (h ++ take used piece) (s ++ flat_places (spells m role party (units ++ u ∷ [])) (party.version ∷ answers) some) }
 
     // The bytes used decide the units, the rest, the answers, the end and the bytes sent. And one input decides the bytes used: an
     // endpoint uses some bytes at the front of its input, and all of them while it stands open.
-    ensures one { (m : SuiteData) (d : DecisionsData) (role : Role) (party : ConfigData) (units other_units : Units) (rest other_rest : List ℕ) (r other_r : Option Refusal)
+    ensures one { (m : SuiteData) (d : DecisionsData) (role : Side) (party : ConfigData) (units other_units : Units) (rest other_rest : List ℕ) (r other_r : Option Refusal)
         (answers other_answers : Units) (end other_end : EndData) (h s t : List ℕ)
         → History m d role party units rest r answers end h s → History m d role party other_units other_rest other_r other_answers other_end h t
         → IsOneHistory units other_units rest other_rest r other_r answers other_answers end other_end s t }
-    ensures joined { (m : SuiteData) (d : DecisionsData) (role : Role) (party : ConfigData) (units other_units : Units) (rest other_rest : List ℕ) (r other_r : Option Refusal)
+    ensures joined { (m : SuiteData) (d : DecisionsData) (role : Side) (party : ConfigData) (units other_units : Units) (rest other_rest : List ℕ) (r other_r : Option Refusal)
         (answers other_answers : Units) (end other_end : EndData) (h g s t x y : List ℕ)
         → History m d role party units rest r answers end h s → History m d role party other_units other_rest other_r other_answers other_end g t
         → h ++ x ≡ g ++ y → (end ≡ Open → x ≡ []) → (other_end ≡ Open → y ≡ [])

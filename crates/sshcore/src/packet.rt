@@ -34,7 +34,7 @@ use sshmsg::{
     SSH_MSG_SERVICE_REQUEST, SSH_MSG_USERAUTH_BANNER, SSH_MSG_USERAUTH_FAILURE,
     SSH_MSG_USERAUTH_PK_OK, SSH_MSG_USERAUTH_REQUEST, SSH_MSG_USERAUTH_SUCCESS, read_exchange,
 };
-use sshneg::Role;
+use sshneg::Side;
 use sshpacket::Suite;
 use sshwire::Memory;
 
@@ -275,7 +275,7 @@ fn kind(payload: &[u8]) -> u8
 /// The line of the phase table that decides on a packet with this number, in the order of the table.
 /// `guess` says that the packet of a wrong guess is due, `waits` that a query waits for its answer.
 #[tactic(auto, unfolding(crate::specs::Table::line_by))]
-fn line_of(role: Role, phase: Phase, strict: bool, guess: bool, waits: bool, number: u8) -> Line
+fn line_of(role: Side, phase: Phase, strict: bool, guess: bool, waits: bool, number: u8) -> Line
     ensures { result ≡ line_by role phase strict guess waits number }
 {
     let ruled = is_ruled(phase, strict);
@@ -310,33 +310,33 @@ fn is_ruled(phase: Phase, strict: bool) -> bool
 }
 
 /// Whether a message with this number leaves the phase.
-fn leaves(role: Role, phase: Phase, number: u8) -> bool
+fn leaves(role: Side, phase: Phase, number: u8) -> bool
     ensures { result ≡ (number == leaving role phase) }
 {
     match (phase, role) {
         (Phase::KexInit, _) => number == SSH_MSG_KEXINIT,
-        (Phase::Exchange, Role::Client) => number == SSH_MSG_KEXDH_REPLY,
-        (Phase::Exchange, Role::Server) => number == SSH_MSG_KEXDH_INIT,
+        (Phase::Exchange, Side::Client) => number == SSH_MSG_KEXDH_REPLY,
+        (Phase::Exchange, Side::Server) => number == SSH_MSG_KEXDH_INIT,
         (Phase::NewKeys, _) => number == SSH_MSG_NEWKEYS,
-        (Phase::Service, Role::Client) => number == SSH_MSG_SERVICE_ACCEPT,
-        (Phase::Service, Role::Server) => number == SSH_MSG_SERVICE_REQUEST,
-        (Phase::Auth, Role::Client) => number == SSH_MSG_USERAUTH_SUCCESS,
-        (Phase::Auth, Role::Server) => number == SSH_MSG_USERAUTH_REQUEST,
+        (Phase::Service, Side::Client) => number == SSH_MSG_SERVICE_ACCEPT,
+        (Phase::Service, Side::Server) => number == SSH_MSG_SERVICE_REQUEST,
+        (Phase::Auth, Side::Client) => number == SSH_MSG_USERAUTH_SUCCESS,
+        (Phase::Auth, Side::Server) => number == SSH_MSG_USERAUTH_REQUEST,
     }
 }
 
 /// Whether the message is one of authentication: a server receives requests, a client FAILUREs and banners,
 /// and a PK_OK while a query waits (RFC 4252); a SUCCESS leaves the phase.
-fn is_of_auth(role: Role, phase: Phase, waits: bool, number: u8) -> bool
+fn is_of_auth(role: Side, phase: Phase, waits: bool, number: u8) -> bool
     ensures { result ≡ is_of_auth role phase waits number }
 {
     match (phase, role) {
-        (Phase::Auth, Role::Client) => {
+        (Phase::Auth, Side::Client) => {
             number == SSH_MSG_USERAUTH_FAILURE
                 || number == SSH_MSG_USERAUTH_BANNER
                 || waits && number == SSH_MSG_USERAUTH_PK_OK
         }
-        (Phase::Auth, Role::Server) => number == SSH_MSG_USERAUTH_REQUEST,
+        (Phase::Auth, Side::Server) => number == SSH_MSG_USERAUTH_REQUEST,
         _ => false,
     }
 }

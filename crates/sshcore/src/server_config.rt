@@ -20,7 +20,7 @@ use crate::config_parts::ServerParts;
 use crate::config_version::{side_law, version_line};
 use crate::draws::{Draws, cookie_of, draws_of};
 use sshmsg::KexInit;
-use sshneg::Role;
+use sshneg::Side;
 use sshwire::{Memory, VersionLine};
 use std::alloc::Global;
 use std::marker::Model;
@@ -123,7 +123,7 @@ impl ServerConfig {
         let host_keys = list_of_host_keys(self.alloc, &self.parts.host_keys)?;
         kexinit_of(
             self.alloc,
-            Role::Server,
+            Side::Server,
             &self.parts.side,
             cookie,
             host_keys,

@@ -2,7 +2,7 @@
 
 ghost use Rattle.std.specs.Prelude.{◌≡◌, ◌≢◌, ◌≤◌, Bool, OnOk, length};
 ghost use Rattle.sshpacket.specs.KeysData.{KeysData};
-ghost use Rattle.sshneg.specs.declared.role.Role.TheVariants.{Client, Server};
+ghost use Rattle.sshneg.specs.declared.side.Side.TheVariants.{Client, Server};
 ghost use Rattle.sshcore.specs.declared.end.Fault.TheVariants as fault;
 ghost use Rattle.sshcore.specs.declared.table.Phase.TheVariants as phase;
 ghost use Rattle.sshcore.specs.Brings.{Gives, IsOngoing, StandsAt, received_one};

@@ -1,14 +1,14 @@
 //! What an authenticated endpoint hands over.
 
 ghost use Rattle.std.specs.Prelude.{◌≡◌, if◌then◌else◌, None, Some};
-ghost use Rattle.sshneg.specs.declared.role.Role.TheVariants.{Client, Server};
+ghost use Rattle.sshneg.specs.declared.side.Side.TheVariants.{Client, Server};
 ghost use Rattle.sshpacket.specs.KeysData.{KeysData};
 ghost use Rattle.sshcore.specs.declared.end.Agreed.{Agreed};
 
 use crate::end::Agreed;
 use crate::link::Link;
 use crate::state::Reached;
-use sshneg::Role;
+use sshneg::Side;
 use sshpacket::Keys;
 use std::alloc::Global;
 
@@ -129,13 +129,13 @@ pub(crate) fn session_of(
 
 /// How the user was accepted, by what is reached and the key of the last signed request that was successful; a client
 /// doesn't say.
-pub(crate) fn accepted_by(role: Role, reached: &Reached, key: Option<UserKey>) -> Option<Accepted>
+pub(crate) fn accepted_by(role: Side, reached: &Reached, key: Option<UserKey>) -> Option<Accepted>
     ensures client { role ≡ Client → result ≡ None }
     ensures server { role ≡ Server → result ≡ Some (record { password = reached.now.password; key = if reached.now.publickey then key else None }) }
 {
     match role {
-        Role::Client => None,
-        Role::Server => Some(Accepted {
+        Side::Client => None,
+        Side::Server => Some(Accepted {
             password: reached.password,
             key: key_if(reached.publickey, key),
         }),

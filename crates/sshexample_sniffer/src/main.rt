@@ -4,7 +4,7 @@
 
 use anyhow::{Context, bail};
 use sshmsg::{KexInit, Message, SSH_MSG_KEXINIT, read};
-use sshneg::{Chosen, Role, choose, strict_of};
+use sshneg::{Chosen, Side, choose, strict_of};
 use sshpacket::{PacketReader, PacketStep};
 use sshsuites::KemSuite;
 use sshwire::{LineReader, LineStep, NameList, OTHER_LINE_LIMIT};
@@ -89,8 +89,8 @@ fn tell_choice(rt: &HostRuntime, client: &KexInit<'_>, server: &KexInit<'_>) -> 
         Ok(chosen) => tell_names(rt, client, &chosen)?,
         Err(field) => println!(rt; "nothing in common: {field}")?,
     }
-    let is_willing = strict_of(true, Role::Client, server); // the server is
-    let strict = strict_of(is_willing, Role::Server, client);
+    let is_willing = strict_of(true, Side::Client, server); // the server is
+    let strict = strict_of(is_willing, Side::Server, client);
     println!(rt; "strict {}", if strict { "yes" } else { "no" })?;
     Ok(())
 }

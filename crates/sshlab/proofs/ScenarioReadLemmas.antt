@@ -7,7 +7,7 @@ use Rattle.std.proofs.lemmas.List.{take_all}
 use Rattle.std.proofs.lemmas.List.Splits.{length-slice_split}
 use Rattle.std.proofs.lemmas.List.Sums.{count_by-le-length}
 use Rattle.std.proofs.Math.Seq.{take-suc}
-use Rattle.sshworld.specs.declared.side.Side.{Side}
+use Rattle.sshneg.specs.declared.side.Side.{Side}
 use Rattle.sshlab.specs.declared.scenario_settings.Setting.{Setting}
 use Rattle.sshlab.specs.ScenarioDrafts.{DraftData, after_line, drafted, no_lines}
 use Rattle.sshlab.specs.ScenarioText.{CanBeRead, CanFollow, IsFirstBad, settings, statements_in}

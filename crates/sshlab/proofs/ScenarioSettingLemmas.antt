@@ -6,8 +6,8 @@ use Rattle.std.specs.List.{Contains, list_any}
 use Rattle.std.specs.Option.{option_and_then, option_flatten}
 use Rattle.std.proofs.lemmas.Bool.{and_from, and_parts, both_ways}
 use denote.Enum.Bare.{sameb, same_true, true_same}
-use Rattle.sshworld.specs.declared.side.Side.{Side}
-use Rattle.sshworld.specs.contracts.side.Side as side
+use Rattle.sshneg.specs.declared.side.Side.{Side}
+use Rattle.sshneg.specs.contracts.side.Side as side
 use Rattle.sshlab.specs.declared.scenario_settings.Setting.{Setting}
 use Rattle.sshlab.specs.contracts.scenario_settings.Setting as setting
 use Rattle.sshwire.specs.Types.{IsName}

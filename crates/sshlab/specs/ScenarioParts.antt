@@ -4,8 +4,8 @@ use Rattle.std.specs.Prelude.{ℕ, ◌==◌, Bool, true, if◌then◌else◌, Li
 use Rattle.std.specs.List.{filter_map}
 use Rattle.sshwire.specs.TypeReadings.{is_name}
 use Rattle.sshcore.specs.ConfigParts.{AttemptData, ByKey, ClientData, CredentialData, HostKeyData, ServerData, SideData}
-use Rattle.sshworld.specs.declared.side.Side.{Side}
-use Rattle.sshworld.specs.declared.side.Side.TheVariants.{Client, Server}
+use Rattle.sshneg.specs.declared.side.Side.{Side}
+use Rattle.sshneg.specs.declared.side.Side.TheVariants.{Client, Server}
 use Rattle.sshlab.specs.declared.scenario_line.Step.{Step}
 use Rattle.sshsuites.specs.LabParties.{lab_client, lab_server}
 use Rattle.sshsuites.specs.LabDecisionsData.{AllowedData, LabDecisionsData, proof_by}

@@ -2,8 +2,8 @@
 
 use Rattle.std.specs.Prelude.{Option, Some, None}
 use Rattle.sshcore.specs.ConfigParts.{ClientData, ServerData, SideData}
-use Rattle.sshworld.specs.declared.side.Side.{Side}
-use Rattle.sshworld.specs.declared.side.Side.TheVariants.{Client, Server}
+use Rattle.sshneg.specs.declared.side.Side.{Side}
+use Rattle.sshneg.specs.declared.side.Side.TheVariants.{Client, Server}
 use Rattle.sshlab.specs.declared.scenario_settings.Setting.{Setting}
 use Rattle.sshlab.specs.declared.scenario_settings.Setting.TheVariants as setting
 use Rattle.sshlab.specs.Scenarios.{ClientSettingData, OfClient, OfServer, OfSide, ServerSettingData, SetBanner, SetCipherToClient, SetCipherToServer, SetCookie, SetGuess, SetHostKeys, SetKex, SetMacToClient, SetMacToServer, SetMethods, SetRandom, SetRequired, SetSeed, SetServices, SetStrict, SetTries, SetVersion, SideSettingData, StatementData}

@@ -3,7 +3,7 @@
 use Rattle.std.specs.Prelude.{◌≢◌, ◌-◌, ◌≤◌, ℕ, List, take, length, Option, None, IfSome}
 use Rattle.std.specs.List.{AllByRecursion, AllPairs, Contains, filter_map}
 use Rattle.std.specs.Option.{option_and_then, option_flatten}
-use Rattle.sshworld.specs.declared.side.Side.{Side}
+use Rattle.sshneg.specs.declared.side.Side.{Side}
 use Rattle.sshlab.specs.declared.scenario_settings.Setting.{Setting}
 use Rattle.sshlab.specs.ScenarioSettings.{setting_in}
 use Rattle.sshlab.specs.Scenarios.{StatementData, statement}

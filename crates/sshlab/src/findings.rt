@@ -7,7 +7,7 @@ use sshmsg::{
     KexInit, Message, MsgFault, SSH_MSG_KEXDH_INIT, SSH_MSG_KEXDH_REPLY, SSH_MSG_KEXINIT,
     SSH_MSG_NEWKEYS, read,
 };
-use sshneg::{Role, guess_right, strict_of};
+use sshneg::{Side, guess_right, strict_of};
 use sshwire::Memory;
 use std::alloc::Global;
 use std::fmt;
@@ -79,7 +79,7 @@ struct Terms {
 impl Terms {
     fn of(client: &KexInit<'_>, server: &KexInit<'_>) -> Terms {
         Terms {
-            strict: strict_of(true, Role::Server, client) && strict_of(true, Role::Client, server),
+            strict: strict_of(true, Side::Server, client) && strict_of(true, Side::Client, server),
             guess_right: guess_right(client, server),
             client_guesses: client.first_kex_packet_follows,
             server_guesses: server.first_kex_packet_follows,
@@ -87,10 +87,10 @@ impl Terms {
     }
 
     /// The sequence that is asked of a side, if both are strict.
-    fn sequence(self, role: Role) -> Option<StrictSequence> {
+    fn sequence(self, role: Side) -> Option<StrictSequence> {
         let (exchange, guesses) = match role {
-            Role::Client => (SSH_MSG_KEXDH_INIT, self.client_guesses),
-            Role::Server => (SSH_MSG_KEXDH_REPLY, self.server_guesses),
+            Side::Client => (SSH_MSG_KEXDH_INIT, self.client_guesses),
+            Side::Server => (SSH_MSG_KEXDH_REPLY, self.server_guesses),
         };
         self.strict.then_some(StrictSequence {
             exchange,
@@ -103,8 +103,8 @@ impl Findings {
     /// Judges both streams. Answers `Memory` only where an allocation failed.
     pub(crate) fn of(alloc: Global, listing: &Listing<'_>) -> Result<Findings, Memory> {
         let terms = terms_of(alloc, listing)?;
-        let client = terms.and_then(|terms| terms.sequence(Role::Client));
-        let server = terms.and_then(|terms| terms.sequence(Role::Server));
+        let client = terms.and_then(|terms| terms.sequence(Side::Client));
+        let server = terms.and_then(|terms| terms.sequence(Side::Server));
         Ok(Findings {
             strict: terms.map(|terms| terms.strict),
             client: finding_of(&listing.client, client),

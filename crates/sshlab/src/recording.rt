@@ -7,7 +7,7 @@
 
 ghost use Rattle.std.specs.Prelude.{◌≡◌, ◌++◌, ◌≤◌, IfErr, IfOk, OnOk, Some, length, option_map, true};
 ghost use Rattle.std.specs.List.{list_all};
-ghost use Rattle.sshworld.specs.declared.side.Side.TheVariants.{Client, Server};
+ghost use Rattle.sshneg.specs.declared.side.Side.TheVariants.{Client, Server};
 ghost use Rattle.sshlab.specs.Recordings.{IsRecordingCause, is_recorded, of_side, piece_of, sent, stream};
 ghost use Rattle.sshlab.specs.TextLines.{lines};
 ghost use Rattle.sshlab.specs.declared.scenario.TheConstants.{TEXT_LIMIT};

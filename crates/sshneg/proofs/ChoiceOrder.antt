@@ -7,8 +7,8 @@ use Rattle.sshmsg.specs.MessageData.{KexInitData}
 use Rattle.sshpacket.specs.Suite.{SuiteData}
 use Rattle.sshneg.specs.declared.choice.NoCommon.{NoCommon}
 use Rattle.sshneg.specs.declared.choice.NoCommon.TheVariants as field
-use Rattle.sshneg.specs.declared.role.Role.{Role}
-use Rattle.sshneg.specs.declared.role.Role.TheVariants.{Client, Server}
+use Rattle.sshneg.specs.declared.side.Side.{Side}
+use Rattle.sshneg.specs.declared.side.Side.TheVariants.{Client, Server}
 use Rattle.sshneg.specs.Choice.{AreFirstMethods, FirstUsable, HasChoice, IsAlgorithm, IsChoice, IsFirst, IsFirstWithout, IsHostKeyFor, IsKex, IsOnBoth, IsUsable, SameFirst}
 use Rattle.sshneg.specs.ChoiceLaw.{OfferAlike, OfferSame}
 use Rattle.sshneg.specs.ChoiceReadings.{choice, choice_of_directions}
@@ -125,7 +125,7 @@ offered m client other server same = rw (
 ) refl
 
 -- markers
-pub marker : (role : Role) → is_marker (strict_marker role) ≡ true
+pub marker : (role : Side) → is_marker (strict_marker role) ≡ true
 marker Client = refl
 marker Server = refl
 

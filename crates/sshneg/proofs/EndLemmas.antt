@@ -8,8 +8,8 @@ use Rattle.sshmsg.specs.declared.fault.MsgFault.{MsgFault}
 use Rattle.sshmsg.specs.MessageData.{KexInit, KexInitData, MessageData}
 use Rattle.sshmsg.specs.Messages.{message_in}
 use Rattle.sshmsg.specs.Written.{IsMessageOf, IsWellFormed, written_message}
-use Rattle.sshneg.specs.declared.role.Role.{Role}
-use Rattle.sshneg.specs.declared.role.Role.TheVariants.{Client, Server}
+use Rattle.sshneg.specs.declared.side.Side.{Side}
+use Rattle.sshneg.specs.declared.side.Side.TheVariants.{Client, Server}
 use Rattle.sshneg.specs.ChoiceReadings.{choice}
 use Rattle.sshneg.specs.Derivations.{KeyMaterialData, derived}
 use Rattle.sshneg.specs.ExchangeEnd.{HaveOneSource, IsOneExchange, KexEnd, answer_by, choice_at, choice_by, choice_in, exchange_by, offer_by, offer_in, source_by, source_chosen, source_of_end, source_with}
@@ -48,7 +48,7 @@ some_source : (x y : KeyMaterialData) → ◌≡◌ {A = Option KeyMaterialData}
 some_source x y e = cc
 
 -- an end with an answer has its source
-source_answered : (m : SuiteData) (role : Role) (kex : List ℕ) (end : KexEnd) (r : ResponseData) → answer_by role m kex end.random end.peer_share ≡ Some r
+source_answered : (m : SuiteData) (role : Side) (kex : List ℕ) (end : KexEnd) (r : ResponseData) → answer_by role m kex end.random end.peer_share ≡ Some r
     → source_with m role kex end ≡ Some (source_by m kex (exchange_by m role kex end r))
 source_answered m role kex end r e = ap (λ (o : Option ResponseData). option_map (λ answer. source_by m kex (exchange_by m role kex end answer)) o) e
 
@@ -83,7 +83,7 @@ one_source m kex client server a one =
     (source_answered m Server kex server answered.0 answered.2 ∙ ap (λ (x : KeyMaterialData). Some x) same)
 
 -- where the method is chosen, the source is that of the method
-source_by_choice : (m : SuiteData) (role : Role) (end : KexEnd) (a : AlgorithmsData) (kex : List ℕ) → choice_at m role end ≡ Ok a → a.kex ≡ kex
+source_by_choice : (m : SuiteData) (role : Side) (end : KexEnd) (a : AlgorithmsData) (kex : List ℕ) → choice_at m role end ≡ Ok a → a.kex ≡ kex
     → source_of_end m role end ≡ source_with m role kex end
 unfolding source_of_end
 source_by_choice m role end a kex chosen is = ap (λ r. source_chosen m role end r) chosen ∙ ap (λ (k : List ℕ). source_with m role k end) is

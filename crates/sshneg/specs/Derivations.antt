@@ -2,8 +2,8 @@
 
 use Rattle.std.specs.Prelude.{ℕ, ◌+◌, zero, suc, true, List, ◌∷◌, ◌++◌, codes, length, take}
 use Rattle.sshwire.specs.Types.{boolean, string}
-use Rattle.sshneg.specs.declared.role.Role.{Role}
-use Rattle.sshneg.specs.declared.role.Role.TheVariants.{Client, Server}
+use Rattle.sshneg.specs.declared.side.Side.{Side}
+use Rattle.sshneg.specs.declared.side.Side.TheVariants.{Client, Server}
 use Rattle.sshneg.specs.Markers.{other}
 use Rattle.sshpacket.specs.KeysData.{KeysData}
 use Rattle.sshpacket.specs.Suite.{SuiteData}
@@ -71,20 +71,20 @@ unfoldable pub key : SuiteData → KeyMaterialData → ℕ → ℕ → List ℕ
 key m x letter len = take len (grown m x (hash_with m x (letter ∷ x.session)) len)
 
 -- the letters of the initialisation vector, the encryption key and the integrity key, by who sends
-abbrev pub iv_letter : Role → ℕ
+abbrev pub iv_letter : Side → ℕ
 iv_letter Client = 65
 iv_letter Server = 66
 
-abbrev pub enc_letter : Role → ℕ
+abbrev pub enc_letter : Side → ℕ
 enc_letter Client = 67
 enc_letter Server = 68
 
-abbrev pub mac_letter : Role → ℕ
+abbrev pub mac_letter : Side → ℕ
 mac_letter Client = 69
 mac_letter Server = 70
 
 -- the keys of the direction in which this role sends
-unfoldable pub derived : SuiteData → KeyMaterialData → Role → List ℕ → List ℕ → KeysData
+unfoldable pub derived : SuiteData → KeyMaterialData → Side → List ℕ → List ℕ → KeysData
 derived m x sender cipher mac = record {
   cipher = cipher;
   mac = mac;
@@ -94,8 +94,8 @@ derived m x sender cipher mac = record {
 }
 
 -- the keys with which this role seals, and those with which it unseals: the keys by which the other side sends
-abbrev pub sealing : SuiteData → KeyMaterialData → Role → List ℕ → List ℕ → KeysData
+abbrev pub sealing : SuiteData → KeyMaterialData → Side → List ℕ → List ℕ → KeysData
 sealing m x role cipher mac = derived m x role cipher mac
 
-abbrev pub unsealing : SuiteData → KeyMaterialData → Role → List ℕ → List ℕ → KeysData
+abbrev pub unsealing : SuiteData → KeyMaterialData → Side → List ℕ → List ℕ → KeysData
 unsealing m x role cipher mac = derived m x (other role) cipher mac

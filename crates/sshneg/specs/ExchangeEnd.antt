@@ -7,8 +7,8 @@ use Rattle.sshmsg.specs.MessageData.{KexInit, KexInitData, MessageData}
 use Rattle.sshmsg.specs.Messages.{message_in}
 use Rattle.sshneg.specs.declared.choice.NoCommon.{NoCommon}
 use Rattle.sshneg.specs.declared.choice.NoCommon.TheVariants.{Kex}
-use Rattle.sshneg.specs.declared.role.Role.{Role}
-use Rattle.sshneg.specs.declared.role.Role.TheVariants.{Client, Server}
+use Rattle.sshneg.specs.declared.side.Side.{Side}
+use Rattle.sshneg.specs.declared.side.Side.TheVariants.{Client, Server}
 use Rattle.sshneg.specs.ChoiceReadings.{choice}
 use Rattle.sshneg.specs.Derivations.{ExchangeData, KeyMaterialData, exchange_text, sealing, unsealing}
 use Rattle.sshneg.specs.Fields.{AlgorithmsData}
@@ -33,12 +33,12 @@ abbrev pub choice_in : SuiteData → List ℕ → List ℕ → Result Algorithms
 choice_in m client server = choice_by m (offer_in client) (offer_in server)
 
 -- of what this role has and what its peer has, what the client has
-abbrev pub client_of : {A : Type 0} → Role → A → A → A
+abbrev pub client_of : {A : Type 0} → Side → A → A → A
 client_of Client own peer = own
 client_of Server own peer = peer
 
 -- of what this role has and what its peer has, what the server has
-abbrev pub server_of : {A : Type 0} → Role → A → A → A
+abbrev pub server_of : {A : Type 0} → Side → A → A → A
 server_of Client own peer = peer
 server_of Server own peer = own
 
@@ -55,17 +55,17 @@ pub record KexEnd : Type 0 where
   pub host_key : List ℕ
 
 -- the choice of the KEXINIT that this end has sent and the one that it has received
-abbrev pub choice_at : SuiteData → Role → KexEnd → Result AlgorithmsData NoCommon
+abbrev pub choice_at : SuiteData → Side → KexEnd → Result AlgorithmsData NoCommon
 choice_at m role end = choice_in m (client_of role end.kexinit end.peer_kexinit) (server_of role end.kexinit end.peer_kexinit)
 
 -- The server's share f and the shared secret K, by the method, the own random bytes and the peer's share (RFC 4253 section 8):
 -- a client has received f and makes K of it; a server makes both of the client's share e.
-abbrev pub answer_by : Role → SuiteData → List ℕ → List ℕ → List ℕ → Option ResponseData
+abbrev pub answer_by : Side → SuiteData → List ℕ → List ℕ → List ℕ → Option ResponseData
 answer_by Client m kex random peer = option_map (λ body. record { share = peer; shared = body }) (m.shared kex random peer)
 answer_by Server m kex random peer = m.respond kex random peer
 
 -- what is hashed at this end, by the method, the server's share and the shared secret (RFC 4253 section 8)
-unfoldable pub exchange_by : SuiteData → Role → List ℕ → KexEnd → ResponseData → ExchangeData
+unfoldable pub exchange_by : SuiteData → Side → List ℕ → KexEnd → ResponseData → ExchangeData
 exchange_by m role kex end answer = record {
   client_version = client_of role end.version end.peer_version;
   server_version = server_of role end.version end.peer_version;
@@ -86,17 +86,17 @@ abbrev pub source_by : SuiteData → List ℕ → ExchangeData → KeyMaterialDa
 source_by m kex x = record { kex = kex; shared = x.shared; hash = exchange_hash m kex x; session = exchange_hash m kex x }
 
 -- what this end makes its keys of by this method, if there is an answer
-abbrev pub source_with : SuiteData → Role → List ℕ → KexEnd → Option KeyMaterialData
+abbrev pub source_with : SuiteData → Side → List ℕ → KexEnd → Option KeyMaterialData
 source_with m role kex end =
     option_map (λ answer. source_by m kex (exchange_by m role kex end answer)) (answer_by role m kex end.random end.peer_share)
 
 -- the same by the method of a choice, if there is one
-abbrev pub source_chosen : SuiteData → Role → KexEnd → Result AlgorithmsData NoCommon → Option KeyMaterialData
+abbrev pub source_chosen : SuiteData → Side → KexEnd → Result AlgorithmsData NoCommon → Option KeyMaterialData
 source_chosen m role end (Ok a) = source_with m role a.kex end
 source_chosen m role end (Err f) = None
 
 -- what this end makes its keys of, if its two KEXINITs have a choice and there is an answer (RFC 4253 sections 7 and 8)
-unfoldable pub source_of_end : SuiteData → Role → KexEnd → Option KeyMaterialData
+unfoldable pub source_of_end : SuiteData → Side → KexEnd → Option KeyMaterialData
 source_of_end m role end = source_chosen m role end (choice_at m role end)
 
 -- The two ends of one exchange by this method: each has received what the other has sent. The share that a server sends is

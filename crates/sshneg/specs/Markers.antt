@@ -3,11 +3,11 @@
 use Rattle.std.specs.Prelude.{◌≡◌, ◌||◌, ℕ, Bool, false, true, not, List, [], ◌∷◌, codes, filter, Contains, Option, None, Some}
 use Rattle.std.specs.Str.{bytes_eq}
 use Rattle.sshmsg.specs.MessageData.{KexInitData}
-use Rattle.sshneg.specs.declared.role.Role.{Role}
-use Rattle.sshneg.specs.declared.role.Role.TheVariants.{Client, Server}
+use Rattle.sshneg.specs.declared.side.Side.{Side}
+use Rattle.sshneg.specs.declared.side.Side.TheVariants.{Client, Server}
 
 -- the marker by which a side says that it can be strict
-abbrev pub strict_marker : Role → List ℕ
+abbrev pub strict_marker : Side → List ℕ
 strict_marker Client = codes "kex-strict-c-v00@openssh.com"
 strict_marker Server = codes "kex-strict-s-v00@openssh.com"
 
@@ -18,12 +18,12 @@ is_marker name =
     || (bytes_eq name (codes "ext-info-s") || (bytes_eq name (strict_marker Client) || bytes_eq name (strict_marker Server)))
 
 -- the other side
-abbrev pub other : Role → Role
+abbrev pub other : Side → Side
 other Client = Server
 other Server = Client
 
 -- An endpoint is strict: it is willing to be, and the peer's KEXINIT has the peer's marker, wherever it stands in the kex list.
-pub record IsStrict (flag : Bool) (role : Role) (peer : KexInitData) : Type 0 where
+pub record IsStrict (flag : Bool) (role : Side) (peer : KexInitData) : Type 0 where
   pub willing : flag ≡ true
   pub marked : Contains peer.kex_algorithms (strict_marker (other role))
 

@@ -6,7 +6,7 @@ ghost use Rattle.sshpacket.specs.declared.limits.TheConstants.{DIGEST_LIMIT};
 ghost use Rattle.sshneg.specs.Derivations.{derived, enc_letter, exchange_size, exchange_text, grown, hash_with, iv_letter, key, mac_letter, signed_text, source_size};
 ghost use Rattle.sshneg.specs.ExchangeView.{exchange_data, key_material_data};
 
-use crate::role::Role;
+use crate::side::Side;
 use sshmsg::SSH_MSG_USERAUTH_REQUEST;
 use sshpacket::{KeyParts, Keys, Suite};
 use sshwire::{Memory, put_boolean, put_string};
@@ -104,7 +104,7 @@ pub fn keys_of<S: Suite>(
     alloc: Global,
     suite: &S,
     material: &KeyMaterial<'_>,
-    sender: Role,
+    sender: Side,
     cipher: &str,
     mac: &str,
 ) -> Result<Keys, Memory>
@@ -130,32 +130,32 @@ pub fn keys_of<S: Suite>(
 }
 
 /// The letter of the initialisation vector.
-fn iv_letter(sender: Role) -> u8
+fn iv_letter(sender: Side) -> u8
     ensures { result ≡ iv_letter sender }
 {
     match sender {
-        Role::Client => b'A',
-        Role::Server => b'B',
+        Side::Client => b'A',
+        Side::Server => b'B',
     }
 }
 
 /// The letter of the encryption key.
-fn enc_letter(sender: Role) -> u8
+fn enc_letter(sender: Side) -> u8
     ensures { result ≡ enc_letter sender }
 {
     match sender {
-        Role::Client => b'C',
-        Role::Server => b'D',
+        Side::Client => b'C',
+        Side::Server => b'D',
     }
 }
 
 /// The letter of the integrity key.
-fn mac_letter(sender: Role) -> u8
+fn mac_letter(sender: Side) -> u8
     ensures { result ≡ mac_letter sender }
 {
     match sender {
-        Role::Client => b'E',
-        Role::Server => b'F',
+        Side::Client => b'E',
+        Side::Server => b'F',
     }
 }
 

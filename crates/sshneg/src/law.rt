@@ -6,10 +6,10 @@ ghost use Rattle.sshwire.specs.Types.{AreNames, IsName};
 ghost use Rattle.sshmsg.specs.MessageData.{KexInit, KexInitData};
 ghost use Rattle.sshmsg.specs.Written.{IsWellFormed, written_message};
 ghost use Rattle.sshpacket.specs.Suite.{Agrees, IsLawful, ResponseData, Signs, SuiteData};
-ghost use Rattle.sshneg.specs.declared.role.Role.TheVariants.{Client, Server};
+ghost use Rattle.sshneg.specs.declared.side.Side.TheVariants.{Client, Server};
 ghost use Rattle.sshneg.specs.declared.choice.Chosen.{Chosen};
 ghost use Rattle.sshneg.specs.declared.choice.NoCommon.{NoCommon};
-ghost use Rattle.sshneg.specs.declared.role.Role.{Role};
+ghost use Rattle.sshneg.specs.declared.side.Side.{Side};
 ghost use Rattle.sshneg.specs.Choice.{AreFirstMethods, ArePositions, HasChoice, IsChoice, IsFirstWithout, IsKex, ChoiceAnswer, serves};
 ghost use Rattle.sshneg.specs.ChoiceLaw.{AreEarliest, AreListed, OfferAlike, OfferSame, StandsAt};
 ghost use Rattle.sshneg.specs.ChoiceReadings.{answer, choice, positions};
@@ -64,7 +64,7 @@ pub fn choice_law()
 /// The law of markers (RFC 8308 section 2.1, OpenSSH PROTOCOL section 1.10).
 #[tactic(auto, using(crate::proofs::ChoiceOrder::marker, crate::proofs::ChoiceOrder::added, crate::proofs::ChoiceOrder::unmarked))]
 pub fn markers_law()
-    ensures strict { (role : Role) → is_marker (strict_marker role) ≡ true }
+    ensures strict { (role : Side) → is_marker (strict_marker role) ≡ true }
     ensures extensions { (is_marker (codes "ext-info-c") ≡ true) × (is_marker (codes "ext-info-s") ≡ true) }
     // The methods of a list are its names that are no markers.
     ensures method { (names : List (List ℕ)) (name : List ℕ) → Contains (methods names) name ↔ (Contains names name × (is_marker name ≡ false)) }
@@ -72,12 +72,12 @@ pub fn markers_law()
     ensures added { (marker : List ℕ) (before after : List (List ℕ)) → is_marker marker ≡ true → methods (before ++ marker ∷ after) ≡ methods (before ++ after) }
     ensures unmarked { (names : List (List ℕ)) → ((name : List ℕ) → Contains names name → is_marker name ≡ false) → methods names ≡ names }
     // Strictness and a right guess are decided by a test of flag, role and offers.
-    ensures strictness { (flag : Bool) (role : Role) (peer : KexInitData) → (is_strict flag role peer ≡ true) ↔ IsStrict flag role peer }
+    ensures strictness { (flag : Bool) (role : Side) (peer : KexInitData) → (is_strict flag role peer ≡ true) ↔ IsStrict flag role peer }
     ensures right { (client server : KexInitData) → (is_right_guess client server ≡ true) ↔ IsRightGuess client server }
     // Of two endpoints that put their own marker after methods: the methods are the same, and strictness is both flags.
-    ensures own_methods { (flag : Bool) (role : Role) (names : List (List ℕ)) → ((name : List ℕ) → Contains names name → is_marker name ≡ false)
+    ensures own_methods { (flag : Bool) (role : Side) (names : List (List ℕ)) → ((name : List ℕ) → Contains names name → is_marker name ≡ false)
         → methods (marked_list role flag names) ≡ names }
-    ensures both_flags { (flag other_flag : Bool) (role : Role) (names : List (List ℕ)) (peer : KexInitData)
+    ensures both_flags { (flag other_flag : Bool) (role : Side) (names : List (List ℕ)) (peer : KexInitData)
         → ((name : List ℕ) → Contains names name → is_marker name ≡ false) → peer.kex_algorithms ≡ marked_list (other role) other_flag names
         → IsStrict flag role peer ↔ ((flag ≡ true) × (other_flag ≡ true)) }
 {}
@@ -87,11 +87,11 @@ pub fn markers_law()
 pub fn derivation_law()
     // The initialisation vector, the encryption key and the integrity key of either direction have the lengths that the suite
     // asks for.
-    ensures iv { (m : SuiteData) → IsLawful m → (x : KeyMaterialData) (sender : Role) (cipher mac : List ℕ)
+    ensures iv { (m : SuiteData) → IsLawful m → (x : KeyMaterialData) (sender : Side) (cipher mac : List ℕ)
         → length (derived m x sender cipher mac).iv ≡ (m.key_lens cipher mac).iv }
-    ensures enc { (m : SuiteData) → IsLawful m → (x : KeyMaterialData) (sender : Role) (cipher mac : List ℕ)
+    ensures enc { (m : SuiteData) → IsLawful m → (x : KeyMaterialData) (sender : Side) (cipher mac : List ℕ)
         → length (derived m x sender cipher mac).enc ≡ (m.key_lens cipher mac).enc }
-    ensures mac { (m : SuiteData) → IsLawful m → (x : KeyMaterialData) (sender : Role) (cipher mac : List ℕ)
+    ensures mac { (m : SuiteData) → IsLawful m → (x : KeyMaterialData) (sender : Side) (cipher mac : List ℕ)
         → length (derived m x sender cipher mac).mac_key ≡ (m.key_lens cipher mac).mac }
     // As few hashes as reach the length give the key.
     ensures hashes { (m : SuiteData) → IsLawful m → (x : KeyMaterialData) (letter len n : ℕ) → n ≤ len

@@ -6,7 +6,7 @@ mod derivations;
 mod guess;
 mod law;
 mod markers;
-mod role;
+mod side;
 mod strict;
 
 pub use choice::{Chosen, NoCommon, choose};
@@ -14,5 +14,5 @@ pub use derivations::{Exchange, KeyMaterial, exchange_input, keys_of, signed_req
 pub use guess::guess_right;
 pub use law::{agreement_law, choice_law, derivation_law, exchange_law, markers_law};
 pub use markers::{is_marker, strict_marker};
-pub use role::Role;
+pub use side::Side;
 pub use strict::strict_of;

@@ -4,7 +4,7 @@
 ghost use Rattle.std.specs.Prelude.{◌≡◌};
 ghost use Rattle.sshneg.specs.Markers.{is_marker, strict_marker};
 
-use crate::role::Role;
+use crate::side::Side;
 
 /// Whether a name of a kex list is a marker, and so no method. Takes no memory.
 pub fn is_marker(name: &str) -> bool
@@ -18,11 +18,11 @@ pub fn is_marker(name: &str) -> bool
 
 /// The marker by which a side of this role says that it can be strict (OpenSSH PROTOCOL section
 /// 1.10). Takes no memory.
-pub fn strict_marker(role: Role) -> &'static str
+pub fn strict_marker(role: Side) -> &'static str
     ensures { result.now ≡ strict_marker role }
 {
     match role {
-        Role::Client => "kex-strict-c-v00@openssh.com",
-        Role::Server => "kex-strict-s-v00@openssh.com",
+        Side::Client => "kex-strict-c-v00@openssh.com",
+        Side::Server => "kex-strict-s-v00@openssh.com",
     }
 }

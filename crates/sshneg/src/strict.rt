@@ -5,12 +5,12 @@ ghost use Rattle.sshmsg.specs.View.{kexinit_data};
 ghost use Rattle.sshneg.specs.Markers.{IsStrict};
 
 use crate::markers::strict_marker;
-use crate::role::Role;
+use crate::side::Side;
 use sshmsg::KexInit;
 
 /// Whether an endpoint of this role is strict: it is willing to be, and the peer's KEXINIT has the
 /// peer's marker, wherever it stands in the kex list. Takes no memory.
-pub fn strict_of(own_flag: bool, own_role: Role, peer: &KexInit<'_>) -> bool
+pub fn strict_of(own_flag: bool, own_role: Side, peer: &KexInit<'_>) -> bool
     ensures { IsTrue result ↔ IsStrict own_flag own_role (kexinit_data peer.now) }
 {
     own_flag

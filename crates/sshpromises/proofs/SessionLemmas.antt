@@ -3,7 +3,7 @@
 use Rattle.std.proofs.Common.{◌≡◌, ◌∙◌, ◌++◌, ℕ, List, [], Result, Ok, ap, append_assoc, drop, subst, sym, take}
 use Rattle.std.specs.Result.{IfOk}
 use Rattle.std.proofs.lemmas.List.{take-append-drop}
-use Rattle.sshneg.specs.declared.role.Role.TheVariants as role
+use Rattle.sshneg.specs.declared.side.Side.TheVariants as role
 use Rattle.sshpacket.specs.Places.{IsPrefix}
 use Rattle.sshpacket.specs.Suite.{SuiteData}
 use Rattle.sshcore.specs.ConfigParts.{ClientData, ServerData}

@@ -6,7 +6,7 @@ use crate::terms::bytes_of;
 use crate::texts::{flag_of, same_text, wrong, yes_or_no};
 use crate::words::{Line, split_word};
 use sshmsg::{KexInit, Message, MsgFault, read};
-use sshneg::{Chosen, Role, choose, guess_right, strict_of};
+use sshneg::{Chosen, Side, choose, guess_right, strict_of};
 use sshsuites::LabSuite;
 use std::alloc::{AllocError, Global};
 
@@ -97,17 +97,17 @@ fn judge_strict(
     let (willing, wanted) = split_word(rest);
     let willing = flag_of(alloc, line, willing)?;
     let strict = match role_of(alloc, line, role)? {
-        Role::Client => strict_of(willing, Role::Client, server),
-        Role::Server => strict_of(willing, Role::Server, client),
+        Side::Client => strict_of(willing, Side::Client, server),
+        Side::Server => strict_of(willing, Side::Server, client),
     };
     same_text(alloc, line, "strict", wanted, yes_or_no(strict))
 }
 
 /// The role that the word names.
-pub(crate) fn role_of(alloc: Global, line: &Line<'_>, word: &str) -> Result<Role, Stop> {
+pub(crate) fn role_of(alloc: Global, line: &Line<'_>, word: &str) -> Result<Side, Stop> {
     match word {
-        "client" => Ok(Role::Client),
-        "server" => Ok(Role::Server),
+        "client" => Ok(Side::Client),
+        "server" => Ok(Side::Server),
         _ => wrong(alloc, line, "role", "client or server", word),
     }
 }

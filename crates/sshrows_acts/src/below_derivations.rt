@@ -9,7 +9,7 @@ use crate::stop::Stop;
 use crate::terms::bytes_of;
 use crate::texts::{same_bytes, same_text, wrong};
 use crate::words::{Line, split_word};
-use sshneg::{Exchange, KeyMaterial, Role, exchange_input, keys_of, signed_request};
+use sshneg::{Exchange, KeyMaterial, Side, exchange_input, keys_of, signed_request};
 use sshsuites::LabSuite;
 use sshwire::as_name;
 use std::alloc::Global;
@@ -156,7 +156,7 @@ fn text_of_keys(
     alloc: Global,
     line: &Line<'_>,
     parts: &Parts,
-    sender: Role,
+    sender: Side,
     cipher: &str,
     mac: &str,
 ) -> Result<String, Stop> {

@@ -13,8 +13,8 @@ use Rattle.sshmsg.specs.MessageData.{KexInit, MessageData, UserauthBanner, Usera
 use Rattle.sshmsg.specs.Messages.{message_in}
 use Rattle.sshmsg.specs.Written.{IsMessageOf, IsMethod, IsNameList, IsNumber, IsOffer, IsString, IsWellFormed, method_name, written_message}
 use Rattle.sshneg.specs.declared.choice.NoCommon.TheVariants as field
-use Rattle.sshneg.specs.declared.role.Role.{Role}
-use Rattle.sshneg.specs.declared.role.Role.TheVariants.{Client, Server}
+use Rattle.sshneg.specs.declared.side.Side.{Side}
+use Rattle.sshneg.specs.declared.side.Side.TheVariants.{Client, Server}
 use Rattle.sshneg.specs.ChoiceReadings.{choice, is_in}
 use Rattle.sshneg.specs.Derivations.{signed_text}
 use Rattle.sshneg.specs.Fields.{AlgorithmsData}
@@ -54,8 +54,8 @@ pub record Below (m : SuiteData) : Type 0 where
       → IsShare (has_number_shares (m.share_form kex)) r.share × IsShare (shares_number (m.share_form kex)) r.shared
   pub client_written : (c : ClientData) → IsClient c → IsOffer (client_offer c)
   pub server_written : (s : ServerData) → IsServer s → IsOffer (server_offer s)
-  pub client_unmarked : (c : ClientData) → IsClient c → (role : Role) → Contains c.side.kex_algorithms (strict_marker role) → ⊥
-  pub server_unmarked : (s : ServerData) → IsServer s → (role : Role) → Contains s.side.kex_algorithms (strict_marker role) → ⊥
+  pub client_unmarked : (c : ClientData) → IsClient c → (role : Side) → Contains c.side.kex_algorithms (strict_marker role) → ⊥
+  pub server_unmarked : (s : ServerData) → IsServer s → (role : Side) → Contains s.side.kex_algorithms (strict_marker role) → ⊥
 
 octets : OctetString ≢ Mpint
 octets e = cc (e)

@@ -4,7 +4,7 @@ use Rattle.std.proofs.Common.{◌≡◌, ℕ, zero, suc, ◌+◌, ◌<◌, ◌�
 use Rattle.sshmsg.specs.MessageData.{UserauthBanner}
 use Rattle.sshmsg.specs.Written.{written_message}
 use Rattle.sshneg.specs.declared.choice.NoCommon.{NoCommon}
-use Rattle.sshneg.specs.declared.role.Role.TheVariants.{Client}
+use Rattle.sshneg.specs.declared.side.Side.TheVariants.{Client}
 use Rattle.sshneg.specs.ChoiceReadings.{choice}
 use Rattle.sshneg.specs.Fields.{AlgorithmsData}
 use Rattle.sshneg.specs.Strictness.{is_right_guess}

@@ -1,7 +1,7 @@
 -- Two sides of a world in the course of their configs.
 
 use Rattle.std.proofs.Common.{◌≡◌, ◌≢◌, take}
-use Rattle.sshneg.specs.declared.role.Role.TheVariants.{Client, Server}
+use Rattle.sshneg.specs.declared.side.Side.TheVariants.{Client, Server}
 use Rattle.sshpacket.specs.Suite.{IsLawful, SuiteData}
 use Rattle.sshcore.specs.declared.end.Fault.TheVariants as fault
 use Rattle.sshcore.specs.ConfigParts.{ClientData, ServerData}

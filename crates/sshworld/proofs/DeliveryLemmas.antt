@@ -10,11 +10,10 @@ use Rattle.sshcore.specs.ConfigParts.{ClientData, ServerData}
 use Rattle.sshcore.specs.EndData.{Authenticated, Closed, Disconnected, EndData, Failed, Open}
 use Rattle.sshcore.specs.Endpoints.{endpoint_end}
 use Rattle.sshcore.specs.EndpointParts.{ConfigData, DecisionsData}
-use Rattle.sshneg.specs.declared.role.Role.{Role}
+use Rattle.sshneg.specs.declared.side.Side.{Side}
 use Rattle.sshworld.specs.declared.node.Node.{Node}
 use Rattle.sshworld.specs.declared.side.Delivery.{Delivery}
-use Rattle.sshworld.specs.declared.side.Side.{Side}
-use Rattle.sshworld.specs.declared.side.Side.TheVariants.{Client, Server}
+use Rattle.sshneg.specs.declared.side.Side.TheVariants.{Client, Server}
 use Rattle.sshworld.specs.Conversed.{EachReplies}
 use Rattle.sshworld.specs.Deliveries.{Delivered, Done, DoneBy, Refused, Round, RoundInto, Rounds, RoundsInto, Runs, RunsInto, TakesIn}
 use Rattle.sshworld.specs.Nodes.{BrokenWith, NodeStands, NodesStand, Receives, ReceivesInto, ReceivesNone, ReceivesSome, Takes, TakesNone, TakesSome, node_data, seen}
@@ -145,7 +144,7 @@ module _ {S D : Type 0} (meaning : S → SuiteData) (policy : D → DecisionsDat
     none_ended count (Err e) ended takes is broken = absurd (ended broken.was_open)
 
   -- so callers see it, if n bytes were received
-  takes_in : (role : Role) (party : ConfigData) (suite : S) (decisions : D) (sent : List ℕ) (old new : Node S D) (n : ℕ)
+  takes_in : (role : Side) (party : ConfigData) (suite : S) (decisions : D) (sent : List ℕ) (old new : Node S D) (n : ℕ)
       → NodeStands meaning policy role party suite decisions old sent → Takes meaning policy sent n old new → TakesIn n (node_data old) (node_data new)
   takes_in role party suite decisions sent old new n s t =
       let r = node_receives sent old new n t in

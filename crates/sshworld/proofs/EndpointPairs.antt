@@ -2,8 +2,8 @@
 
 use Rattle.std.proofs.Common.{◌≡◌, ◌≢◌, ℕ, List, Option, None, take, drop, sym, subst, ◌∙◌}
 use Rattle.std.proofs.lemmas.List.{take-append-drop}
-use Rattle.sshneg.specs.declared.role.Role.{Role}
-use Rattle.sshneg.specs.declared.role.Role.TheVariants.{Client, Server}
+use Rattle.sshneg.specs.declared.side.Side.{Side}
+use Rattle.sshneg.specs.declared.side.Side.TheVariants.{Client, Server}
 use Rattle.sshpacket.specs.Parse.{Refusal}
 use Rattle.sshpacket.specs.Places.{IsPrefix}
 use Rattle.sshpacket.specs.Stream.{Units}
@@ -32,7 +32,7 @@ use Rattle.sshworld.specs.Wordings.{wording_of}
 use Rattle.sshworld.specs.Worlds.{WorldData}
 use Rattle.sshworld.proofs.CrosswiseLemmas.{all_received, crosswise}
 
-module _ (m : SuiteData) (d : DecisionsData) (role : Role) (party : ConfigData) where
+module _ (m : SuiteData) (d : DecisionsData) (role : Side) (party : ConfigData) where
   unrefused : (units : Units) (refusal : Option Refusal) (agreed : AgreedData) → Ends m d role party units refusal (Authenticated agreed) → refusal ≡ None
   unrefused units refusal agreed (goes_on stays is) = absurd (none_refused refusal agreed is)
   unrefused units refusal agreed (ended before last units_are stays is shut none) = none
@@ -53,14 +53,14 @@ module _ {S D : Type 0} (meaning : S → SuiteData) (policy : D → DecisionsDat
     client_history : History (meaning client.suite) (policy client.decisions) Client (config_of_client c) j.client_after.units j.client_after.rest None j.client_after.answers (Authenticated a) client_received client_sent
     client_history =
         let p = j.client_after in
-        subst (λ (r : Role). History (meaning client.suite) (policy client.decisions) r (config_of_client c) p.units p.rest None p.answers (Authenticated a) client_received client_sent) j.is_client
+        subst (λ (r : Side). History (meaning client.suite) (policy client.decisions) r (config_of_client c) p.units p.rest None p.answers (Authenticated a) client_received client_sent) j.is_client
         (subst (λ (q : ConfigData). History (meaning client.suite) (policy client.decisions) client.role q p.units p.rest None p.answers (Authenticated a) client_received client_sent) j.of_client
         (history_so (meaning client.suite) (policy client.decisions) client.role client.party _ client.input client_received client_sent p a is))
 
     server_history : History (meaning client.suite) (policy client.decisions) Server (config_of_server s) j.server_after.units j.server_after.rest None j.server_after.answers (Authenticated b) server_received server_sent
     server_history =
         let p = j.server_after in
-        subst (λ (r : Role). History (meaning client.suite) (policy client.decisions) r (config_of_server s) p.units p.rest None p.answers (Authenticated b) server_received server_sent) j.is_server
+        subst (λ (r : Side). History (meaning client.suite) (policy client.decisions) r (config_of_server s) p.units p.rest None p.answers (Authenticated b) server_received server_sent) j.is_server
         (subst (λ (q : ConfigData). History (meaning client.suite) (policy client.decisions) server.role q p.units p.rest None p.answers (Authenticated b) server_received server_sent) j.of_server
         (subst (λ (k : S). History (meaning k) (policy client.decisions) server.role server.party p.units p.rest None p.answers (Authenticated b) server_received server_sent) j.one_suite
         (subst (λ (k : D). History (meaning server.suite) (policy k) server.role server.party p.units p.rest None p.answers (Authenticated b) server_received server_sent) j.same_decisions
@@ -80,9 +80,9 @@ module _ {S D : Type 0} (meaning : S → SuiteData) (policy : D → DecisionsDat
         let q = j.server_after in
         crosswise laws below (meaning client.suite) (policy client.decisions) lawful c s (wording_of (meaning client.suite) (policy client.decisions) c s) receive p.units p.answers p.rest client_received client_sent a client_history
         q.units q.answers q.rest server_received server_sent b server_history j.to_client j.to_server one other
-        (subst (λ (r : Role). IsSession (meaning client.suite) (policy client.decisions) r (config_of_client c) p.units p.answers a one) j.is_client
+        (subst (λ (r : Side). IsSession (meaning client.suite) (policy client.decisions) r (config_of_client c) p.units p.answers a one) j.is_client
         (subst (λ (x : ConfigData). IsSession (meaning client.suite) (policy client.decisions) client.role x p.units p.answers a one) j.of_client t))
-        (subst (λ (r : Role). IsSession (meaning client.suite) (policy client.decisions) r (config_of_server s) q.units q.answers b other) j.is_server
+        (subst (λ (r : Side). IsSession (meaning client.suite) (policy client.decisions) r (config_of_server s) q.units q.answers b other) j.is_server
         (subst (λ (x : ConfigData). IsSession (meaning client.suite) (policy client.decisions) server.role x q.units q.answers b other) j.of_server
         (subst (λ (k : S). IsSession (meaning k) (policy client.decisions) server.role server.party q.units q.answers b other) j.one_suite
         (subst (λ (k : D). IsSession (meaning server.suite) (policy k) server.role server.party q.units q.answers b other) j.same_decisions u))))

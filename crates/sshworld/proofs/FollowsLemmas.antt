@@ -3,8 +3,8 @@
 use Rattle.std.proofs.Common.{◌≡◌, ◌≢◌, ℕ, zero, suc, ◌<◌, ◌≤◌, ◌==◌, true, false, List, [], ◌∷◌, ◌++◌, append_assoc, append-nil, length, length-append, None, refl, sym, ap, ◌∙◌, subst, arith, eq-eqb}
 use native.Mathlib.Decide.{dec_lt}
 use Rattle.std.proofs.lemmas.Bool.{ne_eqb}
-use Rattle.sshneg.specs.declared.role.Role.{Role}
-use Rattle.sshneg.specs.declared.role.Role.TheVariants.{Client, Server}
+use Rattle.sshneg.specs.declared.side.Side.{Side}
+use Rattle.sshneg.specs.declared.side.Side.TheVariants.{Client, Server}
 use Rattle.sshpacket.specs.Places.{EachPlace, IsPrefix, flat_places}
 use Rattle.sshpacket.specs.Stream.{Units}
 use Rattle.sshpacket.specs.Suite.{SuiteData}
@@ -49,7 +49,7 @@ sent_from f group before (x ∷ xs) e =
     ap (λ (g : Units). g ++ flat_places f (before ++ x ∷ []) xs) e.0
     ∙ ap (λ (g : Units). group (length before) ++ g) (sent_from f group (before ++ x ∷ []) xs e.1 ∙ ap (λ (n : ℕ). from group n (length xs)) (let n : length (before ++ x ∷ []) ≡ suc (length before) = omega (arith, length-append before (x ∷ [])) in n))
 
-module _ (m : SuiteData) (d : DecisionsData) (role : Role) (own : ConfigData) (p : Part) (stream : Units) (follows : FollowsPart m d role own p stream) (some : 0 < p.receives) (ends : p.final ≢ Open) where
+module _ (m : SuiteData) (d : DecisionsData) (role : Side) (own : ConfigData) (p : Part) (stream : Units) (follows : FollowsPart m d role own p stream) (some : 0 < p.receives) (ends : p.final ≢ Open) where
   -- it stays open at fewer units than it receives
   few : (units : Units) → IsPrefix units stream → StaysOpen m d role own units → length units < p.receives
   few units front open_at = elim (dec_lt (length units) p.receives) [

@@ -1,8 +1,8 @@
 -- Two sides are in their course from the making on, whatever prefix each receives next of what the other has sent.
 
 use Rattle.std.proofs.Common.{◌≡◌, ◌≢◌, ◌≤◌, [], ◌∷◌, length, length-append, append-nil, None, refl, sym, ap, subst, arith}
-use Rattle.sshneg.specs.declared.role.Role.TheVariants.{Client, Server}
-use Rattle.sshneg.specs.declared.role.Role.{Role}
+use Rattle.sshneg.specs.declared.side.Side.TheVariants.{Client, Server}
+use Rattle.sshneg.specs.declared.side.Side.{Side}
 use Rattle.sshpacket.specs.Places.{IsPrefix}
 use Rattle.sshpacket.specs.Stream.{Units}
 use Rattle.sshpacket.specs.Suite.{SuiteData}
@@ -30,7 +30,7 @@ sent_more part old new a b received =
     (subst (λ (l : Units). IsPrefix (sent_after part (length old.units)) l) (sym b.sent) (grows_to part (length old.units) (length new.units) (prefix_short old.units new.units received)))
 
 -- what is sent at the making
-begins_with : (m : SuiteData) (d : DecisionsData) (role : Role) (own : ConfigData) → Replies m d role own [] None (making m role own) Open
+begins_with : (m : SuiteData) (d : DecisionsData) (role : Side) (own : ConfigData) → Replies m d role own [] None (making m role own) Open
 begins_with m d role own = record { in_order = sym (append-nil (making m role own)); ends = goes_on tt refl }
 
 module _ (m : SuiteData) (d : DecisionsData) (c : ClientData) (s : ServerData) (w : Wording) (both : BothKeep m d c s w) where

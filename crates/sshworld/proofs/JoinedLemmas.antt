@@ -4,7 +4,7 @@ use Rattle.std.proofs.Common.{◌≡◌, ◌≢◌, inl, inr, ℕ, zero, suc, �
 use native.Mathlib.Decide.{dec_lt}
 use Rattle.std.proofs.Math.Nat.{min-le_right}
 use Rattle.std.proofs.lemmas.List.{length-take-le, take-append-drop, take-append-le, take_all}
-use Rattle.sshneg.specs.declared.role.Role.TheVariants.{Client, Server}
+use Rattle.sshneg.specs.declared.side.Side.TheVariants.{Client, Server}
 use Rattle.sshpacket.specs.Parse.{Refusal}
 use Rattle.sshpacket.specs.Places.{EachPlace, IsPrefix, flat_places}
 use Rattle.sshpacket.specs.Stream.{Read, Received, Spelled, Units}

@@ -9,7 +9,7 @@ use Rattle.sshwire.specs.TypeReadings.{is_name}
 use Rattle.sshwire.specs.declared.share_form.ShareForm.{ShareForm}
 use Rattle.sshmsg.specs.MessageData.{MessageData, MethodData, UserauthFailure, UserauthPkOk, UserauthSuccess}
 use Rattle.sshmsg.specs.Written.{method_name, written_message}
-use Rattle.sshneg.specs.declared.role.Role.TheVariants.{Client, Server}
+use Rattle.sshneg.specs.declared.side.Side.TheVariants.{Client, Server}
 use Rattle.sshneg.specs.ChoiceReadings.{is_in}
 use Rattle.sshneg.specs.Derivations.{signed_text}
 use Rattle.sshneg.specs.Fields.{AlgorithmsData}

@@ -4,8 +4,8 @@ use Rattle.std.proofs.Common.{◌≡◌, ◌⊎◌, inl, inr, suc, ◌+◌, ◌=
 use Rattle.std.proofs.lemmas.Bool.{true≢false}
 use Rattle.sshmsg.specs.Numbers.{kind}
 use Rattle.sshneg.specs.declared.choice.NoCommon.{NoCommon}
-use Rattle.sshneg.specs.declared.role.Role.{Role}
-use Rattle.sshneg.specs.declared.role.Role.TheVariants.{Client, Server}
+use Rattle.sshneg.specs.declared.side.Side.{Side}
+use Rattle.sshneg.specs.declared.side.Side.TheVariants.{Client, Server}
 use Rattle.sshneg.specs.ChoiceReadings.{choice}
 use Rattle.sshneg.specs.Derivations.{ExchangeData}
 use Rattle.sshneg.specs.Fields.{AlgorithmsData}
@@ -71,7 +71,7 @@ module _ (m : SuiteData) (d : DecisionsData) (c : ClientData) (s : ServerData) (
     abbrev w : Wording
     w = wording_with m d c s a.kex a
 
-    client_keys : (tail : Units) (sender : Role) → keys_at m Client (config_of_client c) (version_of s.side) (w.server_offer ∷ w.reply ∷ tail) sender ≡ keys_by m a (exchange_between m c s a) sender
+    client_keys : (tail : Units) (sender : Side) → keys_at m Client (config_of_client c) (version_of s.side) (w.server_offer ∷ w.reply ∷ tail) sender ≡ keys_by m a (exchange_between m c s a) sender
     client_keys tail sender =
         let here = client_exchanges m d c s understood sound offers a chosen readable in
         keys_stay m Client (config_of_client c) (version_of s.side) (w.server_offer ∷ w.reply ∷ []) tail sender (record { offer = here.tied.offer; exchange = here.tied.exchange })
@@ -92,7 +92,7 @@ module _ (m : SuiteData) (d : DecisionsData) (c : ClientData) (s : ServerData) (
         let here = client_begins m d c s understood sound offers a chosen readable in
         strict_stays m Client (config_of_client c) (w.server_offer ∷ []) tail here.tied.offer ∙ ap (λ (k : Known). k.strict) here.knows ∙ client_strict c s sound
 
-    server_keys : (before tail : Units) → Sits m d Server (config_of_server s) (version_of c.side) before phase.Exchange false (server_view m d c s understood sound offers a chosen readable [] 1 nothing_reached) → (sender : Role)
+    server_keys : (before tail : Units) → Sits m d Server (config_of_server s) (version_of c.side) before phase.Exchange false (server_view m d c s understood sound offers a chosen readable [] 1 nothing_reached) → (sender : Side)
         → keys_at m Server (config_of_server s) (version_of c.side) ((before ++ w.init ∷ []) ++ tail) sender ≡ keys_by m a (exchange_between m c s a) sender
     server_keys before tail sits sender =
         let here = server_exchanges m d c s understood sound offers a chosen readable before sits in
@@ -113,7 +113,7 @@ module _ (m : SuiteData) (d : DecisionsData) (c : ClientData) (s : ServerData) (
         let here = server_begins m d c s understood sound offers a chosen readable in
         strict_stays m Server (config_of_server s) (w.client_offer ∷ []) tail here.tied.offer ∙ ap (λ (k : Known). k.strict) here.knows ∙ server_strict c s sound
 
-    server_all : (g r : Bool) → c.guess ≡ g → is_right_guess (client_offer c) (server_offer s) ≡ r → (tail : Units) (sender : Role)
+    server_all : (g r : Bool) → c.guess ≡ g → is_right_guess (client_offer c) (server_offer s) ≡ r → (tail : Units) (sender : Side)
         → keys_at m Server (config_of_server s) (version_of c.side) (w.client_offer ∷ (guessed w (guess_by g r) ++ (init_anew w (guess_by g r) ++ tail))) sender ≡ keys_by m a (exchange_between m c s a) sender
     server_all false r eg er tail sender =
         server_keys (w.client_offer ∷ []) tail (begun m d c s understood sound offers a chosen readable false (ap (λ (b : Bool). b && not (is_right_guess (client_offer c) (server_offer s))) eg)) sender

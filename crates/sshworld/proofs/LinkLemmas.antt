@@ -5,7 +5,7 @@ use Rattle.std.specs.Prelude.{◌^◌}
 use Rattle.std.proofs.lemmas.Bool.{cases_Bool, true≢false}
 use Rattle.std.proofs.lemmas.Nat.{mod_below}
 use Rattle.sshmsg.specs.Numbers.{kind}
-use Rattle.sshneg.specs.declared.role.Role.{Role}
+use Rattle.sshneg.specs.declared.side.Side.{Side}
 use Rattle.sshneg.specs.Markers.{other}
 use Rattle.sshpacket.specs.KeysData.{KeysData}
 use Rattle.sshpacket.specs.Parse.{Refusal, parse_packet, protection, whole}
@@ -27,7 +27,7 @@ use Rattle.sshworld.specs.Placed.{HaveSameKeys, IsInPlace}
 
 -- A speaker stands in its course, once it has received these units and sent these answers: both are a prefix of all that is
 -- sent, what was sent fits packets, and NEWKEYS is among it only where the speaker has received the exchange message.
-pub record SpeaksInCourse (peer : Role) (own their : ConfigData) (ours theirs units answers : Units) : Type 0 where
+pub record SpeaksInCourse (peer : Side) (own their : ConfigData) (ours theirs units answers : Units) : Type 0 where
   pub received : IsPrefix units (own.version ∷ ours)
   pub sent : IsPrefix answers theirs
   pub fits : AllFit answers
@@ -46,10 +46,10 @@ module _ (t u : Units → List ℕ → Bool) where
       ap (λ (b : Bool). cond b xs (after_first t (before ++ x ∷ []) xs)) each.0 ∙ ap (λ (r : Units). cond (u before x) xs r) (after_same (before ++ x ∷ []) xs each.1)
 
 -- NEWKEYS isn't dropped here
-abbrev pub SameSwitch : Role → ConfigData → Units → List ℕ → Type 0
+abbrev pub SameSwitch : Side → ConfigData → Units → List ℕ → Type 0
 SameSwitch role own before p = kept role own.offer 21 before p ≡ (kind p == 21)
 
-module _ (role : Role) (own : ConfigData) where
+module _ (role : Side) (own : ConfigData) where
   -- the switch and the packets after it are the same on both sides
   pub switch_same : (xs : Units) → EachPlace (SameSwitch role own) [] xs → stood role own.offer 21 xs ≡ switched_out xs
   unfolding stood switched_out
@@ -63,7 +63,7 @@ number_below : (switched strict : Bool) (since all : ℕ) → number_by switched
 number_below switched strict since all = mod_below _ (2 ^ 32) (omega arith)
 
 -- after this NEWKEYS the receiver reads with what the speaker writes with, and both have hashed the same
-pub record SameWay (m : SuiteData) (role peer : Role) (own their : ConfigData) (received before : Units) : Type 0 where
+pub record SameWay (m : SuiteData) (role peer : Side) (own their : ConfigData) (received before : Units) : Type 0 where
   pub exchange : exchange_at m role own their.version before ≡ exchange_at m peer their (version_in received) (payloads_in received)
   pub keys : keys_at m role own their.version before (other role) ≡ keys_at m peer their (version_in received) (payloads_in received) peer
   pub strict : strict_at role own before ≡ strict_at peer their (payloads_in received)
@@ -77,7 +77,7 @@ module _ (laws : Laws) (m : SuiteData) (lawful : IsLawful m) where
       let e : i ≡ j = same keys refl in
       rw (ek, el, e) (laws.sealed m lawful keys seed j p more low fits.bytes fits.some fits.short)
 
-  module _ (role peer : Role) (own their : ConfigData) (received : Units) where
+  module _ (role peer : Side) (own their : ConfigData) (received : Units) where
     pub numbers_same : (before : Units) → EachPlace (SameSwitch role own) [] before → switched_out before ≡ true → SameWay m role peer own their received before
         → number_in role own before ≡ number_out (strict_at peer their (payloads_in received)) before
     unfolding number_out
@@ -135,8 +135,8 @@ begins_so (u ∷ us) version ps f e =
     let is : version ∷ ps ≡ u ∷ (us ++ f.rest) = f.whole_is in
     (cc, record { rest = f.rest; whole_is = cc })
 
-module _ (m : SuiteData) (role : Role) (party : ConfigData) where
-  keys_of_prefix : (version : List ℕ) (xs ys : Units) (sender : Role) → IsPrefix xs ys → IsReady role party xs → keys_at m role party version ys sender ≡ keys_at m role party version xs sender
+module _ (m : SuiteData) (role : Side) (party : ConfigData) where
+  keys_of_prefix : (version : List ℕ) (xs ys : Units) (sender : Side) → IsPrefix xs ys → IsReady role party xs → keys_at m role party version ys sender ≡ keys_at m role party version xs sender
   keys_of_prefix version xs ys sender f r = ap (λ (q : Units). keys_at m role party version q sender) f.whole_is ∙ keys_stay m role party version xs f.rest sender r
 
   exchange_of_prefix : (version : List ℕ) (xs ys : Units) → IsPrefix xs ys → IsReady role party xs → exchange_at m role party version ys ≡ exchange_at m role party version xs
@@ -145,7 +145,7 @@ module _ (m : SuiteData) (role : Role) (party : ConfigData) where
   strict_of_prefix : (xs ys : Units) → IsPrefix xs ys → IsReady role party xs → strict_at role party ys ≡ strict_at role party xs
   strict_of_prefix xs ys f r = ap (λ (q : Units). strict_at role party q) f.whole_is ∙ strict_stays m role party xs f.rest r.offer
 
-module _ (m : SuiteData) (role peer : Role) (own their : ConfigData) (ours theirs : Units) (can : CanBeReceived m role peer own their ours theirs) (units answers : Units) (speaks : SpeaksInCourse peer own their ours theirs units answers) where
+module _ (m : SuiteData) (role peer : Side) (own their : ConfigData) (ours theirs : Units) (can : CanBeReceived m role peer own their ours theirs) (units answers : Units) (speaks : SpeaksInCourse peer own their ours theirs units answers) where
   pub same_way : (b : Units) → IsPrefix b answers → switched_out b ≡ true → IsReady role own b → SameWay m role peer own their units b
   same_way b f on ready =
       let mine : IsReady peer their (payloads_in units) = speaks.keyed (switched_on b answers f on) in
@@ -159,7 +159,7 @@ module _ (m : SuiteData) (role peer : Role) (own their : ConfigData) (ours their
             ∙ ap (λ (v : List ℕ). exchange_at m peer their v (payloads_in units)) (sym begins.0)));
         keys = sym (keys_of_prefix m role own their.version b theirs (other role) all ready)
             ∙ (agree.keys (other role)
-            ∙ (ap (λ (sender : Role). keys_at m peer their own.version ours sender) can.is_other
+            ∙ (ap (λ (sender : Side). keys_at m peer their own.version ours sender) can.is_other
             ∙ (keys_of_prefix m peer their own.version (payloads_in units) ours peer begins.1 mine
             ∙ ap (λ (v : List ℕ). keys_at m peer their v (payloads_in units) peer) (sym begins.0))));
         strict = sym (strict_of_prefix m role own b theirs all ready) ∙ (agree.strict ∙ strict_of_prefix m peer their (payloads_in units) ours begins.1 mine);
@@ -178,11 +178,11 @@ module _ (m : SuiteData) (role peer : Role) (own their : ConfigData) (ours their
   )
 
 -- a speaker with a history stands in its course
-pub speaks_by : (m : SuiteData) (d : DecisionsData) (peer : Role) (own their : ConfigData) (ours theirs units answers : Units) (rest h s : List ℕ) (refusal : Option Refusal) (end : EndData)
+pub speaks_by : (m : SuiteData) (d : DecisionsData) (peer : Side) (own their : ConfigData) (ours theirs units answers : Units) (rest h s : List ℕ) (refusal : Option Refusal) (end : EndData)
     → History m d peer their units rest refusal answers end h s → IsPrefix units (own.version ∷ ours) → IsPrefix answers theirs → SpeaksInCourse peer own their ours theirs units answers
 speaks_by m d peer own their ours theirs units answers rest h s refusal end a f g = record { received = f; sent = g; fits = a.fits; keyed = a.keyed }
 
-module _ (laws : Laws) (m : SuiteData) (d : DecisionsData) (lawful : IsLawful m) (role peer : Role) (own their : ConfigData) (ours theirs : Units) (can : CanBeReceived m role peer own their ours theirs)
+module _ (laws : Laws) (m : SuiteData) (d : DecisionsData) (lawful : IsLawful m) (role peer : Side) (own their : ConfigData) (ours theirs : Units) (can : CanBeReceived m role peer own their ours theirs)
     (units answers : Units) (rest h s : List ℕ) (refusal : Option Refusal) (end : EndData) (a : History m d peer their units rest refusal answers end h s)
     (f : IsPrefix units (own.version ∷ ours)) (g : IsPrefix answers theirs) where
   spelled_so : EachPlace (Spelled (parsers m role own) (spells m peer their units)) [] (their.version ∷ answers)

@@ -13,8 +13,8 @@ use Rattle.sshmsg.specs.Numbers.{kind, number_of}
 use Rattle.sshmsg.specs.Written.{written_message}
 use Rattle.sshmsg.proofs.NumberLemmas.{kind_tells}
 use Rattle.sshneg.specs.declared.choice.NoCommon.{NoCommon}
-use Rattle.sshneg.specs.declared.role.Role.{Role}
-use Rattle.sshneg.specs.declared.role.Role.TheVariants.{Client, Server}
+use Rattle.sshneg.specs.declared.side.Side.{Side}
+use Rattle.sshneg.specs.declared.side.Side.TheVariants.{Client, Server}
 use Rattle.sshneg.specs.ChoiceReadings.{choice}
 use Rattle.sshneg.specs.Derivations.{ExchangeData}
 use Rattle.sshneg.specs.ExchangeEnd.{answer_by, exchange_by, exchange_hash}
@@ -50,7 +50,7 @@ use Rattle.sshworld.specs.Wordings.{reply_of_server, signature_of_server}
 use Rattle.sshworld.proofs.Readable.{AreOffersRead, AreSound, IsRead, ReadsAgain}
 use Rattle.sshworld.proofs.StepLemmas.{begins, drops, goes_dropped, goes_exchanged, goes_leaving, goes_staying, reads, replies_first}
 
-leaving_line : (waits : Bool) → (role : Role) (p : Phase) (strict : Bool) → line_by role p strict false waits (leaving role p) ≡ line.Reads
+leaving_line : (waits : Bool) → (role : Side) (p : Phase) (strict : Bool) → line_by role p strict false waits (leaving role p) ≡ line.Reads
 unfolding line_by
 leaving_line waits Client phase.KexInit strict = refl
 leaving_line waits Client phase.Exchange true = refl
@@ -73,7 +73,7 @@ unfolding line_by
 auth_line waits strict n (inl e) = rw e refl
 auth_line waits strict n (inr e) = rw e refl
 
-closing_line : (waits : Bool) → (role : Role) (p : Phase) (strict guess : Bool) → line_by role p strict guess waits 1 ≡ line.Reads
+closing_line : (waits : Bool) → (role : Side) (p : Phase) (strict guess : Bool) → line_by role p strict guess waits 1 ≡ line.Reads
 unfolding line_by
 closing_line waits role p strict guess = refl
 
@@ -107,25 +107,25 @@ init_begins Hybrid e = refl
 pub init_kind : (m : SuiteData) (own : ConfigData) (kex : List ℕ) → kind (init_for m own kex) ≡ 30
 init_kind m own kex = init_begins (m.share_form kex) (m.share kex own.random)
 
-work_init : (m : SuiteData) (d : DecisionsData) (role : Role) (party : ConfigData) (x : Known) (f : ShareForm) (e : List ℕ) → work m d role party x (init_in f e) ≡ init_reply m role party x (init_in f e)
+work_init : (m : SuiteData) (d : DecisionsData) (role : Side) (party : ConfigData) (x : Known) (f : ShareForm) (e : List ℕ) → work m d role party x (init_in f e) ≡ init_reply m role party x (init_in f e)
 unfolding work
 work_init m d role party x Mpint e = refl
 work_init m d role party x OctetString e = refl
 work_init m d role party x Hybrid e = refl
 
-work_reply : (m : SuiteData) (d : DecisionsData) (role : Role) (party : ConfigData) (x : Known) (f : ShareForm) (k e sign : List ℕ)
+work_reply : (m : SuiteData) (d : DecisionsData) (role : Side) (party : ConfigData) (x : Known) (f : ShareForm) (k e sign : List ℕ)
     → work m d role party x (reply_in f k e sign) ≡ reply_reply m d role party x (reply_in f k e sign) sign
 unfolding work
 work_reply m d role party x Mpint k e sign = refl
 work_reply m d role party x OctetString k e sign = refl
 work_reply m d role party x Hybrid k e sign = refl
 
-init_answer : (m : SuiteData) (role : Role) (party : ConfigData) (a : AlgorithmsData) (f : ShareForm) (e : List ℕ) → answer_with m role party a (Ok (init_in f e)) ≡ answer_by role m a.kex party.random e
+init_answer : (m : SuiteData) (role : Side) (party : ConfigData) (a : AlgorithmsData) (f : ShareForm) (e : List ℕ) → answer_with m role party a (Ok (init_in f e)) ≡ answer_by role m a.kex party.random e
 init_answer m role party a Mpint e = refl
 init_answer m role party a OctetString e = refl
 init_answer m role party a Hybrid e = refl
 
-reply_answer : (m : SuiteData) (role : Role) (party : ConfigData) (a : AlgorithmsData) (f : ShareForm) (k e sign : List ℕ) → answer_with m role party a (Ok (reply_in f k e sign)) ≡ answer_by role m a.kex party.random e
+reply_answer : (m : SuiteData) (role : Side) (party : ConfigData) (a : AlgorithmsData) (f : ShareForm) (k e sign : List ℕ) → answer_with m role party a (Ok (reply_in f k e sign)) ≡ answer_by role m a.kex party.random e
 reply_answer m role party a Mpint k e sign = refl
 reply_answer m role party a OctetString k e sign = refl
 reply_answer m role party a Hybrid k e sign = refl
@@ -172,7 +172,7 @@ stays_51 : LeavesNone Client 51
 stays_51 = record { kexinit = refl; exchange = refl; newkeys = refl; service = refl }
 
 -- any role
-module _ (m : SuiteData) (d : DecisionsData) (role : Role) (own : ConfigData) (version : List ℕ) where
+module _ (m : SuiteData) (d : DecisionsData) (role : Side) (own : ConfigData) (version : List ℕ) where
   pub closed : (before : Units) (p : Phase) (guess : Bool) (x : Known) (reason : ℕ) → IsClosing reason → Sits m d role own version before p guess x
       → reply_at m d role own version before (written_message (Disconnect reason [] [])) ≡ record { answers = []; end = Closed reason }
   unfolding work

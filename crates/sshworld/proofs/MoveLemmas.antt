@@ -9,8 +9,8 @@ use Rattle.sshcore.specs.EndData.{Open}
 use Rattle.sshcore.specs.Endpoints.{endpoint_end}
 use Rattle.sshcore.specs.EndpointParts.{DecisionsData}
 use Rattle.sshworld.specs.declared.node.Node.{Node}
-use Rattle.sshworld.specs.declared.side.Side.{Side}
-use Rattle.sshworld.specs.declared.side.Side.TheVariants.{Client, Server}
+use Rattle.sshneg.specs.declared.side.Side.{Side}
+use Rattle.sshneg.specs.declared.side.Side.TheVariants.{Client, Server}
 use Rattle.sshworld.specs.Deliveries.{Delivered, Refused}
 use Rattle.sshworld.specs.Laws.{Laws}
 use Rattle.sshworld.specs.Nodes.{BrokenWith, Receives, Takes, node_data}

@@ -2,7 +2,7 @@
 
 use Rattle.std.proofs.Common.{◌≡◌, ℕ, zero, suc, ◌+◌, ◌-◌, ◌<◌, ◌≤◌, ◌==◌, true, false, List, [], ◌∷◌, ◌++◌, length, refl, sym, ap, subst, ◌∙◌, arith, append_assoc, append-nil, length-append, eq-eqb}
 use Rattle.std.proofs.lemmas.Bool.{ne_eqb}
-use Rattle.sshneg.specs.declared.role.Role.{Role}
+use Rattle.sshneg.specs.declared.side.Side.{Side}
 use Rattle.sshpacket.specs.Places.{EachPlace, IsPrefix}
 use Rattle.sshpacket.specs.Stream.{Units}
 use Rattle.sshpacket.specs.Suite.{SuiteData}
@@ -65,7 +65,7 @@ pub grows : (p : Part) (n : ℕ) → n ≤ p.receives → IsPrefix (sent_after p
 grows p n h = grows_to p n p.receives h
 
 -- an endpoint that replies so at a place is as its part has it there, where it goes on and where it ends
-module _ (m : SuiteData) (d : DecisionsData) (role : Role) (own : ConfigData) (p : Part) (before : Units) (unit : List ℕ) where
+module _ (m : SuiteData) (d : DecisionsData) (role : Side) (own : ConfigData) (p : Part) (before : Units) (unit : List ℕ) where
   pub as_open : (answers : Units) → unit_reply m d role own before unit ≡ goes answers → p.group (length before) ≡ answers → suc (length before) < p.receives → IsAsPart m d role own p before unit
   as_open answers e g h = record {
     answer = ap (λ (r : Reply). r.answers) e ∙ sym g;

@@ -3,7 +3,7 @@
 use Rattle.std.proofs.Common.{◌≡◌, ◌≢◌, ℕ, ◌-◌, false, List, [], ◌∷◌, ◌++◌, length, take, drop, Option, None, sym, ap, subst, ◌∙◌, arith, length-append}
 use Rattle.std.proofs.lemmas.Bool.{true≢false}
 use Rattle.std.proofs.lemmas.List.{take-append-drop, take-append-le, take_all}
-use Rattle.sshneg.specs.declared.role.Role.{Role}
+use Rattle.sshneg.specs.declared.side.Side.{Side}
 use Rattle.sshpacket.specs.Parse.{Refusal}
 use Rattle.sshpacket.specs.Places.{IsPrefix}
 use Rattle.sshpacket.specs.Stream.{Linked, Received, ReceivedAll, Same, Units}
@@ -27,7 +27,7 @@ use Rattle.sshworld.proofs.LinkLemmas.{received_all, received_prefix}
 use Rattle.sshworld.proofs.PartLemmas.{grows}
 
 -- an endpoint that stands so, and wasn't ended by its owner, has a history
-pub from_standing : (m : SuiteData) (d : DecisionsData) (role : Role) (party : ConfigData) (kept : StateData) (i : Input) (h s : List ℕ)
+pub from_standing : (m : SuiteData) (d : DecisionsData) (role : Side) (party : ConfigData) (kept : StateData) (i : Input) (h s : List ℕ)
     → EndpointStands m d role party kept i h s → by_owner kept.end ≡ false → HasHistory m d role party kept.end h s
 from_standing m d role party kept i h s a whole = record {
   units = a.units;

@@ -8,8 +8,8 @@ use Rattle.sshmsg.specs.MessageData.{Disconnect, KexInit, KexInitData}
 use Rattle.sshmsg.specs.Numbers.{kind}
 use Rattle.sshmsg.specs.Written.{written_message}
 use Rattle.sshneg.specs.declared.choice.NoCommon.{NoCommon}
-use Rattle.sshneg.specs.declared.role.Role.{Role}
-use Rattle.sshneg.specs.declared.role.Role.TheVariants.{Client, Server}
+use Rattle.sshneg.specs.declared.side.Side.{Side}
+use Rattle.sshneg.specs.declared.side.Side.TheVariants.{Client, Server}
 use Rattle.sshneg.specs.ChoiceReadings.{choice}
 use Rattle.sshneg.specs.Fields.{AlgorithmsData}
 use Rattle.sshneg.specs.Strictness.{is_right_guess}
@@ -46,7 +46,7 @@ use Rattle.sshworld.proofs.Readable.{AreOffersRead, AreSound, IsRead}
 use Rattle.sshworld.proofs.SentLemmas.{client_sends, server_sends}
 use Rattle.sshworld.proofs.ServerFollows.{begun}
 
-none_due : (role : Role) (own : ConfigData) → expects_guess role own.offer [] ≡ false
+none_due : (role : Side) (own : ConfigData) → expects_guess role own.offer [] ≡ false
 unfolding expects_guess offered
 none_due role own = refl
 
@@ -62,7 +62,7 @@ not_switched_two : (x y : List ℕ) → (kind x == 21) ≡ false → (kind y == 
 unfolding switched_out
 not_switched_two x y e f = rw (e, f) refl
 
-module _ (role : Role) (own : ConfigData) where
+module _ (role : Side) (own : ConfigData) where
   free : (before : Units) (x : List ℕ) → expects_guess role own.offer before ≡ false → (switched_out before ≡ true → IsReady role own before) → IsInPlace role own before x
   free before x none r = record { switch = kept_free role own.offer before x 21 none; ready = r }
 
@@ -83,7 +83,7 @@ module _ (role : Role) (own : ConfigData) where
 never : {P : Type 0} (b : Bool) → b ≡ false → b ≡ true → P
 never b e f = absurd (true≢false (sym f ∙ e))
 
-module _ (role : Role) (own : ConfigData) where
+module _ (role : Side) (own : ConfigData) where
   first : (k : List ℕ) → IsInPlace role own [] k
   first k = free role own [] k (none_due role own) (λ e. never (switched_out []) not_switched_none e)
 

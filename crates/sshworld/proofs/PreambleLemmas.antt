@@ -3,7 +3,7 @@
 use Rattle.std.proofs.Common.{◌≡◌, ◌≢◌, ℕ, List, [], ◌∷◌, ◌++◌, length, length-append, map, refl, sym, ap, ◌∙◌, append_assoc, arith}
 use Rattle.std.specs.List.{AllByRecursion, flat_map}
 use Rattle.sshwire.specs.Lines.{BeginsSsh, IsLineByte, IsOtherLine, Preamble, joined, ssh, version_line, with_lf}
-use Rattle.sshneg.specs.declared.role.Role.TheVariants.{Client, Server}
+use Rattle.sshneg.specs.declared.side.Side.TheVariants.{Client, Server}
 use Rattle.sshcore.specs.declared.config_fault.ConfigFault.TheVariants as fault
 use Rattle.sshcore.specs.ConfigParts.{ClientData, ServerData, version_of}
 use Rattle.sshcore.specs.ConfigRules.{IsClient, IsNotice, IsNoticeByte, IsServer}

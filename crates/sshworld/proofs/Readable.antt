@@ -7,7 +7,7 @@ use Rattle.sshwire.specs.TypeReadings.{is_name}
 use Rattle.sshmsg.specs.MessageData.{KexInit, MessageData, UserauthBanner, UserauthRequest}
 use Rattle.sshmsg.specs.Messages.{message_in}
 use Rattle.sshmsg.specs.Written.{written_message}
-use Rattle.sshneg.specs.declared.role.Role.TheVariants.{Client, Server}
+use Rattle.sshneg.specs.declared.side.Side.TheVariants.{Client, Server}
 use Rattle.sshneg.specs.ChoiceReadings.{is_in}
 use Rattle.sshneg.specs.Fields.{AlgorithmsData}
 use Rattle.sshneg.specs.Markers.{strict_marker}

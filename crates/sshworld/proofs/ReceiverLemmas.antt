@@ -10,8 +10,8 @@ use Rattle.sshwire.specs.LineReaderData as progress
 use Rattle.sshwire.specs.Reading.{Got, More, Reading, Stop}
 use Rattle.sshwire.specs.Feeding.{StandsOpen}
 use Rattle.sshwire.specs.Meaning.{BeginsPreamble, EndsPreamble, IsLineRefused, ReadingMeans}
-use Rattle.sshworld.specs.declared.side.Side.{Side}
-use Rattle.sshworld.specs.declared.side.Side.TheVariants.{Client, Server}
+use Rattle.sshneg.specs.declared.side.Side.{Side}
+use Rattle.sshneg.specs.declared.side.Side.TheVariants.{Client, Server}
 use Rattle.sshworld.specs.declared.side.Delivery.{Delivery}
 use Rattle.sshworld.specs.declared.greetings.Receiver.{Receiver}
 use Rattle.sshworld.specs.declared.greetings.Reception.{Reception}

@@ -2,7 +2,7 @@
 
 use Rattle.std.proofs.Common.{◌≡◌, inl, inr, ℕ, ◌<◌, true, List, [], ◌∷◌, ◌++◌, length, Option, None, refl, sym, ap, subst, ◌∙◌, append_assoc, append-nil, length-append, arith}
 use Rattle.std.proofs.lemmas.Bool.{cases_Bool, true≢false}
-use Rattle.sshneg.specs.declared.role.Role.{Role}
+use Rattle.sshneg.specs.declared.side.Side.{Side}
 use Rattle.sshpacket.specs.Parse.{Refusal}
 use Rattle.sshpacket.specs.Places.{EachPlace, IsPrefix, flat_places}
 use Rattle.sshpacket.specs.Stream.{Sent, Units}
@@ -26,7 +26,7 @@ nothing_switched : switched_out [] ≡ true → ⊥
 unfolding switched_out
 nothing_switched on = true≢false (sym on)
 
-module _ (m : SuiteData) (d : DecisionsData) (role : Role) (party : ConfigData) where
+module _ (m : SuiteData) (d : DecisionsData) (role : Side) (party : ConfigData) where
   abbrev pub sent_so : Units → Units
   sent_so us = making m role party ++ flat_places (answers_at m d role party) [] us
 

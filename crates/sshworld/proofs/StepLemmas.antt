@@ -8,7 +8,7 @@ use Rattle.sshmsg.specs.MessageData.{KexInit, KexInitData, MessageData}
 use Rattle.sshmsg.specs.Messages.{message_in}
 use Rattle.sshmsg.specs.Numbers.{kind, number_of}
 use Rattle.sshmsg.proofs.NumberLemmas.{kind_tells, reads_alike}
-use Rattle.sshneg.specs.declared.role.Role.{Role}
+use Rattle.sshneg.specs.declared.side.Side.{Side}
 use Rattle.sshneg.specs.ChoiceReadings.{choice}
 use Rattle.sshneg.specs.ExchangeEnd.{client_of, exchange_hash, offer_by, server_of}
 use Rattle.sshneg.specs.Markers.{IsRightGuess, first_name, methods, same_name}
@@ -96,11 +96,11 @@ after_read m d party x payload content e =
       first = false;
     }) e
 
-first_line : (role : Role) (b waits : Bool) → line_by role phase.KexInit b false waits 20 ≡ line.Reads
+first_line : (role : Side) (b waits : Bool) → line_by role phase.KexInit b false waits 20 ≡ line.Reads
 unfolding line_by
 first_line role b waits = refl
 
-module _ (m : SuiteData) (d : DecisionsData) (role : Role) (party : ConfigData) (version : List ℕ) where
+module _ (m : SuiteData) (d : DecisionsData) (role : Side) (party : ConfigData) (version : List ℕ) where
   -- a message that has a place is worked on
   pub reads : (before : Units) (payload : List ℕ) (p : Phase) (guess : Bool) (x : Known) (content : MessageData) → Sits m d role party version before p guess x
       → message_in x.shares payload ≡ Ok content → line_by role p x.strict guess (is_waiting x.left) (number_of content) ≡ line.Reads

@@ -3,7 +3,7 @@
 use Rattle.std.proofs.Common.{◌≡◌, ℕ, suc, ◌+◌, ◌-◌, ◌≤◌, false, length, min, Result, Ok, refl, sym, ap, subst, ◌∙◌, arith}
 use Rattle.std.specs.Result.{IfOk}
 use Rattle.sshwire.specs.declared.fault.Memory.{Memory}
-use Rattle.sshneg.specs.declared.role.Role.TheVariants as role
+use Rattle.sshneg.specs.declared.side.Side.TheVariants as role
 use Rattle.sshpacket.specs.Suite.{IsLawful, SuiteData}
 use Rattle.sshcore.specs.ConfigParts.{ClientData, ServerData}
 use Rattle.sshcore.specs.ConfigRules.{IsClient, IsServer}
@@ -12,8 +12,8 @@ use Rattle.sshcore.specs.Endpoints.{endpoint_end}
 use Rattle.sshcore.specs.EndpointParts.{DecisionsData, config_of_client, config_of_server}
 use Rattle.sshworld.specs.Offered.{most_requests}
 use Rattle.sshworld.specs.declared.node.Node.{Node}
-use Rattle.sshworld.specs.declared.side.Side.{Side}
-use Rattle.sshworld.specs.declared.side.Side.TheVariants.{Client, Server}
+use Rattle.sshneg.specs.declared.side.Side.{Side}
+use Rattle.sshneg.specs.declared.side.Side.TheVariants.{Client, Server}
 use Rattle.sshworld.specs.Conversed.{IsNew}
 use Rattle.sshworld.specs.CourseReceived.{BothReceive, client_partner, server_partner}
 use Rattle.sshworld.specs.Deliveries.{Delivered, TakesIn}

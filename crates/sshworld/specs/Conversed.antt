@@ -1,8 +1,8 @@
 -- How the endpoints of a world stand: each has received and sent the bytes that were moved.
 
 use Rattle.std.specs.Prelude.{◌≡◌, ℕ, List, []}
-use Rattle.sshneg.specs.declared.role.Role.{Role}
-use Rattle.sshneg.specs.declared.role.Role.TheVariants as role
+use Rattle.sshneg.specs.declared.side.Side.{Side}
+use Rattle.sshneg.specs.declared.side.Side.TheVariants as role
 use Rattle.sshpacket.specs.Suite.{SuiteData}
 use Rattle.sshcore.specs.EndData.{EndData, Open}
 use Rattle.sshcore.specs.EndpointData.{EndpointData}
@@ -12,7 +12,7 @@ use Rattle.sshworld.specs.Worlds.{HasReplied, NodeData, WorldData}
 
 module _ {S D : Type 0} (meaning : S → SuiteData) (policy : D → DecisionsData) where
   -- An endpoint of this role, party, suite and decisions stands so, and has received and sent these bytes.
-  pub record HasConversed (role : Role) (party : ConfigData) (suite : S) (decisions : D) (end : EndData) (received_bytes sent_bytes : List ℕ) : Type 0 where
+  pub record HasConversed (role : Side) (party : ConfigData) (suite : S) (decisions : D) (end : EndData) (received_bytes sent_bytes : List ℕ) : Type 0 where
     pub endpoint : EndpointData S D
     pub is_role : endpoint.role ≡ role
     pub is_config : endpoint.party ≡ party
@@ -23,7 +23,7 @@ module _ {S D : Type 0} (meaning : S → SuiteData) (policy : D → DecisionsDat
 
   -- A side has used what was moved to it, up to its end; and unless memory ran out, its endpoint has received what the side used
   -- and has sent what the side sent.
-  abbrev pub SideReplies : Role → ConfigData → S → D → NodeData → NodeData → Type 0
+  abbrev pub SideReplies : Side → ConfigData → S → D → NodeData → NodeData → Type 0
   SideReplies role party suite decisions own their = HasReplied (HasConversed role party suite decisions own.end) own their
 
   -- so does each side of a world
@@ -32,7 +32,7 @@ module _ {S D : Type 0} (meaning : S → SuiteData) (policy : D → DecisionsDat
     pub server : SideReplies role.Server (config_of_server w.server_config) w.suite w.decisions w.server w.client
 
   -- A side of a new world: it has received nothing, and has sent the first output of its endpoint.
-  pub record SideBegins (role : Role) (party : ConfigData) (suite : S) (decisions : D) (own : NodeData) : Type 0 where
+  pub record SideBegins (role : Side) (party : ConfigData) (suite : S) (decisions : D) (own : NodeData) : Type 0 where
     pub none_moved : own.moved ≡ 0
     pub none_used : own.used ≡ 0
     pub is_open : own.end ≡ Open

@@ -1,7 +1,7 @@
 -- The course of two configs, as both sides of a world receive and send it.
 
 use Rattle.std.specs.Prelude.{◌≡◌, take, None}
-use Rattle.sshneg.specs.declared.role.Role.TheVariants.{Client, Server}
+use Rattle.sshneg.specs.declared.side.Side.TheVariants.{Client, Server}
 use Rattle.sshpacket.specs.Suite.{SuiteData}
 use Rattle.sshcore.specs.ConfigParts.{ClientData, ServerData}
 use Rattle.sshcore.specs.EndpointParts.{DecisionsData, config_of_client, config_of_server}

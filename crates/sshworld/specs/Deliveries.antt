@@ -1,7 +1,7 @@
 -- What a delivery does, and what several do, one after another.
 
 use Rattle.std.specs.Prelude.{◌≡◌, ◌≢◌, ◌+◌, ◌≤◌, ◌⊎◌, ℕ, zero, suc, List, [], ◌∷◌, min, take}
-use Rattle.sshneg.specs.declared.role.Role.{Role}
+use Rattle.sshneg.specs.declared.side.Side.{Side}
 use Rattle.sshpacket.specs.Places.{IsPrefix}
 use Rattle.sshpacket.specs.Suite.{SuiteData}
 use Rattle.sshcore.specs.declared.end.Fault.TheVariants as fault
@@ -9,11 +9,10 @@ use Rattle.sshcore.specs.EndData.{Failed, Open}
 use Rattle.sshcore.specs.History.{BrokenOff}
 use Rattle.sshcore.specs.EndpointParts.{ConfigData, DecisionsData}
 use Rattle.sshworld.specs.declared.side.Delivery.{Delivery}
-use Rattle.sshworld.specs.declared.side.Side.{Side}
-use Rattle.sshworld.specs.declared.side.Side.TheVariants.{Client, Server}
+use Rattle.sshneg.specs.declared.side.Side.TheVariants.{Client, Server}
 use Rattle.sshworld.specs.Conversed.{EachReplies}
 use Rattle.sshworld.specs.WorldCourse.{KeepsHeadline}
-use Rattle.sshworld.specs.Worlds.{IsSameSetup, NodeData, WorldData, config_at, node_at, node_opposite, role_at, waiting_for}
+use Rattle.sshworld.specs.Worlds.{IsSameSetup, NodeData, WorldData, config_at, node_at, node_opposite, waiting_for}
 
 -- The next n bytes were moved to a side: it used all of them, or those up to its end, and what it sent by that is appended to
 -- what it had sent before; and memory didn't run out. Where none were moved, nothing changed.
@@ -34,7 +33,7 @@ pub record Delivered {S D : Type 0} (to : Side) (n : ℕ) (old new : WorldData S
 -- The next n bytes were moved to a side, and memory ran out: it has failed by that. It doesn't count those that it used of them.
 -- What it sent by that is appended to what it had sent before, so that it has sent whole packets, a prefix of those that it would
 -- have sent.
-pub record BreaksOff (m : SuiteData) (d : DecisionsData) (role : Role) (party : ConfigData) (n : ℕ) (old new opposite : NodeData) : Type 0 where
+pub record BreaksOff (m : SuiteData) (d : DecisionsData) (role : Side) (party : ConfigData) (n : ℕ) (old new opposite : NodeData) : Type 0 where
   pub failed : new.end ≡ Failed fault.Memory
   pub moved_on : new.moved ≡ old.moved + n
   pub same_used : new.used ≡ old.used
@@ -76,7 +75,7 @@ module _ {S D : Type 0} (meaning : S → SuiteData) (policy : D → DecisionsDat
 
   -- A delivery of n bytes for which memory ran out; the side that doesn't receive doesn't change.
   pub record Refused (to : Side) (n : ℕ) (old new : WorldData S D) : Type 0 where
-    pub receiver : BreaksOff (meaning old.suite) (policy old.decisions) (role_at to) (config_at to old) n (node_at to old) (node_at to new) (node_opposite to old)
+    pub receiver : BreaksOff (meaning old.suite) (policy old.decisions) to (config_at to old) n (node_at to old) (node_at to new) (node_opposite to old)
     pub sender : node_opposite to new ≡ node_opposite to old
 
   -- a delivery of so many bytes as wait for which it was

@@ -1,8 +1,8 @@
 -- An endpoint that replies as its part of a course has it.
 
 use Rattle.std.specs.Prelude.{◌≡◌, ◌==◌, ◌<◌, ◌≤◌, ◌++◌, ℕ, suc, None, List, [], ◌∷◌, length, if◌then◌else◌}
-use Rattle.sshneg.specs.declared.role.Role.{Role}
-use Rattle.sshneg.specs.declared.role.Role.TheVariants.{Client, Server}
+use Rattle.sshneg.specs.declared.side.Side.{Side}
+use Rattle.sshneg.specs.declared.side.Side.TheVariants.{Client, Server}
 use Rattle.sshpacket.specs.Places.{IsPrefix}
 use Rattle.sshpacket.specs.Stream.{Units}
 use Rattle.sshpacket.specs.Suite.{SuiteData}
@@ -25,13 +25,13 @@ abbrev pub units_of : ConfigData → Part → Units
 units_of own part = own.version ∷ sent_after part part.receives
 
 -- At this place an endpoint answers and stands as its part has it.
-pub record IsAsPart (m : SuiteData) (d : DecisionsData) (role : Role) (own : ConfigData) (part : Part) (before : Units) (unit : List ℕ) : Type 0 where
+pub record IsAsPart (m : SuiteData) (d : DecisionsData) (role : Side) (own : ConfigData) (part : Part) (before : Units) (unit : List ℕ) : Type 0 where
   pub answer : answers_at m d role own before unit ≡ part.group (length before)
   pub end : end_at m d role own before unit ≡ end_after part (suc (length before))
 
 -- An endpoint follows its part, while it receives units of this stream: it sends first what the part has first, and at each
 -- place up to the part's end it answers and stands as the part has it.
-pub record FollowsPart (m : SuiteData) (d : DecisionsData) (role : Role) (own : ConfigData) (part : Part) (stream : Units) : Type 0 where
+pub record FollowsPart (m : SuiteData) (d : DecisionsData) (role : Side) (own : ConfigData) (part : Part) (stream : Units) : Type 0 where
   pub making_is : making m role own ≡ part.first
   pub places : (before : Units) (unit : List ℕ) → IsPrefix (before ++ unit ∷ []) stream → length before < part.receives
       → IsAsPart m d role own part before unit
@@ -44,7 +44,7 @@ pub record IsInPart (part : Part) (units answers : Units) (end : EndData) : Type
   pub ends : end ≡ end_after part (length units)
 
 -- Whatever prefix of this stream an endpoint has received, and whatever it replied, it stands in its part.
-abbrev pub KeepsPart : SuiteData → DecisionsData → Role → ConfigData → Part → Units → Type 0
+abbrev pub KeepsPart : SuiteData → DecisionsData → Side → ConfigData → Part → Units → Type 0
 KeepsPart m d role own part stream =
     (units answers : Units) (end : EndData) → IsPrefix units stream → Replies m d role own units None answers end → IsInPart part units answers end
 

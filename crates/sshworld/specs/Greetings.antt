@@ -4,8 +4,8 @@ use Rattle.std.specs.Prelude.{◌≡◌, ◌↔◌, ℕ, ◌+◌, List, [], ◌�
 use Rattle.sshwire.specs.declared.fault.WireFault.{WireFault}
 use Rattle.sshwire.specs.Lines.{IsVersionText, version_line}
 use Rattle.sshwire.specs.Meaning.{BeginsPreamble, IsLineRefused}
-use Rattle.sshworld.specs.declared.side.Side.{Side}
-use Rattle.sshworld.specs.declared.side.Side.TheVariants.{Client, Server}
+use Rattle.sshneg.specs.declared.side.Side.{Side}
+use Rattle.sshneg.specs.declared.side.Side.TheVariants.{Client, Server}
 use Rattle.sshworld.specs.declared.side.Delivery.{Delivery}
 use Rattle.sshworld.specs.declared.greetings.Reception.{Reception}
 use Rattle.sshworld.specs.declared.greetings.Reception.TheVariants.{Got, Refused, Waiting}

@@ -1,7 +1,7 @@
 -- Two endpoints that are joined, and what they hand over to each other.
 
 use Rattle.std.specs.Prelude.{◌≡◌, ℕ, List, Option, None, Some}
-use Rattle.sshneg.specs.declared.role.Role.TheVariants as role
+use Rattle.sshneg.specs.declared.side.Side.TheVariants as role
 use Rattle.sshpacket.specs.Places.{IsPrefix}
 use Rattle.sshpacket.specs.Suite.{SuiteData}
 use Rattle.sshcore.specs.declared.session.Session.{Session}

@@ -4,7 +4,7 @@
 
 use Rattle.std.specs.Prelude.{◌≡◌, true, []}
 use Rattle.sshwire.specs.Lines.{Preamble}
-use Rattle.sshneg.specs.declared.role.Role.{Role}
+use Rattle.sshneg.specs.declared.side.Side.{Side}
 use Rattle.sshneg.specs.Markers.{other}
 use Rattle.sshpacket.specs.Places.{EachPlace}
 use Rattle.sshpacket.specs.Stream.{Units}
@@ -16,7 +16,7 @@ use Rattle.sshworld.specs.Placed.{HaveSameKeys, IsInPlace}
 
 -- All that is sent in one direction can be received: the two roles differ; the lines that are sent first are a preamble of the
 -- version that is sent; each payload is in its place; and where NEWKEYS is sent at all, both come to the same keys.
-pub record CanBeReceived (m : SuiteData) (role peer : Role) (own their : ConfigData) (ours theirs : Units) : Type 0 where
+pub record CanBeReceived (m : SuiteData) (role peer : Side) (own their : ConfigData) (ours theirs : Units) : Type 0 where
   pub is_other : other role ≡ peer
   pub preamble : Preamble (others_of role) their.version (preamble_of their)
   pub places : EachPlace (IsInPlace role own) [] theirs

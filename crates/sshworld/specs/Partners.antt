@@ -2,7 +2,7 @@
 -- their is the other, whose node is the opposite one.
 
 use Rattle.std.specs.Prelude.{◌≡◌, ◌≢◌, ℕ, List, take, Option, None}
-use Rattle.sshneg.specs.declared.role.Role.{Role}
+use Rattle.sshneg.specs.declared.side.Side.{Side}
 use Rattle.sshpacket.specs.Parse.{Refusal}
 use Rattle.sshpacket.specs.Places.{IsPrefix}
 use Rattle.sshpacket.specs.Stream.{Units}
@@ -19,7 +19,7 @@ use Rattle.sshworld.specs.Worlds.{HasReplied, NodeData}
 
 -- One of the two in a course: its role, what its endpoint is made of, and its part.
 pub record Partner : Type 0 where
-  pub role : Role
+  pub role : Side
   pub party : ConfigData
   pub part : Part
 
@@ -31,7 +31,7 @@ abbrev pub stream_of : Partner → Units
 stream_of p = units_of p.party p.part
 
 -- An endpoint that stands so has received and sent these bytes: they are such units and answers.
-pub record HasHistory (m : SuiteData) (d : DecisionsData) (role : Role) (party : ConfigData) (end : EndData) (received_bytes sent_bytes : List ℕ) : Type 0 where
+pub record HasHistory (m : SuiteData) (d : DecisionsData) (role : Side) (party : ConfigData) (end : EndData) (received_bytes sent_bytes : List ℕ) : Type 0 where
   pub units : Units
   pub rest : List ℕ
   pub refusal : Option Refusal
@@ -39,7 +39,7 @@ pub record HasHistory (m : SuiteData) (d : DecisionsData) (role : Role) (party :
   pub history : History m d role party units rest refusal answers end received_bytes sent_bytes
 
 -- what it has received and sent, in units
-abbrev pub told : {m : SuiteData} {d : DecisionsData} {role : Role} {party : ConfigData} {end : EndData} {h s : List ℕ} → HasHistory m d role party end h s → Told
+abbrev pub told : {m : SuiteData} {d : DecisionsData} {role : Side} {party : ConfigData} {end : EndData} {h s : List ℕ} → HasHistory m d role party end h s → Told
 told {end = end} a = record { units = a.units; answers = a.answers; end = end }
 
 -- One direction of a course: all that the other sends can be received, and the other keeps its part whatever it has received of
@@ -50,7 +50,7 @@ pub record ReceivesCourse (m : SuiteData) (d : DecisionsData) (own their : Partn
 
 -- A side has used what was moved to it, up to its end; and unless memory ran out, it has a history with the bytes that it used
 -- and those that it sent.
-abbrev pub NodeReplies : SuiteData → DecisionsData → Role → ConfigData → NodeData → NodeData → Type 0
+abbrev pub NodeReplies : SuiteData → DecisionsData → Side → ConfigData → NodeData → NodeData → Type 0
 NodeReplies m d role party node opposite = HasReplied (HasHistory m d role party node.end) node opposite
 
 -- A side is on its course: unless one of the two ran out of memory, the units of each such history are a prefix of all that the

@@ -3,8 +3,8 @@
 use Rattle.std.specs.Prelude.{◌≡◌, ◌==◌, ℕ, true, List, []}
 use Rattle.sshmsg.specs.declared.numbers.TheConstants.{SSH_MSG_NEWKEYS}
 use Rattle.sshmsg.specs.Numbers.{kind}
-use Rattle.sshneg.specs.declared.role.Role.{Role}
-use Rattle.sshneg.specs.declared.role.Role.TheVariants.{Client, Server}
+use Rattle.sshneg.specs.declared.side.Side.{Side}
+use Rattle.sshneg.specs.declared.side.Side.TheVariants.{Client, Server}
 use Rattle.sshpacket.specs.Places.{EachPlace}
 use Rattle.sshpacket.specs.Stream.{Units}
 use Rattle.sshpacket.specs.Suite.{SuiteData}
@@ -20,7 +20,7 @@ use Rattle.sshworld.specs.Wordings.{wording_of}
 
 -- NEWKEYS is never dropped, and what the other side sends after its NEWKEYS finds that the exchange was received (RFC 4253
 -- sections 7 and 7.3).
-pub record IsInPlace (role : Role) (own : ConfigData) (before : Units) (payload : List ℕ) : Type 0 where
+pub record IsInPlace (role : Side) (own : ConfigData) (before : Units) (payload : List ℕ) : Type 0 where
   pub switch : kept role own.offer SSH_MSG_NEWKEYS before payload ≡ (kind payload == SSH_MSG_NEWKEYS)
   pub ready : switched_out before ≡ true → IsReady role own before
 
@@ -40,7 +40,7 @@ pub record BothInPlace (m : SuiteData) (d : DecisionsData) (client : ClientData)
 
 -- Of two endpoints own receives theirs, and the other receives ours: by that both hash the same, come to the same keys of each
 -- direction and are strict alike (RFC 4253 section 7.2, OpenSSH PROTOCOL section 1.10).
-pub record HaveSameKeys (m : SuiteData) (role peer : Role) (own their : ConfigData) (ours theirs : Units) : Type 0 where
+pub record HaveSameKeys (m : SuiteData) (role peer : Side) (own their : ConfigData) (ours theirs : Units) : Type 0 where
   pub exchange : exchange_at m role own their.version theirs ≡ exchange_at m peer their own.version ours
-  pub keys : (sender : Role) → keys_at m role own their.version theirs sender ≡ keys_at m peer their own.version ours sender
+  pub keys : (sender : Side) → keys_at m role own their.version theirs sender ≡ keys_at m peer their own.version ours sender
   pub strict : strict_at role own theirs ≡ strict_at peer their ours

@@ -1,14 +1,12 @@
 -- A world, as callers see it: a client and a server, what each has sent, and how far it was moved to the other.
 
 use Rattle.std.specs.Prelude.{◌≡◌, ◌≢◌, ◌≤◌, ◌-◌, ℕ, List, length, take}
-use Rattle.sshneg.specs.declared.role.Role.{Role}
-use Rattle.sshneg.specs.declared.role.Role.TheVariants as role
 use Rattle.sshcore.specs.declared.end.Fault.TheVariants as fault
 use Rattle.sshcore.specs.ConfigParts.{ClientData, ServerData}
 use Rattle.sshcore.specs.EndData.{Authenticated, Closed, Disconnected, EndData, Failed, Open}
 use Rattle.sshcore.specs.EndpointParts.{ConfigData, config_of_client, config_of_server}
-use Rattle.sshworld.specs.declared.side.Side.{Side}
-use Rattle.sshworld.specs.declared.side.Side.TheVariants as side
+use Rattle.sshneg.specs.declared.side.Side.{Side}
+use Rattle.sshneg.specs.declared.side.Side.TheVariants as side
 
 -- One side: all that it has sent; how many of the other's bytes were moved to it, and how many of those it has used; and how it
 -- stands.
@@ -51,11 +49,7 @@ abbrev pub node_opposite : {S D : Type 0} → Side → WorldData S D → NodeDat
 node_opposite side.Client w = w.server
 node_opposite side.Server w = w.client
 
--- A side's role, and what its endpoint is made of.
-abbrev pub role_at : Side → Role
-role_at side.Client = role.Client
-role_at side.Server = role.Server
-
+-- What a side's endpoint is made of.
 abbrev pub config_at : {S D : Type 0} → Side → WorldData S D → ConfigData
 config_at side.Client w = config_of_client w.client_config
 config_at side.Server w = config_of_server w.server_config

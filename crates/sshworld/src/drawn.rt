@@ -5,7 +5,7 @@ ghost use Rattle.sshwire.specs.declared.limits.TheConstants.{PAYLOAD_LIMIT};
 ghost use Rattle.sshmsg.specs.MessageData as content;
 ghost use Rattle.sshmsg.specs.View.{kexinit_data};
 ghost use Rattle.sshmsg.specs.Written.{written_message};
-ghost use Rattle.sshneg.specs.declared.role.Role.TheVariants as role;
+ghost use Rattle.sshneg.specs.declared.side.Side.TheVariants as role;
 ghost use Rattle.sshcore.specs.ConfigParts.{client_offer, server_offer, version_of};
 ghost use Rattle.sshcore.specs.ConfigRules.{IsClient, IsServer};
 ghost use Rattle.sshcore.specs.ConfigView.{side_data};

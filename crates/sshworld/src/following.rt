@@ -1,7 +1,7 @@
 //! The law of following a course.
 
 ghost use Rattle.std.specs.Prelude.{◌≡◌, ◌⊎◌, true};
-ghost use Rattle.sshneg.specs.declared.role.Role.TheVariants.{Client, Server};
+ghost use Rattle.sshneg.specs.declared.side.Side.TheVariants.{Client, Server};
 ghost use Rattle.sshpacket.specs.Suite.{IsAgreeing, IsLawful, SuiteData};
 ghost use Rattle.sshcore.specs.ConfigParts.{ClientData, ServerData};
 ghost use Rattle.sshcore.specs.ConfigRules.{IsClient, IsServer};

@@ -6,7 +6,8 @@ ghost use Rattle.sshwire.specs.LineReaderData.{Finished};
 ghost use Rattle.sshworld.specs.Receivers.{Follows, HasAll, MayRead};
 ghost use Rattle.sshworld.specs.Greetings.{Greets};
 
-use crate::side::{Delivery, Side};
+use crate::side::Delivery;
+use sshneg::Side;
 use sshwire::{LineReader, LineStep, Memory, OTHER_LINE_LIMIT, VersionLine, WireFault};
 use std::alloc::Global;
 use std::fmt;

@@ -1,7 +1,7 @@
 //! The law of the headline.
 
 ghost use Rattle.std.specs.Prelude.{◌≡◌, ◌≢◌, ◌↔◌, ◌+◌, ◌<◌, ◌≤◌, ℕ, [], ◌∷◌, None, length};
-ghost use Rattle.sshneg.specs.declared.role.Role.TheVariants as role;
+ghost use Rattle.sshneg.specs.declared.side.Side.TheVariants as role;
 ghost use Rattle.sshpacket.specs.Places.{IsPrefix};
 ghost use Rattle.sshpacket.specs.Suite.{SuiteData};
 ghost use Rattle.sshcore.specs.ConfigParts.{ClientData, ServerData, version_of};

@@ -27,5 +27,6 @@ pub use headline_laws::headline_law;
 pub use law::verdict_law;
 pub use prediction::{predict, predict_with};
 pub use session_laws::session_law;
-pub use side::{Delivery, Side};
+pub use side::Delivery;
+pub use sshneg::Side;
 pub use world::World;

@@ -1,7 +1,7 @@
 //! One side of a world.
 
 ghost use Rattle.std.specs.Prelude.{◌≡◌, ◌≢◌, ◌≤◌, ◌+◌, IfOk, Ok, OnErr, OnOk, length, min, take};
-ghost use Rattle.sshneg.specs.declared.role.Role.TheVariants as role;
+ghost use Rattle.sshneg.specs.declared.side.Side.TheVariants as role;
 ghost use Rattle.sshcore.specs.declared.end.Fault.TheVariants as fault;
 ghost use Rattle.sshcore.specs.EndData.{Failed, Open};
 ghost use Rattle.sshcore.specs.Endpoints.{Breaks, Fed, endpoint_end};

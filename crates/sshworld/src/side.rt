@@ -1,13 +1,6 @@
 //! Deliveries of waiting bytes to one of two sides.
 
-/// One of the two ends of a connection. In a delivery it is the receiver.
-#[derive(Clone, Copy, Debug, PartialEq, Eq)]
-pub enum Side {
-    /// The side that connects.
-    Client,
-    /// The side that accepts.
-    Server,
-}
+use sshneg::Side;
 
 /// Moves to a side the lesser of `count` and the bytes that wait for it.
 #[derive(Clone, Copy, Debug, PartialEq, Eq)]

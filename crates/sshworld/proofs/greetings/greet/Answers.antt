@@ -1,5 +1,5 @@
 use Rattle.std.proofs.Common.{refl}
-use Rattle.sshworld.specs.declared.side.Side.TheVariants.{Client, Server}
+use Rattle.sshneg.specs.declared.side.Side.TheVariants.{Client, Server}
 use Rattle.sshworld.specs.Greetings.{asked}
 use Rattle.sshworld.proofs.ReceiverLemmas.{IsLaw, delivered_new, done, greets, step_other, step_own}
 use Rattle.sshworld.proofs.greetings.greet.Goals.{in-Client+in_ok-deliver-in-Client, in-Server+in_ok-deliver-in-Server}

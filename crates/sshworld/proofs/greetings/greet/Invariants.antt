@@ -1,5 +1,5 @@
 use Rattle.std.proofs.Common.{drop}
-use Rattle.sshworld.specs.declared.side.Side.TheVariants.{Client, Server}
+use Rattle.sshneg.specs.declared.side.Side.TheVariants.{Client, Server}
 use Rattle.sshworld.specs.Greetings.{asked}
 use Rattle.sshworld.proofs.ReceiverLemmas.{Delivered}
 use Rattle.sshworld.proofs.greetings.greet.Given as goal

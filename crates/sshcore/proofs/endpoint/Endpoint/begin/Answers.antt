@@ -2,7 +2,7 @@ use Rattle.std.proofs.Common.{◌≡◌, true, [], refl, ap, ◌∙◌, subst}
 use Rattle.sshpacket.specs.KeysData.{KeysData}
 use Rattle.sshcore.specs.EndpointConfig.{config_data, role_of}
 use Rattle.sshcore.specs.Brings.{Gives}
-use Rattle.sshneg.specs.declared.role.Role.{Role}
+use Rattle.sshneg.specs.declared.side.Side.{Side}
 use Rattle.sshcore.specs.Directions.{preamble_of}
 use Rattle.sshcore.specs.EndData.{goes}
 use Rattle.sshcore.specs.Inputs.{Begins}
@@ -41,7 +41,7 @@ returns-clause-made g c =
     record {
       added = sent.0;
       appended = sent.1;
-      begins = begins_stands below streams m d role party new c.new.result (preamble_of party) sent.0 true next stays gives refl (subst (λ (r : Role). Begins r c.new.result) c.role.ensures c.new.ensures);
+      begins = begins_stands below streams m d role party new c.new.result (preamble_of party) sent.0 true next stays gives refl (subst (λ (r : Side). Begins r c.new.result) c.role.ensures c.new.ensures);
       is_open = ap (λ (k : StateData). k.end) stays;
       is_role = refl;
       is_config = refl;

@@ -1,5 +1,5 @@
 use Rattle.std.proofs.Common.{IfOk, subst}
-use Rattle.sshneg.specs.declared.role.Role.TheVariants.{Client}
+use Rattle.sshneg.specs.declared.side.Side.TheVariants.{Client}
 use Rattle.sshcore.specs.ConfigParts.{ClientData}
 use Rattle.sshcore.specs.Endpoints.{EndpointMade}
 use Rattle.sshcore.specs.EndpointParts.{config_of_client}

@@ -1,5 +1,5 @@
 use Rattle.std.proofs.Common.{IfOk, subst}
-use Rattle.sshneg.specs.declared.role.Role.TheVariants.{Server}
+use Rattle.sshneg.specs.declared.side.Side.TheVariants.{Server}
 use Rattle.sshcore.specs.ConfigParts.{ServerData}
 use Rattle.sshcore.specs.Endpoints.{EndpointMade}
 use Rattle.sshcore.specs.EndpointParts.{config_of_server}

@@ -1,6 +1,6 @@
 use Rattle.std.proofs.Common.{◌≡◌, ℕ, Bool, true, false, List, [], ◌∷◌, refl, ap, ◌∙◌, cond}
-use Rattle.sshneg.specs.declared.role.Role.{Role}
-use Rattle.sshneg.specs.declared.role.Role.TheVariants.{Client, Server}
+use Rattle.sshneg.specs.declared.side.Side.{Side}
+use Rattle.sshneg.specs.declared.side.Side.TheVariants.{Client, Server}
 use Rattle.sshpacket.specs.Suite.{SuiteData}
 use Rattle.sshcore.specs.declared.config.Config.{Config}
 use Rattle.sshcore.specs.declared.config.Config.TheVariants as config
@@ -12,7 +12,7 @@ use Rattle.sshcore.proofs.GivesLemmas.{gives_as, gives_nothing, gives_one, on_bo
 use Rattle.sshcore.proofs.state.State.send_guess.Goals as goal
 
 -- none is made
-unguessed : (m : SuiteData) (role : Role) (party : ConfigData) → false ≡ party.offer.first_kex_packet_follows → [] ≡ guess_of m role party
+unguessed : (m : SuiteData) (role : Side) (party : ConfigData) → false ≡ party.offer.first_kex_packet_follows → [] ≡ guess_of m role party
 unguessed m Server party e = refl
 unguessed m Client party e = ap (λ (b : Bool). cond b (init_for m party (guessed_method party) ∷ []) []) e
 

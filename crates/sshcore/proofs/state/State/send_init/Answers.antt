@@ -1,8 +1,8 @@
 use Rattle.std.proofs.Common.{◌≡◌, ℕ, Bool, true, false, List, [], ◌∷◌, refl, sym, ap, ◌∙◌, cond}
 use Rattle.std.specs.Prelude.{◌&&◌, not}
 use Rattle.std.proofs.lemmas.Bool.{true≢false}
-use Rattle.sshneg.specs.declared.role.Role.{Role}
-use Rattle.sshneg.specs.declared.role.Role.TheVariants.{Client, Server}
+use Rattle.sshneg.specs.declared.side.Side.{Side}
+use Rattle.sshneg.specs.declared.side.Side.TheVariants.{Client, Server}
 use Rattle.sshpacket.specs.Stream.{Units}
 use Rattle.sshpacket.specs.Suite.{SuiteData}
 use Rattle.sshcore.specs.EndpointConfig.{config_data, role_of}
@@ -21,11 +21,11 @@ sent_by true xs e = absurd cc
 sent_by false xs e = refl
 
 module _ (m : SuiteData) (party : ConfigData) (right : Bool) (kex : List ℕ) (opens : Bool) where
-  unsent : (role : Role) → (role ≡ Client → opens ≡ not (party.offer.first_kex_packet_follows && right)) → opens ≡ false → [] ≡ sends_init m role party right kex
+  unsent : (role : Side) → (role ≡ Client → opens ≡ not (party.offer.first_kex_packet_follows && right)) → opens ≡ false → [] ≡ sends_init m role party right kex
   unsent Server client e = refl
   unsent Client client e = unsent_by (party.offer.first_kex_packet_follows && right) (init_for m party kex ∷ []) (sym (client refl) ∙ e)
 
-  sent : (role : Role) → (role ≡ Client → opens ≡ not (party.offer.first_kex_packet_follows && right)) → (role ≡ Server → opens ≡ false) → opens ≡ true
+  sent : (role : Side) → (role ≡ Client → opens ≡ not (party.offer.first_kex_packet_follows && right)) → (role ≡ Server → opens ≡ false) → opens ≡ true
       → init_for m party kex ∷ [] ≡ sends_init m role party right kex
   sent Server client server e = absurd (true≢false (sym e ∙ server refl))
   sent Client client server e = sent_by (party.offer.first_kex_packet_follows && right) (init_for m party kex ∷ []) (sym (client refl) ∙ e)

@@ -3,7 +3,7 @@ use Rattle.std.proofs.lemmas.List.{length-map}
 use Rattle.std.proofs.lemmas.Iterator.Consumers.{YieldsList-end, YieldsList-so_far, YieldsList-turn}
 use Rattle.std.proofs.lemmas.Iterator.Splits.{YieldsList-from_slice_split}
 use Rattle.std.specs.List.{list_all, flat_map, slice_split}
-use Rattle.sshworld.specs.declared.side.Side.TheVariants.{Client, Server}
+use Rattle.sshneg.specs.declared.side.Side.TheVariants.{Client, Server}
 use Rattle.sshlab.specs.Recordings.{IsFirstBadLine, is_recorded, sent}
 use Rattle.sshlab.proofs.RecordingLemmas.{bad_at}
 use Rattle.sshlab.proofs.TextLemmas.{parts_are}

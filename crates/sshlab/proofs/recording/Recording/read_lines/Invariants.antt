@@ -1,6 +1,6 @@
 use Rattle.std.proofs.Common.{◌≡◌, ◌++◌, true, map, length}
 use Rattle.std.specs.List.{list_all, flat_map}
-use Rattle.sshworld.specs.declared.side.Side.TheVariants.{Client, Server}
+use Rattle.sshneg.specs.declared.side.Side.TheVariants.{Client, Server}
 use Rattle.sshlab.specs.Recordings.{is_recorded, sent}
 use Rattle.sshlab.proofs.recording.Recording.read_lines.Given as goal
 

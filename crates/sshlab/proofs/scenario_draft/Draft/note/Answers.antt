@@ -1,6 +1,6 @@
 use Rattle.std.proofs.Common.{◌≡◌, ◌∙◌, List, ap, subst, sym}
 use Rattle.std.specs.List.{Contains}
-use Rattle.sshworld.specs.declared.side.Side.{Side}
+use Rattle.sshneg.specs.declared.side.Side.{Side}
 use Rattle.sshlab.specs.declared.scenario_settings.Setting.{Setting}
 use Rattle.sshlab.specs.ScenarioDrafts.{DraftData}
 use Rattle.sshlab.proofs.ScenarioSettingLemmas.{holds_at_ok, made_is, not_made}

@@ -1,5 +1,5 @@
 use Rattle.std.proofs.Common.{◌≡◌, ◌∙◌, ap, subst}
-use Rattle.sshneg.specs.declared.role.Role.TheVariants as role
+use Rattle.sshneg.specs.declared.side.Side.TheVariants as role
 use Rattle.sshcore.specs.declared.draws.Draws.{Draws}
 use Rattle.sshcore.specs.ConfigParts.{ServerData}
 use Rattle.sshcore.specs.Endpoints.{EndpointMade}

@@ -1,6 +1,6 @@
 use Rattle.std.proofs.Common.{◌≢◌, ◌≡◌, Ok, min, IfOk, OnErr}
 use Rattle.sshcore.specs.EndData.{Open}
-use Rattle.sshworld.specs.declared.side.Side.TheVariants.{Client, Server}
+use Rattle.sshneg.specs.declared.side.Side.TheVariants.{Client, Server}
 use Rattle.sshworld.specs.Deliveries.{Refused}
 use Rattle.sshworld.specs.Nodes.{seen}
 use Rattle.sshworld.specs.WorldRounds.{Keeps, Moves}

@@ -3,23 +3,23 @@
 ghost use Rattle.std.specs.Prelude.{◌≡◌};
 ghost use Rattle.sshneg.specs.Markers.{other};
 
-/// Which side an endpoint is.
+/// One of the two ends of a connection. Of an endpoint it is its role, of a delivery the receiver.
 #[derive(Clone, Copy, Debug, PartialEq, Eq)]
-pub enum Role {
+pub enum Side {
     /// The side that connects.
     Client,
-    /// The side that listens.
+    /// The side that accepts.
     Server,
 }
 
-impl Role {
+impl Side {
     /// The other side. Takes no memory.
-    pub fn other(self) -> Role
+    pub fn other(self) -> Side
         ensures { result ≡ other self }
     {
         match self {
-            Role::Client => Role::Server,
-            Role::Server => Role::Client,
+            Side::Client => Side::Server,
+            Side::Server => Side::Client,
         }
     }
 }
