@@ -4,10 +4,12 @@
 //! off a stream, however it is cut. The law functions are for the layers above.
 #![tactic(auto)]
 
+mod clear_reader;
 mod fault;
 mod keys;
 mod limits;
 mod limits_laws;
+mod no_suite;
 mod packet_laws;
 mod padding;
 mod protection;
@@ -17,6 +19,7 @@ mod stream_laws;
 mod suite;
 mod write;
 
+pub use clear_reader::ClearReader;
 pub use fault::PacketFault;
 pub use keys::{KeyParts, Keys};
 pub use limits::{
