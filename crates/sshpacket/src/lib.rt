@@ -35,4 +35,4 @@ pub use room::ROOM_KEPT;
 pub use sshwire::ShareForm;
 pub use stream_laws::{joined_law, parser_law, places_law, receiving_law, stream_law};
 pub use suite::{AgreeingSuite, Capability, KeyLens, Need, Response, Suite};
-pub use write::{write_clear, write_sealed};
+pub use write::{write_clear, write_sealed, write_with_padding};
