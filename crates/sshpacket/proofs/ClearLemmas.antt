@@ -1,6 +1,6 @@
 -- In clear the answers of a packet reader are the same whatever the suite.
 
-use Rattle.std.proofs.Common.{◌≡◌, ◌≢◌, ℕ, ◌+◌, ◌≤◌, List, [], ◌++◌, length, take, refl, sym, ap, ◌∙◌, subst, Option, None, Some, IfErr, Result, Ok, Err}
+use Rattle.std.proofs.Common.{◌≡◌, ℕ, ◌+◌, List, [], ◌++◌, length, take, refl, sym, ap, ◌∙◌, subst, Option, None, Some, IfErr, Result, Ok, Err}
 use Rattle.sshpacket.specs.ClearReaderData.{ClearWaits, packets_of}
 use Rattle.sshpacket.specs.declared.clear_reader.ClearReader.{ClearReader}
 use Rattle.sshpacket.specs.declared.fault.PacketFault.{PacketFault}

@@ -1,6 +1,6 @@
 -- The suite of a reader without keys has the laws.
 
-use Rattle.std.proofs.Common.{◌≡◌, ℕ, zero, suc, ◌+◌, List, ◌∷◌, length, take, Option, None, Some, refl, sym, ap, ◌∙◌, arith, lit<, lit≤, subst, false, ltb, []}
+use Rattle.std.proofs.Common.{◌≡◌, ℕ, zero, suc, ◌+◌, List, ◌∷◌, length, take, Option, Some, refl, sym, ap, ◌∙◌, arith, lit<, lit≤, subst, false, ltb, []}
 use Rattle.std.proofs.lemmas.Bool.{le-ltb}
 use Rattle.sshwire.specs.ByteLaws.{bytes_cons, bytes_none}
 use Rattle.sshwire.specs.TypeReadings.{uint32_at}

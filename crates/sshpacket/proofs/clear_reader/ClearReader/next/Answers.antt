@@ -1,5 +1,4 @@
 use Rattle.std.proofs.Common.{Err, Ok, Result, refl, subst}
-use Rattle.sshpacket.specs.declared.clear_reader.ClearReader.{ClearReader}
 use Rattle.sshpacket.specs.declared.fault.PacketFault.{PacketFault}
 use Rattle.sshpacket.specs.declared.reader.PacketReader.{PacketReader}
 use Rattle.sshpacket.specs.declared.reader.PacketStep.{PacketStep}
