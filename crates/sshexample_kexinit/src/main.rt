@@ -7,6 +7,7 @@ use anyhow::bail;
 use sshmsg::{KexInit, Message, SSH_MSG_KEXINIT, read};
 use sshpacket::{ClearReader, PacketStep};
 use sshwire::{LineReader, LineStep, NameList, OTHER_LINE_LIMIT};
+use std::io::Read;
 
 fn main(rt: HostRuntime) -> anyhow::Result<()> {
     let mut bytes = Vec::new(rt.alloc());
