@@ -1,5 +1,9 @@
 //! The binary packets of SSH (RFC 4253 section 6), over a suite of algorithms that is handed in.
 //!
+//! Alone, and without a suite, it reads the packets in clear of a captured stream ([`ClearReader`]) and writes such
+//! packets ([`write_with_padding`], [`padding_len`]): for sniffers and for makers of test vectors. With a [`Suite`] it
+//! does so of sealed packets, whose keys are [`Keys`].
+//!
 //! [`write_clear`] and [`write_sealed`] write a payload as a packet; [`PacketReader`] reads packets
 //! off a stream, however it is cut. The law functions are for the layers above.
 #![tactic(auto)]
