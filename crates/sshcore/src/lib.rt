@@ -1,5 +1,9 @@
 //! One endpoint of SSH, a client or a server, which is fed with bytes: from the first byte of the version
 //! line to the authenticated user (RFC 4253, RFC 4252).
+//!
+//! Alone it is what a client, a server, a proxy or an appliance stands on: an [`Endpoint`] is given bytes in any pieces,
+//! appends those that are to be sent, and hands over a [`Session`], whose [`Link`] seals and opens packets. It needs a
+//! suite and a [`Decisions`], and no socket, clock or thread.
 #![tactic(auto)]
 
 mod agreement;

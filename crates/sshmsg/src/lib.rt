@@ -1,6 +1,10 @@
 //! The messages of SSH up to authentication, as payloads: RFC 4253, RFC 4252 and message 7 of
 //! RFC 8308.
 //!
+//! Alone it tells what a payload says and writes the payload of a message, without a suite and without a state: for
+//! sniffers, for dissectors and for makers of test vectors. The numbers of messages are constants by their names in
+//! RFC 4250 section 4.1.2, as [`SSH_MSG_KEXINIT`].
+//!
 //! [`read`] answers the message that a payload spells and lends its parts out of it, [`read_exchange`]
 //! does so where a key exchange has octet strings as shares, and [`write`] appends a payload that spells
 //! the message.

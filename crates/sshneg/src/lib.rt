@@ -1,4 +1,9 @@
 //! What two sides of SSH agree on, and what they derive from it (RFC 4253 sections 7 and 8).
+//!
+//! Alone it tells what two KEXINITs come to ([`choose`]), whether a side is strict ([`strict_of`]) and whether a guess
+//! was right ([`guess_right`]), and gives the input of the exchange hash and the keys ([`exchange_input`], [`keys_of`]):
+//! for sniffers, for who audits configs, and for makers of test vectors. It asks a suite what an algorithm needs and
+//! can do, and for hashes.
 #![tactic(auto)]
 
 mod choice;

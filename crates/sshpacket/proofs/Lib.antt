@@ -1,4 +1,5 @@
 pub mod AnswerLemmas
+pub mod ClearLemmas
 pub mod ReceivingLemmas
 pub mod JoinedLemmas
 pub mod LeastPadding

@@ -8,7 +8,7 @@ use Rattle.sshwire.specs.TypeReadings.{IsReading, uint32_at}
 use Rattle.sshwire.specs.Types.{IsBytes, Uint32Text, uint32}
 use Rattle.sshpacket.specs.Parse.{parse_packet, protection, whole}
 use Rattle.sshpacket.specs.KeysData.{KeysData}
-use Rattle.sshpacket.specs.Packet.{IsLeastPadding, IsLength, IsPacket, counted, least_padding, length_field, number, packet, to_multiple, alignment, with_four}
+use Rattle.sshpacket.specs.Packet.{IsLeastPadding, IsLength, IsPacket, IsPadding, counted, least_padding, length_field, number, packet, to_multiple, alignment, with_four}
 use Rattle.sshpacket.specs.Suite.{IsLawful, SuiteData}
 use Rattle.sshpacket.specs.Written.{IsWritten, written}
 use Rattle.sshpacket.proofs.LeastPadding.{least_is}
@@ -128,3 +128,15 @@ sealed_again r m law keys seq payload clear rest low each k =
     (ap (λ (xs : List ℕ). m.unseal keys seq xs) (take_at (m.seal keys seq clear) rest (length (m.seal keys seq clear)) refl)
     ∙ law.unseal_of_seal keys seq payload clear low (each, k))
     k (omega arith) (omega arith)
+
+-- a payload and padding that is allowed
+pub padded_is : (payload padding : List ℕ) → 0 < length payload → length payload ≤ PAYLOAD_LIMIT → IsPadding true 8 (length payload) (length padding) → length padding < 256
+    → IsPacket true 8 0 payload (packet payload padding)
+padded_is payload padding some low allowed short = record {
+  padding = padding;
+  bytes_are = refl;
+  fits = record { multiple = allowed.multiple; least = allowed.enough; limit = omega arith };
+  padding_low = allowed.low;
+  padding_high = short;
+  not_empty = some;
+}

@@ -1,7 +1,10 @@
 pub mod Receiving
 pub mod Joined
+pub mod ClearReaderData
 pub mod KeysData
 pub mod KeyNames
+pub mod NoSuite
+pub mod NoSuiteLaws
 pub mod Packet
 pub mod Parse
 pub mod Places

@@ -1,13 +1,19 @@
 //! The binary packets of SSH (RFC 4253 section 6), over a suite of algorithms that is handed in.
 //!
+//! Alone, and without a suite, it reads the packets in clear of a captured stream ([`ClearReader`]) and writes such
+//! packets ([`write_with_padding`], [`padding_len`]): for sniffers and for makers of test vectors. With a [`Suite`] it
+//! does so of sealed packets, whose keys are [`Keys`].
+//!
 //! [`write_clear`] and [`write_sealed`] write a payload as a packet; [`PacketReader`] reads packets
 //! off a stream, however it is cut. The law functions are for the layers above.
 #![tactic(auto)]
 
+mod clear_reader;
 mod fault;
 mod keys;
 mod limits;
 mod limits_laws;
+mod no_suite;
 mod packet_laws;
 mod padding;
 mod protection;
@@ -17,6 +23,7 @@ mod stream_laws;
 mod suite;
 mod write;
 
+pub use clear_reader::ClearReader;
 pub use fault::PacketFault;
 pub use keys::{KeyParts, Keys};
 pub use limits::{
@@ -32,4 +39,4 @@ pub use room::ROOM_KEPT;
 pub use sshwire::ShareForm;
 pub use stream_laws::{joined_law, parser_law, places_law, receiving_law, stream_law};
 pub use suite::{AgreeingSuite, Capability, KeyLens, Need, Response, Suite};
-pub use write::{write_clear, write_sealed};
+pub use write::{write_clear, write_sealed, write_with_padding};

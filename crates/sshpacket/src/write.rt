@@ -2,9 +2,10 @@
 
 ghost use Rattle.sshwire.specs.declared.limits.TheConstants.{PAYLOAD_LIMIT};
 ghost use Rattle.sshpacket.specs.declared.limits.TheConstants.{BLOCK_LIMIT};
-ghost use Rattle.std.specs.Prelude.{◌≡◌, true, ◌+◌, ◌<◌, ◌≤◌, ◌^◌, ◌++◌, IfOk, OnOk, if◌then◌else◌, is_ok, length};
+ghost use Rattle.std.specs.Prelude.{◌≡◌, true, ℕ, ◌+◌, ◌<◌, ◌≤◌, ◌^◌, ◌++◌, IfOk, List, None, OnOk, if◌then◌else◌, is_ok, length};
 ghost use Rattle.sshwire.specs.Types.{IsBytes};
-ghost use Rattle.sshpacket.specs.Packet.{packet};
+ghost use Rattle.sshpacket.specs.Packet.{IsPacket, IsPadding, packet};
+ghost use Rattle.sshpacket.specs.Parse.{parse_packet, protection, whole};
 ghost use Rattle.sshpacket.specs.Suite.{SuiteData};
 ghost use Rattle.sshpacket.specs.Written.{IsWritten, written, written_clear, written_sealed};
 
@@ -77,6 +78,46 @@ fn sealed_is_packet<S: Suite>(suite: &S, keys: &Keys, seq: u32, payload: &[u8], 
     crate::packet_laws::writing_law();
 }
 
+/// Appends the packet of a payload in clear with this padding (RFC 4253 section 6), for who has no suite.
+/// Where an allocation failed the vector is unchanged.
+///
+/// The caller's conditions are a payload of 1 to `PAYLOAD_LIMIT` bytes, and padding of at most 255 bytes that
+/// is allowed: with its first five bytes the packet is a multiple of 8, and has at least 16 bytes and at least
+/// 4 of padding. The least is [`padding_len`](crate::padding_len) at a block of 8; each 8 bytes more are allowed
+/// too. Its bytes should be random (RFC 4253 section 6), and no reader looks at them.
+pub fn write_with_padding(
+    alloc: Global,
+    payload: &[u8],
+    padding: &[u8],
+    out: &mut Vec<u8>,
+) -> Result<(), Memory>
+    requires some { 0 < length payload.now }
+    requires payload { length payload.now ≤ PAYLOAD_LIMIT }
+    requires padding { IsPadding true 8 (length payload.now) (length padding.now) }
+    requires short { length padding.now < 256 }
+    ensures appends { out.new.items ≡ (if is_ok result then out.old.items ++ packet payload.now padding.now else out.old.items) }
+    // What is appended is a packet of the payload, and is read again as it, whatever the suite and whatever follows.
+    ensures packet { IsPacket true 8 0 payload.now (packet payload.now padding.now) }
+    ensures again { (m : SuiteData) (seq : ℕ) (rest : List ℕ) → parse_packet (protection m None seq) (packet payload.now padding.now ++ rest) ≡ whole payload.now (length (packet payload.now padding.now)) }
+{
+    padded_is_packet(payload, padding);
+    let packet = joined(alloc, payload, padding)?;
+    out.extend_from_slice(&packet)?;
+    Ok(())
+}
+
+/// A payload and allowed padding are a packet, which is read again.
+fn padded_is_packet(payload: &[u8], padding: &[u8])
+    requires some { 0 < length payload.now }
+    requires payload { length payload.now ≤ PAYLOAD_LIMIT }
+    requires padding { IsPadding true 8 (length payload.now) (length padding.now) }
+    requires short { length padding.now < 256 }
+    ensures packet { IsPacket true 8 0 payload.now (packet payload.now padding.now) }
+    ensures again { (m : SuiteData) (seq : ℕ) (rest : List ℕ) → parse_packet (protection m None seq) (packet payload.now padding.now ++ rest) ≡ whole payload.now (length (packet payload.now padding.now)) }
+{
+    sshwire::types_law();
+}
+
 /// The packet of a payload in clear, for this block, where packet_length counts or not.
 #[tactic(auto, unfolding(crate::specs::Written::written))]
 fn clear_packet<S: Suite>(
@@ -96,9 +137,19 @@ fn clear_packet<S: Suite>(
 {
     let len = least_padding_len(counts, block, payload.len());
     let padding = suite.padding(alloc, seed, seq, len)?;
-    let mut clear = Vec::with_capacity(alloc, 5 + payload.len() + padding.len())?;
-    put_packet(&mut clear, payload, &padding)?;
-    Ok(clear)
+    joined(alloc, payload, &padding)
+}
+
+/// The packet of a payload and its padding.
+fn joined(alloc: Global, payload: &[u8], padding: &[u8]) -> Result<Vec<u8>, Memory>
+    requires payload { length payload.now ≤ PAYLOAD_LIMIT }
+    requires padding { length padding.now < 256 }
+    ensures packet { IfOk result (λ v. v.items ≡ packet payload.now padding.now) }
+    ensures len { IfOk result (λ v. length v.items ≡ 5 + length payload.now + length padding.now) }
+{
+    let mut packet = Vec::with_capacity(alloc, 5 + payload.len() + padding.len())?;
+    put_packet(&mut packet, payload, padding)?;
+    Ok(packet)
 }
 
 /// Appends a packet; where an allocation failed a prefix of it may stand there.

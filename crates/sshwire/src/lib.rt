@@ -1,5 +1,9 @@
 //! The lowest layer of SSH: data types, name-lists and version lines as bytes.
 //!
+//! Alone it reads the lines of a captured stream up to its version line, in any pieces ([`LineReader`]), and reads and
+//! writes fields of any format that has the types of SSH ([`Reader`], [`NameList`], [`put_string`]): for sniffers, for
+//! dissectors and for programs of other SSH layers. It needs nothing else of SSH.
+//!
 //! Data types are those of RFC 4251 section 5, names those of its section 6, version lines those of RFC 4253 section 4.2.
 #![tactic(auto)]
 

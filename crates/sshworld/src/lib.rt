@@ -1,5 +1,8 @@
 //! Two endpoints of SSH, a client and a server, and what comes of them; and two readers of version lines, which
 //! receive from each other by the same deliveries.
+//!
+//! Alone it foretells how a client and a server of two configs end, without running them ([`predict`]), and runs both
+//! with bytes moved in any pieces ([`World`]): for who judges configs, and for tests of an endpoint or a suite.
 #![tactic(auto)]
 
 mod algorithms;
