@@ -6,7 +6,7 @@ use Rattle.sshwire.specs.declared.fault.WireFault.{WireFault}
 use Rattle.sshwire.specs.declared.fault.WireFault.TheVariants.{Name, Short}
 use Rattle.sshwire.specs.Types.{BooleanText, MpintText, NameListText, StringText, Uint32Text}
 use Rattle.sshwire.specs.TypeReadings.{◌>>=◌, boolean_at, mpint_at, names_at, string_at, uint32_at}
-use Rattle.sshmsg.specs.MessageData.{MessageData}
+use Rattle.sshmsg.specs.MessageData.{KexInitData, MessageData, MethodData}
 
 -- the kinds of fields: the data types of RFC 4251 section 5, a string of UTF-8 text, and the 16 bytes of the cookie
 -- and the four of the reserved word of a KEXINIT
@@ -30,6 +30,15 @@ Of BigNumber = List ℕ
 Of Names = List (List ℕ)
 Of Cookie = List ℕ
 Of Reserved = Unit {0}
+
+-- The fields of one message with what they hold, in order. Three messages end otherwise than by a field: with the pairs of an
+-- EXT_INFO, with what a KEXINIT offers, or with the fields of a method.
+pub data Fields : Type 0 where
+  End : Fields
+  With : (f : Field) → Of f → Fields → Fields
+  Pairs : List (List ℕ × List ℕ) → Fields
+  Offer : KexInitData → Fields
+  Method : MethodData → Fields
 
 -- the bytes stand for the field
 abbrev pub FieldText : (f : Field) → Of f → List ℕ → Type 0

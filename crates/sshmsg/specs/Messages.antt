@@ -1,6 +1,6 @@
 -- The messages: RFC 4253 sections 7 to 11, RFC 5656 section 4, RFC 4252 sections 5 to 8, and message 7 of RFC 8308 section 2.3.
 
-use Rattle.std.specs.Prelude.{◌≡◌, ◌==◌, ◌||◌, Bool, ℕ, zero, suc, if◌then◌else◌, List, [], ◌∷◌, ◌++◌, codes, Option, None, Some, Result, Ok, Err}
+use Rattle.std.specs.Prelude.{◌≡◌, ◌==◌, ◌||◌, Bool, ℕ, zero, suc, if◌then◌else◌, List, [], ◌∷◌, ◌++◌, codes, length, Option, None, Some, Result, Ok, Err}
 use Rattle.std.specs.Str.{bytes_eq}
 use Rattle.sshwire.specs.declared.fault.WireFault.{WireFault}
 use Rattle.sshwire.specs.declared.share_form.ShareForm.{ShareForm}
@@ -8,8 +8,8 @@ use Rattle.sshwire.specs.declared.share_form.ShareForm.TheVariants.{Hybrid, Mpin
 use Rattle.sshmsg.specs.declared.fault.MsgFault.{MsgFault}
 use Rattle.sshmsg.specs.declared.fault.MsgFault.TheVariants.{Malformed, Unrecognised}
 use Rattle.sshmsg.specs.declared.numbers.TheConstants.{SSH_MSG_DEBUG, SSH_MSG_DISCONNECT, SSH_MSG_EXT_INFO, SSH_MSG_IGNORE, SSH_MSG_KEXDH_INIT, SSH_MSG_KEXDH_REPLY, SSH_MSG_KEXINIT, SSH_MSG_NEWKEYS, SSH_MSG_SERVICE_ACCEPT, SSH_MSG_SERVICE_REQUEST, SSH_MSG_UNIMPLEMENTED, SSH_MSG_USERAUTH_BANNER, SSH_MSG_USERAUTH_FAILURE, SSH_MSG_USERAUTH_PK_OK, SSH_MSG_USERAUTH_REQUEST, SSH_MSG_USERAUTH_SUCCESS}
-use Rattle.sshmsg.specs.MessageData.{Debug, Disconnect, ExtInfo, Ignore, KexEcdhInit, KexEcdhReply, KexInit, KexdhInit, KexdhReply, MessageData, NewKeys, NoMethod, OtherMethod, Password, PasswordChange, PublicKey, PublicKeyQuery, ServiceAccept, ServiceRequest, Unimplemented, UserauthBanner, UserauthFailure, UserauthPkOk, UserauthRequest, UserauthSuccess}
-use Rattle.sshmsg.specs.Form.{BigNumber, Bytes, Cookie, Done, FillsForm, Flag, Form, Names, Number, Reserved, Rest, Then, Utf8, form_at}
+use Rattle.sshmsg.specs.MessageData.{Debug, Disconnect, ExtInfo, Ignore, KexEcdhInit, KexEcdhReply, KexInit, KexdhInit, KexdhReply, MessageData, MethodData, NewKeys, NoMethod, OtherMethod, Password, PasswordChange, PublicKey, PublicKeyQuery, ServiceAccept, ServiceRequest, Unimplemented, UserauthBanner, UserauthFailure, UserauthPkOk, UserauthRequest, UserauthSuccess}
+use Rattle.sshmsg.specs.Form.{BigNumber, Bytes, Cookie, Done, End, Fields, FillsForm, Flag, Form, Method, Names, Number, Offer, Pairs, Reserved, Rest, Then, Utf8, With, form_at}
 
 -- 1, RFC 4253 section 11.1
 unfoldable pub disconnect : Form
@@ -119,6 +119,15 @@ method_form user service method =
     else if bytes_eq method (codes "publickey") then publickey user service
     else Rest (λ fields. UserauthRequest user service (OtherMethod method fields))
 
+-- a method's name, with which its fields begin
+abbrev pub method_name : MethodData → List ℕ
+method_name NoMethod = codes "none"
+method_name (Password password) = codes "password"
+method_name (PasswordChange old new) = codes "password"
+method_name (PublicKey algorithm key signature) = codes "publickey"
+method_name (PublicKeyQuery algorithm key) = codes "publickey"
+method_name (OtherMethod name fields) = name
+
 -- 50, RFC 4252 section 5
 unfoldable pub userauth_request : Form
 userauth_request = Then Utf8 λ user. Then Bytes λ service. Then Bytes λ method. method_form user service method
@@ -139,26 +148,55 @@ userauth_banner = Then Bytes λ text. Then Bytes λ language. Done (UserauthBann
 unfoldable pub userauth_pk_ok : Form
 userauth_pk_ok = Then Bytes λ algorithm. Then Bytes λ key. Done (UserauthPkOk algorithm key)
 
+-- The layout of each message: its number (RFC 4250 section 4.1.2) and its fields with what they hold, in order. Its written form, its
+-- length and what its fields have to be follow from it. The number stands here as digits, apart from the constants of the code.
+abbrev pub layout : MessageData → ℕ × Fields
+layout (Disconnect reason description language) = (1, With Number reason (With Bytes description (With Bytes language End)))
+layout (Ignore content) = (2, With Bytes content End)
+layout (Unimplemented sequence_number) = (3, With Number sequence_number End)
+layout (Debug always_display text language) = (4, With Flag always_display (With Bytes text (With Bytes language End)))
+layout (ServiceRequest service) = (5, With Bytes service End)
+layout (ServiceAccept service) = (6, With Bytes service End)
+layout (ExtInfo pairs) = (7, With Number (length pairs) (Pairs pairs))
+layout (KexInit offer) = (20, Offer offer)
+layout NewKeys = (21, End)
+layout (KexdhInit e) = (30, With BigNumber e End)
+layout (KexdhReply host_key f signature) = (31, With Bytes host_key (With BigNumber f (With Bytes signature End)))
+layout (KexEcdhInit client_share) = (30, With Bytes client_share End)
+layout (KexEcdhReply host_key server_share signature) = (31, With Bytes host_key (With Bytes server_share (With Bytes signature End)))
+layout (UserauthRequest user service method) = (50, With Utf8 user (With Bytes service (With Bytes (method_name method) (Method method))))
+layout (UserauthFailure methods partial_success) = (51, With Names methods (With Flag partial_success End))
+layout UserauthSuccess = (52, End)
+layout (UserauthBanner text language) = (53, With Bytes text (With Bytes language End))
+layout (UserauthPkOk algorithm key) = (60, With Bytes algorithm (With Bytes key End))
+
 -- the form of each number that has one, in an exchange whose shares have this form
+abbrev pub forms : ShareForm → List (ℕ × Form)
+forms shares =
+    (SSH_MSG_DISCONNECT, disconnect) ∷
+    (SSH_MSG_IGNORE, ignore) ∷
+    (SSH_MSG_UNIMPLEMENTED, unimplemented) ∷
+    (SSH_MSG_DEBUG, debug) ∷
+    (SSH_MSG_SERVICE_REQUEST, service_request) ∷
+    (SSH_MSG_SERVICE_ACCEPT, service_accept) ∷
+    (SSH_MSG_EXT_INFO, ext_info) ∷
+    (SSH_MSG_KEXINIT, kexinit) ∷
+    (SSH_MSG_NEWKEYS, newkeys) ∷
+    (SSH_MSG_KEXDH_INIT, init_of shares) ∷
+    (SSH_MSG_KEXDH_REPLY, reply_of shares) ∷
+    (SSH_MSG_USERAUTH_REQUEST, userauth_request) ∷
+    (SSH_MSG_USERAUTH_FAILURE, userauth_failure) ∷
+    (SSH_MSG_USERAUTH_SUCCESS, userauth_success) ∷
+    (SSH_MSG_USERAUTH_BANNER, userauth_banner) ∷
+    (SSH_MSG_USERAUTH_PK_OK, userauth_pk_ok) ∷
+    []
+
+abbrev pub form_in : List (ℕ × Form) → ℕ → Option Form
+form_in [] n = None
+form_in (row ∷ rows) n = if n == row.0 then Some row.1 else form_in rows n
+
 unfoldable pub form_of : ShareForm → ℕ → Option Form
-form_of shares n =
-    if n == SSH_MSG_DISCONNECT then Some disconnect
-    else if n == SSH_MSG_IGNORE then Some ignore
-    else if n == SSH_MSG_UNIMPLEMENTED then Some unimplemented
-    else if n == SSH_MSG_DEBUG then Some debug
-    else if n == SSH_MSG_SERVICE_REQUEST then Some service_request
-    else if n == SSH_MSG_SERVICE_ACCEPT then Some service_accept
-    else if n == SSH_MSG_EXT_INFO then Some ext_info
-    else if n == SSH_MSG_KEXINIT then Some kexinit
-    else if n == SSH_MSG_NEWKEYS then Some newkeys
-    else if n == SSH_MSG_KEXDH_INIT then Some (init_of shares)
-    else if n == SSH_MSG_KEXDH_REPLY then Some (reply_of shares)
-    else if n == SSH_MSG_USERAUTH_REQUEST then Some userauth_request
-    else if n == SSH_MSG_USERAUTH_FAILURE then Some userauth_failure
-    else if n == SSH_MSG_USERAUTH_SUCCESS then Some userauth_success
-    else if n == SSH_MSG_USERAUTH_BANNER then Some userauth_banner
-    else if n == SSH_MSG_USERAUTH_PK_OK then Some userauth_pk_ok
-    else None
+form_of shares n = form_in (forms shares) n
 
 -- the payload spells the message: its number, and fields that fill the number's form
 pub record Spells (shares : ShareForm) (content : MessageData) (payload : List ℕ) : Type 0 where
