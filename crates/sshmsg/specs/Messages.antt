@@ -12,26 +12,26 @@ use Rattle.sshmsg.specs.MessageData.{Debug, Disconnect, ExtInfo, Ignore, KexEcdh
 use Rattle.sshmsg.specs.Form.{BigNumber, Bytes, Cookie, Done, End, Fields, FillsForm, Flag, Form, Method, Names, Number, Offer, Pairs, Reserved, Rest, Then, Utf8, With, form_at}
 
 -- 1, RFC 4253 section 11.1
-unfoldable pub disconnect : Form
+abbrev pub disconnect : Form
 disconnect = Then Number λ reason. Then Bytes λ description. Then Bytes λ language. Done (Disconnect reason description language)
 
 -- 2, RFC 4253 section 11.2
-unfoldable pub ignore : Form
+abbrev pub ignore : Form
 ignore = Then Bytes λ content. Done (Ignore content)
 
 -- 3, RFC 4253 section 11.4
-unfoldable pub unimplemented : Form
+abbrev pub unimplemented : Form
 unimplemented = Then Number λ sequence_number. Done (Unimplemented sequence_number)
 
 -- 4, RFC 4253 section 11.3
-unfoldable pub debug : Form
+abbrev pub debug : Form
 debug = Then Flag λ always_display. Then Bytes λ text. Then Bytes λ language. Done (Debug always_display text language)
 
 -- 5 and 6, RFC 4253 section 10
-unfoldable pub service_request : Form
+abbrev pub service_request : Form
 service_request = Then Bytes λ service. Done (ServiceRequest service)
 
-unfoldable pub service_accept : Form
+abbrev pub service_accept : Form
 service_accept = Then Bytes λ service. Done (ServiceAccept service)
 
 -- so many pairs of a name and a value, after those that were found
@@ -65,21 +65,21 @@ kexinit =
     }))
 
 -- 21, RFC 4253 section 7.3
-unfoldable pub newkeys : Form
+abbrev pub newkeys : Form
 newkeys = Done NewKeys
 
 -- 30 and 31 where shares are mpints, RFC 4253 section 8
-unfoldable pub kexdh_init : Form
+abbrev pub kexdh_init : Form
 kexdh_init = Then BigNumber λ e. Done (KexdhInit e)
 
-unfoldable pub kexdh_reply : Form
+abbrev pub kexdh_reply : Form
 kexdh_reply = Then Bytes λ host_key. Then BigNumber λ f. Then Bytes λ signature. Done (KexdhReply host_key f signature)
 
 -- 30 and 31 where shares are octet strings, RFC 5656 section 4 (RFC 8731 and the hybrids use them)
-unfoldable pub kex_ecdh_init : Form
+abbrev pub kex_ecdh_init : Form
 kex_ecdh_init = Then Bytes λ client_share. Done (KexEcdhInit client_share)
 
-unfoldable pub kex_ecdh_reply : Form
+abbrev pub kex_ecdh_reply : Form
 kex_ecdh_reply = Then Bytes λ host_key. Then Bytes λ server_share. Then Bytes λ signature. Done (KexEcdhReply host_key server_share signature)
 
 -- the two messages of an exchange whose shares have this form
@@ -133,19 +133,19 @@ unfoldable pub userauth_request : Form
 userauth_request = Then Utf8 λ user. Then Bytes λ service. Then Bytes λ method. method_form user service method
 
 -- 51, RFC 4252 section 5.1
-unfoldable pub userauth_failure : Form
+abbrev pub userauth_failure : Form
 userauth_failure = Then Names λ methods. Then Flag λ partial_success. Done (UserauthFailure methods partial_success)
 
 -- 52, RFC 4252 section 5.1
-unfoldable pub userauth_success : Form
+abbrev pub userauth_success : Form
 userauth_success = Done UserauthSuccess
 
 -- 53, RFC 4252 section 5.4
-unfoldable pub userauth_banner : Form
+abbrev pub userauth_banner : Form
 userauth_banner = Then Bytes λ text. Then Bytes λ language. Done (UserauthBanner text language)
 
 -- 60, RFC 4252 section 7: the key of a query would do
-unfoldable pub userauth_pk_ok : Form
+abbrev pub userauth_pk_ok : Form
 userauth_pk_ok = Then Bytes λ algorithm. Then Bytes λ key. Done (UserauthPkOk algorithm key)
 
 -- The layout of each message: its number (RFC 4250 section 4.1.2) and its fields with what they hold, in order. Its written form, its

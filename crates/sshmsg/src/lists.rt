@@ -277,7 +277,6 @@ pub(crate) fn read_userauth_failure<'a>(
     }
 }
 
-#[tactic(auto, unfolding(crate::specs::Messages::userauth_failure))]
 fn lend_userauth_failure<'a>(
     reader: &mut Reader<'a>,
 ) -> Result<(BorrowedNameList<'a>, bool), WireFault>
