@@ -6,7 +6,7 @@ use Rattle.sshwire.specs.declared.share_form.ShareForm.{ShareForm}
 use Rattle.sshwire.specs.declared.share_form.ShareForm.TheVariants.{Hybrid, Mpint, OctetString}
 use Rattle.sshmsg.specs.MessageData.{KexEcdhInit, KexEcdhReply, KexdhInit, KexdhReply, MessageData}
 use Rattle.sshmsg.specs.Form.{Done, FillsForm, Form, Of, Rest, Then}
-use Rattle.sshmsg.specs.Messages.{Spells, form_of, init_of, kex_ecdh_init, kex_ecdh_reply, kexdh_init, kexdh_reply, reply_of}
+use Rattle.sshmsg.specs.Messages.{Spells, form_of, init_of, reply_of}
 use Rattle.sshmsg.specs.Numbers.{number_of}
 use Rattle.sshmsg.specs.Written.{IsMessageOf}
 use Rattle.sshmsg.proofs.NumberLemmas.{number_told}
@@ -23,13 +23,11 @@ fills_within shares (Then f next) m fields h (value, text, rest, t, fills, parts
 fills_within shares (Rest next) m fields h same = rw same (h fields)
 
 init_within : (shares : ShareForm) → Within shares (init_of shares)
-unfolding kexdh_init kex_ecdh_init
 init_within Mpint = λ e. refl
 init_within OctetString = λ share e. (let no : ⊥ = cc in no)
 init_within Hybrid = λ share e. (let no : ⊥ = cc in no)
 
 reply_within : (shares : ShareForm) → Within shares (reply_of shares)
-unfolding kexdh_reply kex_ecdh_reply
 reply_within Mpint = λ host_key f signature. refl
 reply_within OctetString = λ host_key share signature e. (let no : ⊥ = cc in no)
 reply_within Hybrid = λ host_key share signature e. (let no : ⊥ = cc in no)

@@ -6,10 +6,9 @@ use Rattle.sshwire.specs.declared.share_form.ShareForm.{ShareForm}
 use Rattle.sshwire.specs.declared.share_form.ShareForm.TheVariants.{Hybrid, Mpint, OctetString}
 use Rattle.sshmsg.specs.MessageData.{MessageData}
 use Rattle.sshmsg.specs.Form.{Done, End, FieldText, Fields, FillsForm, Form, Method, Of, Offer, Pairs, Rest, Then, With}
-use Rattle.sshmsg.specs.Messages.{debug, disconnect, ext_info, form_in, form_of, forms, ignore, init_of, kex_ecdh_init, kex_ecdh_reply, kexdh_init, kexdh_reply, kexinit, layout, newkeys, reply_of, service_accept, service_request, unimplemented, userauth_banner, userauth_failure, userauth_pk_ok, userauth_request, userauth_success}
+use Rattle.sshmsg.specs.Messages.{ext_info, form_in, form_of, forms, init_of, kexinit, layout, reply_of, userauth_request}
 
 infixr 10 ◌&◌
-
 -- the messages of the form have the number, and its fields, behind those before
 abbrev pub LaysOut : ℕ → (Fields → Fields) → Form → Type 0
 LaysOut n before (Done c) = layout c ≡ (n, before End)
@@ -53,28 +52,34 @@ data Each (P : ℕ → Form → Type 0) : List (ℕ × Form) → Type 0 where
   ◌&◌ : {n : ℕ} {form : Form} {rows : List (ℕ × Form)} → P n form → Each P rows → Each P ((n, form) ∷ rows)
 
 init_laid_out : (shares : ShareForm) → LaysOut 30 (λ fields. fields) (init_of shares)
-unfolding kexdh_init kex_ecdh_init
 init_laid_out Mpint = λ e. refl
 init_laid_out OctetString = λ share. refl
 init_laid_out Hybrid = λ share. refl
 
 reply_laid_out : (shares : ShareForm) → LaysOut 31 (λ fields. fields) (reply_of shares)
-unfolding kexdh_reply kex_ecdh_reply
 reply_laid_out Mpint = λ host_key f signature. refl
 reply_laid_out OctetString = λ host_key share signature. refl
 reply_laid_out Hybrid = λ host_key share signature. refl
 
 -- The rows, in the table's order.
 each_row : (shares : ShareForm) (P : ℕ → Form → Type 0) → OfOthers P → OfLayouts P → Each P (forms shares)
-unfolding disconnect ignore unimplemented debug service_request service_accept newkeys userauth_failure userauth_success userauth_banner userauth_pk_ok
-each_row shares P others of =
-    of 1 disconnect (λ reason description language. refl) & of 2 ignore (λ content. refl) & of 3 unimplemented (λ number. refl)
-    & of 4 debug (λ always text language. refl) & of 5 service_request (λ service. refl) & of 6 service_accept (λ service. refl)
-    & others.ext_info & others.kexinit & of 21 newkeys refl
-    & of 30 (init_of shares) (init_laid_out shares) & of 31 (reply_of shares) (reply_laid_out shares)
-    & others.userauth_request & of 51 userauth_failure (λ methods partial. refl) & of 52 userauth_success refl
-    & of 53 userauth_banner (λ text language. refl)
-    & of 60 userauth_pk_ok (λ algorithm key. refl)
+each_row shares P others row =
+    row _ _ (λ reason description language. refl)
+    & row _ _ (λ content. refl)
+    & row _ _ (λ sequence_number. refl)
+    & row _ _ (λ always_display text language. refl)
+    & row _ _ (λ service. refl)
+    & row _ _ (λ service. refl)
+    & others.ext_info
+    & others.kexinit
+    & row _ _ refl
+    & row _ _ (init_laid_out shares)
+    & row _ _ (reply_laid_out shares)
+    & others.userauth_request
+    & row _ _ (λ methods partial_success. refl)
+    & row _ _ refl
+    & row _ _ (λ text language. refl)
+    & row _ _ (λ algorithm key. refl)
     & Nothing
 
 some_form : (f form : Form) → ◌≡◌ {A = Option Form} (Some f) (Some form) → f ≡ form

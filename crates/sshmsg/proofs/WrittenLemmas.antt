@@ -9,7 +9,7 @@ use Rattle.sshwire.specs.declared.share_form.ShareForm.TheVariants.{Hybrid, Mpin
 use Rattle.sshwire.specs.Types.{BooleanText, MpintText, NameListText, boolean, name_list, string, uint32}
 use Rattle.sshmsg.specs.MessageData.{ExtInfo, KexEcdhInit, KexEcdhReply, KexInit, KexInitData, KexdhInit, KexdhReply, MessageData, MethodData, NoMethod, OtherMethod, Password, PasswordChange, PublicKey, PublicKeyQuery, UserauthRequest}
 use Rattle.sshmsg.specs.Form.{BigNumber, Bytes, Cookie, Done, End, Field, FieldText, Fields, FillsForm, Flag, Form, Method, Names, Number, Of, Offer, Pairs, Reserved, Rest, Then, Utf8, With}
-use Rattle.sshmsg.specs.Messages.{Spells, debug, disconnect, ext_info, extensions, form_of, ignore, is_named, kex_ecdh_init, kex_ecdh_reply, kexdh_init, kexdh_reply, kexinit, layout, method_form, newkeys, password, publickey, service_accept, service_request, unimplemented, userauth_banner, userauth_failure, userauth_pk_ok, userauth_request, userauth_success}
+use Rattle.sshmsg.specs.Messages.{Spells, ext_info, extensions, form_of, is_named, kex_ecdh_init, kex_ecdh_reply, kexdh_init, kexdh_reply, kexinit, layout, method_form, password, publickey, userauth_request}
 use Rattle.sshmsg.specs.Written.{AreFields, IsField, IsMessageOf, IsMethod, IsNumber, IsNameList, IsOffer, IsPair, IsString, IsWellFormed, field_written, fields_written, method_fields, method_name, offer_written, pairs_written, written_message}
 
 boolean_text : (value : Bool) → BooleanText value (boolean value)
@@ -336,7 +336,7 @@ octets_row OctetString octets = (refl, refl)
 octets_row Hybrid octets = (refl, refl)
 
 pub written_spells : (shares : ShareForm) (m : MessageData) → IsMessageOf shares m → IsWellFormed m → Spells shares m (written_message m)
-unfolding written_message form_of held disconnect ignore unimplemented debug service_request service_accept newkeys kexdh_init kexdh_reply kex_ecdh_init kex_ecdh_reply userauth_failure userauth_success userauth_banner userauth_pk_ok
+unfolding written_message form_of held
 written_spells shares (ExtInfo pairs) o h =
     record { number = 7; form = ext_info; fields = _; known = refl; fills = ext_info_fills pairs h; payload_is = refl }
 written_spells shares (KexInit offer) o h =
