@@ -9,9 +9,9 @@ use Rattle.sshwire.specs.declared.share_form.ShareForm.{ShareForm}
 use Rattle.sshwire.specs.declared.share_form.ShareForm.TheVariants.{Hybrid, OctetString}
 use Rattle.sshmsg.specs.declared.fault.MsgFault.{MsgFault}
 use Rattle.sshmsg.specs.declared.fault.MsgFault.TheVariants.{Malformed, Memory, Unrecognised}
-use Rattle.sshmsg.specs.MessageData.{MessageData}
-use Rattle.sshmsg.specs.Form.{Done, Fields, FillsForm, Form, Of, Rest, Then, With, field_at, form_at}
-use Rattle.sshmsg.specs.Messages.{Spells, ext_info, extensions, form_of, in_form, kexinit, message_in, method_form, password, publickey, userauth_request, whole_form}
+use Rattle.sshmsg.specs.MessageData.{ext_info, extensions, Fields, Form, form_of, kexinit, MessageData, method_form, password, publickey, userauth_request, With}
+use Rattle.sshmsg.specs.Form.{Done, FillsForm, Of, Rest, Then, field_at, form_at}
+use Rattle.sshmsg.specs.Messages.{Spells, in_form, message_in, whole_form}
 use Rattle.sshmsg.specs.Numbers.{IsRefused, kind, number_of}
 use Rattle.sshmsg.proofs.FormLemmas.{bind_ok, whole_ok}
 use Rattle.sshmsg.proofs.TableLemmas.{LaysOut, each_form}

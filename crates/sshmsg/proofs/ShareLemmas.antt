@@ -4,9 +4,9 @@ use Rattle.std.proofs.Common.{◌≡◌, ◌≢◌, ℕ, List, Some, inl, inr, r
 use Rattle.std.proofs.lemmas.Bool.{cases_Bool, eqb-false, eqb-true}
 use Rattle.sshwire.specs.declared.share_form.ShareForm.{ShareForm}
 use Rattle.sshwire.specs.declared.share_form.ShareForm.TheVariants.{Hybrid, Mpint, OctetString}
-use Rattle.sshmsg.specs.MessageData.{KexEcdhInit, KexEcdhReply, KexdhInit, KexdhReply, MessageData}
-use Rattle.sshmsg.specs.Form.{Done, FillsForm, Form, Of, Rest, Then}
-use Rattle.sshmsg.specs.Messages.{Spells, form_of, init_of, reply_of}
+use Rattle.sshmsg.specs.MessageData.{Form, form_of, init_of, KexdhInit, KexdhReply, KexEcdhInit, KexEcdhReply, MessageData, reply_of}
+use Rattle.sshmsg.specs.Form.{Done, FillsForm, Of, Rest, Then}
+use Rattle.sshmsg.specs.Messages.{Spells}
 use Rattle.sshmsg.specs.Numbers.{number_of}
 use Rattle.sshmsg.specs.Written.{IsMessageOf}
 use Rattle.sshmsg.proofs.NumberLemmas.{number_told}

@@ -6,10 +6,10 @@ use Rattle.std.proofs.lemmas.List.{length-append}
 use Rattle.std.proofs.lemmas.Slice.Eq.{bytes_eq-Decides}
 use Rattle.sshwire.specs.declared.share_form.ShareForm.{ShareForm}
 use Rattle.sshwire.specs.Types.{BooleanText, boolean, name_list, names_body, string, uint32}
-use Rattle.sshmsg.specs.MessageData.{KexInitData, MessageData, MethodData, NoMethod, OtherMethod, Password, PasswordChange, PublicKey, PublicKeyQuery}
-use Rattle.sshmsg.specs.Form.{BigNumber, Bytes, Cookie, Done, End, Field, FieldText, Fields, FillsForm, Flag, Form, Method, Names, Number, Of, Offer, Pairs, Reserved, Rest, Then, Utf8, With}
+use Rattle.sshmsg.specs.MessageData.{End, ext_info, extensions, Fields, Form, kexinit, KexInitData, layout, MessageData, Method, method_form, MethodData, NoMethod, Offer, OtherMethod, Pairs, Password, password, PasswordChange, PublicKey, publickey, PublicKeyQuery, userauth_request, With}
+use Rattle.sshmsg.specs.Form.{BigNumber, Bytes, Cookie, Done, Field, FieldText, FillsForm, Flag, Names, Number, Of, Reserved, Rest, Then, Utf8}
 use Rattle.sshmsg.specs.Lengths.{added, all_fixed, all_varying, fixed, method_length, offer_length, pairs_length, payload_length, total, varying}
-use Rattle.sshmsg.specs.Messages.{Spells, ext_info, extensions, kexinit, layout, method_form, password, publickey, userauth_request}
+use Rattle.sshmsg.specs.Messages.{Spells}
 use Rattle.sshmsg.specs.Written.{field_written, fields_written, method_fields, offer_written, pairs_written, written_message}
 use Rattle.sshmsg.proofs.TableLemmas.{FieldsText, OfLayouts, OfOthers, each_form, laid_out}
 

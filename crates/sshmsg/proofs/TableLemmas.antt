@@ -4,9 +4,8 @@ use Rattle.std.proofs.Common.{◌≡◌, ℕ, List, [], ◌∷◌, ◌++◌, inl
 use Rattle.std.proofs.lemmas.Bool.{cases_Bool, eqb-true}
 use Rattle.sshwire.specs.declared.share_form.ShareForm.{ShareForm}
 use Rattle.sshwire.specs.declared.share_form.ShareForm.TheVariants.{Hybrid, Mpint, OctetString}
-use Rattle.sshmsg.specs.MessageData.{MessageData}
-use Rattle.sshmsg.specs.Form.{Done, End, FieldText, Fields, FillsForm, Form, Method, Of, Offer, Pairs, Rest, Then, With}
-use Rattle.sshmsg.specs.Messages.{ext_info, form_in, form_of, forms, init_of, kexinit, layout, reply_of, userauth_request}
+use Rattle.sshmsg.specs.MessageData.{End, ext_info, Fields, Form, form_in, form_of, forms, init_of, kexinit, layout, MessageData, Method, Offer, Pairs, reply_of, userauth_request, With}
+use Rattle.sshmsg.specs.Form.{Done, FieldText, FillsForm, Of, Rest, Then}
 
 infixr 10 ◌&◌
 -- the messages of the form have the number, and its fields, behind those before

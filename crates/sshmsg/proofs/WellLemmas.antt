@@ -5,9 +5,9 @@ use Rattle.std.specs.List.{AllByRecursion}
 use Rattle.std.specs.Str.{IsUtf8, bytes_eq}
 use Rattle.std.proofs.lemmas.List.{length-append}
 use Rattle.sshwire.specs.declared.share_form.ShareForm.{ShareForm}
-use Rattle.sshmsg.specs.MessageData.{MessageData}
-use Rattle.sshmsg.specs.Form.{BigNumber, Bytes, Cookie, Done, End, Field, FieldText, Fields, FillsForm, Flag, Form, Method, Names, Number, Of, Offer, Pairs, Reserved, Rest, Then, Utf8, With}
-use Rattle.sshmsg.specs.Messages.{Spells, ext_info, extensions, kexinit, method_form, password, publickey, userauth_request}
+use Rattle.sshmsg.specs.MessageData.{End, ext_info, extensions, Fields, Form, kexinit, MessageData, Method, method_form, Offer, Pairs, password, publickey, userauth_request, With}
+use Rattle.sshmsg.specs.Form.{BigNumber, Bytes, Cookie, Done, Field, FieldText, FillsForm, Flag, Names, Number, Of, Reserved, Rest, Then, Utf8}
+use Rattle.sshmsg.specs.Messages.{Spells}
 use Rattle.sshmsg.specs.Written.{AreFields, IsField, IsNumber, IsNameList, IsPair, IsString, IsWellFormed}
 use Rattle.sshwire.specs.Types.{MpintText, NameListText}
 use Rattle.sshmsg.proofs.TableLemmas.{FieldsText, OfLayouts, OfOthers, each_form, laid_out}

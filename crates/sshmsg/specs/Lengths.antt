@@ -3,9 +3,8 @@
 use Rattle.std.specs.Prelude.{◌≡◌, ℕ, ◌+◌, ◌≤◌, List, [], ◌∷◌, ◌++◌, length, nat_le}
 use Rattle.sshwire.specs.declared.limits.TheConstants.{PAYLOAD_LIMIT}
 use Rattle.sshwire.specs.Types.{names_body}
-use Rattle.sshmsg.specs.MessageData.{KexInitData, MessageData, MethodData, NoMethod, OtherMethod, Password, PasswordChange, PublicKey, PublicKeyQuery}
-use Rattle.sshmsg.specs.Form.{BigNumber, Bytes, Cookie, End, Field, Fields, Flag, Method, Names, Number, Of, Offer, Pairs, Reserved, Utf8, With}
-use Rattle.sshmsg.specs.Messages.{layout}
+use Rattle.sshmsg.specs.MessageData.{End, Fields, KexInitData, layout, MessageData, Method, MethodData, NoMethod, Offer, OtherMethod, Pairs, Password, PasswordChange, PublicKey, PublicKeyQuery, With}
+use Rattle.sshmsg.specs.Form.{BigNumber, Bytes, Cookie, Field, Flag, Names, Number, Of, Reserved, Utf8}
 
 -- the pairs of an EXT_INFO: two strings each
 abbrev pub pairs_length : List (List ℕ × List ℕ) → ℕ

@@ -5,8 +5,8 @@ use Rattle.sshwire.specs.declared.share_form.ShareForm.{ShareForm}
 use Rattle.sshmsg.specs.declared.fault.MsgFault.{MsgFault}
 use Rattle.sshmsg.specs.declared.fault.MsgFault.TheVariants.{Malformed, Memory, Unrecognised}
 use Rattle.sshmsg.specs.declared.numbers.TheConstants.{SSH_MSG_EXT_INFO, SSH_MSG_KEXINIT, SSH_MSG_USERAUTH_FAILURE}
-use Rattle.sshmsg.specs.MessageData.{MessageData}
-use Rattle.sshmsg.specs.Messages.{Spells, form_of, layout}
+use Rattle.sshmsg.specs.MessageData.{form_of, layout, MessageData}
+use Rattle.sshmsg.specs.Messages.{Spells}
 
 abbrev pub number_of : MessageData → ℕ
 number_of m = (layout m).0

@@ -12,9 +12,8 @@ use Rattle.sshmsg.specs.declared.message.Method.TheVariants as method
 use Rattle.sshmsg.specs.declared.message.Message.{Message}
 use Rattle.sshmsg.specs.declared.message.Message.TheVariants as message
 use Rattle.sshmsg.specs.MessageData as content
-use Rattle.sshmsg.specs.MessageData.{KexInitData, MessageData}
-use Rattle.sshmsg.specs.Form.{Form, form_at}
-use Rattle.sshmsg.specs.Messages.{ext_info, extensions}
+use Rattle.sshmsg.specs.MessageData.{ext_info, extensions, Form, KexInitData, MessageData}
+use Rattle.sshmsg.specs.Form.{form_at}
 
 abbrev pub kexinit_data : KexInit → KexInitData
 kexinit_data k = record {

@@ -6,10 +6,9 @@ use Rattle.std.specs.Str.{IsUtf8}
 use Rattle.sshwire.specs.Types.{AreNames, IsBytes, IsShortestBody, boolean, name_list, names_body, string, uint32}
 use Rattle.sshwire.specs.declared.share_form.ShareForm.{ShareForm}
 use Rattle.sshwire.specs.declared.share_form.ShareForm.TheVariants.{Mpint}
-use Rattle.sshmsg.specs.MessageData.{KexEcdhInit, KexEcdhReply, KexInitData, KexdhInit, KexdhReply, MessageData, MethodData, NoMethod, OtherMethod, Password, PasswordChange, PublicKey, PublicKeyQuery}
-use Rattle.sshmsg.specs.Form.{BigNumber, Bytes, Cookie, End, Field, Fields, Flag, Method, Names, Number, Of, Offer, Pairs, Reserved, Utf8, With}
-use Rattle.sshmsg.specs.Messages.{is_named, layout}
-pub use Rattle.sshmsg.specs.Messages.{method_name}
+use Rattle.sshmsg.specs.MessageData.{End, Fields, is_named, KexdhInit, KexdhReply, KexEcdhInit, KexEcdhReply, KexInitData, layout, MessageData, Method, MethodData, NoMethod, Offer, OtherMethod, Pairs, Password, PasswordChange, PublicKey, PublicKeyQuery, With}
+use Rattle.sshmsg.specs.Form.{BigNumber, Bytes, Cookie, Field, Flag, Names, Number, Of, Reserved, Utf8}
+pub use Rattle.sshmsg.specs.MessageData.{method_name}
 
 -- the pairs of an EXT_INFO
 abbrev pub pair_written : List ℕ × List ℕ → List ℕ

@@ -2,9 +2,9 @@
 
 ghost use Rattle.std.specs.Prelude.{◌≡◌, ◌≢◌, ℕ, IfErr, IfOk, List, Ok, []};
 ghost use Rattle.sshwire.specs.declared.share_form.ShareForm.TheVariants.{Mpint};
-ghost use Rattle.sshmsg.specs.MessageData.{MessageData, UserauthRequest};
+ghost use Rattle.sshmsg.specs.MessageData.{debug, disconnect, form_of, ignore, init_of, kex_ecdh_init, kex_ecdh_reply, kexdh_init, kexdh_reply, MessageData, method_form, password, publickey, reply_of, service_accept, service_request, unimplemented, userauth_banner, userauth_pk_ok, userauth_request, userauth_success, UserauthRequest};
 ghost use Rattle.sshmsg.specs.Form.{Reserved, bytes_at, field_at, form_at, utf8_at};
-ghost use Rattle.sshmsg.specs.Messages.{Spells, debug, disconnect, form_of, ignore, in_form, init_of, kex_ecdh_init, kex_ecdh_reply, kexdh_init, kexdh_reply, message_in, method_form, password, publickey, reply_of, service_accept, service_request, unimplemented, userauth_banner, userauth_pk_ok, userauth_request, userauth_success};
+ghost use Rattle.sshmsg.specs.Messages.{Spells, in_form, message_in};
 ghost use Rattle.sshmsg.specs.Numbers.{HasNoList};
 ghost use Rattle.sshmsg.specs.View.{Goes, IsOutOfMemory, MessageAnswer, ReadsForm, message_data, method_data};
 
@@ -96,7 +96,7 @@ fn read_lent<'a>(number: u8, fields: &'a [u8], form: ShareForm) -> Result<Messag
 }
 
 /// Reads the fields of the message with this number that holds no list, if there is one.
-#[tactic(auto, unfolding(crate::specs::Messages::form_of))]
+#[tactic(auto, unfolding(crate::specs::MessageData::form_of))]
 fn read_numbered<'a>(
     number: u8,
     form: ShareForm,
@@ -255,7 +255,7 @@ fn read_userauth_pk_ok<'a>(reader: &mut Reader<'a>) -> Result<Message<'a>, WireF
     Ok(Message::UserauthPkOk { algorithm, key })
 }
 
-#[tactic(auto, unfolding(crate::specs::Messages::userauth_request))]
+#[tactic(auto, unfolding(crate::specs::MessageData::userauth_request))]
 fn read_userauth_request<'a>(reader: &mut Reader<'a>) -> Result<Message<'a>, WireFault>
     ensures { Goes message_data result reader.new (form_at userauth_request reader.old) }
 {
@@ -289,7 +289,7 @@ fn read_method<'a>(name: &'a [u8], reader: &mut Reader<'a>) -> Result<Method<'a>
     Ok(Method::Other(OtherMethod::new(name, fields)))
 }
 
-#[tactic(auto, unfolding(crate::specs::Messages::password))]
+#[tactic(auto, unfolding(crate::specs::MessageData::password))]
 fn read_password<'a>(reader: &mut Reader<'a>) -> Result<Method<'a>, WireFault>
     ensures { (user service : List ℕ) → Goes (λ m. UserauthRequest user service (method_data m)) result reader.new
         (form_at (password user service) reader.old) }
@@ -303,7 +303,7 @@ fn read_password<'a>(reader: &mut Reader<'a>) -> Result<Method<'a>, WireFault>
     Ok(Method::Password { password })
 }
 
-#[tactic(auto, unfolding(crate::specs::Messages::publickey))]
+#[tactic(auto, unfolding(crate::specs::MessageData::publickey))]
 fn read_publickey<'a>(reader: &mut Reader<'a>) -> Result<Method<'a>, WireFault>
     ensures { (user service : List ℕ) → Goes (λ m. UserauthRequest user service (method_data m)) result reader.new
         (form_at (publickey user service) reader.old) }
