@@ -7,10 +7,10 @@ use Rattle.std.specs.Str.{bytes_eq}
 use Rattle.sshwire.specs.declared.share_form.ShareForm.{ShareForm}
 use Rattle.sshwire.specs.declared.share_form.ShareForm.TheVariants.{Hybrid, Mpint, OctetString}
 use Rattle.sshwire.specs.Types.{BooleanText, MpintText, NameListText, boolean, name_list, string, uint32}
-use Rattle.sshmsg.specs.MessageData.{End, ext_info, extensions, ExtInfo, Fields, Form, form_of, is_named, kex_ecdh_init, kex_ecdh_reply, kexdh_init, kexdh_reply, KexdhInit, KexdhReply, KexEcdhInit, KexEcdhReply, KexInit, kexinit, KexInitData, layout, MessageData, Method, method_form, MethodData, NoMethod, Offer, OtherMethod, Pairs, Password, password, PasswordChange, PublicKey, publickey, PublicKeyQuery, userauth_request, UserauthRequest, With}
+use Rattle.sshmsg.specs.MessageData.{End, ext_info, extensions, ExtInfo, Fields, Form, form_of, is_named, kex_ecdh_init, kex_ecdh_reply, kexdh_init, kexdh_reply, KexdhInit, KexdhReply, KexEcdhInit, KexEcdhReply, KexInit, kexinit, KexInitData, layout, MessageData, Method, method_form, MethodData, NoMethod, Offer, OtherMethod, Pairs, Password, password, PasswordChange, PublicKey, publickey, PublicKeyQuery, userauth_request, UserauthRequest, With, method_name}
 use Rattle.sshmsg.specs.Form.{BigNumber, Bytes, Cookie, Done, Field, FieldText, FillsForm, Flag, Names, Number, Of, Reserved, Rest, Then, Utf8}
 use Rattle.sshmsg.specs.Messages.{Spells}
-use Rattle.sshmsg.specs.Written.{AreFields, IsField, IsMessageOf, IsMethod, IsNumber, IsNameList, IsOffer, IsPair, IsString, IsWellFormed, field_written, fields_written, method_fields, method_name, offer_written, pairs_written, written_message}
+use Rattle.sshmsg.specs.Written.{AreFields, IsField, IsMessageOf, IsMethod, IsNumber, IsNameList, IsOffer, IsPair, IsString, IsWellFormed, field_written, fields_written, method_fields, offer_written, pairs_written, written_message}
 
 boolean_text : (value : Bool) → BooleanText value (boolean value)
 boolean_text true = refl

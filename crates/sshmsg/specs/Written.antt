@@ -8,7 +8,6 @@ use Rattle.sshwire.specs.declared.share_form.ShareForm.{ShareForm}
 use Rattle.sshwire.specs.declared.share_form.ShareForm.TheVariants.{Mpint}
 use Rattle.sshmsg.specs.MessageData.{End, Fields, is_named, KexdhInit, KexdhReply, KexEcdhInit, KexEcdhReply, KexInitData, layout, MessageData, Method, MethodData, NoMethod, Offer, OtherMethod, Pairs, Password, PasswordChange, PublicKey, PublicKeyQuery, With}
 use Rattle.sshmsg.specs.Form.{BigNumber, Bytes, Cookie, Field, Flag, Names, Number, Of, Reserved, Utf8}
-pub use Rattle.sshmsg.specs.MessageData.{method_name}
 
 -- the pairs of an EXT_INFO
 abbrev pub pair_written : List ℕ × List ℕ → List ℕ

@@ -6,7 +6,8 @@ ghost use Rattle.sshwire.specs.Types.{string};
 ghost use Rattle.sshmsg.specs.MessageData as content;
 ghost use Rattle.sshmsg.specs.Lengths.{IsCapped};
 ghost use Rattle.sshmsg.specs.View.{kexinit_data, message_data, method_data, pair_of, pairs_of};
-ghost use Rattle.sshmsg.specs.Written.{method_fields, method_name, pair_written, pairs_written, written_message};
+ghost use Rattle.sshmsg.specs.MessageData.{method_name};
+ghost use Rattle.sshmsg.specs.Written.{method_fields, pair_written, pairs_written, written_message};
 
 use crate::message::{Extension, KexInit, Message, Method};
 use crate::writing::message_len;

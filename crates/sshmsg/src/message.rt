@@ -148,8 +148,8 @@ pub enum Method<'a> {
 
 impl<'a> Method<'a> {
     ghost use Rattle.std.specs.Prelude.{length};
+    ghost use Rattle.sshmsg.specs.MessageData.{method_name};
     ghost use Rattle.sshmsg.specs.View.{method_data};
-    ghost use Rattle.sshmsg.specs.Written.{method_name};
 
     /// The name of the method. Takes no memory.
     pub fn name(&self) -> &'a [u8]

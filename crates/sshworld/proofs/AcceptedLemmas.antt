@@ -9,9 +9,9 @@ use Rattle.sshwire.specs.declared.share_form.ShareForm.{ShareForm}
 use Rattle.sshwire.specs.declared.share_form.ShareForm.TheVariants.{Hybrid, Mpint, OctetString}
 use Rattle.sshwire.specs.Types.{IsBytes, IsName}
 use Rattle.sshwire.proofs.NameLemmas.{name_tested}
-use Rattle.sshmsg.specs.MessageData.{KexInit, MessageData, UserauthBanner, UserauthFailure, UserauthPkOk, UserauthRequest}
+use Rattle.sshmsg.specs.MessageData.{KexInit, MessageData, UserauthBanner, UserauthFailure, UserauthPkOk, UserauthRequest, method_name}
 use Rattle.sshmsg.specs.Messages.{message_in}
-use Rattle.sshmsg.specs.Written.{IsMessageOf, IsMethod, IsNameList, IsNumber, IsOffer, IsString, IsWellFormed, method_name, written_message}
+use Rattle.sshmsg.specs.Written.{IsMessageOf, IsMethod, IsNameList, IsNumber, IsOffer, IsString, IsWellFormed, written_message}
 use Rattle.sshneg.specs.declared.choice.NoCommon.TheVariants as field
 use Rattle.sshneg.specs.declared.side.Side.{Side}
 use Rattle.sshneg.specs.declared.side.Side.TheVariants.{Client, Server}
