@@ -6,7 +6,7 @@ use Rattle.std.proofs.lemmas.List.{length-append}
 use Rattle.std.proofs.lemmas.Slice.Eq.{bytes_eq-Decides}
 use Rattle.sshwire.specs.declared.share_form.ShareForm.{ShareForm}
 use Rattle.sshwire.specs.Types.{BooleanText, boolean, name_list, names_body, string, uint32}
-use Rattle.sshmsg.specs.MessageData.{End, ext_info, extensions, Fields, Form, kexinit, KexInitData, layout, MessageData, Method, method_form, MethodData, NoMethod, Offer, OtherMethod, Pairs, Password, password, PasswordChange, PublicKey, publickey, PublicKeyQuery, userauth_request, With}
+use Rattle.sshmsg.specs.MessageData.{End, ext_info, extensions, Fields, Form, kexinit, KexInitData, layout, MessageData, OfMethod, method_form, MethodData, NoMethod, OfKexInit, OtherMethod, Pairs, Password, password, PasswordChange, PublicKey, publickey, PublicKeyQuery, userauth_request, With}
 use Rattle.sshmsg.specs.Form.{BigNumber, Bytes, Cookie, Done, Field, FieldText, FillsForm, Flag, Names, Number, Of, Reserved, Rest, Then, Utf8}
 use Rattle.sshmsg.specs.Lengths.{added, all_fixed, all_varying, fixed, method_length, offer_length, pairs_length, payload_length, total, varying}
 use Rattle.sshmsg.specs.Messages.{Spells}
@@ -75,8 +75,8 @@ fields_long (With f value more) bytes (text, rest, t, after, parts) =
     let e : widths (With f value more) ≡ width f value + widths more = widths_more f value more in
     omega (arith, a, b, c, d, e)
 fields_long (Pairs pairs) bytes h = absurd h
-fields_long (Offer offer) bytes h = absurd h
-fields_long (Method m) bytes h = absurd h
+fields_long (OfKexInit offer) bytes h = absurd h
+fields_long (OfMethod m) bytes h = absurd h
 
 -- each message of the form is so long, with what stands before
 abbrev Sized : ℕ → Form → Type 0
@@ -261,11 +261,11 @@ all_long (With f value End) =
     omega (arith, a, b)
 all_long (With f value (With g other more)) = with_long f value (With g other more) _ (all_long (With g other more))
 all_long (With f value (Pairs pairs)) = with_long f value (Pairs pairs) _ (all_long (Pairs pairs))
-all_long (With f value (Offer offer)) = with_long f value (Offer offer) _ (all_long (Offer offer))
-all_long (With f value (Method m)) = with_long f value (Method m) _ (all_long (Method m))
+all_long (With f value (OfKexInit offer)) = with_long f value (OfKexInit offer) _ (all_long (OfKexInit offer))
+all_long (With f value (OfMethod m)) = with_long f value (OfMethod m) _ (all_long (OfMethod m))
 all_long (Pairs pairs) = let a : _ = pairs_long pairs in omega (arith, a)
-all_long (Offer offer) = let a : _ = offer_long offer in omega (arith, a)
-all_long (Method m) = let a : _ = method_long m in omega (arith, a)
+all_long (OfKexInit offer) = let a : _ = offer_long offer in omega (arith, a)
+all_long (OfMethod m) = let a : _ = method_long m in omega (arith, a)
 
 pub written_length : (m : MessageData) → length (written_message m) ≡ payload_length m
 unfolding written_message

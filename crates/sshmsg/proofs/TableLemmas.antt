@@ -4,11 +4,11 @@ use Rattle.std.proofs.Common.{◌≡◌, ℕ, List, [], ◌∷◌, ◌++◌, inl
 use Rattle.std.proofs.lemmas.Bool.{cases_Bool, eqb-true}
 use Rattle.sshwire.specs.declared.share_form.ShareForm.{ShareForm}
 use Rattle.sshwire.specs.declared.share_form.ShareForm.TheVariants.{Hybrid, Mpint, OctetString}
-use Rattle.sshmsg.specs.MessageData.{End, ext_info, Fields, Form, form_in, form_of, forms, init_of, kexinit, layout, MessageData, Method, Offer, Pairs, reply_of, userauth_request, With}
+use Rattle.sshmsg.specs.MessageData.{End, ext_info, Fields, Form, form_in, form_of, forms, init_of, kexinit, layout, MessageData, OfMethod, OfKexInit, Pairs, reply_of, userauth_request, With}
 use Rattle.sshmsg.specs.Form.{Done, FieldText, FillsForm, Of, Rest, Then}
 
 infixr 10 ◌&◌
--- the messages of the form have the number, and its fields, behind those before
+-- the messages of the form have the number, and its fields, after those before
 abbrev pub LaysOut : ℕ → (Fields → Fields) → Form → Type 0
 LaysOut n before (Done c) = layout c ≡ (n, before End)
 LaysOut n before (Then f next) = (value : Of f) → LaysOut n (λ more. before (With f value more)) (next value)
@@ -19,8 +19,8 @@ abbrev pub FieldsText : Fields → List ℕ → Type 0
 FieldsText End bytes = bytes ≡ []
 FieldsText (With f value more) bytes = (text : List ℕ) × (rest : List ℕ) × FieldText f value text × FieldsText more rest × (bytes ≡ text ++ rest)
 FieldsText (Pairs pairs) bytes = ⊥
-FieldsText (Offer offer) bytes = ⊥
-FieldsText (Method m) bytes = ⊥
+FieldsText (OfKexInit offer) bytes = ⊥
+FieldsText (OfMethod m) bytes = ⊥
 
 filled : (n : ℕ) (before : Fields → Fields) (form : Form) (m : MessageData) (bytes : List ℕ) → LaysOut n before form → FillsForm form m bytes
     → (fields : Fields) × (layout m ≡ (n, before fields)) × FieldsText fields bytes

@@ -5,7 +5,7 @@ use Rattle.std.specs.List.{AllByRecursion}
 use Rattle.std.specs.Str.{IsUtf8, bytes_eq}
 use Rattle.std.proofs.lemmas.List.{length-append}
 use Rattle.sshwire.specs.declared.share_form.ShareForm.{ShareForm}
-use Rattle.sshmsg.specs.MessageData.{End, ext_info, extensions, Fields, Form, kexinit, MessageData, Method, method_form, Offer, Pairs, password, publickey, userauth_request, With}
+use Rattle.sshmsg.specs.MessageData.{End, ext_info, extensions, Fields, Form, kexinit, MessageData, OfMethod, method_form, OfKexInit, Pairs, password, publickey, userauth_request, With}
 use Rattle.sshmsg.specs.Form.{BigNumber, Bytes, Cookie, Done, Field, FieldText, FillsForm, Flag, Names, Number, Of, Reserved, Rest, Then, Utf8}
 use Rattle.sshmsg.specs.Messages.{Spells}
 use Rattle.sshmsg.specs.Written.{AreFields, IsField, IsNumber, IsNameList, IsPair, IsString, IsWellFormed}
@@ -112,8 +112,8 @@ fields_well : (fields : Fields) (bytes : List ℕ) → FieldsText fields bytes �
 fields_well End bytes h = tt
 fields_well (With f value more) bytes (text, rest, t, after, parts) = (field_well f value text t, fields_well more rest after)
 fields_well (Pairs pairs) bytes h = absurd h
-fields_well (Offer offer) bytes h = absurd h
-fields_well (Method m) bytes h = absurd h
+fields_well (OfKexInit offer) bytes h = absurd h
+fields_well (OfMethod m) bytes h = absurd h
 
 AllWell : ℕ → Form → Type 0
 AllWell n form = (m : MessageData) (bytes : List ℕ) → FillsForm form m bytes → IsWellFormed m

@@ -7,7 +7,7 @@ use Rattle.std.specs.Str.{bytes_eq}
 use Rattle.sshwire.specs.declared.share_form.ShareForm.{ShareForm}
 use Rattle.sshwire.specs.declared.share_form.ShareForm.TheVariants.{Hybrid, Mpint, OctetString}
 use Rattle.sshwire.specs.Types.{BooleanText, MpintText, NameListText, boolean, name_list, string, uint32}
-use Rattle.sshmsg.specs.MessageData.{End, ext_info, extensions, ExtInfo, Fields, Form, form_of, is_named, kex_ecdh_init, kex_ecdh_reply, kexdh_init, kexdh_reply, KexdhInit, KexdhReply, KexEcdhInit, KexEcdhReply, KexInit, kexinit, KexInitData, layout, MessageData, Method, method_form, MethodData, NoMethod, Offer, OtherMethod, Pairs, Password, password, PasswordChange, PublicKey, publickey, PublicKeyQuery, userauth_request, UserauthRequest, With, method_name}
+use Rattle.sshmsg.specs.MessageData.{End, ext_info, extensions, ExtInfo, Fields, Form, form_of, is_named, kex_ecdh_init, kex_ecdh_reply, kexdh_init, kexdh_reply, KexdhInit, KexdhReply, KexEcdhInit, KexEcdhReply, KexInit, kexinit, KexInitData, layout, MessageData, OfMethod, method_form, MethodData, NoMethod, OfKexInit, OtherMethod, Pairs, Password, password, PasswordChange, PublicKey, publickey, PublicKeyQuery, userauth_request, UserauthRequest, With, method_name}
 use Rattle.sshmsg.specs.Form.{BigNumber, Bytes, Cookie, Done, Field, FieldText, FillsForm, Flag, Names, Number, Of, Reserved, Rest, Then, Utf8}
 use Rattle.sshmsg.specs.Messages.{Spells}
 use Rattle.sshmsg.specs.Written.{AreFields, IsField, IsMessageOf, IsMethod, IsNumber, IsNameList, IsOffer, IsPair, IsString, IsWellFormed, field_written, fields_written, method_fields, offer_written, pairs_written, written_message}
@@ -268,8 +268,8 @@ field_split : (f : Field) (value : Of f) (more : Fields) → fields_written (Wit
 field_split f value End = sym (append-nil (field_written f value))
 field_split f value (With g other more) = refl
 field_split f value (Pairs pairs) = refl
-field_split f value (Offer offer) = refl
-field_split f value (Method m) = refl
+field_split f value (OfKexInit offer) = refl
+field_split f value (OfMethod m) = refl
 
 -- what a field of this kind holds, if it is of the other kind
 held : (f g : Field) → Of g → Option (Of f)

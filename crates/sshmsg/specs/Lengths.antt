@@ -3,7 +3,7 @@
 use Rattle.std.specs.Prelude.{◌≡◌, ℕ, ◌+◌, ◌≤◌, List, [], ◌∷◌, ◌++◌, length, nat_le}
 use Rattle.sshwire.specs.declared.limits.TheConstants.{PAYLOAD_LIMIT}
 use Rattle.sshwire.specs.Types.{names_body}
-use Rattle.sshmsg.specs.MessageData.{End, Fields, KexInitData, layout, MessageData, Method, MethodData, NoMethod, Offer, OtherMethod, Pairs, Password, PasswordChange, PublicKey, PublicKeyQuery, With}
+use Rattle.sshmsg.specs.MessageData.{End, Fields, KexInitData, layout, MessageData, OfMethod, MethodData, NoMethod, OfKexInit, OtherMethod, Pairs, Password, PasswordChange, PublicKey, PublicKeyQuery, With}
 use Rattle.sshmsg.specs.Form.{BigNumber, Bytes, Cookie, Field, Flag, Names, Number, Of, Reserved, Utf8}
 
 -- the pairs of an EXT_INFO: two strings each
@@ -55,15 +55,15 @@ abbrev pub all_varying : Fields → List ℕ
 all_varying End = []
 all_varying (With f value more) = varying f value ++ all_varying more
 all_varying (Pairs pairs) = pairs_length pairs ∷ []
-all_varying (Offer offer) = length offer.cookie ∷ offer_length offer ∷ []
-all_varying (Method m) = method_length m ∷ []
+all_varying (OfKexInit offer) = length offer.cookie ∷ offer_length offer ∷ []
+all_varying (OfMethod m) = method_length m ∷ []
 
 abbrev pub all_fixed : Fields → ℕ
 all_fixed End = 0
 all_fixed (With f value more) = fixed f + all_fixed more
 all_fixed (Pairs pairs) = 0
-all_fixed (Offer offer) = 45
-all_fixed (Method m) = 0
+all_fixed (OfKexInit offer) = 45
+all_fixed (OfMethod m) = 0
 
 -- numbers added up from the first on
 abbrev pub added : ℕ → List ℕ → ℕ

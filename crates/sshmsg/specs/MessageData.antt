@@ -59,8 +59,8 @@ pub data Fields : Type 0 where
   End : Fields
   With : (f : Field) → Of f → Fields → Fields
   Pairs : List (List ℕ × List ℕ) → Fields
-  Offer : KexInitData → Fields
-  Method : MethodData → Fields
+  OfKexInit : KexInitData → Fields
+  OfMethod : MethodData → Fields
 
 -- a method's name, with which its fields begin
 abbrev pub method_name : MethodData → List ℕ
@@ -81,13 +81,13 @@ layout (Debug always_display text language) = (4, With Flag always_display (With
 layout (ServiceRequest service) = (5, With Bytes service End)
 layout (ServiceAccept service) = (6, With Bytes service End)
 layout (ExtInfo pairs) = (7, With Number (length pairs) (Pairs pairs))
-layout (KexInit offer) = (20, Offer offer)
+layout (KexInit offer) = (20, OfKexInit offer)
 layout NewKeys = (21, End)
 layout (KexdhInit e) = (30, With BigNumber e End)
 layout (KexdhReply host_key f signature) = (31, With Bytes host_key (With BigNumber f (With Bytes signature End)))
 layout (KexEcdhInit client_share) = (30, With Bytes client_share End)
 layout (KexEcdhReply host_key server_share signature) = (31, With Bytes host_key (With Bytes server_share (With Bytes signature End)))
-layout (UserauthRequest user service method) = (50, With Utf8 user (With Bytes service (With Bytes (method_name method) (Method method))))
+layout (UserauthRequest user service method) = (50, With Utf8 user (With Bytes service (With Bytes (method_name method) (OfMethod method))))
 layout (UserauthFailure methods partial_success) = (51, With Names methods (With Flag partial_success End))
 layout UserauthSuccess = (52, End)
 layout (UserauthBanner text language) = (53, With Bytes text (With Bytes language End))

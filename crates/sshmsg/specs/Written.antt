@@ -6,7 +6,7 @@ use Rattle.std.specs.Str.{IsUtf8}
 use Rattle.sshwire.specs.Types.{AreNames, IsBytes, IsShortestBody, boolean, name_list, names_body, string, uint32}
 use Rattle.sshwire.specs.declared.share_form.ShareForm.{ShareForm}
 use Rattle.sshwire.specs.declared.share_form.ShareForm.TheVariants.{Mpint}
-use Rattle.sshmsg.specs.MessageData.{End, Fields, is_named, KexdhInit, KexdhReply, KexEcdhInit, KexEcdhReply, KexInitData, layout, MessageData, Method, MethodData, NoMethod, Offer, OtherMethod, Pairs, Password, PasswordChange, PublicKey, PublicKeyQuery, With}
+use Rattle.sshmsg.specs.MessageData.{End, Fields, is_named, KexdhInit, KexdhReply, KexEcdhInit, KexEcdhReply, KexInitData, layout, MessageData, OfMethod, MethodData, NoMethod, OfKexInit, OtherMethod, Pairs, Password, PasswordChange, PublicKey, PublicKeyQuery, With}
 use Rattle.sshmsg.specs.Form.{BigNumber, Bytes, Cookie, Field, Flag, Names, Number, Of, Reserved, Utf8}
 
 -- the pairs of an EXT_INFO
@@ -58,8 +58,8 @@ fields_written End = []
 fields_written (With f value End) = field_written f value
 fields_written (With f value more) = field_written f value ++ fields_written more
 fields_written (Pairs pairs) = pairs_written pairs
-fields_written (Offer offer) = offer_written offer
-fields_written (Method m) = method_fields m
+fields_written (OfKexInit offer) = offer_written offer
+fields_written (OfMethod m) = method_fields m
 
 -- the payload that is written for a message: its number and its fields in order
 unfoldable pub written_message : MessageData → List ℕ
@@ -118,8 +118,8 @@ abbrev pub AreFields : Fields → Type 0
 AreFields End = Unit {0}
 AreFields (With f value more) = IsField f value × AreFields more
 AreFields (Pairs pairs) = AllByRecursion IsPair pairs
-AreFields (Offer offer) = IsOffer offer
-AreFields (Method m) = IsMethod m
+AreFields (OfKexInit offer) = IsOffer offer
+AreFields (OfMethod m) = IsMethod m
 
 abbrev pub IsWellFormed : MessageData → Type 0
 IsWellFormed m = AreFields (layout m).1
