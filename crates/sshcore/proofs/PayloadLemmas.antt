@@ -19,24 +19,7 @@ use Rattle.sshcore.proofs.ConfigOffers.{LengthLaw}
 -- a message's number stands first
 some_written : (m : MessageData) → 0 < length (written_message m)
 unfolding written_message
-some_written (content.Disconnect reason description language) = omega arith
-some_written (content.Ignore bytes) = omega arith
-some_written (content.Unimplemented number) = omega arith
-some_written (content.Debug display text language) = omega arith
-some_written (content.ServiceRequest service) = omega arith
-some_written (content.ServiceAccept service) = omega arith
-some_written (content.ExtInfo pairs) = omega arith
-some_written (content.KexInit offer) = omega arith
-some_written content.NewKeys = omega arith
-some_written (content.KexdhInit e) = omega arith
-some_written (content.KexdhReply host_key f signature) = omega arith
-some_written (content.KexEcdhInit share) = omega arith
-some_written (content.KexEcdhReply host_key share signature) = omega arith
-some_written (content.UserauthRequest user service _) = omega arith
-some_written (content.UserauthFailure methods partial) = omega arith
-some_written content.UserauthSuccess = omega arith
-some_written (content.UserauthBanner text language) = omega arith
-some_written (content.UserauthPkOk algorithm key) = omega arith
+some_written m = omega arith
 
 -- what was written for a message that fits is made
 pub made : (m : MessageData) (items : List ℕ) → items ≡ written_message m → length (written_message m) ≤ 32768 → IsBytes items → IsMade (written_message m) items

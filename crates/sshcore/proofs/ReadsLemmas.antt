@@ -1,7 +1,7 @@
 -- What the phase table reads, by the number.
 
-use Rattle.std.proofs.Common.{◌≡◌, ◌≢◌, ◌⊎◌, inl, inr, ℕ, ◌<◌, ◌≤◌, ◌==◌, Bool, true, false, refl, arith}
-use Rattle.std.specs.Prelude.{◌&&◌}
+use Rattle.std.proofs.Common.{◌≡◌, ◌≢◌, ◌⊎◌, inl, inr, ℕ, ◌<◌, ◌≤◌, ◌==◌, Bool, true, false, refl, sym, ap, ◌∙◌, arith}
+use Rattle.std.specs.Prelude.{◌&&◌, ◌||◌}
 use Rattle.std.proofs.lemmas.Bool.{and_parts, cases_Bool, eqb-true, ne_eqb, or_cases}
 use Rattle.sshneg.specs.declared.side.Side.{Side}
 use Rattle.sshneg.specs.declared.side.Side.TheVariants.{Client, Server}
@@ -254,47 +254,27 @@ pub record IsPlain (n : ℕ) : Type 0 where
   pub success : n ≢ 52
   pub confirmation : n ≢ 60
 
-pub plain_calm : (n : ℕ) → 1 < n → n < 5 → IsPlain n
-plain_calm n least most = record {
-  closing = λ q. omega arith;
-  request = λ q. omega arith;
-  accept = λ q. omega arith;
-  kexinit = λ q. omega arith;
-  newkeys = λ q. omega arith;
-  init = λ q. omega arith;
-  reply = λ q. omega arith;
-  user_request = λ q. omega arith;
-  failure = λ q. omega arith;
-  success = λ q. omega arith;
-  confirmation = λ q. omega arith;
-}
+-- the number is one of these
+abbrev pub is_answered : ℕ → Bool
+is_answered n =
+    n == 1 || (n == 5 || (n == 6 || (n == 20 || (n == 21 || (n == 30 || (n == 31 || (n == 50 || (n == 51 || (n == 52 || n == 60)))))))))
 
-pub plain_other : (n : ℕ) → (n ≡ 7) ⊎ (n ≡ 53) → IsPlain n
-plain_other n (inl seven) = record {
-  closing = λ q. omega arith;
-  request = λ q. omega arith;
-  accept = λ q. omega arith;
-  kexinit = λ q. omega arith;
-  newkeys = λ q. omega arith;
-  init = λ q. omega arith;
-  reply = λ q. omega arith;
-  user_request = λ q. omega arith;
-  failure = λ q. omega arith;
-  success = λ q. omega arith;
-  confirmation = λ q. omega arith;
-}
-plain_other n (inr banner) = record {
-  closing = λ q. omega arith;
-  request = λ q. omega arith;
-  accept = λ q. omega arith;
-  kexinit = λ q. omega arith;
-  newkeys = λ q. omega arith;
-  init = λ q. omega arith;
-  reply = λ q. omega arith;
-  user_request = λ q. omega arith;
-  failure = λ q. omega arith;
-  success = λ q. omega arith;
-  confirmation = λ q. omega arith;
+not_answered : (n k : ℕ) → is_answered n ≡ false → is_answered k ≡ true → n ≢ k
+not_answered n k none one same = let bad : ◌≡◌ {A = Bool} true false = sym one ∙ (ap is_answered (sym same) ∙ none) in cc
+
+pub plain_number : (n : ℕ) → is_answered n ≡ false → IsPlain n
+plain_number n none = record {
+  closing = not_answered n 1 none refl;
+  request = not_answered n 5 none refl;
+  accept = not_answered n 6 none refl;
+  kexinit = not_answered n 20 none refl;
+  newkeys = not_answered n 21 none refl;
+  init = not_answered n 30 none refl;
+  reply = not_answered n 31 none refl;
+  user_request = not_answered n 50 none refl;
+  failure = not_answered n 51 none refl;
+  success = not_answered n 52 none refl;
+  confirmation = not_answered n 60 none refl;
 }
 
 none_at : (role : Side) (p : Phase) (n : ℕ) → n ≡ leaving role p → IsPlain n → ⊥

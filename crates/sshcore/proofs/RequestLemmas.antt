@@ -7,9 +7,9 @@ use Rattle.std.proofs.lemmas.List.{length-map}
 use Rattle.sshwire.specs.TypeReadings.{is_name}
 use Rattle.sshwire.specs.Types.{IsName, names_body}
 use Rattle.sshmsg.specs.declared.message.Method as message_method
-use Rattle.sshmsg.specs.MessageData.{MessageData, MethodData, NoMethod, OtherMethod, Password, PasswordChange, PublicKey, PublicKeyQuery, UserauthFailure, UserauthPkOk, UserauthSuccess}
+use Rattle.sshmsg.specs.MessageData.{MessageData, MethodData, NoMethod, OtherMethod, Password, PasswordChange, PublicKey, PublicKeyQuery, UserauthFailure, UserauthPkOk, UserauthSuccess, method_name}
 use Rattle.sshmsg.specs.View.{method_data}
-use Rattle.sshmsg.specs.Written.{method_name, written_message}
+use Rattle.sshmsg.specs.Written.{written_message}
 use Rattle.sshneg.specs.ChoiceReadings.{is_in}
 use Rattle.sshneg.specs.Derivations.{signed_text}
 use Rattle.sshpacket.specs.Suite.{SuiteData}

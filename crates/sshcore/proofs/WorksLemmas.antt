@@ -43,7 +43,7 @@ use Rattle.sshcore.specs.Table.{line_by}
 use Rattle.sshcore.specs.Work.{accept_reply, init_reply, kexinit_reply, reply_reply, service_reply, work}
 use Rattle.sshcore.proofs.AfterLemmas.{carried_number, carried_request, failure_after, pk_ok_after, received_number, request_after}
 use Rattle.sshcore.proofs.ReadsLemmas as table
-use Rattle.sshcore.proofs.ReadsLemmas.{IsAt, IsPlain, Reads, plain_calm, plain_other, reads}
+use Rattle.sshcore.proofs.ReadsLemmas.{IsAt, IsPlain, Reads, plain_number, reads}
 
 -- what several clauses of a call that returned `Ok` give together
 pub on_two : {T E A B Z : Type 0} (r : Result T E) → OnOk r A → OnOk r B → (A → B → Z) → OnOk r Z
@@ -417,12 +417,8 @@ module _ (m : SuiteData) (d : DecisionsData) (role : Side) (party : ConfigData) 
   pub ignores : (x : Message) → IsNone x → IsIgnored m d role party known (message_data x)
   unfolding work
   ignores (message.Disconnect reason description language) h = absurd (h.disconnect reason description language refl)
-  ignores (message.Ignore bytes) h = record { plain = plain_calm 2 (omega arith) (omega arith); work_is = refl }
-  ignores (message.Unimplemented number) h = record { plain = plain_calm 3 (omega arith) (omega arith); work_is = refl }
-  ignores (message.Debug display text language) h = record { plain = plain_calm 4 (omega arith) (omega arith); work_is = refl }
   ignores (message.ServiceRequest service) h = absurd (h.request service refl)
   ignores (message.ServiceAccept service) h = absurd (h.accept service refl)
-  ignores (message.ExtInfo extensions) h = record { plain = plain_other 7 (inl refl); work_is = refl }
   ignores (message.KexInit peer) h = absurd (h.kexinit peer refl)
   ignores message.NewKeys h = absurd (h.newkeys refl)
   ignores (message.KexdhInit e) h = absurd (h.kexdh_init e refl)
@@ -432,5 +428,5 @@ module _ (m : SuiteData) (d : DecisionsData) (role : Side) (party : ConfigData) 
   ignores (message.UserauthRequest user service request) h = absurd (h.user_request user service request refl)
   ignores (message.UserauthFailure listed partial) h = absurd (h.failure listed partial refl)
   ignores message.UserauthSuccess h = absurd (h.success refl)
-  ignores (message.UserauthBanner text language) h = record { plain = plain_other 53 (inr refl); work_is = refl }
   ignores (message.UserauthPkOk algorithm key) h = absurd (h.confirmation algorithm key refl)
+  ignores _ h = record { plain = plain_number _ refl; work_is = refl }

@@ -3,9 +3,8 @@
 use Rattle.std.specs.Prelude.{◌≡◌, ◌==◌, ◌||◌, ℕ, ◌+◌, ◌≤◌, Bool, true, false, if◌then◌else◌, List, [], length}
 use Rattle.sshwire.specs.declared.limits.TheConstants.{NAME_LIMIT, PAYLOAD_LIMIT}
 use Rattle.sshmsg.specs.declared.numbers.TheConstants.{SSH_MSG_USERAUTH_PK_OK, SSH_MSG_USERAUTH_REQUEST, SSH_MSG_USERAUTH_SUCCESS}
-use Rattle.sshmsg.specs.MessageData.{MethodData, PublicKey}
+use Rattle.sshmsg.specs.MessageData.{MethodData, PublicKey, method_name}
 use Rattle.sshmsg.specs.Lengths.{method_length}
-use Rattle.sshmsg.specs.Written.{method_name}
 use Rattle.sshpacket.specs.declared.limits.TheConstants.{PACKET_LIMIT}
 use Rattle.sshcore.specs.declared.config_parts.TheConstants.{USER_LIMIT}
 use Rattle.sshcore.specs.StateData.{Carried}

@@ -5,9 +5,8 @@ use Rattle.sshwire.specs.TypeReadings.{is_name}
 use Rattle.sshwire.specs.declared.share_form.ShareForm.TheVariants.{Mpint}
 use Rattle.sshmsg.specs.declared.fault.MsgFault.{MsgFault}
 use Rattle.sshmsg.specs.declared.numbers.TheConstants.{SSH_MSG_USERAUTH_REQUEST}
-use Rattle.sshmsg.specs.MessageData.{MessageData, MethodData, NoMethod, Password, PublicKey, UserauthRequest}
+use Rattle.sshmsg.specs.MessageData.{MessageData, MethodData, NoMethod, Password, PublicKey, UserauthRequest, method_name}
 use Rattle.sshmsg.specs.Messages.{message_in}
-use Rattle.sshmsg.specs.Written.{method_name}
 use Rattle.sshneg.specs.declared.side.Side.{Side}
 use Rattle.sshneg.specs.ChoiceReadings.{is_in}
 use Rattle.sshneg.specs.Derivations.{signed_text}

@@ -3,10 +3,9 @@
 use Rattle.std.proofs.Common.{◌≡◌, ℕ, suc, ◌+◌, ◌-◌, ◌<◌, List, [], ◌∷◌, ◌++◌, Ok, Err, refl, arith}
 use Rattle.sshwire.specs.declared.fault.WireFault.{WireFault}
 use Rattle.sshwire.specs.TypeReadings.{◌>>=◌}
-use Rattle.sshmsg.specs.MessageData.{ExtInfo}
+use Rattle.sshmsg.specs.MessageData.{extensions, ExtInfo}
 use Rattle.sshmsg.specs.Form.{form_at}
 use Rattle.sshmsg.specs.Lists.{pair_at}
-use Rattle.sshmsg.specs.Messages.{extensions}
 use Rattle.sshmsg.proofs.OfferLemmas.{bind_bind}
 
 step : (count counter : ℕ) → counter < count → count - counter ≡ suc (count - (counter + 1))

@@ -11,9 +11,9 @@ use Rattle.sshwire.specs.Types.{BooleanText, IsBytes, MpintText, NameListText, S
 use Rattle.sshwire.specs.TypeReadings.{IsReading, ◌>>=◌, boolean_at, mpint_at, names_at, string_at, uint32_at}
 use Rattle.sshwire.specs.declared.share_form.ShareForm.{ShareForm}
 use Rattle.sshmsg.specs.declared.fault.MsgFault.{MsgFault}
-use Rattle.sshmsg.specs.MessageData.{MessageData}
-use Rattle.sshmsg.specs.Form.{BigNumber, Bytes, Cookie, Done, Field, FieldText, FillsForm, Flag, Form, Names, Number, Of, Reserved, Rest, Then, Utf8, bytes_at, field_at, form_at, utf8_at}
-use Rattle.sshmsg.specs.Messages.{Spells, form_of, in_form, message_in, whole_form}
+use Rattle.sshmsg.specs.MessageData.{Form, form_of, MessageData}
+use Rattle.sshmsg.specs.Form.{BigNumber, Bytes, Cookie, Done, Field, FieldText, FillsForm, Flag, Names, Number, Of, Reserved, Rest, Then, Utf8, bytes_at, field_at, form_at, utf8_at}
+use Rattle.sshmsg.specs.Messages.{Spells, in_form, message_in, whole_form}
 
 -- the clauses of the law of data types
 pub record IsTypesLaw : Type 0 where

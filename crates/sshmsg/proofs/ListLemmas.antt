@@ -3,10 +3,10 @@
 use Rattle.std.proofs.Common.{◌≡◌, ℕ, ◌+◌, ◌-◌, ◌<◌, List, [], ◌∷◌, ◌++◌, length, Result, Ok, refl, sym, ◌∙◌, arith}
 use Rattle.sshwire.specs.declared.fault.WireFault.{WireFault}
 use Rattle.sshwire.specs.declared.share_form.ShareForm.{ShareForm}
-use Rattle.sshmsg.specs.MessageData.{MessageData}
+use Rattle.sshmsg.specs.MessageData.{ext_info, extensions, form_of, kexinit, MessageData, userauth_failure}
 use Rattle.sshmsg.specs.Form.{form_at}
 use Rattle.sshmsg.specs.Lists.{pair_at}
-use Rattle.sshmsg.specs.Messages.{ext_info, extensions, form_of, kexinit, message_in, userauth_failure, whole_form}
+use Rattle.sshmsg.specs.Messages.{message_in, whole_form}
 use Rattle.sshmsg.specs.View.{HoldsList}
 use Rattle.sshmsg.proofs.ExtensionLemmas.{one_pair}
 

@@ -6,15 +6,15 @@ use Rattle.std.proofs.lemmas.Bool.{ne_eqb}
 use Rattle.sshwire.specs.declared.fault.WireFault.{WireFault}
 use Rattle.sshwire.specs.Types.{IsBytes}
 use Rattle.sshwire.specs.declared.share_form.ShareForm.{ShareForm}
-use Rattle.sshwire.specs.declared.share_form.ShareForm.TheVariants.{Hybrid, Mpint, OctetString}
+use Rattle.sshwire.specs.declared.share_form.ShareForm.TheVariants.{Hybrid, OctetString}
 use Rattle.sshmsg.specs.declared.fault.MsgFault.{MsgFault}
 use Rattle.sshmsg.specs.declared.fault.MsgFault.TheVariants.{Malformed, Memory, Unrecognised}
-use Rattle.sshmsg.specs.MessageData.{MessageData}
-use Rattle.sshmsg.specs.Form.{Done, FillsForm, Form, Of, Rest, Then, field_at, form_at}
-use Rattle.sshmsg.specs.Messages.{Spells, debug, disconnect, ext_info, extensions, form_of, ignore, in_form, init_of, kex_ecdh_init, kex_ecdh_reply, kexdh_init, kexdh_reply, kexinit, message_in, method_form, newkeys, password, publickey, reply_of, service_accept, service_request, unimplemented, userauth_banner, userauth_failure, userauth_pk_ok, userauth_request, userauth_success, whole_form}
+use Rattle.sshmsg.specs.MessageData.{ext_info, extensions, Fields, Form, form_of, kexinit, MessageData, method_form, password, publickey, userauth_request, With}
+use Rattle.sshmsg.specs.Form.{Done, FillsForm, Of, Rest, Then, field_at, form_at}
+use Rattle.sshmsg.specs.Messages.{Spells, in_form, message_in, whole_form}
 use Rattle.sshmsg.specs.Numbers.{IsRefused, kind, number_of}
 use Rattle.sshmsg.proofs.FormLemmas.{bind_ok, whole_ok}
-use Rattle.sshmsg.proofs.TableLemmas.{each_form}
+use Rattle.sshmsg.proofs.TableLemmas.{LaysOut, each_form}
 
 -- each message of the form has the number
 abbrev Numbered : ℕ → Form → Type 0
@@ -31,30 +31,6 @@ either : (n : ℕ) (b : Bool) (x y : Form) → Numbered n x → Numbered n y →
 either n true x y h k = h
 either n false x y h k = k
 
-disconnect_numbered : Numbered 1 disconnect
-unfolding disconnect
-disconnect_numbered = λ reason description language. refl
-
-ignore_numbered : Numbered 2 ignore
-unfolding ignore
-ignore_numbered = λ content. refl
-
-unimplemented_numbered : Numbered 3 unimplemented
-unfolding unimplemented
-unimplemented_numbered = λ n. refl
-
-debug_numbered : Numbered 4 debug
-unfolding debug
-debug_numbered = λ always text language. refl
-
-service_request_numbered : Numbered 5 service_request
-unfolding service_request
-service_request_numbered = λ service. refl
-
-service_accept_numbered : Numbered 6 service_accept
-unfolding service_accept
-service_accept_numbered = λ service. refl
-
 extensions_numbered : (count : ℕ) (found : List (List ℕ × List ℕ)) → Numbered 7 (extensions count found)
 unfolding extensions
 extensions_numbered zero found = refl
@@ -67,36 +43,6 @@ ext_info_numbered = λ count. extensions_numbered count []
 kexinit_numbered : Numbered 20 kexinit
 unfolding kexinit
 kexinit_numbered = λ a b c d e f g h i j k l m. refl
-
-newkeys_numbered : Numbered 21 newkeys
-unfolding newkeys
-newkeys_numbered = refl
-
-kexdh_init_numbered : Numbered 30 kexdh_init
-unfolding kexdh_init
-kexdh_init_numbered = λ e. refl
-
-kexdh_reply_numbered : Numbered 31 kexdh_reply
-unfolding kexdh_reply
-kexdh_reply_numbered = λ host_key f signature. refl
-
-kex_ecdh_init_numbered : Numbered 30 kex_ecdh_init
-unfolding kex_ecdh_init
-kex_ecdh_init_numbered = λ share. refl
-
-kex_ecdh_reply_numbered : Numbered 31 kex_ecdh_reply
-unfolding kex_ecdh_reply
-kex_ecdh_reply_numbered = λ host_key share signature. refl
-
-init_numbered : (shares : ShareForm) → Numbered 30 (init_of shares)
-init_numbered Mpint = kexdh_init_numbered
-init_numbered OctetString = kex_ecdh_init_numbered
-init_numbered Hybrid = kex_ecdh_init_numbered
-
-reply_numbered : (shares : ShareForm) → Numbered 31 (reply_of shares)
-reply_numbered Mpint = kexdh_reply_numbered
-reply_numbered OctetString = kex_ecdh_reply_numbered
-reply_numbered Hybrid = kex_ecdh_reply_numbered
 
 password_numbered : (user service : List ℕ) → Numbered 50 (password user service)
 unfolding password
@@ -116,45 +62,22 @@ request_numbered : Numbered 50 userauth_request
 unfolding userauth_request
 request_numbered = λ user service method. method_numbered user service method
 
-failure_numbered : Numbered 51 userauth_failure
-unfolding userauth_failure
-failure_numbered = λ methods partial. refl
-
-success_numbered : Numbered 52 userauth_success
-unfolding userauth_success
-success_numbered = refl
-
-banner_numbered : Numbered 53 userauth_banner
-unfolding userauth_banner
-banner_numbered = λ text language. refl
-
-pk_ok_numbered : Numbered 60 userauth_pk_ok
-unfolding userauth_pk_ok
-pk_ok_numbered = λ algorithm key. refl
+laid_out_numbered : (n : ℕ) (before : Fields → Fields) (form : Form) → LaysOut n before form → Numbered n form
+laid_out_numbered n before (Done c) lays = ap (λ (l : ℕ × Fields). l.0) lays
+laid_out_numbered n before (Then f next) lays = λ value. laid_out_numbered n (λ fields. before (With f value fields)) (next value) (lays value)
+laid_out_numbered n before (Rest next) lays = absurd lays
 
 numbered : (shares : ShareForm) (number : ℕ) (form : Form) → form_of shares number ≡ Some form → Numbered number form
-numbered shares = each_form shares Numbered (record {
-  disconnect = disconnect_numbered;
-  ignore = ignore_numbered;
-  unimplemented = unimplemented_numbered;
-  debug = debug_numbered;
-  service_request = service_request_numbered;
-  service_accept = service_accept_numbered;
-  ext_info = ext_info_numbered;
-  kexinit = kexinit_numbered;
-  newkeys = newkeys_numbered;
-  init = init_numbered shares;
-  reply = reply_numbered shares;
-  userauth_request = request_numbered;
-  userauth_failure = failure_numbered;
-  userauth_success = success_numbered;
-  userauth_banner = banner_numbered;
-  userauth_pk_ok = pk_ok_numbered;
-})
+numbered shares =
+    each_form shares Numbered (record { ext_info = ext_info_numbered; kexinit = kexinit_numbered; userauth_request = request_numbered })
+    (λ n form. laid_out_numbered n (λ fields. fields) form)
+
+pub number_told : (shares : ShareForm) (payload : List ℕ) (m : MessageData) (s : Spells shares m payload) → number_of m ≡ s.number
+number_told shares payload m s = fills_numbered s.number s.form m s.fields (numbered shares s.number s.form s.known) s.fills
 
 pub number_tells : (shares : ShareForm) (payload : List ℕ) (m : MessageData) → Spells shares m payload → (fields : List ℕ) × (payload ≡ number_of m ∷ fields)
 number_tells shares payload m s =
-    let n : number_of m ≡ s.number = fills_numbered s.number s.form m s.fields (numbered shares s.number s.form s.known) s.fills in
+    let n : number_of m ≡ s.number = number_told shares payload m s in
     (s.fields, rw n s.payload_is)
 
 -- what a form reads has the form's number

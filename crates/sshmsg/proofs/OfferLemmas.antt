@@ -3,10 +3,9 @@
 use Rattle.std.proofs.Common.{◌≡◌, ℕ, Bool, List, Result, Ok, Err, refl, subst}
 use Rattle.sshwire.specs.declared.fault.WireFault.{WireFault}
 use Rattle.sshwire.specs.TypeReadings.{◌>>=◌}
-use Rattle.sshmsg.specs.MessageData.{KexInit, KexInitData}
+use Rattle.sshmsg.specs.MessageData.{KexInit, kexinit, KexInitData}
 use Rattle.sshmsg.specs.Form.{bytes_at, form_at}
 use Rattle.sshmsg.specs.Lists.{Ten, end_at, four_at, offer_with, ten_at, two_at}
-use Rattle.sshmsg.specs.Messages.{kexinit}
 use Rattle.sshmsg.specs.View.{Goes}
 
 pub bind_bind : {A B C : Type 0} (r : Result A WireFault) (f : A → Result B WireFault) (g : B → Result C WireFault) → ((r >>= f) >>= g) ≡ (r >>= λ x. f x >>= g)

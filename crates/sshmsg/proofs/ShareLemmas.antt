@@ -1,14 +1,15 @@
 -- What is spelled in an exchange is a message of that exchange.
 
-use Rattle.std.proofs.Common.{ℕ, zero, suc, Bool, true, false, List, [], ◌∷◌, ◌++◌, refl, cond, codes}
-use Rattle.std.specs.Str.{bytes_eq}
+use Rattle.std.proofs.Common.{◌≡◌, ◌≢◌, ℕ, List, Some, inl, inr, refl, sym, ◌∙◌, eqb}
+use Rattle.std.proofs.lemmas.Bool.{cases_Bool, eqb-false, eqb-true}
 use Rattle.sshwire.specs.declared.share_form.ShareForm.{ShareForm}
 use Rattle.sshwire.specs.declared.share_form.ShareForm.TheVariants.{Hybrid, Mpint, OctetString}
-use Rattle.sshmsg.specs.MessageData.{MessageData}
-use Rattle.sshmsg.specs.Form.{Done, FillsForm, Form, Of, Rest, Then}
-use Rattle.sshmsg.specs.Messages.{Spells, debug, disconnect, ext_info, extensions, ignore, init_of, kex_ecdh_init, kex_ecdh_reply, kexdh_init, kexdh_reply, kexinit, method_form, newkeys, password, publickey, reply_of, service_accept, service_request, unimplemented, userauth_banner, userauth_failure, userauth_pk_ok, userauth_request, userauth_success}
+use Rattle.sshmsg.specs.MessageData.{Form, form_of, init_of, KexdhInit, KexdhReply, KexEcdhInit, KexEcdhReply, MessageData, reply_of}
+use Rattle.sshmsg.specs.Form.{Done, FillsForm, Of, Rest, Then}
+use Rattle.sshmsg.specs.Messages.{Spells}
+use Rattle.sshmsg.specs.Numbers.{number_of}
 use Rattle.sshmsg.specs.Written.{IsMessageOf}
-use Rattle.sshmsg.proofs.TableLemmas.{Rows, each_form}
+use Rattle.sshmsg.proofs.NumberLemmas.{number_told}
 
 -- each message of the form is one of the exchange
 abbrev Within : ShareForm → Form → Type 0
@@ -22,54 +23,48 @@ fills_within shares (Then f next) m fields h (value, text, rest, t, fills, parts
 fills_within shares (Rest next) m fields h same = rw same (h fields)
 
 init_within : (shares : ShareForm) → Within shares (init_of shares)
-unfolding kexdh_init kex_ecdh_init
 init_within Mpint = λ e. refl
 init_within OctetString = λ share e. (let no : ⊥ = cc in no)
 init_within Hybrid = λ share e. (let no : ⊥ = cc in no)
 
 reply_within : (shares : ShareForm) → Within shares (reply_of shares)
-unfolding kexdh_reply kex_ecdh_reply
 reply_within Mpint = λ host_key f signature. refl
 reply_within OctetString = λ host_key share signature e. (let no : ⊥ = cc in no)
 reply_within Hybrid = λ host_key share signature e. (let no : ⊥ = cc in no)
 
-pairs_within : (shares : ShareForm) (count : ℕ) (found : List (List ℕ × List ℕ)) → Within shares (extensions count found)
-unfolding extensions
-pairs_within shares zero found = tt
-pairs_within shares (suc n) found = λ name value. pairs_within shares n (found ++ (name, value) ∷ [])
+-- any other message is one of each exchange
+other_within : (shares : ShareForm) (m : MessageData) → number_of m ≢ 30 → number_of m ≢ 31 → IsMessageOf shares m
+other_within shares (KexdhInit e) not_init not_reply = absurd (not_init refl)
+other_within shares (KexdhReply host_key f signature) not_init not_reply = absurd (not_reply refl)
+other_within shares (KexEcdhInit share) not_init not_reply = absurd (not_init refl)
+other_within shares (KexEcdhReply host_key share signature) not_init not_reply = absurd (not_reply refl)
+other_within shares _ not_init not_reply = tt
 
-either_within : (shares : ShareForm) (b : Bool) (x y : Form) → Within shares x → Within shares y → Within shares (cond b x y)
-either_within shares true x y h k = h
-either_within shares false x y h k = k
+init_form : (shares : ShareForm) (form : Form) → form_of shares 30 ≡ Some form → init_of shares ≡ form
+unfolding form_of
+init_form shares form e = cc
 
-method_within : (shares : ShareForm) (user service method : List ℕ) → Within shares (method_form user service method)
-unfolding password publickey
-method_within shares user service method =
-    either_within shares (bytes_eq method (codes "none")) _ _ tt
-    (either_within shares (bytes_eq method (codes "password")) _ _ (λ change. either_within shares change _ _ (λ old new. tt) (λ secret. tt))
-    (either_within shares (bytes_eq method (codes "publickey")) _ _ (λ signed algorithm key. either_within shares signed _ _ (λ signature. tt) tt) (λ fields. tt)))
+reply_form : (shares : ShareForm) (form : Form) → form_of shares 31 ≡ Some form → reply_of shares ≡ form
+unfolding form_of
+reply_form shares form e = cc
 
-rows_within : (shares : ShareForm) → Rows shares (λ n form. Within shares form)
-unfolding disconnect ignore unimplemented debug service_request service_accept ext_info kexinit newkeys userauth_request userauth_failure userauth_success userauth_banner userauth_pk_ok
-rows_within shares = record {
-  disconnect = λ reason description language. tt;
-  ignore = λ content. tt;
-  unimplemented = λ n. tt;
-  debug = λ always text language. tt;
-  service_request = λ service. tt;
-  service_accept = λ service. tt;
-  ext_info = λ count. pairs_within shares count [];
-  kexinit = λ a b c d e f g h i j k l m. tt;
-  newkeys = tt;
-  init = init_within shares;
-  reply = reply_within shares;
-  userauth_request = λ user service method. method_within shares user service method;
-  userauth_failure = λ methods partial. tt;
-  userauth_success = tt;
-  userauth_banner = λ text language. tt;
-  userauth_pk_ok = λ algorithm key. tt;
-}
+by_number : (shares : ShareForm) (n : ℕ) (form : Form) (m : MessageData) (fields : List ℕ) → number_of m ≡ n → form_of shares n ≡ Some form → FillsForm form m fields → IsMessageOf shares m
+by_number shares n form m fields tells known fills = elim (cases_Bool (eqb n 30)) [
+  | inl init ↦
+      let is : n ≡ 30 = eqb-true n 30 init in
+      let row : form_of shares 30 ≡ Some form = rw is at known in
+      let of : FillsForm (init_of shares) m fields = rw (init_form shares form row) fills in
+      fills_within shares (init_of shares) m fields (init_within shares) of
+  | inr not_init ↦ elim (cases_Bool (eqb n 31)) [
+    | inl reply ↦
+        let is : n ≡ 31 = eqb-true n 31 reply in
+        let row : form_of shares 31 ≡ Some form = rw is at known in
+        let of : FillsForm (reply_of shares) m fields = rw (reply_form shares form row) fills in
+        fills_within shares (reply_of shares) m fields (reply_within shares) of
+    | inr not_reply ↦
+        other_within shares m (λ e. eqb-false n 30 not_init (sym tells ∙ e)) (λ e. eqb-false n 31 not_reply (sym tells ∙ e))
+  ]
+]
 
 pub spelled_within : (shares : ShareForm) (payload : List ℕ) (m : MessageData) → Spells shares m payload → IsMessageOf shares m
-spelled_within shares payload m s =
-    fills_within shares s.form m s.fields (each_form shares (λ n form. Within shares form) (rows_within shares) s.number s.form s.known) s.fills
+spelled_within shares payload m s = by_number shares s.number s.form m s.fields (number_told shares payload m s) s.known s.fills

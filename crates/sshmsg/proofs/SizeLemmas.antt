@@ -5,25 +5,41 @@ use Rattle.std.specs.Str.{bytes_eq}
 use Rattle.std.proofs.lemmas.List.{length-append}
 use Rattle.std.proofs.lemmas.Slice.Eq.{bytes_eq-Decides}
 use Rattle.sshwire.specs.declared.share_form.ShareForm.{ShareForm}
-use Rattle.sshwire.specs.declared.share_form.ShareForm.TheVariants.{Hybrid, Mpint, OctetString}
 use Rattle.sshwire.specs.Types.{BooleanText, boolean, name_list, names_body, string, uint32}
-use Rattle.sshmsg.specs.MessageData.{Debug, Disconnect, ExtInfo, Ignore, KexEcdhInit, KexEcdhReply, KexInit, KexInitData, KexdhInit, KexdhReply, MessageData, MethodData, NewKeys, NoMethod, OtherMethod, Password, PasswordChange, PublicKey, PublicKeyQuery, ServiceAccept, ServiceRequest, Unimplemented, UserauthBanner, UserauthFailure, UserauthPkOk, UserauthRequest, UserauthSuccess}
-use Rattle.sshmsg.specs.Form.{BigNumber, Bytes, Cookie, Done, Field, FieldText, FillsForm, Flag, Form, Names, Number, Of, Reserved, Rest, Then, Utf8}
-use Rattle.sshmsg.specs.Lengths.{method_length, offer_length, pairs_length, payload_length}
-use Rattle.sshmsg.specs.Messages.{Spells, debug, disconnect, ext_info, extensions, ignore, init_of, kex_ecdh_init, kex_ecdh_reply, kexdh_init, kexdh_reply, kexinit, method_form, newkeys, password, publickey, reply_of, service_accept, service_request, unimplemented, userauth_banner, userauth_failure, userauth_pk_ok, userauth_request, userauth_success}
-use Rattle.sshmsg.specs.Written.{method_fields, method_name, offer_written, pairs_written, written_message}
-use Rattle.sshmsg.proofs.TableLemmas.{Rows, each_form}
+use Rattle.sshmsg.specs.MessageData.{End, ext_info, extensions, Fields, Form, kexinit, KexInitData, layout, MessageData, OfMethod, method_form, MethodData, NoMethod, OfKexInit, OtherMethod, Pairs, Password, password, PasswordChange, PublicKey, publickey, PublicKeyQuery, userauth_request, With}
+use Rattle.sshmsg.specs.Form.{BigNumber, Bytes, Cookie, Done, Field, FieldText, FillsForm, Flag, Names, Number, Of, Reserved, Rest, Then, Utf8}
+use Rattle.sshmsg.specs.Lengths.{added, all_fixed, all_varying, fixed, method_length, offer_length, pairs_length, payload_length, total, varying}
+use Rattle.sshmsg.specs.Messages.{Spells}
+use Rattle.sshmsg.specs.Written.{field_written, fields_written, method_fields, offer_written, pairs_written, written_message}
+use Rattle.sshmsg.proofs.TableLemmas.{FieldsText, OfLayouts, OfOthers, each_form, laid_out}
 
--- how long a field is
+-- what is added up one after another is added up at once
+added_is : (n : ℕ) (numbers : List ℕ) → added n numbers ≡ n + total numbers
+added_is n [] = omega arith
+added_is n (m ∷ more) =
+    let a : added (n + m) more ≡ n + m + total more = added_is (n + m) more in
+    let b : added m more ≡ m + total more = added_is m more in
+    omega (arith, a, b)
+
+total_both : (numbers more : List ℕ) → total (numbers ++ more) ≡ total numbers + total more
+total_both [] more = omega arith
+total_both (n ∷ numbers) more =
+    let a : added n (numbers ++ more) ≡ n + total (numbers ++ more) = added_is n (numbers ++ more) in
+    let b : total (numbers ++ more) ≡ total numbers + total more = total_both numbers more in
+    let c : added n numbers ≡ n + total numbers = added_is n numbers in
+    omega (arith, a, b, c)
+
+-- how long a field is, and all fields are
 abbrev width : (f : Field) → Of f → ℕ
-width Flag value = 1
-width Number value = 4
-width Bytes value = 4 + length value
-width Utf8 value = 4 + length value
-width BigNumber value = 4 + length value
-width Names value = 4 + length (names_body value)
-width Cookie value = length value
-width Reserved value = 4
+width f value = total (varying f value) + fixed f
+
+abbrev widths : Fields → ℕ
+widths fields = total (all_varying fields) + all_fixed fields
+
+widths_more : (f : Field) (value : Of f) (more : Fields) → widths (With f value more) ≡ width f value + widths more
+widths_more f value more =
+    let a : total (varying f value ++ all_varying more) ≡ total (varying f value) + total (all_varying more) = total_both (varying f value) (all_varying more) in
+    omega (arith, a)
 
 string_long : (bytes : List ℕ) → length (string bytes) ≡ 4 + length bytes
 string_long bytes = length-append (uint32 (length bytes)) bytes
@@ -42,12 +58,25 @@ is_string bytes text e = ap (λ (xs : List ℕ). length xs) e ∙ string_long by
 text_long : (f : Field) (value : Of f) (text : List ℕ) → FieldText f value text → length text ≡ width f value
 text_long Flag value text h = flag_long value text h
 text_long Number value text h = ap (λ (xs : List ℕ). length xs) h.1 ∙ uint32_long value
-text_long Bytes value text h = is_string value text h.1
-text_long Utf8 value text h = is_string value text h.1.1
-text_long BigNumber value text h = is_string value text h.2.1
-text_long Names value text h = is_string (names_body value) text h.1.1
-text_long Cookie value text h = ap (λ (xs : List ℕ). length xs) h.1
+text_long Bytes value text h = let a : _ = is_string value text h.1 in omega (arith, a)
+text_long Utf8 value text h = let a : _ = is_string value text h.1.1 in omega (arith, a)
+text_long BigNumber value text h = let a : _ = is_string value text h.2.1 in omega (arith, a)
+text_long Names value text h = let a : _ = is_string (names_body value) text h.1.1 in omega (arith, a)
+text_long Cookie value text h = let a : length text ≡ length value = ap (λ (xs : List ℕ). length xs) h.1 in omega (arith, a)
 text_long Reserved value text h = h
+
+fields_long : (fields : Fields) (bytes : List ℕ) → FieldsText fields bytes → length bytes ≡ widths fields
+fields_long End bytes h = ap (λ (xs : List ℕ). length xs) h
+fields_long (With f value more) bytes (text, rest, t, after, parts) =
+    let a : length bytes ≡ length (text ++ rest) = ap (λ (xs : List ℕ). length xs) parts in
+    let b : length (text ++ rest) ≡ length text + length rest = length-append text rest in
+    let c : length text ≡ width f value = text_long f value text t in
+    let d : length rest ≡ widths more = fields_long more rest after in
+    let e : widths (With f value more) ≡ width f value + widths more = widths_more f value more in
+    omega (arith, a, b, c, d, e)
+fields_long (Pairs pairs) bytes h = absurd h
+fields_long (OfKexInit offer) bytes h = absurd h
+fields_long (OfMethod m) bytes h = absurd h
 
 -- each message of the form is so long, with what stands before
 abbrev Sized : ℕ → Form → Type 0
@@ -68,30 +97,6 @@ fills_sized before (Then f next) m fields h (value, text, rest, t, fills, parts)
     omega (arith, a, b, c, d)
 fills_sized before (Rest next) m fields h same = h fields ∙ ap payload_length (sym same)
 
-disconnect_sized : Sized 1 disconnect
-unfolding disconnect
-disconnect_sized = λ reason description language. omega arith
-
-ignore_sized : Sized 1 ignore
-unfolding ignore
-ignore_sized = λ content. omega arith
-
-unimplemented_sized : Sized 1 unimplemented
-unfolding unimplemented
-unimplemented_sized = λ n. refl
-
-debug_sized : Sized 1 debug
-unfolding debug
-debug_sized = λ always text language. omega arith
-
-service_request_sized : Sized 1 service_request
-unfolding service_request
-service_request_sized = λ service. omega arith
-
-service_accept_sized : Sized 1 service_accept
-unfolding service_accept
-service_accept_sized = λ service. omega arith
-
 push_length : (found : List (List ℕ × List ℕ)) (name value : List ℕ) → pairs_length (found ++ (name, value) ∷ []) ≡ pairs_length found + length name + length value + 8
 push_length [] name value = omega arith
 push_length (p ∷ ps) name value = let more : _ = push_length ps name value in omega (arith, more)
@@ -101,7 +106,7 @@ unfolding extensions
 extensions_sized zero before found h = h
 extensions_sized (suc n) before found h = λ name value.
     let more : pairs_length (found ++ (name, value) ∷ []) ≡ pairs_length found + length name + length value + 8 = push_length found name value in
-    extensions_sized n (before + (4 + length name) + (4 + length value)) (found ++ (name, value) ∷ []) (omega (arith, h, more))
+    extensions_sized n (before + (length name + 4) + (length value + 4)) (found ++ (name, value) ∷ []) (omega (arith, h, more))
 
 ext_info_sized : Sized 1 ext_info
 unfolding ext_info
@@ -110,36 +115,6 @@ ext_info_sized = λ count. extensions_sized count 5 [] refl
 kexinit_sized : Sized 1 kexinit
 unfolding kexinit
 kexinit_sized = λ cookie kex host ec es mc ms cc0 cs lc ls follows reserved. omega arith
-
-newkeys_sized : Sized 1 newkeys
-unfolding newkeys
-newkeys_sized = refl
-
-kexdh_init_sized : Sized 1 kexdh_init
-unfolding kexdh_init
-kexdh_init_sized = λ e. omega arith
-
-kexdh_reply_sized : Sized 1 kexdh_reply
-unfolding kexdh_reply
-kexdh_reply_sized = λ host_key f signature. omega arith
-
-kex_ecdh_init_sized : Sized 1 kex_ecdh_init
-unfolding kex_ecdh_init
-kex_ecdh_init_sized = λ share. omega arith
-
-kex_ecdh_reply_sized : Sized 1 kex_ecdh_reply
-unfolding kex_ecdh_reply
-kex_ecdh_reply_sized = λ host_key share signature. omega arith
-
-init_sized : (shares : ShareForm) → Sized 1 (init_of shares)
-init_sized Mpint = kexdh_init_sized
-init_sized OctetString = kex_ecdh_init_sized
-init_sized Hybrid = kex_ecdh_init_sized
-
-reply_sized : (shares : ShareForm) → Sized 1 (reply_of shares)
-reply_sized Mpint = kexdh_reply_sized
-reply_sized OctetString = kex_ecdh_reply_sized
-reply_sized Hybrid = kex_ecdh_reply_sized
 
 either_sized : (before : ℕ) (b : Bool) (x y : Form) → (b ≡ true → Sized before x) → (b ≡ false → Sized before y) → Sized before (cond b x y)
 either_sized before true x y h k = h refl
@@ -152,7 +127,7 @@ password_sized before user service h = λ change. either_sized (before + 1) chan
 publickey_sized : (before : ℕ) (user service : List ℕ) → before ≡ length user + length service + 22 → Sized before (publickey user service)
 unfolding publickey
 publickey_sized before user service h = λ signed algorithm key.
-    either_sized (before + 1 + (4 + length algorithm) + (4 + length key)) signed _ _ (λ yes signature. omega (arith, h)) (λ no. omega (arith, h))
+    either_sized (before + 1 + (length algorithm + 4) + (length key + 4)) signed _ _ (λ yes signature. omega (arith, h)) (λ no. omega (arith, h))
 
 name_long : (a b : List ℕ) → bytes_eq a b ≡ true → length a ≡ length b
 name_long a b e = ap (λ (xs : List ℕ). length xs) ((bytes_eq-Decides a b).0 e)
@@ -169,47 +144,33 @@ method_sized before user service method h =
 
 request_sized : Sized 1 userauth_request
 unfolding userauth_request
-request_sized = λ user service method. method_sized (1 + (4 + length user) + (4 + length service) + (4 + length method)) user service method (omega arith)
+request_sized = λ user service method. method_sized (1 + (length user + 4) + (length service + 4) + (length method + 4)) user service method (omega arith)
 
-failure_sized : Sized 1 userauth_failure
-unfolding userauth_failure
-failure_sized = λ methods partial. omega arith
+-- each message of the form is as long as its parts say
+AllSized : ℕ → Form → Type 0
+AllSized n form = (m : MessageData) (fields : List ℕ) → FillsForm form m fields → 1 + length fields ≡ payload_length m
 
-success_sized : Sized 1 userauth_success
-unfolding userauth_success
-success_sized = refl
+others_sized : OfOthers AllSized
+unfolding AllSized
+others_sized = record {
+  ext_info = λ m fields. fills_sized 1 ext_info m fields ext_info_sized;
+  kexinit = λ m fields. fills_sized 1 kexinit m fields kexinit_sized;
+  userauth_request = λ m fields. fills_sized 1 userauth_request m fields request_sized;
+}
 
-banner_sized : Sized 1 userauth_banner
-unfolding userauth_banner
-banner_sized = λ text language. omega arith
-
-pk_ok_sized : Sized 1 userauth_pk_ok
-unfolding userauth_pk_ok
-pk_ok_sized = λ algorithm key. omega arith
+layouts_sized : OfLayouts AllSized
+unfolding AllSized
+layouts_sized n form lays m bytes fills =
+    let laid = laid_out n form m bytes lays fills in
+    let long : length bytes ≡ total (all_varying laid.0) + all_fixed laid.0 = fields_long laid.0 bytes laid.2 in
+    let is : payload_length m ≡ total (all_varying laid.0) + (1 + all_fixed laid.0) = ap (λ (l : ℕ × Fields). total (all_varying l.1) + (1 + all_fixed l.1)) laid.1 in
+    omega (arith, long, is)
 
 pub spelled_length : (shares : ShareForm) (payload : List ℕ) (m : MessageData) → Spells shares m payload → length payload ≡ payload_length m
+unfolding AllSized
 spelled_length shares payload m s =
-    let rows : Rows shares (λ n form. Sized 1 form) = record {
-      disconnect = disconnect_sized;
-      ignore = ignore_sized;
-      unimplemented = unimplemented_sized;
-      debug = debug_sized;
-      service_request = service_request_sized;
-      service_accept = service_accept_sized;
-      ext_info = ext_info_sized;
-      kexinit = kexinit_sized;
-      newkeys = newkeys_sized;
-      init = init_sized shares;
-      reply = reply_sized shares;
-      userauth_request = request_sized;
-      userauth_failure = failure_sized;
-      userauth_success = success_sized;
-      userauth_banner = banner_sized;
-      userauth_pk_ok = pk_ok_sized;
-    } in
-    let sized : Sized 1 s.form = each_form shares (λ n form. Sized 1 form) rows s.number s.form s.known in
     let all : length payload ≡ length (s.number ∷ s.fields) = ap (λ (xs : List ℕ). length xs) s.payload_is in
-    let after : 1 + length s.fields ≡ payload_length m = fills_sized 1 s.form m s.fields sized s.fills in
+    let after : 1 + length s.fields ≡ payload_length m = each_form shares AllSized others_sized layouts_sized s.number s.form s.known m s.fields s.fills in
     omega (arith, all, after)
 
 -- What is written is as long, whatever the message.
@@ -236,13 +197,13 @@ pairs_long (p ∷ ps) =
     let c : _ = pairs_long ps in
     omega (arith, a, b, c)
 
-fields_long : (m : MethodData) → length (method_fields m) ≡ method_length m
-fields_long NoMethod = refl
-fields_long (Password password) = let a : _ = string_long password in omega (arith, a)
-fields_long (PasswordChange old new) = let a : _ = two_long old new in omega (arith, a)
-fields_long (PublicKey algorithm key signature) = let a : _ = three_long algorithm key signature in omega (arith, a)
-fields_long (PublicKeyQuery algorithm key) = let a : _ = two_long algorithm key in omega (arith, a)
-fields_long (OtherMethod name fields) = refl
+method_long : (m : MethodData) → length (method_fields m) ≡ method_length m
+method_long NoMethod = refl
+method_long (Password password) = let a : _ = string_long password in omega (arith, a)
+method_long (PasswordChange old new) = let a : _ = two_long old new in omega (arith, a)
+method_long (PublicKey algorithm key signature) = let a : _ = three_long algorithm key signature in omega (arith, a)
+method_long (PublicKeyQuery algorithm key) = let a : _ = two_long algorithm key in omega (arith, a)
+method_long (OtherMethod name fields) = refl
 
 names_then : (names : List (List ℕ)) (more : List ℕ) → length (name_list names ++ more) ≡ 4 + length (names_body names) + length more
 names_then names more = then_long (names_body names) more
@@ -274,36 +235,38 @@ offer_long o =
     let k : length t9 ≡ 4 + length (names_body o.languages_server_to_client) + length end = names_then o.languages_server_to_client end in
     omega (arith, a, b, c, d, e, f, g, h, i, j, k, last)
 
-request_long : (user service : List ℕ) (m : MethodData) → length (written_message (UserauthRequest user service m)) ≡ payload_length (UserauthRequest user service m)
-unfolding written_message
-request_long user service m =
-    let after : List ℕ = method_fields m in
-    let a : _ = then_long user (string service ++ (string (method_name m) ++ after)) in
-    let b : _ = then_long service (string (method_name m) ++ after) in
-    let c : _ = then_long (method_name m) after in
-    let d : _ = fields_long m in
-    omega (arith, a, b, c, d)
+written_long : (f : Field) (value : Of f) → length (field_written f value) ≡ width f value
+written_long Flag value = refl
+written_long Number value = uint32_long value
+written_long Bytes value = let a : _ = string_long value in omega (arith, a)
+written_long Utf8 value = let a : _ = string_long value in omega (arith, a)
+written_long BigNumber value = let a : _ = string_long value in omega (arith, a)
+written_long Names value = let a : _ = string_long (names_body value) in omega (arith, a)
+written_long Cookie value = omega arith
+written_long Reserved value = refl
+
+-- a field in front of others
+with_long : (f : Field) (value : Of f) (more : Fields) (bytes : List ℕ) → length bytes ≡ widths more → length (field_written f value ++ bytes) ≡ widths (With f value more)
+with_long f value more bytes long =
+    let a : length (field_written f value ++ bytes) ≡ length (field_written f value) + length bytes = length-append (field_written f value) bytes in
+    let b : length (field_written f value) ≡ width f value = written_long f value in
+    let c : widths (With f value more) ≡ width f value + widths more = widths_more f value more in
+    omega (arith, a, b, c, long)
+
+all_long : (fields : Fields) → length (fields_written fields) ≡ widths fields
+all_long End = refl
+all_long (With f value End) =
+    let a : length (field_written f value) ≡ width f value = written_long f value in
+    let b : widths (With f value End) ≡ width f value + widths End = widths_more f value End in
+    omega (arith, a, b)
+all_long (With f value (With g other more)) = with_long f value (With g other more) _ (all_long (With g other more))
+all_long (With f value (Pairs pairs)) = with_long f value (Pairs pairs) _ (all_long (Pairs pairs))
+all_long (With f value (OfKexInit offer)) = with_long f value (OfKexInit offer) _ (all_long (OfKexInit offer))
+all_long (With f value (OfMethod m)) = with_long f value (OfMethod m) _ (all_long (OfMethod m))
+all_long (Pairs pairs) = let a : _ = pairs_long pairs in omega (arith, a)
+all_long (OfKexInit offer) = let a : _ = offer_long offer in omega (arith, a)
+all_long (OfMethod m) = let a : _ = method_long m in omega (arith, a)
 
 pub written_length : (m : MessageData) → length (written_message m) ≡ payload_length m
 unfolding written_message
-written_length (Disconnect reason description language) = let a : _ = two_long description language in omega (arith, a)
-written_length (Ignore content) = let a : _ = string_long content in omega (arith, a)
-written_length (Unimplemented sequence_number) = refl
-written_length (Debug always_display text language) = let a : _ = two_long text language in omega (arith, a)
-written_length (ServiceRequest service) = let a : _ = string_long service in omega (arith, a)
-written_length (ServiceAccept service) = let a : _ = string_long service in omega (arith, a)
-written_length (ExtInfo pairs) = let a : _ = pairs_long pairs in omega (arith, a)
-written_length (KexInit offer) = let a : _ = offer_long offer in omega (arith, a)
-written_length NewKeys = refl
-written_length (KexdhInit e) = let a : _ = string_long e in omega (arith, a)
-written_length (KexdhReply host_key f signature) = let a : _ = three_long host_key f signature in omega (arith, a)
-written_length (KexEcdhInit client_share) = let a : _ = string_long client_share in omega (arith, a)
-written_length (KexEcdhReply host_key server_share signature) = let a : _ = three_long host_key server_share signature in omega (arith, a)
-written_length (UserauthRequest user service m) = request_long user service m
-written_length (UserauthFailure methods partial_success) =
-    let a : _ = names_then methods (boolean partial_success) in
-    let b : length (boolean partial_success) ≡ 1 = refl in
-    omega (arith, a, b)
-written_length UserauthSuccess = refl
-written_length (UserauthBanner text language) = let a : _ = two_long text language in omega (arith, a)
-written_length (UserauthPkOk algorithm key) = let a : _ = two_long algorithm key in omega (arith, a)
+written_length m = let a : length (fields_written (layout m).1) ≡ widths (layout m).1 = all_long (layout m).1 in omega (arith, a)

@@ -1,36 +1,95 @@
--- What holds of each row of the table of messages holds of the form of each number.
+-- The table of messages: the form of each number has the messages whose layout has the number, with their fields in its order.
 
-use Rattle.std.proofs.Common.{◌≡◌, ℕ, inl, inr, Option, None, Some, cond, eqb}
+use Rattle.std.proofs.Common.{◌≡◌, ℕ, List, [], ◌∷◌, ◌++◌, inl, inr, Option, None, Some, cond, eqb, refl}
 use Rattle.std.proofs.lemmas.Bool.{cases_Bool, eqb-true}
 use Rattle.sshwire.specs.declared.share_form.ShareForm.{ShareForm}
-use Rattle.sshmsg.specs.Form.{Form}
-use Rattle.sshmsg.specs.Messages.{debug, disconnect, ext_info, form_of, ignore, init_of, kexinit, newkeys, reply_of, service_accept, service_request, unimplemented, userauth_banner, userauth_failure, userauth_pk_ok, userauth_request, userauth_success}
+use Rattle.sshwire.specs.declared.share_form.ShareForm.TheVariants.{Hybrid, Mpint, OctetString}
+use Rattle.sshmsg.specs.MessageData.{End, ext_info, Fields, Form, form_in, form_of, forms, init_of, kexinit, layout, MessageData, OfMethod, OfKexInit, Pairs, reply_of, userauth_request, With}
+use Rattle.sshmsg.specs.Form.{Done, FieldText, FillsForm, Of, Rest, Then}
 
--- a fact of each row
-pub record Rows (shares : ShareForm) (P : ℕ → Form → Type 0) : Type 0 where
-  pub disconnect : P 1 disconnect
-  pub ignore : P 2 ignore
-  pub unimplemented : P 3 unimplemented
-  pub debug : P 4 debug
-  pub service_request : P 5 service_request
-  pub service_accept : P 6 service_accept
+infixr 10 ◌&◌
+-- the messages of the form have the number, and its fields, after those before
+abbrev pub LaysOut : ℕ → (Fields → Fields) → Form → Type 0
+LaysOut n before (Done c) = layout c ≡ (n, before End)
+LaysOut n before (Then f next) = (value : Of f) → LaysOut n (λ more. before (With f value more)) (next value)
+LaysOut n before (Rest next) = ⊥
+
+-- the bytes stand for the fields, and nothing follows
+abbrev pub FieldsText : Fields → List ℕ → Type 0
+FieldsText End bytes = bytes ≡ []
+FieldsText (With f value more) bytes = (text : List ℕ) × (rest : List ℕ) × FieldText f value text × FieldsText more rest × (bytes ≡ text ++ rest)
+FieldsText (Pairs pairs) bytes = ⊥
+FieldsText (OfKexInit offer) bytes = ⊥
+FieldsText (OfMethod m) bytes = ⊥
+
+filled : (n : ℕ) (before : Fields → Fields) (form : Form) (m : MessageData) (bytes : List ℕ) → LaysOut n before form → FillsForm form m bytes
+    → (fields : Fields) × (layout m ≡ (n, before fields)) × FieldsText fields bytes
+filled n before (Done c) m bytes lays (same, none) = (End, rw same lays, none)
+filled n before (Then f next) m bytes lays (value, text, rest, t, fills, parts) =
+    let more = filled n (λ fields. before (With f value fields)) (next value) m rest (lays value) fills in
+    (With f value more.0, more.1, (text, rest, t, more.2, parts))
+filled n before (Rest next) m bytes lays same = absurd lays
+
+-- what fills such a form is a message of this layout
+pub laid_out : (n : ℕ) (form : Form) (m : MessageData) (bytes : List ℕ) → LaysOut n (λ fields. fields) form → FillsForm form m bytes
+    → (fields : Fields) × (layout m ≡ (n, fields)) × FieldsText fields bytes
+laid_out n form m bytes lays fills = filled n (λ fields. fields) form m bytes lays fills
+
+-- a fact of each such form
+abbrev pub OfLayouts : (ℕ → Form → Type 0) → Type 0
+OfLayouts P = (n : ℕ) (form : Form) → LaysOut n (λ fields. fields) form → P n form
+
+-- and of the three forms that end otherwise
+pub record OfOthers (P : ℕ → Form → Type 0) : Type 0 where
   pub ext_info : P 7 ext_info
   pub kexinit : P 20 kexinit
-  pub newkeys : P 21 newkeys
-  pub init : P 30 (init_of shares)
-  pub reply : P 31 (reply_of shares)
   pub userauth_request : P 50 userauth_request
-  pub userauth_failure : P 51 userauth_failure
-  pub userauth_success : P 52 userauth_success
-  pub userauth_banner : P 53 userauth_banner
-  pub userauth_pk_ok : P 60 userauth_pk_ok
+
+-- is one of each row
+data Each (P : ℕ → Form → Type 0) : List (ℕ × Form) → Type 0 where
+  Nothing : Each P []
+  ◌&◌ : {n : ℕ} {form : Form} {rows : List (ℕ × Form)} → P n form → Each P rows → Each P ((n, form) ∷ rows)
+
+init_laid_out : (shares : ShareForm) → LaysOut 30 (λ fields. fields) (init_of shares)
+init_laid_out Mpint = λ e. refl
+init_laid_out OctetString = λ share. refl
+init_laid_out Hybrid = λ share. refl
+
+reply_laid_out : (shares : ShareForm) → LaysOut 31 (λ fields. fields) (reply_of shares)
+reply_laid_out Mpint = λ host_key f signature. refl
+reply_laid_out OctetString = λ host_key share signature. refl
+reply_laid_out Hybrid = λ host_key share signature. refl
+
+-- The rows, in the table's order.
+each_row : (shares : ShareForm) (P : ℕ → Form → Type 0) → OfOthers P → OfLayouts P → Each P (forms shares)
+each_row shares P others row =
+    row _ _ (λ reason description language. refl)
+    & row _ _ (λ content. refl)
+    & row _ _ (λ sequence_number. refl)
+    & row _ _ (λ always_display text language. refl)
+    & row _ _ (λ service. refl)
+    & row _ _ (λ service. refl)
+    & others.ext_info
+    & others.kexinit
+    & row _ _ refl
+    & row _ _ (init_laid_out shares)
+    & row _ _ (reply_laid_out shares)
+    & others.userauth_request
+    & row _ _ (λ methods partial_success. refl)
+    & row _ _ refl
+    & row _ _ (λ text language. refl)
+    & row _ _ (λ algorithm key. refl)
+    & Nothing
 
 some_form : (f form : Form) → ◌≡◌ {A = Option Form} (Some f) (Some form) → f ≡ form
 some_form f form e = cc
 
-row : (P : ℕ → Form → Type 0) (number k : ℕ) (f form : Form) (others : Option Form) → P k f → (others ≡ Some form → P number form)
+none_left : (P : ℕ → Form → Type 0) (number : ℕ) (form : Form) → ◌≡◌ {A = Option Form} None (Some form) → P number form
+none_left P number form e = absurd (let bad : ⊥ = cc in bad)
+
+in_row : (P : ℕ → Form → Type 0) (number k : ℕ) (f form : Form) (others : Option Form) → P k f → (others ≡ Some form → P number form)
     → cond (eqb number k) (Some f) others ≡ Some form → P number form
-row P number k f form others h more e = elim (cases_Bool (eqb number k)) [
+in_row P number k f form others h more e = elim (cases_Bool (eqb number k)) [
   | inl t ↦
       let same : number ≡ k = eqb-true number k t in
       let found : ◌≡◌ {A = Option Form} (Some f) (Some form) = rw t at e in
@@ -38,26 +97,11 @@ row P number k f form others h more e = elim (cases_Bool (eqb number k)) [
   | inr t ↦ more (rw t at e)
 ]
 
-none_left : (P : ℕ → Form → Type 0) (number : ℕ) (form : Form) → ◌≡◌ {A = Option Form} None (Some form) → P number form
-none_left P number form e = absurd (let bad : ⊥ = cc in bad)
+in_rows : (P : ℕ → Form → Type 0) (rows : List (ℕ × Form)) (number : ℕ) (form : Form) → Each P rows → form_in rows number ≡ Some form → P number form
+in_rows P [] number form Nothing e = none_left P number form e
+in_rows P ((n, f) ∷ rows) number form (one & others) e = in_row P number n f form (form_in rows number) one (in_rows P rows number form others) e
 
-pub each_form : (shares : ShareForm) (P : ℕ → Form → Type 0) → Rows shares P → (number : ℕ) (form : Form) → form_of shares number ≡ Some form → P number form
+-- what holds of each row of the table holds of the form of each number
+pub each_form : (shares : ShareForm) (P : ℕ → Form → Type 0) → OfOthers P → OfLayouts P → (number : ℕ) (form : Form) → form_of shares number ≡ Some form → P number form
 unfolding form_of
-each_form shares P rows number form =
-    row P number 1 disconnect form _ rows.disconnect
-    (row P number 2 ignore form _ rows.ignore
-    (row P number 3 unimplemented form _ rows.unimplemented
-    (row P number 4 debug form _ rows.debug
-    (row P number 5 service_request form _ rows.service_request
-    (row P number 6 service_accept form _ rows.service_accept
-    (row P number 7 ext_info form _ rows.ext_info
-    (row P number 20 kexinit form _ rows.kexinit
-    (row P number 21 newkeys form _ rows.newkeys
-    (row P number 30 (init_of shares) form _ rows.init
-    (row P number 31 (reply_of shares) form _ rows.reply
-    (row P number 50 userauth_request form _ rows.userauth_request
-    (row P number 51 userauth_failure form _ rows.userauth_failure
-    (row P number 52 userauth_success form _ rows.userauth_success
-    (row P number 53 userauth_banner form _ rows.userauth_banner
-    (row P number 60 userauth_pk_ok form _ rows.userauth_pk_ok
-    (none_left P number form))))))))))))))))
+each_form shares P others of number form = in_rows P (forms shares) number form (each_row shares P others of)

@@ -5,13 +5,12 @@ use Rattle.std.specs.List.{AllByRecursion}
 use Rattle.std.specs.Str.{IsUtf8, bytes_eq}
 use Rattle.std.proofs.lemmas.List.{length-append}
 use Rattle.sshwire.specs.declared.share_form.ShareForm.{ShareForm}
-use Rattle.sshwire.specs.declared.share_form.ShareForm.TheVariants.{Hybrid, Mpint, OctetString}
-use Rattle.sshmsg.specs.MessageData.{MessageData}
-use Rattle.sshmsg.specs.Form.{Done, FieldText, FillsForm, Form, Of, Rest, Then}
-use Rattle.sshmsg.specs.Messages.{Spells, debug, disconnect, ext_info, extensions, ignore, init_of, kex_ecdh_init, kex_ecdh_reply, kexdh_init, kexdh_reply, kexinit, method_form, newkeys, password, publickey, reply_of, service_accept, service_request, unimplemented, userauth_banner, userauth_failure, userauth_pk_ok, userauth_request, userauth_success}
-use Rattle.sshmsg.specs.Written.{IsNumber, IsNameList, IsPair, IsString, IsWellFormed}
+use Rattle.sshmsg.specs.MessageData.{End, ext_info, extensions, Fields, Form, kexinit, MessageData, OfMethod, method_form, OfKexInit, Pairs, password, publickey, userauth_request, With}
+use Rattle.sshmsg.specs.Form.{BigNumber, Bytes, Cookie, Done, Field, FieldText, FillsForm, Flag, Names, Number, Of, Reserved, Rest, Then, Utf8}
+use Rattle.sshmsg.specs.Messages.{Spells}
+use Rattle.sshmsg.specs.Written.{AreFields, IsField, IsNumber, IsNameList, IsPair, IsString, IsWellFormed}
 use Rattle.sshwire.specs.Types.{MpintText, NameListText}
-use Rattle.sshmsg.proofs.TableLemmas.{Rows, each_form}
+use Rattle.sshmsg.proofs.TableLemmas.{FieldsText, OfLayouts, OfOthers, each_form, laid_out}
 
 -- each message of the form is well-formed
 abbrev Wells : Form → Type 0
@@ -29,30 +28,6 @@ list_of names text (each, (short, is)) = record { each = each; short = short }
 
 big_of : (body text : List ℕ) → MpintText body text → IsNumber body
 big_of body text (bytes, shortest, (short, is)) = record { bytes = bytes; shortest = shortest; short = short }
-
-disconnect_well : Wells disconnect
-unfolding disconnect
-disconnect_well = λ reason a r description b d language c l. (r.0, d.0, l.0)
-
-ignore_well : Wells ignore
-unfolding ignore
-ignore_well = λ content a c. c.0
-
-unimplemented_well : Wells unimplemented
-unfolding unimplemented
-unimplemented_well = λ n a h. h.0
-
-debug_well : Wells debug
-unfolding debug
-debug_well = λ always a h text b t language c l. (t.0, l.0)
-
-service_request_well : Wells service_request
-unfolding service_request
-service_request_well = λ service a s. s.0
-
-service_accept_well : Wells service_accept
-unfolding service_accept
-service_accept_well = λ service a s. s.0
 
 push_pair : (found : List (List ℕ × List ℕ)) (pair : List ℕ × List ℕ) → AllByRecursion IsPair found → IsPair pair → AllByRecursion IsPair (found ++ pair ∷ [])
 push_pair [] pair h p = (p, tt)
@@ -90,36 +65,6 @@ kexinit_well = λ cookie a k kex b l0 host c l1 ec d l2 es e l3 mc f l4 ms g l5 
       languages_server_to_client = list_of ls k0 l9;
     }
 
-newkeys_well : Wells newkeys
-unfolding newkeys
-newkeys_well = tt
-
-kexdh_init_well : Wells kexdh_init
-unfolding kexdh_init
-kexdh_init_well = λ e a h. big_of e a h
-
-kexdh_reply_well : Wells kexdh_reply
-unfolding kexdh_reply
-kexdh_reply_well = λ host_key a h f b n signature c s. (h.0, big_of f b n, s.0)
-
-kex_ecdh_init_well : Wells kex_ecdh_init
-unfolding kex_ecdh_init
-kex_ecdh_init_well = λ share a s. s.0
-
-kex_ecdh_reply_well : Wells kex_ecdh_reply
-unfolding kex_ecdh_reply
-kex_ecdh_reply_well = λ host_key a h share b s signature c z. (h.0, s.0, z.0)
-
-init_well : (shares : ShareForm) → Wells (init_of shares)
-init_well Mpint = kexdh_init_well
-init_well OctetString = kex_ecdh_init_well
-init_well Hybrid = kex_ecdh_init_well
-
-reply_well : (shares : ShareForm) → Wells (reply_of shares)
-reply_well Mpint = kexdh_reply_well
-reply_well OctetString = kex_ecdh_reply_well
-reply_well Hybrid = kex_ecdh_reply_well
-
 either_well : (b : Bool) (x y : Form) → (b ≡ true → Wells x) → (b ≡ false → Wells y) → Wells (cond b x y)
 either_well true x y h k = h refl
 either_well false x y h k = k refl
@@ -128,64 +73,65 @@ password_well : (user service : List ℕ) → IsUtf8 user → IsString user → 
 unfolding password
 password_well user service utf8 u s = λ change a t.
     either_well change _ _
-    (λ yes old b o new c n. (utf8, u, s, lit< tt, (o.0, n.0)))
-    (λ no secret b h. (utf8, u, s, lit< tt, h.0))
+    (λ yes old b o new c n. ((utf8, u), (s, (lit< tt, (o.0, n.0)))))
+    (λ no secret b h. ((utf8, u), (s, (lit< tt, h.0))))
 
 publickey_well : (user service : List ℕ) → IsUtf8 user → IsString user → IsString service → Wells (publickey user service)
 unfolding publickey
 publickey_well user service utf8 u s = λ signed a t algorithm b x key c y.
     either_well signed _ _
-    (λ yes signature d z. (utf8, u, s, lit< tt, (x.0, y.0, z.0)))
-    (λ no. (utf8, u, s, lit< tt, (x.0, y.0)))
+    (λ yes signature d z. ((utf8, u), (s, (lit< tt, (x.0, y.0, z.0)))))
+    (λ no. ((utf8, u), (s, (lit< tt, (x.0, y.0)))))
 
 not_named : (a b c : Bool) → a ≡ false → b ≡ false → c ≡ false → (a || (b || c)) ≡ false
 not_named a b c x y z = rw (x, y, z) refl
 
 method_well : (user service method : List ℕ) → IsUtf8 user → IsString user → IsString service → IsString method → Wells (method_form user service method)
 method_well user service method utf8 u s m =
-    either_well (bytes_eq method (codes "none")) _ _ (λ yes. (utf8, u, s, lit< tt, tt)) (λ a.
+    either_well (bytes_eq method (codes "none")) _ _ (λ yes. ((utf8, u), (s, (lit< tt, tt)))) (λ a.
     either_well (bytes_eq method (codes "password")) _ _ (λ yes. password_well user service utf8 u s) (λ b.
     either_well (bytes_eq method (codes "publickey")) _ _ (λ yes. publickey_well user service utf8 u s) (λ c fields.
-    (utf8, u, s, m, not_named _ _ _ a b c))))
+    ((utf8, u), (s, (m, not_named _ _ _ a b c))))))
 
 request_well : Wells userauth_request
 unfolding userauth_request
 request_well = λ user a u service b s method c m. method_well user service method u.0 u.1.0 s.0 m.0
 
-failure_well : Wells userauth_failure
-unfolding userauth_failure
-failure_well = λ methods a l partial b p. list_of methods a l
+-- a text of a field is one of a field that may be written
+field_well : (f : Field) (value : Of f) (text : List ℕ) → FieldText f value text → IsField f value
+field_well Flag value text h = tt
+field_well Number value text h = h.0
+field_well Bytes value text h = h.0
+field_well Utf8 value text h = (h.0, h.1.0)
+field_well BigNumber value text h = big_of value text h
+field_well Names value text h = list_of value text h
+field_well Cookie value text h = h.0
+field_well Reserved value text h = tt
 
-success_well : Wells userauth_success
-unfolding userauth_success
-success_well = tt
+fields_well : (fields : Fields) (bytes : List ℕ) → FieldsText fields bytes → AreFields fields
+fields_well End bytes h = tt
+fields_well (With f value more) bytes (text, rest, t, after, parts) = (field_well f value text t, fields_well more rest after)
+fields_well (Pairs pairs) bytes h = absurd h
+fields_well (OfKexInit offer) bytes h = absurd h
+fields_well (OfMethod m) bytes h = absurd h
 
-banner_well : Wells userauth_banner
-unfolding userauth_banner
-banner_well = λ text a t language b l. (t.0, l.0)
+AllWell : ℕ → Form → Type 0
+AllWell n form = (m : MessageData) (bytes : List ℕ) → FillsForm form m bytes → IsWellFormed m
 
-pk_ok_well : Wells userauth_pk_ok
-unfolding userauth_pk_ok
-pk_ok_well = λ algorithm a g key b k. (g.0, k.0)
+others_well : OfOthers AllWell
+unfolding AllWell
+others_well = record {
+  ext_info = λ m bytes. fills_well ext_info m bytes ext_info_well;
+  kexinit = λ m bytes. fills_well kexinit m bytes kexinit_well;
+  userauth_request = λ m bytes. fills_well userauth_request m bytes request_well;
+}
+
+layouts_well : OfLayouts AllWell
+unfolding AllWell
+layouts_well n form lays m bytes fills =
+    let laid = laid_out n form m bytes lays fills in
+    rw laid.1 (fields_well laid.0 bytes laid.2)
 
 pub spelled_well : (shares : ShareForm) (payload : List ℕ) (m : MessageData) → Spells shares m payload → IsWellFormed m
-spelled_well shares payload m s =
-    let rows : Rows shares (λ n form. Wells form) = record {
-      disconnect = disconnect_well;
-      ignore = ignore_well;
-      unimplemented = unimplemented_well;
-      debug = debug_well;
-      service_request = service_request_well;
-      service_accept = service_accept_well;
-      ext_info = ext_info_well;
-      kexinit = kexinit_well;
-      newkeys = newkeys_well;
-      init = init_well shares;
-      reply = reply_well shares;
-      userauth_request = request_well;
-      userauth_failure = failure_well;
-      userauth_success = success_well;
-      userauth_banner = banner_well;
-      userauth_pk_ok = pk_ok_well;
-    } in
-    fills_well s.form m s.fields (each_form shares (λ n form. Wells form) rows s.number s.form s.known) s.fills
+unfolding AllWell
+spelled_well shares payload m s = each_form shares AllWell others_well layouts_well s.number s.form s.known m s.fields s.fills

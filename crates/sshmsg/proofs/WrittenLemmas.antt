@@ -1,16 +1,16 @@
 -- What is written for a message spells it.
 
-use Rattle.std.proofs.Common.{◌≡◌, ◌≢◌, ℕ, Bool, true, false, ◌||◌, List, [], ◌∷◌, ◌++◌, codes, length, refl, sym, ap, lit<}
+use Rattle.std.proofs.Common.{◌≡◌, ◌≢◌, ℕ, Bool, true, false, ◌||◌, List, [], ◌∷◌, ◌++◌, codes, length, Option, None, Some, refl, sym, ap, lit<}
 use Rattle.std.specs.List.{AllByRecursion}
 use Rattle.std.proofs.lemmas.List.{append_assoc, append-nil}
 use Rattle.std.specs.Str.{bytes_eq}
 use Rattle.sshwire.specs.declared.share_form.ShareForm.{ShareForm}
 use Rattle.sshwire.specs.declared.share_form.ShareForm.TheVariants.{Hybrid, Mpint, OctetString}
 use Rattle.sshwire.specs.Types.{BooleanText, MpintText, NameListText, boolean, name_list, string, uint32}
-use Rattle.sshmsg.specs.MessageData.{Debug, Disconnect, ExtInfo, Ignore, KexEcdhInit, KexEcdhReply, KexInit, KexInitData, KexdhInit, KexdhReply, MessageData, MethodData, NewKeys, NoMethod, OtherMethod, Password, PasswordChange, PublicKey, PublicKeyQuery, ServiceAccept, ServiceRequest, Unimplemented, UserauthBanner, UserauthFailure, UserauthPkOk, UserauthRequest, UserauthSuccess}
-use Rattle.sshmsg.specs.Form.{Bytes, Done, FillsForm, Form, Rest, Then}
-use Rattle.sshmsg.specs.Messages.{Spells, debug, disconnect, ext_info, extensions, form_of, ignore, is_named, kex_ecdh_init, kex_ecdh_reply, kexdh_init, kexdh_reply, kexinit, method_form, newkeys, password, publickey, service_accept, service_request, unimplemented, userauth_banner, userauth_failure, userauth_pk_ok, userauth_request, userauth_success}
-use Rattle.sshmsg.specs.Written.{IsMessageOf, IsMethod, IsNumber, IsNameList, IsOffer, IsPair, IsString, IsWellFormed, method_fields, method_name, offer_written, pairs_written, written_message}
+use Rattle.sshmsg.specs.MessageData.{End, ext_info, extensions, ExtInfo, Fields, Form, form_of, is_named, kex_ecdh_init, kex_ecdh_reply, kexdh_init, kexdh_reply, KexdhInit, KexdhReply, KexEcdhInit, KexEcdhReply, KexInit, kexinit, KexInitData, layout, MessageData, OfMethod, method_form, MethodData, NoMethod, OfKexInit, OtherMethod, Pairs, Password, password, PasswordChange, PublicKey, publickey, PublicKeyQuery, userauth_request, UserauthRequest, With, method_name}
+use Rattle.sshmsg.specs.Form.{BigNumber, Bytes, Cookie, Done, Field, FieldText, FillsForm, Flag, Names, Number, Of, Reserved, Rest, Then, Utf8}
+use Rattle.sshmsg.specs.Messages.{Spells}
+use Rattle.sshmsg.specs.Written.{AreFields, IsField, IsMessageOf, IsMethod, IsNumber, IsNameList, IsOffer, IsPair, IsString, IsWellFormed, field_written, fields_written, method_fields, offer_written, pairs_written, written_message}
 
 boolean_text : (value : Bool) → BooleanText value (boolean value)
 boolean_text true = refl
@@ -21,49 +21,6 @@ names_text names h = (h.each, (h.short, refl))
 
 number_text : (body : List ℕ) → IsNumber body → MpintText body (string body)
 number_text body h = (h.bytes, h.shortest, (h.short, refl))
-
--- the string at the end of a form
-last_string : (next : List ℕ → Form) (content : MessageData) (bytes : List ℕ) → IsString bytes → FillsForm (next bytes) content []
-    → FillsForm (Then Bytes next) content (string bytes)
-last_string next content bytes h more = (bytes, string bytes, [], (h, refl), more, sym (append-nil (string bytes)))
-
-disconnect_fills : (reason : ℕ) (description language : List ℕ) → IsWellFormed (Disconnect reason description language)
-    → FillsForm disconnect (Disconnect reason description language) (uint32 reason ++ (string description ++ string language))
-unfolding disconnect
-disconnect_fills reason description language (n, d, l) = (
-  reason,
-  uint32 reason,
-  string description ++ string language,
-  (n, refl),
-  (
-    description,
-    string description,
-    string language,
-    (d, refl),
-    (language, string language, [], (l, refl), (refl, refl), sym (append-nil (string language))),
-    refl,
-  ),
-  refl,
-)
-
-debug_fills : (always_display : Bool) (text language : List ℕ) → IsWellFormed (Debug always_display text language)
-    → FillsForm debug (Debug always_display text language) (boolean always_display ++ (string text ++ string language))
-unfolding debug
-debug_fills always_display text language (t, l) = (
-  always_display,
-  boolean always_display,
-  string text ++ string language,
-  boolean_text always_display,
-  (
-    text,
-    string text,
-    string language,
-    (t, refl),
-    (language, string language, [], (l, refl), (refl, refl), sym (append-nil (string language))),
-    refl,
-  ),
-  refl,
-)
 
 pairs_fill : (pairs found : List (List ℕ × List ℕ)) → AllByRecursion IsPair pairs
     → FillsForm (extensions (length pairs) found) (ExtInfo (found ++ pairs)) (pairs_written pairs)
@@ -170,84 +127,6 @@ offer_fills offer h = (
     ),
     refl,
   ),
-  refl,
-)
-
-kexdh_init_fills : (e : List ℕ) → IsNumber e → FillsForm kexdh_init (KexdhInit e) (string e)
-unfolding kexdh_init
-kexdh_init_fills e h = (e, string e, [], number_text e h, (refl, refl), sym (append-nil (string e)))
-
-kexdh_reply_fills : (host_key f signature : List ℕ) → IsWellFormed (KexdhReply host_key f signature)
-    → FillsForm kexdh_reply (KexdhReply host_key f signature) (string host_key ++ (string f ++ string signature))
-unfolding kexdh_reply
-kexdh_reply_fills host_key f signature (k, n, s) = (
-  host_key,
-  string host_key,
-  string f ++ string signature,
-  (k, refl),
-  (
-    f,
-    string f,
-    string signature,
-    number_text f n,
-    (signature, string signature, [], (s, refl), (refl, refl), sym (append-nil (string signature))),
-    refl,
-  ),
-  refl,
-)
-
-kex_ecdh_reply_fills : (host_key share signature : List ℕ) → IsWellFormed (KexEcdhReply host_key share signature)
-    → FillsForm kex_ecdh_reply (KexEcdhReply host_key share signature) (string host_key ++ (string share ++ string signature))
-unfolding kex_ecdh_reply
-kex_ecdh_reply_fills host_key share signature (k, c, s) = (
-  host_key,
-  string host_key,
-  string share ++ string signature,
-  (k, refl),
-  (
-    share,
-    string share,
-    string signature,
-    (c, refl),
-    (signature, string signature, [], (s, refl), (refl, refl), sym (append-nil (string signature))),
-    refl,
-  ),
-  refl,
-)
-
-failure_fills : (methods : List (List ℕ)) (partial_success : Bool) → IsNameList methods
-    → FillsForm userauth_failure (UserauthFailure methods partial_success) (name_list methods ++ boolean partial_success)
-unfolding userauth_failure
-failure_fills methods partial_success h = (
-  methods,
-  name_list methods,
-  boolean partial_success,
-  names_text methods h,
-  (partial_success, boolean partial_success, [], boolean_text partial_success, (refl, refl), refl),
-  refl,
-)
-
-banner_fills : (text language : List ℕ) → IsWellFormed (UserauthBanner text language)
-    → FillsForm userauth_banner (UserauthBanner text language) (string text ++ string language)
-unfolding userauth_banner
-banner_fills text language (t, l) = (
-  text,
-  string text,
-  string language,
-  (t, refl),
-  (language, string language, [], (l, refl), (refl, refl), sym (append-nil (string language))),
-  refl,
-)
-
-pk_ok_fills : (algorithm key : List ℕ) → IsWellFormed (UserauthPkOk algorithm key)
-    → FillsForm userauth_pk_ok (UserauthPkOk algorithm key) (string algorithm ++ string key)
-unfolding userauth_pk_ok
-pk_ok_fills algorithm key (g, k) = (
-  algorithm,
-  string algorithm,
-  string key,
-  (g, refl),
-  (key, string key, [], (k, refl), (refl, refl), sym (append-nil (string key))),
   refl,
 )
 
@@ -365,7 +244,7 @@ method_fills user service (OtherMethod name fields) n other =
 request_fills : (user service : List ℕ) (m : MethodData) → IsWellFormed (UserauthRequest user service m)
     → FillsForm userauth_request (UserauthRequest user service m) (string user ++ (string service ++ (string (method_name m) ++ method_fields m)))
 unfolding userauth_request
-request_fills user service m (utf8, u, s, n, h) = (
+request_fills user service m ((utf8, u), (s, (n, h))) = (
   user,
   string user,
   string service ++ (string (method_name m) ++ method_fields m),
@@ -374,55 +253,99 @@ request_fills user service m (utf8, u, s, n, h) = (
   refl,
 )
 
--- where shares are octet strings
-ecdh_init_spells : (shares : ShareForm) (share : List ℕ) → shares ≢ Mpint → IsString share → Spells shares (KexEcdhInit share) (30 ∷ string share)
-unfolding form_of kex_ecdh_init
-ecdh_init_spells Mpint share not_mpint h = absurd (not_mpint refl)
-ecdh_init_spells OctetString share not_mpint h =
-    record { number = 30; form = kex_ecdh_init; fields = _; known = refl; fills = last_string (λ bytes. Done (KexEcdhInit bytes)) (KexEcdhInit share) share h (refl, refl); payload_is = refl }
-ecdh_init_spells Hybrid share not_mpint h =
-    record { number = 30; form = kex_ecdh_init; fields = _; known = refl; fills = last_string (λ bytes. Done (KexEcdhInit bytes)) (KexEcdhInit share) share h (refl, refl); payload_is = refl }
+-- what is written for a field stands for it
+field_text : (f : Field) (value : Of f) → IsField f value → FieldText f value (field_written f value)
+field_text Flag value h = boolean_text value
+field_text Number value h = (h, refl)
+field_text Bytes value h = (h, refl)
+field_text Utf8 value h = (h.0, (h.1, refl))
+field_text BigNumber value h = number_text value h
+field_text Names value h = names_text value h
+field_text Cookie value h = (h, refl)
+field_text Reserved value h = refl
 
-ecdh_reply_spells : (shares : ShareForm) (host_key share signature : List ℕ) → shares ≢ Mpint → IsWellFormed (KexEcdhReply host_key share signature)
-    → Spells shares (KexEcdhReply host_key share signature) (31 ∷ (string host_key ++ (string share ++ string signature)))
+field_split : (f : Field) (value : Of f) (more : Fields) → fields_written (With f value more) ≡ field_written f value ++ fields_written more
+field_split f value End = sym (append-nil (field_written f value))
+field_split f value (With g other more) = refl
+field_split f value (Pairs pairs) = refl
+field_split f value (OfKexInit offer) = refl
+field_split f value (OfMethod m) = refl
+
+-- what a field of this kind holds, if it is of the other kind
+held : (f g : Field) → Of g → Option (Of f)
+held Flag Flag value = Some value
+held Number Number value = Some value
+held Bytes Bytes value = Some value
+held Utf8 Utf8 value = Some value
+held BigNumber BigNumber value = Some value
+held Names Names value = Some value
+held Cookie Cookie value = Some value
+held Reserved Reserved value = Some value
+held f g value = None
+
+abbrev with_held : {A : Type 0} → Option A → (A → Option MessageData) → Option MessageData
+with_held (Some value) next = next value
+with_held None next = None
+
+-- what a form makes of fields, if they are those that it has
+abbrev made_of : Form → Fields → Option MessageData
+made_of (Done c) End = Some c
+made_of (Then f next) (With g value more) = with_held (held f g value) (λ x. made_of (next x) more)
+made_of form fields = None
+
+with_held_some : {A : Type 0} (o : Option A) (next : A → Option MessageData) (m : MessageData) → with_held o next ≡ Some m → (x : A) × (o ≡ Some x) × (next x ≡ Some m)
+with_held_some (Some x) next m e = (x, refl, e)
+with_held_some None next m e = cc
+
+held_text : (f g : Field) (value : Of g) (x : Of f) → held f g value ≡ Some x → IsField g value → FieldText f x (field_written g value)
+unfolding held
+held_text Flag Flag value x e h = let is : value ≡ x = cc in rw (← is) (field_text Flag value h)
+held_text Number Number value x e h = let is : value ≡ x = cc in rw (← is) (field_text Number value h)
+held_text Bytes Bytes value x e h = let is : value ≡ x = cc in rw (← is) (field_text Bytes value h)
+held_text Utf8 Utf8 value x e h = let is : value ≡ x = cc in rw (← is) (field_text Utf8 value h)
+held_text BigNumber BigNumber value x e h = let is : value ≡ x = cc in rw (← is) (field_text BigNumber value h)
+held_text Names Names value x e h = let is : value ≡ x = cc in rw (← is) (field_text Names value h)
+held_text Cookie Cookie value x e h = let is : value ≡ x = cc in rw (← is) (field_text Cookie value h)
+held_text Reserved Reserved value x e h = refl
+held_text f g value x e h = cc
+
+-- what is written for the fields of a message fills the form that makes the message of them
+made_fills : (form : Form) (m : MessageData) (fields : Fields) → made_of form fields ≡ Some m → AreFields fields → FillsForm form m (fields_written fields)
+made_fills (Done c) m End e well = let is : c ≡ m = cc in (sym is, refl)
+made_fills (Then f next) m (With g value more) e well =
+    let b = with_held_some (held f g value) (λ (x : Of f). made_of (next x) more) m e in (
+      b.0,
+      field_written g value,
+      fields_written more,
+      held_text f g value b.0 b.1 well.0,
+      made_fills (next b.0) m more b.2 well.1,
+      field_split g value more,
+    )
+made_fills form m fields e well = cc
+
+laid_out_spells : (shares : ShareForm) (m : MessageData) (form : Form) → form_of shares (layout m).0 ≡ Some form → made_of form (layout m).1 ≡ Some m → IsWellFormed m → Spells shares m (written_message m)
+unfolding written_message
+laid_out_spells shares m form known makes well =
+    record { number = (layout m).0; form = form; fields = fields_written (layout m).1; known = known; fills = made_fills form m (layout m).1 makes well; payload_is = refl }
+
+-- where shares are octet strings
+octets_row : (shares : ShareForm) → shares ≢ Mpint → (form_of shares 30 ≡ Some kex_ecdh_init) × (form_of shares 31 ≡ Some kex_ecdh_reply)
 unfolding form_of
-ecdh_reply_spells Mpint host_key share signature not_mpint h = absurd (not_mpint refl)
-ecdh_reply_spells OctetString host_key share signature not_mpint h =
-    record { number = 31; form = kex_ecdh_reply; fields = _; known = refl; fills = kex_ecdh_reply_fills host_key share signature h; payload_is = refl }
-ecdh_reply_spells Hybrid host_key share signature not_mpint h =
-    record { number = 31; form = kex_ecdh_reply; fields = _; known = refl; fills = kex_ecdh_reply_fills host_key share signature h; payload_is = refl }
+octets_row Mpint octets = absurd (octets refl)
+octets_row OctetString octets = (refl, refl)
+octets_row Hybrid octets = (refl, refl)
 
 pub written_spells : (shares : ShareForm) (m : MessageData) → IsMessageOf shares m → IsWellFormed m → Spells shares m (written_message m)
-unfolding written_message form_of ignore unimplemented service_request service_accept newkeys userauth_success
-written_spells shares (Disconnect reason description language) o h =
-    record { number = 1; form = disconnect; fields = _; known = refl; fills = disconnect_fills reason description language h; payload_is = refl }
-written_spells shares (Ignore content) o h =
-    record { number = 2; form = ignore; fields = _; known = refl; fills = last_string (λ bytes. Done (Ignore bytes)) (Ignore content) content h (refl, refl); payload_is = refl }
-written_spells shares (Unimplemented n) o h =
-    record { number = 3; form = unimplemented; fields = _; known = refl; fills = (n, uint32 n, [], (h, refl), (refl, refl), refl); payload_is = refl }
-written_spells shares (Debug always_display text language) o h =
-    record { number = 4; form = debug; fields = _; known = refl; fills = debug_fills always_display text language h; payload_is = refl }
-written_spells shares (ServiceRequest service) o h =
-    record { number = 5; form = service_request; fields = _; known = refl; fills = last_string (λ bytes. Done (ServiceRequest bytes)) (ServiceRequest service) service h (refl, refl); payload_is = refl }
-written_spells shares (ServiceAccept service) o h =
-    record { number = 6; form = service_accept; fields = _; known = refl; fills = last_string (λ bytes. Done (ServiceAccept bytes)) (ServiceAccept service) service h (refl, refl); payload_is = refl }
+unfolding written_message form_of held
 written_spells shares (ExtInfo pairs) o h =
     record { number = 7; form = ext_info; fields = _; known = refl; fills = ext_info_fills pairs h; payload_is = refl }
 written_spells shares (KexInit offer) o h =
     record { number = 20; form = kexinit; fields = _; known = refl; fills = offer_fills offer h; payload_is = refl }
-written_spells shares NewKeys o h = record { number = 21; form = newkeys; fields = []; known = refl; fills = (refl, refl); payload_is = refl }
-written_spells shares (KexdhInit e) o h =
-    record { number = 30; form = kexdh_init; fields = _; known = rw o refl; fills = kexdh_init_fills e h; payload_is = refl }
-written_spells shares (KexdhReply host_key f signature) o h =
-    record { number = 31; form = kexdh_reply; fields = _; known = rw o refl; fills = kexdh_reply_fills host_key f signature h; payload_is = refl }
-written_spells shares (KexEcdhInit client_share) o h = ecdh_init_spells shares client_share o h
-written_spells shares (KexEcdhReply host_key server_share signature) o h = ecdh_reply_spells shares host_key server_share signature o h
+written_spells shares (KexdhInit e) o h = laid_out_spells shares (KexdhInit e) kexdh_init (rw o refl) refl h
+written_spells shares (KexdhReply host_key f signature) o h = laid_out_spells shares (KexdhReply host_key f signature) kexdh_reply (rw o refl) refl h
+written_spells shares (KexEcdhInit share) o h = laid_out_spells shares (KexEcdhInit share) kex_ecdh_init (octets_row shares o).0 refl h
+written_spells shares (KexEcdhReply host_key share signature) o h =
+    laid_out_spells shares (KexEcdhReply host_key share signature) kex_ecdh_reply (octets_row shares o).1 refl h
 written_spells shares (UserauthRequest user service m) o h =
     record { number = 50; form = userauth_request; fields = _; known = refl; fills = request_fills user service m h; payload_is = refl }
-written_spells shares (UserauthFailure methods partial_success) o h =
-    record { number = 51; form = userauth_failure; fields = _; known = refl; fills = failure_fills methods partial_success h; payload_is = refl }
-written_spells shares UserauthSuccess o h = record { number = 52; form = userauth_success; fields = []; known = refl; fills = (refl, refl); payload_is = refl }
-written_spells shares (UserauthBanner text language) o h =
-    record { number = 53; form = userauth_banner; fields = _; known = refl; fills = banner_fills text language h; payload_is = refl }
-written_spells shares (UserauthPkOk algorithm key) o h =
-    record { number = 60; form = userauth_pk_ok; fields = _; known = refl; fills = pk_ok_fills algorithm key h; payload_is = refl }
+written_spells shares m o h = laid_out_spells shares m _ refl refl h

@@ -6,7 +6,6 @@ use Rattle.sshwire.specs.declared.fault.WireFault.{WireFault}
 use Rattle.sshwire.specs.declared.fault.WireFault.TheVariants.{Name, Short}
 use Rattle.sshwire.specs.Types.{BooleanText, MpintText, NameListText, StringText, Uint32Text}
 use Rattle.sshwire.specs.TypeReadings.{◌>>=◌, boolean_at, mpint_at, names_at, string_at, uint32_at}
-use Rattle.sshmsg.specs.MessageData.{MessageData}
 
 -- the kinds of fields: the data types of RFC 4251 section 5, a string of UTF-8 text, and the 16 bytes of the cookie
 -- and the four of the reserved word of a KEXINIT
@@ -61,21 +60,21 @@ field_at Names bytes = names_at bytes
 field_at Cookie bytes = bytes_at 16 bytes
 field_at Reserved bytes = bytes_at 4 bytes >>= λ x. Ok (tt, x.1)
 
--- a form: nothing more, a field and what follows it, or all bytes to the end
-pub data Form : Type 0 where
-  Done : MessageData → Form
-  Then : (f : Field) → (Of f → Form) → Form
-  Rest : (List ℕ → MessageData) → Form
+-- a form of contents: nothing more, a field and what follows it, or all bytes to the end
+pub data FormOf (C : Type 0) : Type 0 where
+  Done : C → FormOf C
+  Then : (f : Field) → (Of f → FormOf C) → FormOf C
+  Rest : (List ℕ → C) → FormOf C
 
 -- the bytes are the fields of the content in this form, and nothing follows
-abbrev pub FillsForm : Form → MessageData → List ℕ → Type 0
+abbrev pub FillsForm : {C : Type 0} → FormOf C → C → List ℕ → Type 0
 FillsForm (Done c) content bytes = (content ≡ c) × (bytes ≡ [])
 FillsForm (Then f next) content bytes =
     (value : Of f) × (text : List ℕ) × (rest : List ℕ) × FieldText f value text × FillsForm (next value) content rest × (bytes ≡ text ++ rest)
 FillsForm (Rest next) content bytes = content ≡ next bytes
 
 -- the content at the front of the bytes, and what is left
-abbrev pub form_at : Form → List ℕ → Result (MessageData × List ℕ) WireFault
+abbrev pub form_at : {C : Type 0} → FormOf C → List ℕ → Result (C × List ℕ) WireFault
 form_at (Done c) bytes = Ok (c, bytes)
 form_at (Then f next) bytes = field_at f bytes >>= λ x. form_at (next x.0) x.1
 form_at (Rest next) bytes = Ok (next bytes, [])

@@ -1,10 +1,10 @@
 -- How long the payload of a message is, by its parts.
 
-use Rattle.std.specs.Prelude.{◌≡◌, ℕ, ◌+◌, ◌≤◌, List, [], ◌∷◌, length, nat_le}
+use Rattle.std.specs.Prelude.{◌≡◌, ℕ, ◌+◌, ◌≤◌, List, [], ◌∷◌, ◌++◌, length, nat_le}
 use Rattle.sshwire.specs.declared.limits.TheConstants.{PAYLOAD_LIMIT}
 use Rattle.sshwire.specs.Types.{names_body}
-use Rattle.sshmsg.specs.MessageData.{Debug, Disconnect, ExtInfo, Ignore, KexEcdhInit, KexEcdhReply, KexInit, KexInitData, KexdhInit, KexdhReply, MessageData, MethodData, NewKeys, NoMethod, OtherMethod, Password, PasswordChange, PublicKey, PublicKeyQuery, ServiceAccept, ServiceRequest, Unimplemented, UserauthBanner, UserauthFailure, UserauthPkOk, UserauthRequest, UserauthSuccess}
-use Rattle.sshmsg.specs.Written.{method_name}
+use Rattle.sshmsg.specs.MessageData.{End, Fields, KexInitData, layout, MessageData, OfMethod, MethodData, NoMethod, OfKexInit, OtherMethod, Pairs, Password, PasswordChange, PublicKey, PublicKeyQuery, With}
+use Rattle.sshmsg.specs.Form.{BigNumber, Bytes, Cookie, Field, Flag, Names, Number, Of, Reserved, Utf8}
 
 -- the pairs of an EXT_INFO: two strings each
 abbrev pub pairs_length : List (List ℕ × List ℕ) → ℕ
@@ -29,26 +29,54 @@ offer_length offer =
     + length (names_body offer.compression_client_to_server) + length (names_body offer.compression_server_to_client)
     + length (names_body offer.languages_client_to_server) + length (names_body offer.languages_server_to_client)
 
+-- the bytes of a field whose count varies, and how many stand there whatever it holds
+abbrev pub varying : (f : Field) → Of f → List ℕ
+varying Flag value = []
+varying Number value = []
+varying Bytes value = length value ∷ []
+varying Utf8 value = length value ∷ []
+varying BigNumber value = length value ∷ []
+varying Names value = length (names_body value) ∷ []
+varying Cookie value = length value ∷ []
+varying Reserved value = []
+
+abbrev pub fixed : Field → ℕ
+fixed Flag = 1
+fixed Number = 4
+fixed Bytes = 4
+fixed Utf8 = 4
+fixed BigNumber = 4
+fixed Names = 4
+fixed Cookie = 0
+fixed Reserved = 4
+
+-- the same of all fields
+abbrev pub all_varying : Fields → List ℕ
+all_varying End = []
+all_varying (With f value more) = varying f value ++ all_varying more
+all_varying (Pairs pairs) = pairs_length pairs ∷ []
+all_varying (OfKexInit offer) = length offer.cookie ∷ offer_length offer ∷ []
+all_varying (OfMethod m) = method_length m ∷ []
+
+abbrev pub all_fixed : Fields → ℕ
+all_fixed End = 0
+all_fixed (With f value more) = fixed f + all_fixed more
+all_fixed (Pairs pairs) = 0
+all_fixed (OfKexInit offer) = 45
+all_fixed (OfMethod m) = 0
+
+-- numbers added up from the first on
+abbrev pub added : ℕ → List ℕ → ℕ
+added n [] = n
+added n (m ∷ more) = added (n + m) more
+
+abbrev pub total : List ℕ → ℕ
+total [] = 0
+total (n ∷ more) = added n more
+
+-- the bytes that vary, those that don't, and the number in front
 abbrev pub payload_length : MessageData → ℕ
-payload_length (Disconnect reason description language) = length description + length language + 13
-payload_length (Ignore content) = length content + 5
-payload_length (Unimplemented sequence_number) = 5
-payload_length (Debug always_display text language) = length text + length language + 10
-payload_length (ServiceRequest service) = length service + 5
-payload_length (ServiceAccept service) = length service + 5
-payload_length (ExtInfo pairs) = pairs_length pairs + 5
-payload_length (KexInit offer) = length offer.cookie + offer_length offer + 46
-payload_length NewKeys = 1
-payload_length (KexdhInit e) = length e + 5
-payload_length (KexdhReply host_key f signature) = length host_key + length f + length signature + 13
-payload_length (KexEcdhInit client_share) = length client_share + 5
-payload_length (KexEcdhReply host_key server_share signature) = length host_key + length server_share + length signature + 13
-payload_length (UserauthRequest user service request) =
-    length user + length service + length (method_name request) + method_length request + 13
-payload_length (UserauthFailure methods partial_success) = length (names_body methods) + 6
-payload_length UserauthSuccess = 1
-payload_length (UserauthBanner text language) = length text + length language + 9
-payload_length (UserauthPkOk algorithm key) = length algorithm + length key + 9
+payload_length m = total (all_varying (layout m).1) + (1 + all_fixed (layout m).1)
 
 -- the number is this length, or both are above the limit
 unfoldable pub IsCapped : ℕ → ℕ → Type 0

@@ -2,7 +2,6 @@
 
 use Rattle.std.specs.Prelude.{◌≡◌, ◌≢◌, ℕ, List, [], map, Option, None, Some, Result, Ok, Err}
 use Rattle.sshwire.specs.declared.fault.WireFault.{WireFault}
-use Rattle.sshwire.specs.declared.share_form.ShareForm.{ShareForm}
 use Rattle.sshmsg.specs.declared.fault.MsgFault.{MsgFault}
 use Rattle.sshmsg.specs.declared.fault.MsgFault.TheVariants.{Memory}
 use Rattle.sshmsg.specs.declared.lists.LentKexInit.{LentKexInit}
@@ -13,9 +12,8 @@ use Rattle.sshmsg.specs.declared.message.Method.TheVariants as method
 use Rattle.sshmsg.specs.declared.message.Message.{Message}
 use Rattle.sshmsg.specs.declared.message.Message.TheVariants as message
 use Rattle.sshmsg.specs.MessageData as content
-use Rattle.sshmsg.specs.MessageData.{KexInitData, MessageData}
-use Rattle.sshmsg.specs.Form.{Form, form_at}
-use Rattle.sshmsg.specs.Messages.{ext_info, extensions, form_of}
+use Rattle.sshmsg.specs.MessageData.{ext_info, extensions, Form, KexInitData, MessageData}
+use Rattle.sshmsg.specs.Form.{form_at}
 
 abbrev pub kexinit_data : KexInit → KexInitData
 kexinit_data k = record {
@@ -99,10 +97,11 @@ abbrev pub LendsPairs : Result (ℕ × List ℕ) WireFault → (old new : List �
 LendsPairs (Ok x) old new = Passes (Ok tt) new (form_at ext_info old) × (form_at (extensions x.0 []) x.1 ≡ form_at ext_info old)
 LendsPairs (Err e) old new = form_at ext_info old ≡ Err e
 
--- the same as Goes, of a message of this number, if there is one
-abbrev pub ReadsNumbered : ShareForm → ℕ → List ℕ → List ℕ → Option (Result Message WireFault) → Type 0
-ReadsNumbered shares n old new None = form_of shares n ≡ None
-ReadsNumbered shares n old new (Some result) = (form : Form) × (form_of shares n ≡ Some form) × Goes message_data result new (form_at form old)
+-- the same as Goes, of a message of this form, if there is one
+abbrev pub ReadsForm : Option Form → List ℕ → List ℕ → Option (Result Message WireFault) → Type 0
+ReadsForm None old new answer = answer ≡ None
+ReadsForm (Some form) old new None = ⊥
+ReadsForm (Some form) old new (Some result) = Goes message_data result new (form_at form old)
 
 -- what `read` answered is what the payload reads as, unless memory ran out
 abbrev pub MessageAnswer : Result Message MsgFault → Result MessageData MsgFault → Type 0

@@ -1,13 +1,13 @@
 -- The written form of a message: its number and its fields in order, each in the one form that is written for it.
 
-use Rattle.std.specs.Prelude.{ℕ, ◌^◌, ◌<◌, ◌≡◌, ◌≢◌, false, true, List, [], ◌∷◌, ◌++◌, codes, flat_map, length}
+use Rattle.std.specs.Prelude.{ℕ, ◌^◌, ◌<◌, ◌≡◌, ◌≢◌, false, true, List, [], ◌∷◌, ◌++◌, flat_map, length}
 use Rattle.std.specs.List.{AllByRecursion}
 use Rattle.std.specs.Str.{IsUtf8}
 use Rattle.sshwire.specs.Types.{AreNames, IsBytes, IsShortestBody, boolean, name_list, names_body, string, uint32}
 use Rattle.sshwire.specs.declared.share_form.ShareForm.{ShareForm}
 use Rattle.sshwire.specs.declared.share_form.ShareForm.TheVariants.{Mpint}
-use Rattle.sshmsg.specs.MessageData.{Debug, Disconnect, ExtInfo, Ignore, KexEcdhInit, KexEcdhReply, KexInit, KexInitData, KexdhInit, KexdhReply, MessageData, MethodData, NewKeys, NoMethod, OtherMethod, Password, PasswordChange, PublicKey, PublicKeyQuery, ServiceAccept, ServiceRequest, Unimplemented, UserauthBanner, UserauthFailure, UserauthPkOk, UserauthRequest, UserauthSuccess}
-use Rattle.sshmsg.specs.Messages.{is_named}
+use Rattle.sshmsg.specs.MessageData.{End, Fields, is_named, KexdhInit, KexdhReply, KexEcdhInit, KexEcdhReply, KexInitData, layout, MessageData, OfMethod, MethodData, NoMethod, OfKexInit, OtherMethod, Pairs, Password, PasswordChange, PublicKey, PublicKeyQuery, With}
+use Rattle.sshmsg.specs.Form.{BigNumber, Bytes, Cookie, Field, Flag, Names, Number, Of, Reserved, Utf8}
 
 -- the pairs of an EXT_INFO
 abbrev pub pair_written : List ℕ × List ℕ → List ℕ
@@ -33,15 +33,7 @@ offer_written offer =
     ++ (boolean offer.first_kex_packet_follows
     ++ uint32 0)))))))))))
 
--- a method: its name, and the fields after it
-abbrev pub method_name : MethodData → List ℕ
-method_name NoMethod = codes "none"
-method_name (Password password) = codes "password"
-method_name (PasswordChange old new) = codes "password"
-method_name (PublicKey algorithm key signature) = codes "publickey"
-method_name (PublicKeyQuery algorithm key) = codes "publickey"
-method_name (OtherMethod name fields) = name
-
+-- the fields after a method's name
 abbrev pub method_fields : MethodData → List ℕ
 method_fields NoMethod = []
 method_fields (Password password) = boolean false ++ string password
@@ -50,27 +42,28 @@ method_fields (PublicKey algorithm key signature) = boolean true ++ (string algo
 method_fields (PublicKeyQuery algorithm key) = boolean false ++ (string algorithm ++ string key)
 method_fields (OtherMethod name fields) = fields
 
--- the payload that is written for a message; its number stands here as digits, apart from the constants of the code
+-- the one form in which a field is written
+abbrev pub field_written : (f : Field) → Of f → List ℕ
+field_written Flag value = boolean value
+field_written Number value = uint32 value
+field_written Bytes value = string value
+field_written Utf8 value = string value
+field_written BigNumber value = string value
+field_written Names value = name_list value
+field_written Cookie value = value
+field_written Reserved value = uint32 0
+
+abbrev pub fields_written : Fields → List ℕ
+fields_written End = []
+fields_written (With f value End) = field_written f value
+fields_written (With f value more) = field_written f value ++ fields_written more
+fields_written (Pairs pairs) = pairs_written pairs
+fields_written (OfKexInit offer) = offer_written offer
+fields_written (OfMethod m) = method_fields m
+
+-- the payload that is written for a message: its number and its fields in order
 unfoldable pub written_message : MessageData → List ℕ
-written_message (Disconnect reason description language) = 1 ∷ (uint32 reason ++ (string description ++ string language))
-written_message (Ignore content) = 2 ∷ string content
-written_message (Unimplemented sequence_number) = 3 ∷ uint32 sequence_number
-written_message (Debug always_display text language) = 4 ∷ (boolean always_display ++ (string text ++ string language))
-written_message (ServiceRequest service) = 5 ∷ string service
-written_message (ServiceAccept service) = 6 ∷ string service
-written_message (ExtInfo pairs) = 7 ∷ (uint32 (length pairs) ++ pairs_written pairs)
-written_message (KexInit offer) = 20 ∷ offer_written offer
-written_message NewKeys = 21 ∷ []
-written_message (KexdhInit e) = 30 ∷ string e
-written_message (KexdhReply host_key f signature) = 31 ∷ (string host_key ++ (string f ++ string signature))
-written_message (KexEcdhInit client_share) = 30 ∷ string client_share
-written_message (KexEcdhReply host_key server_share signature) = 31 ∷ (string host_key ++ (string server_share ++ string signature))
-written_message (UserauthRequest user service method) =
-    50 ∷ (string user ++ (string service ++ (string (method_name method) ++ method_fields method)))
-written_message (UserauthFailure methods partial_success) = 51 ∷ (name_list methods ++ boolean partial_success)
-written_message UserauthSuccess = 52 ∷ []
-written_message (UserauthBanner text language) = 53 ∷ (string text ++ string language)
-written_message (UserauthPkOk algorithm key) = 60 ∷ (string algorithm ++ string key)
+written_message m = (layout m).0 ∷ fields_written (layout m).1
 
 -- What the fields of a message have to be, so that they can be written: lengths and numbers fit a uint32,
 -- names are names, mpints are the shortest, the user is UTF-8, a cookie has 16 bytes.
@@ -111,26 +104,25 @@ IsMethod (PublicKey algorithm key signature) = IsString algorithm × IsString ke
 IsMethod (PublicKeyQuery algorithm key) = IsString algorithm × IsString key
 IsMethod (OtherMethod name fields) = is_named name ≡ false
 
+abbrev pub IsField : (f : Field) → Of f → Type 0
+IsField Flag value = Unit {0}
+IsField Number value = value < 2 ^ 32
+IsField Bytes value = IsString value
+IsField Utf8 value = IsUtf8 value × IsString value
+IsField BigNumber value = IsNumber value
+IsField Names value = IsNameList value
+IsField Cookie value = length value ≡ 16
+IsField Reserved value = Unit {0}
+
+abbrev pub AreFields : Fields → Type 0
+AreFields End = Unit {0}
+AreFields (With f value more) = IsField f value × AreFields more
+AreFields (Pairs pairs) = AllByRecursion IsPair pairs
+AreFields (OfKexInit offer) = IsOffer offer
+AreFields (OfMethod m) = IsMethod m
+
 abbrev pub IsWellFormed : MessageData → Type 0
-IsWellFormed (Disconnect reason description language) = (reason < 2 ^ 32) × IsString description × IsString language
-IsWellFormed (Ignore content) = IsString content
-IsWellFormed (Unimplemented sequence_number) = sequence_number < 2 ^ 32
-IsWellFormed (Debug always_display text language) = IsString text × IsString language
-IsWellFormed (ServiceRequest service) = IsString service
-IsWellFormed (ServiceAccept service) = IsString service
-IsWellFormed (ExtInfo pairs) = (length pairs < 2 ^ 32) × AllByRecursion IsPair pairs
-IsWellFormed (KexInit offer) = IsOffer offer
-IsWellFormed NewKeys = Unit {0}
-IsWellFormed (KexdhInit e) = IsNumber e
-IsWellFormed (KexdhReply host_key f signature) = IsString host_key × IsNumber f × IsString signature
-IsWellFormed (KexEcdhInit client_share) = IsString client_share
-IsWellFormed (KexEcdhReply host_key server_share signature) = IsString host_key × IsString server_share × IsString signature
-IsWellFormed (UserauthRequest user service method) =
-    IsUtf8 user × IsString user × IsString service × IsString (method_name method) × IsMethod method
-IsWellFormed (UserauthFailure methods partial_success) = IsNameList methods
-IsWellFormed UserauthSuccess = Unit {0}
-IsWellFormed (UserauthBanner text language) = IsString text × IsString language
-IsWellFormed (UserauthPkOk algorithm key) = IsString algorithm × IsString key
+IsWellFormed m = AreFields (layout m).1
 
 -- a message that an exchange with shares of this form has: where shares are mpints 30 and 31 are those of RFC 4253 section 8,
 -- else those of RFC 5656 section 4; every other message is in each

@@ -1,4 +1,4 @@
-//! How long the payload of a message is.
+//! How long the payload of a message is: whether it fits, and how long its parts are.
 
 ghost use Rattle.sshwire.specs.declared.limits.TheConstants.{PAYLOAD_LIMIT};
 ghost use Rattle.std.specs.Prelude.{◌≡◌, ◌≤◌, ◌<◌, ◌+◌, ◌^◌, ◌++◌, length, nat_le};
@@ -6,9 +6,11 @@ ghost use Rattle.sshwire.specs.Types.{string};
 ghost use Rattle.sshmsg.specs.MessageData as content;
 ghost use Rattle.sshmsg.specs.Lengths.{IsCapped};
 ghost use Rattle.sshmsg.specs.View.{kexinit_data, message_data, method_data, pair_of, pairs_of};
-ghost use Rattle.sshmsg.specs.Written.{method_fields, method_name, pair_written, pairs_written, written_message};
+ghost use Rattle.sshmsg.specs.MessageData.{method_name};
+ghost use Rattle.sshmsg.specs.Written.{method_fields, pair_written, pairs_written, written_message};
 
 use crate::message::{Extension, KexInit, Message, Method};
+use crate::writing::message_len;
 use sshwire::PAYLOAD_LIMIT;
 
 impl<'a> Message<'a> {
@@ -18,7 +20,7 @@ impl<'a> Message<'a> {
     pub fn fits(&self) -> bool
         ensures { result ≡ nat_le (length (written_message (message_data self.now))) PAYLOAD_LIMIT }
     {
-        self.len() <= PAYLOAD_LIMIT as u128
+        message_len(self) <= PAYLOAD_LIMIT as u128
     }
 
     /// How much room to ask for before the message is written: that of its payload.
@@ -27,55 +29,12 @@ impl<'a> Message<'a> {
         requires { length (written_message (message_data self.now)) ≤ PAYLOAD_LIMIT }
         ensures { result ≡ length (written_message (message_data self.now)) }
     {
-        self.len() as usize
-    }
-
-    /// The length of the payload, or some length above the limit where its own is.
-    #[tactic(auto, unfolding(crate::specs::Written::written_message), using(crate::proofs::LengthLemmas::exactly, crate::proofs::LengthLemmas::failure_length))]
-    fn len(&self) -> u128
-        ensures { IsCapped result (length (written_message (message_data self.now))) }
-    {
-        match self {
-            Message::Disconnect {
-                description,
-                language,
-                ..
-            } => two_len(5, description, language),
-            Message::Ignore { content } => string_len(1, content),
-            Message::Unimplemented { .. } => 5,
-            Message::Debug { text, language, .. } => two_len(2, text, language),
-            Message::ServiceRequest { service } => string_len(1, service),
-            Message::ServiceAccept { service } => string_len(1, service),
-            Message::ExtInfo { extensions } => ext_info_len(extensions),
-            Message::KexInit(kexinit) => kexinit_len(kexinit),
-            Message::NewKeys => 1,
-            Message::KexdhInit { e } => string_len(1, e.body()),
-            Message::KexdhReply {
-                host_key,
-                f,
-                signature,
-            } => three_len(1, host_key, f.body(), signature),
-            Message::KexEcdhInit { client_share } => string_len(1, client_share),
-            Message::KexEcdhReply {
-                host_key,
-                server_share,
-                signature,
-            } => three_len(1, host_key, server_share, signature),
-            Message::UserauthRequest {
-                user,
-                service,
-                method,
-            } => request_len(user.as_bytes(), service, method),
-            Message::UserauthFailure { methods, .. } => 2 + methods.written_len() as u128,
-            Message::UserauthSuccess => 1,
-            Message::UserauthBanner { text, language } => two_len(1, text, language),
-            Message::UserauthPkOk { algorithm, key } => two_len(1, algorithm, key),
-        }
+        message_len(self) as usize
     }
 }
 
 /// So many bytes, and a string.
-fn string_len(before: u8, bytes: &[u8]) -> u128
+pub(crate) fn string_len(before: u8, bytes: &[u8]) -> u128
     ensures len { result ≡ before + length (string bytes.now) }
     ensures bounded { result < 2 ^ 65 }
 {
@@ -83,7 +42,7 @@ fn string_len(before: u8, bytes: &[u8]) -> u128
 }
 
 /// So many bytes, and two strings.
-fn two_len(before: u8, first: &[u8], second: &[u8]) -> u128
+pub(crate) fn two_len(before: u8, first: &[u8], second: &[u8]) -> u128
     ensures len { result ≡ before + length (string first.now ++ string second.now) }
     ensures bounded { result < 2 ^ 66 }
 {
@@ -91,7 +50,7 @@ fn two_len(before: u8, first: &[u8], second: &[u8]) -> u128
 }
 
 /// So many bytes, and three strings.
-fn three_len(before: u8, first: &[u8], second: &[u8], third: &[u8]) -> u128
+pub(crate) fn three_len(before: u8, first: &[u8], second: &[u8], third: &[u8]) -> u128
     ensures len { result ≡ before + length (string first.now ++ (string second.now ++ string third.now)) }
     ensures bounded { result < 2 ^ 67 }
 {
@@ -99,7 +58,7 @@ fn three_len(before: u8, first: &[u8], second: &[u8], third: &[u8]) -> u128
 }
 
 #[tactic(auto, unfolding(crate::specs::Written::written_message))]
-fn kexinit_len(kexinit: &KexInit<'_>) -> u128
+pub(crate) fn kexinit_len(kexinit: &KexInit<'_>) -> u128
     ensures { result ≡ length (written_message (content.KexInit (kexinit_data kexinit.now))) }
 {
     let cookie = kexinit.cookie;
@@ -118,7 +77,7 @@ fn kexinit_len(kexinit: &KexInit<'_>) -> u128
 }
 
 /// The length of a USERAUTH_REQUEST.
-fn request_len(user: &[u8], service: &[u8], method: &Method<'_>) -> u128
+pub(crate) fn request_len(user: &[u8], service: &[u8], method: &Method<'_>) -> u128
     ensures { result ≡ length (written_message (content.UserauthRequest user.now service.now (method_data method.now))) }
 {
     two_len(1, user, service) + method_len(method)
@@ -145,7 +104,7 @@ fn method_len(method: &Method<'_>) -> u128
 
 /// The length of an EXT_INFO, or some length above the limit where its own is.
 #[tactic(auto, using(crate::proofs::LengthLemmas::too_long, crate::proofs::LengthLemmas::length_more, crate::proofs::LengthLemmas::length_all))]
-fn ext_info_len(extensions: &[Extension<'_>]) -> u128
+pub(crate) fn ext_info_len(extensions: &[Extension<'_>]) -> u128
     ensures { IsCapped result (length (written_message (content.ExtInfo (pairs_of extensions.now)))) }
 {
     let mut len = 5;

@@ -13,7 +13,6 @@
 mod fault;
 mod fits;
 mod law;
-mod limits_laws;
 mod lists;
 mod message;
 mod numbers;
@@ -23,7 +22,6 @@ mod writing;
 
 pub use fault::MsgFault;
 pub use law::{lengths_law, messages_law, numbers_law, refusals_law, spelled_law, written_law};
-pub use limits_laws::limits_law;
 pub use message::{Extension, KexInit, Message, Method, OtherMethod};
 pub use numbers::{
     SSH_DISCONNECT_HOST_KEY_NOT_VERIFIABLE, SSH_DISCONNECT_KEY_EXCHANGE_FAILED,
@@ -33,7 +31,7 @@ pub use numbers::{
     SSH_MSG_KEX_ECDH_REPLY, SSH_MSG_KEXDH_INIT, SSH_MSG_KEXDH_REPLY, SSH_MSG_KEXINIT,
     SSH_MSG_NEWKEYS, SSH_MSG_SERVICE_ACCEPT, SSH_MSG_SERVICE_REQUEST, SSH_MSG_UNIMPLEMENTED,
     SSH_MSG_USERAUTH_BANNER, SSH_MSG_USERAUTH_FAILURE, SSH_MSG_USERAUTH_PK_OK,
-    SSH_MSG_USERAUTH_REQUEST, SSH_MSG_USERAUTH_SUCCESS,
+    SSH_MSG_USERAUTH_REQUEST, SSH_MSG_USERAUTH_SUCCESS, limits_law,
 };
 pub use reading::{read, read_exchange};
 pub use writing::write;

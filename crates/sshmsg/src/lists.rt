@@ -6,7 +6,8 @@ ghost use Rattle.std.specs.Prelude.{◌≡◌, IfErr, IfOk, [], vec_capacity};
 ghost use Rattle.sshwire.specs.TypeReadings.{Gives};
 ghost use Rattle.sshmsg.specs.MessageData as content;
 ghost use Rattle.sshmsg.specs.Form.{Reserved, bytes_at, field_at, form_at};
-ghost use Rattle.sshmsg.specs.Messages.{ext_info, extensions, kexinit, userauth_failure, whole_form};
+ghost use Rattle.sshmsg.specs.MessageData.{ext_info, extensions, kexinit, userauth_failure};
+ghost use Rattle.sshmsg.specs.Messages.{whole_form};
 ghost use Rattle.sshmsg.specs.View.{Goes, IsOutOfMemory, LendsPairs, MessageAnswer, Passes, kexinit_data, lent_kexinit_data, pair_of, pairs_of};
 ghost use Rattle.sshmsg.specs.Lists.{end_at, four_at, offer_with, pair_at, ten_at, two_at};
 
@@ -277,7 +278,6 @@ pub(crate) fn read_userauth_failure<'a>(
     }
 }
 
-#[tactic(auto, unfolding(crate::specs::Messages::userauth_failure))]
 fn lend_userauth_failure<'a>(
     reader: &mut Reader<'a>,
 ) -> Result<(BorrowedNameList<'a>, bool), WireFault>
@@ -309,7 +309,7 @@ pub(crate) fn read_ext_info<'a>(alloc: Global, fields: &'a [u8]) -> Result<Messa
 }
 
 /// How many pairs there are, and a reader in front of the first.
-#[tactic(auto, unfolding(crate::specs::Messages::ext_info))]
+#[tactic(auto, unfolding(crate::specs::MessageData::ext_info))]
 fn lend_ext_info<'a>(reader: &mut Reader<'a>) -> Result<(u32, Reader<'a>), WireFault>
     ensures { LendsPairs result reader.old reader.new }
 {

@@ -56,7 +56,7 @@ pub struct OtherMethod<'a> {
 
 impl<'a> Model for OtherMethod<'a> {
     ghost use Rattle.std.specs.Prelude.{◌≡◌, List, false, ℕ};
-    ghost use Rattle.sshmsg.specs.Messages.{is_named};
+    ghost use Rattle.sshmsg.specs.MessageData.{is_named};
 
     ghost Value = { List ℕ × List ℕ };
 
@@ -66,7 +66,7 @@ impl<'a> Model for OtherMethod<'a> {
 }
 
 impl<'a> OtherMethod<'a> {
-    ghost use Rattle.sshmsg.specs.Messages.{is_named};
+    ghost use Rattle.sshmsg.specs.MessageData.{is_named};
 
     /// Whether a name is one of `none`, `password` and `publickey`. Takes no memory.
     pub fn is_known(name: &[u8]) -> bool
@@ -148,8 +148,8 @@ pub enum Method<'a> {
 
 impl<'a> Method<'a> {
     ghost use Rattle.std.specs.Prelude.{length};
+    ghost use Rattle.sshmsg.specs.MessageData.{method_name};
     ghost use Rattle.sshmsg.specs.View.{method_data};
-    ghost use Rattle.sshmsg.specs.Written.{method_name};
 
     /// The name of the method. Takes no memory.
     pub fn name(&self) -> &'a [u8]

@@ -2,11 +2,11 @@
 
 ghost use Rattle.std.specs.Prelude.{◌≡◌, ◌≢◌, ℕ, IfErr, IfOk, List, Ok, []};
 ghost use Rattle.sshwire.specs.declared.share_form.ShareForm.TheVariants.{Mpint};
-ghost use Rattle.sshmsg.specs.MessageData.{MessageData, UserauthRequest};
+ghost use Rattle.sshmsg.specs.MessageData.{debug, disconnect, form_of, ignore, init_of, kex_ecdh_init, kex_ecdh_reply, kexdh_init, kexdh_reply, MessageData, method_form, password, publickey, reply_of, service_accept, service_request, unimplemented, userauth_banner, userauth_pk_ok, userauth_request, userauth_success, UserauthRequest};
 ghost use Rattle.sshmsg.specs.Form.{Reserved, bytes_at, field_at, form_at, utf8_at};
-ghost use Rattle.sshmsg.specs.Messages.{Spells, debug, disconnect, form_of, ignore, in_form, init_of, kex_ecdh_init, kex_ecdh_reply, kexdh_init, kexdh_reply, message_in, method_form, password, publickey, reply_of, service_accept, service_request, unimplemented, userauth_banner, userauth_pk_ok, userauth_request, userauth_success};
+ghost use Rattle.sshmsg.specs.Messages.{Spells, in_form, message_in};
 ghost use Rattle.sshmsg.specs.Numbers.{HasNoList};
-ghost use Rattle.sshmsg.specs.View.{Goes, IsOutOfMemory, MessageAnswer, ReadsNumbered, message_data, method_data};
+ghost use Rattle.sshmsg.specs.View.{Goes, IsOutOfMemory, MessageAnswer, ReadsForm, message_data, method_data};
 
 use crate::fault::MsgFault;
 use crate::lists::{read_ext_info, read_kexinit, read_userauth_failure};
@@ -96,35 +96,33 @@ fn read_lent<'a>(number: u8, fields: &'a [u8], form: ShareForm) -> Result<Messag
 }
 
 /// Reads the fields of the message with this number that holds no list, if there is one.
-#[tactic(auto, unfolding(crate::specs::Messages::form_of))]
+#[tactic(auto, unfolding(crate::specs::MessageData::form_of))]
 fn read_numbered<'a>(
     number: u8,
     form: ShareForm,
     reader: &mut Reader<'a>,
 ) -> Option<Result<Message<'a>, WireFault>>
     requires { HasNoList number }
-    ensures { ReadsNumbered form number reader.old reader.new result }
+    ensures { ReadsForm (form_of form number) reader.old reader.new result }
 {
-    let message = match number {
-        SSH_MSG_DISCONNECT => read_disconnect(reader),
-        SSH_MSG_IGNORE => read_ignore(reader),
-        SSH_MSG_UNIMPLEMENTED => read_unimplemented(reader),
-        SSH_MSG_DEBUG => read_debug(reader),
-        SSH_MSG_SERVICE_REQUEST => read_service_request(reader),
-        SSH_MSG_SERVICE_ACCEPT => read_service_accept(reader),
-        SSH_MSG_NEWKEYS => Ok(Message::NewKeys),
-        SSH_MSG_KEXDH_INIT => read_init(form, reader),
-        SSH_MSG_KEXDH_REPLY => read_reply(form, reader),
-        SSH_MSG_USERAUTH_REQUEST => read_userauth_request(reader),
-        SSH_MSG_USERAUTH_SUCCESS => Ok(Message::UserauthSuccess),
-        SSH_MSG_USERAUTH_BANNER => read_userauth_banner(reader),
-        SSH_MSG_USERAUTH_PK_OK => read_userauth_pk_ok(reader),
-        _ => return None,
-    };
-    Some(message)
+    match number {
+        SSH_MSG_DISCONNECT => Some(read_disconnect(reader)),
+        SSH_MSG_IGNORE => Some(read_ignore(reader)),
+        SSH_MSG_UNIMPLEMENTED => Some(read_unimplemented(reader)),
+        SSH_MSG_DEBUG => Some(read_debug(reader)),
+        SSH_MSG_SERVICE_REQUEST => Some(read_service_request(reader)),
+        SSH_MSG_SERVICE_ACCEPT => Some(read_service_accept(reader)),
+        SSH_MSG_NEWKEYS => Some(Ok(Message::NewKeys)),
+        SSH_MSG_KEXDH_INIT => Some(read_init(form, reader)),
+        SSH_MSG_KEXDH_REPLY => Some(read_reply(form, reader)),
+        SSH_MSG_USERAUTH_REQUEST => Some(read_userauth_request(reader)),
+        SSH_MSG_USERAUTH_SUCCESS => Some(Ok(Message::UserauthSuccess)),
+        SSH_MSG_USERAUTH_BANNER => Some(read_userauth_banner(reader)),
+        SSH_MSG_USERAUTH_PK_OK => Some(read_userauth_pk_ok(reader)),
+        _ => None,
+    }
 }
 
-#[tactic(auto, unfolding(crate::specs::Messages::disconnect))]
 fn read_disconnect<'a>(reader: &mut Reader<'a>) -> Result<Message<'a>, WireFault>
     ensures { Goes message_data result reader.new (form_at disconnect reader.old) }
 {
@@ -138,7 +136,6 @@ fn read_disconnect<'a>(reader: &mut Reader<'a>) -> Result<Message<'a>, WireFault
     })
 }
 
-#[tactic(auto, unfolding(crate::specs::Messages::ignore))]
 fn read_ignore<'a>(reader: &mut Reader<'a>) -> Result<Message<'a>, WireFault>
     ensures { Goes message_data result reader.new (form_at ignore reader.old) }
 {
@@ -146,7 +143,6 @@ fn read_ignore<'a>(reader: &mut Reader<'a>) -> Result<Message<'a>, WireFault>
     Ok(Message::Ignore { content })
 }
 
-#[tactic(auto, unfolding(crate::specs::Messages::unimplemented))]
 fn read_unimplemented<'a>(reader: &mut Reader<'a>) -> Result<Message<'a>, WireFault>
     ensures { Goes message_data result reader.new (form_at unimplemented reader.old) }
 {
@@ -154,7 +150,6 @@ fn read_unimplemented<'a>(reader: &mut Reader<'a>) -> Result<Message<'a>, WireFa
     Ok(Message::Unimplemented { sequence_number })
 }
 
-#[tactic(auto, unfolding(crate::specs::Messages::debug))]
 fn read_debug<'a>(reader: &mut Reader<'a>) -> Result<Message<'a>, WireFault>
     ensures { Goes message_data result reader.new (form_at debug reader.old) }
 {
@@ -168,7 +163,6 @@ fn read_debug<'a>(reader: &mut Reader<'a>) -> Result<Message<'a>, WireFault>
     })
 }
 
-#[tactic(auto, unfolding(crate::specs::Messages::service_request))]
 fn read_service_request<'a>(reader: &mut Reader<'a>) -> Result<Message<'a>, WireFault>
     ensures { Goes message_data result reader.new (form_at service_request reader.old) }
 {
@@ -176,7 +170,6 @@ fn read_service_request<'a>(reader: &mut Reader<'a>) -> Result<Message<'a>, Wire
     Ok(Message::ServiceRequest { service })
 }
 
-#[tactic(auto, unfolding(crate::specs::Messages::service_accept))]
 fn read_service_accept<'a>(reader: &mut Reader<'a>) -> Result<Message<'a>, WireFault>
     ensures { Goes message_data result reader.new (form_at service_accept reader.old) }
 {
@@ -206,7 +199,6 @@ fn read_reply<'a>(form: ShareForm, reader: &mut Reader<'a>) -> Result<Message<'a
     }
 }
 
-#[tactic(auto, unfolding(crate::specs::Messages::kexdh_init))]
 fn read_kexdh_init<'a>(reader: &mut Reader<'a>) -> Result<Message<'a>, WireFault>
     ensures { Goes message_data result reader.new (form_at kexdh_init reader.old) }
 {
@@ -214,7 +206,6 @@ fn read_kexdh_init<'a>(reader: &mut Reader<'a>) -> Result<Message<'a>, WireFault
     Ok(Message::KexdhInit { e })
 }
 
-#[tactic(auto, unfolding(crate::specs::Messages::kexdh_reply))]
 fn read_kexdh_reply<'a>(reader: &mut Reader<'a>) -> Result<Message<'a>, WireFault>
     ensures { Goes message_data result reader.new (form_at kexdh_reply reader.old) }
 {
@@ -228,7 +219,6 @@ fn read_kexdh_reply<'a>(reader: &mut Reader<'a>) -> Result<Message<'a>, WireFaul
     })
 }
 
-#[tactic(auto, unfolding(crate::specs::Messages::kex_ecdh_init))]
 fn read_kex_ecdh_init<'a>(reader: &mut Reader<'a>) -> Result<Message<'a>, WireFault>
     ensures { Goes message_data result reader.new (form_at kex_ecdh_init reader.old) }
 {
@@ -236,7 +226,6 @@ fn read_kex_ecdh_init<'a>(reader: &mut Reader<'a>) -> Result<Message<'a>, WireFa
     Ok(Message::KexEcdhInit { client_share })
 }
 
-#[tactic(auto, unfolding(crate::specs::Messages::kex_ecdh_reply))]
 fn read_kex_ecdh_reply<'a>(reader: &mut Reader<'a>) -> Result<Message<'a>, WireFault>
     ensures { Goes message_data result reader.new (form_at kex_ecdh_reply reader.old) }
 {
@@ -250,7 +239,6 @@ fn read_kex_ecdh_reply<'a>(reader: &mut Reader<'a>) -> Result<Message<'a>, WireF
     })
 }
 
-#[tactic(auto, unfolding(crate::specs::Messages::userauth_banner))]
 fn read_userauth_banner<'a>(reader: &mut Reader<'a>) -> Result<Message<'a>, WireFault>
     ensures { Goes message_data result reader.new (form_at userauth_banner reader.old) }
 {
@@ -259,7 +247,6 @@ fn read_userauth_banner<'a>(reader: &mut Reader<'a>) -> Result<Message<'a>, Wire
     Ok(Message::UserauthBanner { text, language })
 }
 
-#[tactic(auto, unfolding(crate::specs::Messages::userauth_pk_ok))]
 fn read_userauth_pk_ok<'a>(reader: &mut Reader<'a>) -> Result<Message<'a>, WireFault>
     ensures { Goes message_data result reader.new (form_at userauth_pk_ok reader.old) }
 {
@@ -268,7 +255,7 @@ fn read_userauth_pk_ok<'a>(reader: &mut Reader<'a>) -> Result<Message<'a>, WireF
     Ok(Message::UserauthPkOk { algorithm, key })
 }
 
-#[tactic(auto, unfolding(crate::specs::Messages::userauth_request))]
+#[tactic(auto, unfolding(crate::specs::MessageData::userauth_request))]
 fn read_userauth_request<'a>(reader: &mut Reader<'a>) -> Result<Message<'a>, WireFault>
     ensures { Goes message_data result reader.new (form_at userauth_request reader.old) }
 {
@@ -302,7 +289,7 @@ fn read_method<'a>(name: &'a [u8], reader: &mut Reader<'a>) -> Result<Method<'a>
     Ok(Method::Other(OtherMethod::new(name, fields)))
 }
 
-#[tactic(auto, unfolding(crate::specs::Messages::password))]
+#[tactic(auto, unfolding(crate::specs::MessageData::password))]
 fn read_password<'a>(reader: &mut Reader<'a>) -> Result<Method<'a>, WireFault>
     ensures { (user service : List ℕ) → Goes (λ m. UserauthRequest user service (method_data m)) result reader.new
         (form_at (password user service) reader.old) }
@@ -316,7 +303,7 @@ fn read_password<'a>(reader: &mut Reader<'a>) -> Result<Method<'a>, WireFault>
     Ok(Method::Password { password })
 }
 
-#[tactic(auto, unfolding(crate::specs::Messages::publickey))]
+#[tactic(auto, unfolding(crate::specs::MessageData::publickey))]
 fn read_publickey<'a>(reader: &mut Reader<'a>) -> Result<Method<'a>, WireFault>
     ensures { (user service : List ℕ) → Goes (λ m. UserauthRequest user service (method_data m)) result reader.new
         (form_at (publickey user service) reader.old) }

@@ -1,4 +1,4 @@
-//! Writes a message as a payload.
+//! Writes a message as a payload, and tells how long that is.
 
 ghost use Rattle.sshwire.specs.declared.limits.TheConstants.{PAYLOAD_LIMIT};
 ghost use Rattle.std.specs.Prelude.{◌≡◌, ◌≤◌, ◌++◌, ◌∷◌, [], OnErr, OnOk, if◌then◌else◌, is_ok, length, string_bytes, take};
@@ -6,10 +6,12 @@ ghost use Rattle.sshwire.specs.Types.{string};
 ghost use Rattle.sshwire.specs.declared.share_form.ShareForm.{ShareForm};
 ghost use Rattle.sshmsg.specs.MessageData as content;
 ghost use Rattle.sshmsg.specs.Lists.{AreFour, AreLists, AreTwo, four_written, lists_written, two_written};
+ghost use Rattle.sshmsg.specs.Lengths.{IsCapped};
 ghost use Rattle.sshmsg.specs.Messages.{Spells};
 ghost use Rattle.sshmsg.specs.View.{kexinit_data, message_data, method_data, pair_of, pairs_of};
 ghost use Rattle.sshmsg.specs.Written.{IsMessageOf, IsMethod, IsWellFormed, method_fields, pair_written, pairs_written, written_message};
 
+use crate::fits::{ext_info_len, kexinit_len, request_len, string_len, three_len, two_len};
 use crate::message::{Extension, KexInit, Message, Method};
 use crate::numbers::{
     SSH_MSG_DEBUG, SSH_MSG_DISCONNECT, SSH_MSG_EXT_INFO, SSH_MSG_IGNORE, SSH_MSG_KEX_ECDH_INIT,
@@ -116,6 +118,49 @@ fn put_message(out: &mut Vec<u8>, message: &Message<'_>) -> Result<(), Memory>
             algorithm,
             key,
         ),
+    }
+}
+
+/// The length of the payload, or some length above the limit where its own is.
+#[tactic(auto, unfolding(crate::specs::Written::written_message), using(crate::proofs::LengthLemmas::exactly, crate::proofs::LengthLemmas::failure_length))]
+pub(crate) fn message_len(message: &Message<'_>) -> u128
+    ensures { IsCapped result (length (written_message (message_data message.now))) }
+{
+    match message {
+        Message::Disconnect {
+            description,
+            language,
+            ..
+        } => two_len(5, description, language),
+        Message::Ignore { content } => string_len(1, content),
+        Message::Unimplemented { .. } => 5,
+        Message::Debug { text, language, .. } => two_len(2, text, language),
+        Message::ServiceRequest { service } => string_len(1, service),
+        Message::ServiceAccept { service } => string_len(1, service),
+        Message::ExtInfo { extensions } => ext_info_len(extensions),
+        Message::KexInit(kexinit) => kexinit_len(kexinit),
+        Message::NewKeys => 1,
+        Message::KexdhInit { e } => string_len(1, e.body()),
+        Message::KexdhReply {
+            host_key,
+            f,
+            signature,
+        } => three_len(1, host_key, f.body(), signature),
+        Message::KexEcdhInit { client_share } => string_len(1, client_share),
+        Message::KexEcdhReply {
+            host_key,
+            server_share,
+            signature,
+        } => three_len(1, host_key, server_share, signature),
+        Message::UserauthRequest {
+            user,
+            service,
+            method,
+        } => request_len(user.as_bytes(), service, method),
+        Message::UserauthFailure { methods, .. } => 2 + methods.written_len() as u128,
+        Message::UserauthSuccess => 1,
+        Message::UserauthBanner { text, language } => two_len(1, text, language),
+        Message::UserauthPkOk { algorithm, key } => two_len(1, algorithm, key),
     }
 }
 

@@ -9,9 +9,9 @@ use Rattle.sshwire.specs.declared.share_form.ShareForm.{ShareForm}
 use Rattle.sshwire.specs.declared.share_form.ShareForm.TheVariants.{Hybrid, Mpint, OctetString}
 use Rattle.sshwire.specs.Types.{IsBytes, IsName}
 use Rattle.sshwire.proofs.NameLemmas.{name_tested}
-use Rattle.sshmsg.specs.MessageData.{KexInit, MessageData, UserauthBanner, UserauthFailure, UserauthPkOk, UserauthRequest}
+use Rattle.sshmsg.specs.MessageData.{KexInit, MessageData, UserauthBanner, UserauthFailure, UserauthPkOk, UserauthRequest, method_name}
 use Rattle.sshmsg.specs.Messages.{message_in}
-use Rattle.sshmsg.specs.Written.{IsMessageOf, IsMethod, IsNameList, IsNumber, IsOffer, IsString, IsWellFormed, method_name, written_message}
+use Rattle.sshmsg.specs.Written.{IsMessageOf, IsMethod, IsNameList, IsNumber, IsOffer, IsString, IsWellFormed, written_message}
 use Rattle.sshneg.specs.declared.choice.NoCommon.TheVariants as field
 use Rattle.sshneg.specs.declared.side.Side.{Side}
 use Rattle.sshneg.specs.declared.side.Side.TheVariants.{Client, Server}
@@ -77,14 +77,14 @@ number : (e : List ℕ) → IsShare true e → IsNumber e
 number e share = record { bytes = share.bytes; shortest = share.shortest refl; short = omega (arith, share.short) }
 
 init_well : (f : ShareForm) (e : List ℕ) → IsShare (has_number_shares f) e → IsWellFormed (init_in f e)
-init_well Mpint e share = number e share
-init_well OctetString e share = omega (arith, share.short)
-init_well Hybrid e share = omega (arith, share.short)
+init_well Mpint e share = (number e share, tt)
+init_well OctetString e share = (omega (arith, share.short), tt)
+init_well Hybrid e share = (omega (arith, share.short), tt)
 
 reply_well : (f : ShareForm) (k e sign : List ℕ) → IsShare (has_number_shares f) e → length k ≤ 8192 → length sign ≤ 8192 → IsWellFormed (reply_in f k e sign)
-reply_well Mpint k e sign share blob signed = (omega (arith, blob), number e share, omega (arith, signed))
-reply_well OctetString k e sign share blob signed = (omega (arith, blob), omega (arith, share.short), omega (arith, signed))
-reply_well Hybrid k e sign share blob signed = (omega (arith, blob), omega (arith, share.short), omega (arith, signed))
+reply_well Mpint k e sign share blob signed = (omega (arith, blob), (number e share, (omega (arith, signed), tt)))
+reply_well OctetString k e sign share blob signed = (omega (arith, blob), (omega (arith, share.short), (omega (arith, signed), tt)))
+reply_well Hybrid k e sign share blob signed = (omega (arith, blob), (omega (arith, share.short), (omega (arith, signed), tt)))
 
 not_in : (names : List (List ℕ)) (name : List ℕ) → (Contains names name → ⊥) → is_in names name ≡ false
 not_in names name none = by (is_in names name) refl
@@ -165,14 +165,14 @@ module _ (m : SuiteData) (law : IsLawful m) (below : Below m) (c : ClientData) (
             (reply_of_form (m.share_form a.kex) (host_key_of_server m s a.host_key) (answer_of_server m c s a.kex).share (signature_of_server m c s a))
             (reply_well (m.share_form a.kex) (host_key_of_server m s a.host_key) (answer_of_server m c s a.kex).share (signature_of_server m c s a) (server_share a.kex (understood.exchange a chosen))
             (law.blob_high a.host_key (secret_of s.host_keys a.host_key) name) (law.sign_high a.host_key (secret_of s.host_keys a.host_key) (session_between m c s a) name));
-        banner = λ text has form. below.again form (UserauthBanner text []) tt (omega (arith, banner_short text has), omega arith);
+        banner = λ text has form. below.again form (UserauthBanner text []) tt (omega (arith, banner_short text has), (omega arith, tt));
         answers = λ i r e form. answer_read form r.proving (is_proved m d s (length (take i (offered m d s c.plan)) + 1) r) (named_at i r e).1;
         short = λ i r e. blob_short r.proving (named_at i r e).1;
         requests = λ i r e form.
             let named = named_at i r e in
             let w = method_well (session_between m c s a) r r.proving named.1 (of_plan d (λ (a : AttemptData). HasShortPassword a.proving) (λ r h. unasked_short r.proving h) (client.keeps fault.Secret) i r e) in
             below.again form (UserauthRequest r.user r.service (method_by m (session_between m c s a) r.user r.service r.proving)) tt
-            (of_plan d (λ (a : AttemptData). IsUtf8 a.user) (λ r h. h) client.users i r e, omega (arith, of_plan d (λ (a : AttemptData). length a.user ≤ 255) (λ r h. h) (client.keeps fault.User) i r e), omega (arith, named.0.short), w.0, w.1);
+            ((of_plan d (λ (a : AttemptData). IsUtf8 a.user) (λ r h. h) client.users i r e, omega (arith, of_plan d (λ (a : AttemptData). length a.user ≤ 255) (λ r h. h) (client.keeps fault.User) i r e)), (omega (arith, named.0.short), (w.0, w.1)));
       }
     where
       named_at : (i : ℕ) (r : AttemptData) → slice_get (offered m d s c.plan) i ≡ Some r → IsName r.service × IsNamed r.proving
@@ -184,14 +184,14 @@ module _ (m : SuiteData) (law : IsLawful m) (below : Below m) (c : ClientData) (
       blob_short (ByKey algorithm secret ask) t = let high : length (m.blob algorithm secret) ≤ 8192 = law.blob_high algorithm secret t in grind (arith, nat_tests, high)
 
       failure_read : (form : ShareForm) (partial : Bool) → message_in form (written_message (UserauthFailure s.methods partial)) ≡ Ok (UserauthFailure s.methods partial)
-      failure_read form partial = below.again form (UserauthFailure s.methods partial) tt methods_well
+      failure_read form partial = below.again form (UserauthFailure s.methods partial) tt (methods_well, (tt, tt))
 
       answer_read : (form : ShareForm) (p : CredentialData) (proved : Bool) → IsNamed p → message_in form (written_message (answer_by m s.methods proved p)) ≡ Ok (answer_by m s.methods proved p)
       answer_read form ByNothing proved t = failure_read form proved
       answer_read form (ByPassword password) proved t = failure_read form proved
       answer_read form (ByKey algorithm secret false) proved t = failure_read form proved
       answer_read form (ByKey algorithm secret true) true t =
-          below.again form (UserauthPkOk algorithm (m.blob algorithm secret)) tt (omega (arith, t.short), omega (arith, law.blob_high algorithm secret t))
+          below.again form (UserauthPkOk algorithm (m.blob algorithm secret)) tt (omega (arith, t.short), (omega (arith, law.blob_high algorithm secret t), tt))
       answer_read form (ByKey algorithm secret true) false t = failure_read form false
 
 -- all ends agree, and all keys sign

@@ -7,8 +7,8 @@ use Rattle.std.specs.Str.{bytes_eq}
 use Rattle.std.proofs.lemmas.Bool.{cases_Bool}
 use Rattle.sshwire.specs.TypeReadings.{is_name}
 use Rattle.sshwire.specs.declared.share_form.ShareForm.{ShareForm}
-use Rattle.sshmsg.specs.MessageData.{MessageData, MethodData, UserauthFailure, UserauthPkOk, UserauthSuccess}
-use Rattle.sshmsg.specs.Written.{method_name, written_message}
+use Rattle.sshmsg.specs.MessageData.{MessageData, MethodData, UserauthFailure, UserauthPkOk, UserauthSuccess, method_name}
+use Rattle.sshmsg.specs.Written.{written_message}
 use Rattle.sshneg.specs.declared.side.Side.TheVariants.{Client, Server}
 use Rattle.sshneg.specs.ChoiceReadings.{is_in}
 use Rattle.sshneg.specs.Derivations.{signed_text}

@@ -7,7 +7,7 @@ use Rattle.sshwire.specs.declared.share_form.ShareForm.{ShareForm}
 use Rattle.sshwire.specs.declared.share_form.ShareForm.TheVariants.{Hybrid, Mpint, OctetString}
 use Rattle.sshwire.specs.TypeReadings as readings
 use Rattle.sshmsg.specs.MessageData.{Disconnect, KexInit, MessageData, NewKeys, ServiceAccept, ServiceRequest, UserauthBanner, UserauthFailure, UserauthPkOk, UserauthRequest, UserauthSuccess}
-use Rattle.sshmsg.specs.Messages as messages
+use Rattle.sshmsg.specs.MessageData as messages
 use Rattle.sshmsg.specs.Messages.{message_in}
 use Rattle.sshmsg.specs.Numbers.{kind, number_of}
 use Rattle.sshmsg.specs.Written.{written_message}
@@ -132,34 +132,34 @@ reply_answer m role party a Hybrid k e sign = refl
 
 -- what is read without any condition
 pub new_keys_read : ReadsAgain NewKeys
-unfolding message_in written_message messages.form_of messages.newkeys
+unfolding message_in written_message messages.form_of
 new_keys_read form = refl
 
 pub success_read : ReadsAgain UserauthSuccess
-unfolding message_in written_message messages.form_of messages.userauth_success
+unfolding message_in written_message messages.form_of
 success_read form = refl
 
 pub service_read : ReadsAgain (ServiceRequest userauth)
-unfolding message_in written_message messages.form_of messages.service_request readings.string_at readings.uint32_at
+unfolding message_in written_message messages.form_of readings.string_at readings.uint32_at
 service_read form = refl
 
 pub accept_read : ReadsAgain (ServiceAccept userauth)
-unfolding message_in written_message messages.form_of messages.service_accept readings.string_at readings.uint32_at
+unfolding message_in written_message messages.form_of readings.string_at readings.uint32_at
 accept_read form = refl
 
 abbrev pub IsClosing : ℕ → Type 0
 IsClosing reason = ReadsAgain (Disconnect reason [] [])
 
 pub seven_read : IsClosing 7
-unfolding message_in written_message messages.form_of messages.disconnect readings.string_at readings.uint32_at
+unfolding message_in written_message messages.form_of readings.string_at readings.uint32_at
 seven_read form = refl
 
 pub nine_read : IsClosing 9
-unfolding message_in written_message messages.form_of messages.disconnect readings.string_at readings.uint32_at
+unfolding message_in written_message messages.form_of readings.string_at readings.uint32_at
 nine_read form = refl
 
 pub fourteen_read : IsClosing 14
-unfolding message_in written_message messages.form_of messages.disconnect readings.string_at readings.uint32_at
+unfolding message_in written_message messages.form_of readings.string_at readings.uint32_at
 fourteen_read form = refl
 
 stays_53 : LeavesNone Client 53

@@ -1,7 +1,8 @@
 use Rattle.std.proofs.Common.{◌++◌}
 use Rattle.sshwire.specs.Types.{string}
 use Rattle.sshmsg.specs.View.{method_data}
-use Rattle.sshmsg.specs.Written.{method_fields, method_name, written_message}
+use Rattle.sshmsg.specs.MessageData.{method_name}
+use Rattle.sshmsg.specs.Written.{method_fields, written_message}
 use Rattle.sshmsg.proofs.LengthLemmas.{request_length}
 use Rattle.sshmsg.proofs.fits.request_len.Goals as goal
 

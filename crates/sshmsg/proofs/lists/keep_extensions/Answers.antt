@@ -3,7 +3,7 @@ use Rattle.std.proofs.lemmas.List.{map_push}
 use Rattle.sshwire.specs.declared.fault.WireFault.{WireFault}
 use Rattle.sshmsg.specs.Form.{form_at}
 use Rattle.sshmsg.specs.Lists.{pair_at}
-use Rattle.sshmsg.specs.Messages.{extensions}
+use Rattle.sshmsg.specs.MessageData.{extensions}
 use Rattle.sshmsg.specs.View.{pair_of, pairs_of}
 use Rattle.sshmsg.proofs.ExtensionLemmas.{no_more, no_pair, one_pair}
 use Rattle.sshmsg.proofs.lists.keep_extensions.Goals as goal

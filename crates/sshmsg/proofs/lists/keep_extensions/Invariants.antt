@@ -1,6 +1,6 @@
 use Rattle.std.proofs.Common.{◌≡◌, ◌-◌}
 use Rattle.sshmsg.specs.Form.{form_at}
-use Rattle.sshmsg.specs.Messages.{extensions}
+use Rattle.sshmsg.specs.MessageData.{extensions}
 use Rattle.sshmsg.specs.View.{pairs_of}
 use Rattle.sshmsg.proofs.lists.keep_extensions.Given as goal
 

@@ -2,7 +2,7 @@ use Rattle.std.proofs.Common.{rules, ◌≡◌, Bool, Err}
 use Rattle.sshwire.specs.declared.fault.WireFault.{WireFault}
 use Rattle.sshmsg.specs.Form.{form_at}
 use Rattle.sshmsg.specs.Lists.{end_at, ten_at}
-use Rattle.sshmsg.specs.Messages.{kexinit}
+use Rattle.sshmsg.specs.MessageData.{kexinit}
 use Rattle.sshmsg.proofs.OfferLemmas.{all_parts, no_cookie, no_end, no_lists, refused, went}
 use Rattle.sshmsg.proofs.lists.lend_kexinit.Goals as goal
 

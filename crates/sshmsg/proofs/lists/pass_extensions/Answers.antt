@@ -2,7 +2,7 @@ use Rattle.std.proofs.Common.{rules, ◌≡◌, [], Err, sym, ◌∙◌, arith}
 use Rattle.sshwire.specs.declared.fault.WireFault.{WireFault}
 use Rattle.sshmsg.specs.Form.{form_at}
 use Rattle.sshmsg.specs.Lists.{pair_at}
-use Rattle.sshmsg.specs.Messages.{extensions}
+use Rattle.sshmsg.specs.MessageData.{extensions}
 use Rattle.sshmsg.specs.View.{pair_of}
 use Rattle.sshmsg.proofs.ExtensionLemmas.{no_more, no_pair}
 use Rattle.sshmsg.proofs.ListLemmas.{pass_pair}

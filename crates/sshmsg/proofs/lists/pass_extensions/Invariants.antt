@@ -1,6 +1,6 @@
 use Rattle.std.proofs.Common.{◌≡◌, ◌-◌, List, [], ℕ}
 use Rattle.sshmsg.specs.Form.{form_at}
-use Rattle.sshmsg.specs.Messages.{extensions}
+use Rattle.sshmsg.specs.MessageData.{extensions}
 use Rattle.sshmsg.proofs.lists.pass_extensions.Given as goal
 
 -- after some pairs so many are left

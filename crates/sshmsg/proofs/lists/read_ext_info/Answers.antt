@@ -1,8 +1,7 @@
 use Rattle.std.proofs.Common.{rules, ◌≡◌, length}
 use Rattle.sshmsg.specs.declared.numbers.TheConstants.{SSH_MSG_EXT_INFO}
-use Rattle.sshmsg.specs.MessageData.{ExtInfo}
+use Rattle.sshmsg.specs.MessageData.{ext_info, ExtInfo}
 use Rattle.sshmsg.specs.Form.{form_at}
-use Rattle.sshmsg.specs.Messages.{ext_info}
 use Rattle.sshmsg.proofs.ListLemmas.{out_of_memory}
 use Rattle.sshmsg.proofs.lists.read_ext_info.Goals as goal
 

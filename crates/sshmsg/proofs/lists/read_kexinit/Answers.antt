@@ -1,8 +1,7 @@
 use Rattle.std.proofs.Common.{rules, ◌≡◌, length}
 use Rattle.sshmsg.specs.declared.numbers.TheConstants.{SSH_MSG_KEXINIT}
-use Rattle.sshmsg.specs.MessageData.{KexInit}
+use Rattle.sshmsg.specs.MessageData.{KexInit, kexinit}
 use Rattle.sshmsg.specs.Form.{form_at}
-use Rattle.sshmsg.specs.Messages.{kexinit}
 use Rattle.sshmsg.specs.View.{lent_kexinit_data}
 use Rattle.sshmsg.proofs.ListLemmas.{out_of_memory}
 use Rattle.sshmsg.proofs.lists.read_kexinit.Goals as goal

@@ -1,8 +1,7 @@
 use Rattle.std.proofs.Common.{rules, ◌≡◌, length}
 use Rattle.sshmsg.specs.declared.numbers.TheConstants.{SSH_MSG_USERAUTH_FAILURE}
-use Rattle.sshmsg.specs.MessageData.{UserauthFailure}
+use Rattle.sshmsg.specs.MessageData.{userauth_failure, UserauthFailure}
 use Rattle.sshmsg.specs.Form.{form_at}
-use Rattle.sshmsg.specs.Messages.{userauth_failure}
 use Rattle.sshmsg.proofs.ListLemmas.{out_of_memory}
 use Rattle.sshmsg.proofs.lists.read_userauth_failure.Goals as goal
 

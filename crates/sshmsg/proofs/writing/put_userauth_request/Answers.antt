@@ -1,7 +1,7 @@
 use Rattle.std.proofs.Common.{◌∷◌, ◌++◌}
 use Rattle.sshwire.specs.Types.{string}
 use Rattle.sshmsg.specs.View.{method_data}
-use Rattle.sshmsg.specs.Written.{method_name}
+use Rattle.sshmsg.specs.MessageData.{method_name}
 use Rattle.sshmsg.proofs.PutLemmas.{keeps_on}
 use Rattle.sshmsg.proofs.writing.put_userauth_request.Goals as goal
 

@@ -2,7 +2,7 @@ use Rattle.std.proofs.Common.{◌≡◌, ◌+◌, ◌≤◌, length, ap, arith}
 use Rattle.sshmsg.specs.Lengths.{method_length, payload_length}
 use Rattle.sshmsg.specs.Numbers.{number_of}
 use Rattle.sshmsg.specs.View.{message_data, method_data}
-use Rattle.sshmsg.specs.Written.{method_name}
+use Rattle.sshmsg.specs.MessageData.{method_name}
 use Rattle.sshpacket.specs.declared.limits.TheConstants.{PACKET_LIMIT}
 use Rattle.sshcore.specs.EndpointConfig.{role_of}
 use Rattle.sshcore.specs.StateData.{state_data}
