@@ -4,7 +4,7 @@ use Rattle.std.specs.Prelude.{◌≡◌, ◌≤◌, ◌+◌, ℕ, length, min, t
 use Rattle.sshneg.specs.declared.side.Side.TheVariants as role
 use Rattle.sshpacket.specs.Suite.{SuiteData}
 use Rattle.sshcore.specs.ConfigParts.{ClientData, ServerData}
-use Rattle.sshcore.specs.EndpointParts.{DecisionsData, config_of_client, config_of_server}
+use Rattle.sshcore.specs.EndpointParts.{DecisionsData, client_setup, server_setup}
 use Rattle.sshworld.specs.Offered.{most_requests}
 use Rattle.sshneg.specs.declared.side.Side.{Side}
 use Rattle.sshneg.specs.declared.side.Side.TheVariants.{Client, Server}
@@ -26,8 +26,8 @@ turn client server Server received = record received { server = server_receives_
 
 -- In each of their histories, each of two sides has received at least so many units.
 pub record HaveReceived (m : SuiteData) (d : DecisionsData) (client : ClientData) (server : ServerData) (w : Wording) (received : UnitsReceived) (of_client of_server : NodeData) : Type 0 where
-  pub by_client : (a : HasHistory m d role.Client (config_of_client client) of_client.end (take of_client.used of_server.sent) of_client.sent) → received.client ≤ length a.units
-  pub by_server : (b : HasHistory m d role.Server (config_of_server server) of_server.end (take of_server.used of_client.sent) of_server.sent) → received.server ≤ length b.units
+  pub by_client : (a : HasHistory (client_setup m d client) of_client.end (take of_client.used of_server.sent) of_client.sent) → received.client ≤ length a.units
+  pub by_server : (b : HasHistory (server_setup m d server) of_server.end (take of_server.used of_client.sent) of_server.sent) → received.server ≤ length b.units
 
 module _ {S D : Type 0} (meaning : S → SuiteData) (policy : D → DecisionsData) (w : WorldData S D) where
   -- the two parts of the course
