@@ -10,8 +10,7 @@ use Rattle.sshcore.specs.History.{BrokenOff}
 use Rattle.sshcore.specs.EndpointParts.{DecisionsData, Setup, setup_with}
 use Rattle.sshworld.specs.declared.side.Delivery.{Delivery}
 use Rattle.sshneg.specs.declared.side.Side.TheVariants.{Client, Server}
-use Rattle.sshworld.specs.Conversed.{EachReplies}
-use Rattle.sshworld.specs.WorldCourse.{KeepsHeadline}
+use Rattle.sshworld.specs.WorldCourse.{WorldHolds}
 use Rattle.sshworld.specs.Worlds.{IsSameSetup, NodeData, WorldData, config_at, node_at, node_opposite, waiting_for}
 
 -- The next n bytes were moved to a side: it used all of them, or those up to its end, and what it sent by that is appended to
@@ -43,13 +42,12 @@ pub record BreaksOff (setup : Setup) (n : ℕ) (old new opposite : NodeData) : T
   pub broken_off : BrokenOff setup (take (old.used + used) opposite.sent) new.sent
 
 module _ {S D : Type 0} (meaning : S → SuiteData) (policy : D → DecisionsData) where
-  -- A delivery of n bytes was done: the configs, the suite and the decisions are the same, both sides of the new world have
-  -- replied to what was moved to them, and the headline holds of it.
+  -- A delivery of n bytes was done: the configs, the suite and the decisions are the same, and what is true of every world is true of
+  -- the new one.
   pub record Done (to : Side) (n : ℕ) (old new : WorldData S D) : Type 0 where
     pub delivered : Delivered to n old new
     pub setup : IsSameSetup old new
-    pub replies : EachReplies meaning policy new
-    pub headline : KeepsHeadline meaning policy new
+    pub holds : WorldHolds meaning policy new
 
   -- A delivery of a schedule moves the lesser of its count and what waits.
   abbrev pub DoneBy : Delivery → WorldData S D → WorldData S D → Type 0

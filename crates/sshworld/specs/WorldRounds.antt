@@ -8,7 +8,6 @@ use Rattle.sshcore.specs.EndpointParts.{DecisionsData, client_setup, server_setu
 use Rattle.sshworld.specs.Offered.{most_requests}
 use Rattle.sshneg.specs.declared.side.Side.{Side}
 use Rattle.sshneg.specs.declared.side.Side.TheVariants.{Client, Server}
-use Rattle.sshworld.specs.Conversed.{EachReplies}
 use Rattle.sshworld.specs.Course.{Part}
 use Rattle.sshworld.specs.Deliveries.{Delivered}
 use Rattle.sshworld.specs.Follows.{part_of_client, part_of_server}
@@ -16,7 +15,7 @@ use Rattle.sshworld.specs.Partners.{HasHistory}
 use Rattle.sshworld.specs.Rounds.{UnitsReceived, after_rounds, round_from, server_receives_all}
 use Rattle.sshworld.specs.Wording.{Wording}
 use Rattle.sshworld.specs.Wordings.{wording_of}
-use Rattle.sshworld.specs.WorldCourse.{AreUnderstoodIn, IsOnCourse, KeepsCourse, KeepsHeadline, ReceivesAll}
+use Rattle.sshworld.specs.WorldCourse.{AreUnderstoodIn, IsOnCourse, ReceivesAll, WorldHolds}
 use Rattle.sshworld.specs.Worlds.{Complete, HadMemory, IsSameSetup, NodeData, WorldData, waiting_for}
 
 -- what both have received when all that waits was moved to one side
@@ -61,9 +60,7 @@ module _ {S D : Type 0} (meaning : S → SuiteData) (policy : D → DecisionsDat
   -- what is true after a delivery, whether or not memory ran out
   pub record Keeps (old new : WorldData S D) : Type 0 where
     pub setup : IsSameSetup old new
-    pub replies : EachReplies meaning policy new
-    pub course : KeepsCourse meaning policy new
-    pub headline : KeepsHeadline meaning policy new
+    pub holds : WorldHolds meaning policy new
     pub was_on : IsOnCourse meaning policy old
     pub on_course : IsOnCourse meaning policy new
 
