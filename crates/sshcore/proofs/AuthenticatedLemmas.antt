@@ -34,7 +34,7 @@ use Rattle.sshcore.specs.Directions.{payloads_in, version_in}
 use Rattle.sshcore.specs.EndData.{AgreedData, Authenticated, Closed, Disconnected, EndData, Failed, Open, Reply, by_owner, fails, goes}
 use Rattle.sshcore.specs.Exchange.{answer_with, choice_with, exchange_with}
 use Rattle.sshcore.specs.Known.{Known, known_at, waits_at}
-use Rattle.sshcore.specs.EndpointParts.{ConfigData, DecisionsData}
+use Rattle.sshcore.specs.EndpointParts.{ConfigData, DecisionsData, Setup}
 use Rattle.sshcore.specs.Phases.{leaving, past_newkeys, phase_at}
 use Rattle.sshcore.specs.Plan.{after_query, next_after}
 use Rattle.sshcore.specs.Replies.{Ends, end_at, ended, goes_on, line_reply, read_reply, refusal_reply}
@@ -83,64 +83,64 @@ pub data WorkEnds (m : SuiteData) (d : DecisionsData) (party : ConfigData) (know
   Succeeded : (made : AttemptData) (later : List AttemptData) → c ≡ UserauthSuccess → known.left ≡ made ∷ later
       → end ≡ Authenticated (agreed_by known made.user made.service) → WorkEnds m d party known c end
 
-module _ (m : SuiteData) (d : DecisionsData) (role : Side) (party : ConfigData) where
-  early_chosen : (peer : KexInitData) (r : Result AlgorithmsData NoCommon) → IsEarly (chosen_reply m role party peer r).end
+module _ (setup : Setup) where
+  early_chosen : (peer : KexInitData) (r : Result AlgorithmsData NoCommon) → IsEarly (chosen_reply setup.suite setup.role setup.config peer r).end
   early_chosen peer (Ok a) = refl
   early_chosen peer (Err f) = refl
 
-  early_kexinit : (known : Known) (peer : KexInitData) → IsEarly (kexinit_reply m role party known peer).end
+  early_kexinit : (known : Known) (peer : KexInitData) → IsEarly (kexinit_reply setup.suite setup.role setup.config known peer).end
   unfolding kexinit_reply
   early_kexinit known peer =
-      early_cond (strict_towards role party.strict (Some peer) && not known.first) (fails (fault.Strict 20)) (chosen_reply m role party peer (choice_with m role party.offer (Some peer)))
-      refl (early_chosen peer (choice_with m role party.offer (Some peer)))
+      early_cond (strict_towards setup.role setup.config.strict (Some peer) && not known.first) (fails (fault.Strict 20)) (chosen_reply setup.suite setup.role setup.config peer (choice_with setup.suite setup.role setup.config.offer (Some peer)))
+      refl (early_chosen peer (choice_with setup.suite setup.role setup.config.offer (Some peer)))
 
-  early_answered : (known : Known) (x : ExchangeData) (r : Option ResponseData) → IsEarly (answered_by m party known x r).end
+  early_answered : (known : Known) (x : ExchangeData) (r : Option ResponseData) → IsEarly (answered_by setup.suite setup.config known x r).end
   early_answered known x None = refl
   early_answered known x (Some answer) = refl
 
-  early_init : (known : Known) (c : MessageData) → IsEarly (init_reply m role party known c).end
+  early_init : (known : Known) (c : MessageData) → IsEarly (init_reply setup.suite setup.role setup.config known c).end
   unfolding init_reply
-  early_init known c = early_answered known (exchange_with m role party known.algorithms known.version known.kexinit (Ok c)) (answer_with m role party known.algorithms (Ok c))
+  early_init known c = early_answered known (exchange_with setup.suite setup.role setup.config known.algorithms known.version known.kexinit (Ok c)) (answer_with setup.suite setup.role setup.config known.algorithms (Ok c))
 
-  early_signed : (known : Known) (x : ExchangeData) (signature : List ℕ) (r : Option ResponseData) → IsEarly (signed_by m known x signature r).end
+  early_signed : (known : Known) (x : ExchangeData) (signature : List ℕ) (r : Option ResponseData) → IsEarly (signed_by setup.suite known x signature r).end
   early_signed known x signature None = refl
   early_signed known x signature (Some answer) =
-      early_cond (m.verify known.algorithms.host_key x.host_key (exchange_hash m known.algorithms.kex x) signature)
+      early_cond (setup.suite.verify known.algorithms.host_key x.host_key (exchange_hash setup.suite known.algorithms.kex x) signature)
       (goes (written_message NewKeys ∷ written_message (ServiceRequest userauth) ∷ [])) (fails fault.Signature) refl refl
 
-  early_reply : (known : Known) (c : MessageData) (signature : List ℕ) → IsEarly (reply_reply m d role party known c signature).end
+  early_reply : (known : Known) (c : MessageData) (signature : List ℕ) → IsEarly (reply_reply setup known c signature).end
   unfolding reply_reply
   early_reply known c signature =
-      let x = exchange_with m role party known.algorithms known.version known.kexinit (Ok c) in
-      let answer = answer_with m role party known.algorithms (Ok c) in
-      early_cond (d.host_key known.algorithms.host_key x.host_key) (signed_by m known x signature answer) (fails fault.HostKey) (early_signed known x signature answer) refl
+      let x = exchange_with setup.suite setup.role setup.config known.algorithms known.version known.kexinit (Ok c) in
+      let answer = answer_with setup.suite setup.role setup.config known.algorithms (Ok c) in
+      early_cond (setup.decisions.host_key known.algorithms.host_key x.host_key) (signed_by setup.suite known x signature answer) (fails fault.HostKey) (early_signed known x signature answer) refl
 
-  early_attempt : (session : List ℕ) (left : List AttemptData) → IsEarly (attempt_reply m session left).end
+  early_attempt : (session : List ℕ) (left : List AttemptData) → IsEarly (attempt_reply setup.suite session left).end
   early_attempt session [] = refl
   early_attempt session (a ∷ later) = refl
 
   -- a request is answered by whether the service is unknown, the request successful, and the try the last
   request_ends : (known : Known) (user service : List ℕ) (method : MethodData)
-      → WorkEnds m d party known (UserauthRequest user service method) (request_reply m d party known user service method).end
-  request_ends known user service method = by (answered m d party known user service method)
+      → WorkEnds setup.suite setup.decisions setup.config known (UserauthRequest user service method) (request_reply setup.suite setup.decisions setup.config known user service method).end
+  request_ends known user service method = by (answered setup.suite setup.decisions setup.config known user service method)
     where
-      by : IsAnswered m d party known user service method (request_reply m d party known user service method)
-          → WorkEnds m d party known (UserauthRequest user service method) (request_reply m d party known user service method).end
+      by : IsAnswered setup.suite setup.decisions setup.config known user service method (request_reply setup.suite setup.decisions setup.config known user service method)
+          → WorkEnds setup.suite setup.decisions setup.config known (UserauthRequest user service method) (request_reply setup.suite setup.decisions setup.config known user service method).end
       by (Elsewhere has is) = Early (ap (λ (r : Reply). is_early r.end) is)
       by (Succeeds has successful done is) = Requested user service method refl has successful done (ap (λ (r : Reply). r.end) is)
       by (Last last is) = Early (ap (λ (r : Reply). is_early r.end) is)
       by (More x refusal more is) = Early (ap (λ (r : Reply). is_early r.end) is)
 
-  success_ends : (known : Known) (left : List AttemptData) → known.left ≡ left → WorkEnds m d party known UserauthSuccess (success_by known left).end
+  success_ends : (known : Known) (left : List AttemptData) → known.left ≡ left → WorkEnds setup.suite setup.decisions setup.config known UserauthSuccess (success_by known left).end
   success_ends known [] e = Early refl
   success_ends known (a ∷ later) e = Succeeded a later refl e refl
 
-  early_confirmed : (known : Known) (algorithm key : List ℕ) (left : List AttemptData) → IsEarly (confirmed_by m known algorithm key left).end
+  early_confirmed : (known : Known) (algorithm key : List ℕ) (left : List AttemptData) → IsEarly (confirmed_by setup.suite known algorithm key left).end
   early_confirmed known algorithm key [] = refl
   early_confirmed known algorithm key (a ∷ later) =
-      early_cond (is_asked m a.proving algorithm key) (goes (request_of m known.session (after_query a) ∷ [])) (fails (fault.Unexpected 60)) refl refl
+      early_cond (is_asked setup.suite a.proving algorithm key) (goes (request_of setup.suite known.session (after_query a) ∷ [])) (fails (fault.Unexpected 60)) refl refl
 
-  pub work_ends : (known : Known) (c : MessageData) → WorkEnds m d party known c (work m d role party known c).end
+  pub work_ends : (known : Known) (c : MessageData) → WorkEnds setup.suite setup.decisions setup.config known c (work setup known c).end
   unfolding work
   work_ends known (Disconnect reason description language) = Early refl
   work_ends known (KexInit peer) = Early (early_kexinit known peer)
@@ -149,9 +149,9 @@ module _ (m : SuiteData) (d : DecisionsData) (role : Side) (party : ConfigData) 
   work_ends known (KexdhReply key f signature) = Early (early_reply known (KexdhReply key f signature) signature)
   work_ends known (KexEcdhReply key share signature) = Early (early_reply known (KexEcdhReply key share signature) signature)
   work_ends known (ServiceRequest service) =
-      Early (early_cond (bytes_eq service userauth) (goes (written_message (ServiceAccept userauth) ∷ banner_by party.banner)) (fails fault.Service) refl refl)
+      Early (early_cond (bytes_eq service userauth) (goes (written_message (ServiceAccept userauth) ∷ banner_by setup.config.banner)) (fails fault.Service) refl refl)
   work_ends known (ServiceAccept service) =
-      Early (early_cond (bytes_eq service userauth) (attempt_reply m known.session known.left) (fails (fault.Unexpected 6)) (early_attempt known.session known.left) refl)
+      Early (early_cond (bytes_eq service userauth) (attempt_reply setup.suite known.session known.left) (fails (fault.Unexpected 6)) (early_attempt known.session known.left) refl)
   work_ends known (UserauthRequest user service method) = request_ends known user service method
   work_ends known (UserauthFailure listed partial) = Early (early_attempt known.session (next_after listed known.left))
   work_ends known UserauthSuccess = success_ends known known.left refl
@@ -179,64 +179,64 @@ was_accepted known payload made later a e succeeds left =
     subst (WasAccepted known payload) e (record { succeeds = succeeds; made = made; later = later; left_are = left; user_is = refl; service_is = refl })
 
 -- an endpoint that agreed on this at a payload in this phase
-record Agrees (m : SuiteData) (d : DecisionsData) (role : Side) (party : ConfigData) (p : Phase) (guess : Bool) (known : Known) (tried : List Tried) (payload : List ℕ) (a : AgreedData) : Type 0 where
+record Agrees (setup : Setup) (p : Phase) (guess : Bool) (known : Known) (tried : List Tried) (payload : List ℕ) (a : AgreedData) : Type 0 where
   at : p ≡ phase.Auth
   none_due : guess ≡ false
-  leaves : kind payload ≡ leaving role phase.Auth
+  leaves : kind payload ≡ leaving setup.role phase.Auth
   agreed_is : a ≡ agreed_by known a.user a.service
-  accepted_user : IsAcceptedUser m d role party known tried payload a
+  accepted_user : IsAcceptedUser setup.suite setup.decisions setup.role setup.config known tried payload a
 
 pub none_refused : (r : Option Refusal) (a : AgreedData) → Authenticated a ≡ (refusal_reply r).end → ⊥
 none_refused None a e = cc
 none_refused (Some r) a e = cc
 
-module _ (below : Below) (m : SuiteData) (d : DecisionsData) (role : Side) (party : ConfigData) where
+module _ (below : Below) (setup : Setup) where
   -- a successful request is read at a server, and a SUCCESS at a client
-  requested : (p : Phase) (guess : Bool) (known : Known) (tried : List Tried) (payload user service : List ℕ) (method : MethodData) (a : AgreedData) → Reads role p guess (kind payload)
-      → message_in known.shares payload ≡ Ok (UserauthRequest user service method) → is_in party.services service ≡ true → is_successful m d party known user service method ≡ true
-      → completes party known user service method true ≡ true → known.reached ≡ reached_after nothing_reached tried → agreed_by known user service ≡ a → Agrees m d role party p guess known tried payload a
+  requested : (p : Phase) (guess : Bool) (known : Known) (tried : List Tried) (payload user service : List ℕ) (method : MethodData) (a : AgreedData) → Reads setup.role p guess (kind payload)
+      → message_in known.shares payload ≡ Ok (UserauthRequest user service method) → is_in setup.config.services service ≡ true → is_successful setup.suite setup.decisions setup.config known user service method ≡ true
+      → completes setup.config known user service method true ≡ true → known.reached ≡ reached_after nothing_reached tried → agreed_by known user service ≡ a → Agrees setup p guess known tried payload a
   requested p guess known tried payload user service method a r requests has successful done kept e =
       let is : kind payload ≡ 50 = below.numbers known.shares payload (UserauthRequest user service method) requests in
-      let at = user_request_read role p guess (subst (Reads role p guess) is r) in
+      let at = user_request_read setup.role p guess (subst (Reads setup.role p guess) is r) in
       record {
         at = at.phase_is;
         none_due = at.none_due;
         leaves = is ∙ ap (λ side. leaving side phase.Auth) (sym at.side_is);
         agreed_is = agrees_by known user service a e;
-        accepted_user = subst (λ (side : Side). IsAcceptedUser m d side party known tried payload a) (sym at.side_is) (accepts m d party known tried payload user service method a e requests has successful
-            (complete_sound tried (tried_with user service method true) (method_name method) refl party.required
-            (ap (λ (q : ReachedData). is_complete party.required (reached_after_one q (tried_with user service method true))) (sym kept) ∙ done)));
+        accepted_user = subst (λ (side : Side). IsAcceptedUser setup.suite setup.decisions side setup.config known tried payload a) (sym at.side_is) (accepts setup.suite setup.decisions setup.config known tried payload user service method a e requests has successful
+            (complete_sound tried (tried_with user service method true) (method_name method) refl setup.config.required
+            (ap (λ (q : ReachedData). is_complete setup.config.required (reached_after_one q (tried_with user service method true))) (sym kept) ∙ done)));
       }
 
-  succeeded : (p : Phase) (guess : Bool) (known : Known) (tried : List Tried) (payload : List ℕ) (made : AttemptData) (later : List AttemptData) (a : AgreedData) → Reads role p guess (kind payload)
-      → message_in known.shares payload ≡ Ok UserauthSuccess → known.left ≡ made ∷ later → agreed_by known made.user made.service ≡ a → Agrees m d role party p guess known tried payload a
+  succeeded : (p : Phase) (guess : Bool) (known : Known) (tried : List Tried) (payload : List ℕ) (made : AttemptData) (later : List AttemptData) (a : AgreedData) → Reads setup.role p guess (kind payload)
+      → message_in known.shares payload ≡ Ok UserauthSuccess → known.left ≡ made ∷ later → agreed_by known made.user made.service ≡ a → Agrees setup p guess known tried payload a
   succeeded p guess known tried payload made later a r succeeds left e =
       let is : kind payload ≡ 52 = below.numbers known.shares payload UserauthSuccess succeeds in
-      let at = success_read role p guess (subst (Reads role p guess) is r) in
+      let at = success_read setup.role p guess (subst (Reads setup.role p guess) is r) in
       record {
         at = at.phase_is;
         none_due = at.none_due;
         leaves = is ∙ ap (λ side. leaving side phase.Auth) (sym at.side_is);
         agreed_is = agrees_by known made.user made.service a e;
-        accepted_user = subst (λ (side : Side). IsAcceptedUser m d side party known tried payload a) (sym at.side_is) (was_accepted known payload made later a e succeeds left);
+        accepted_user = subst (λ (side : Side). IsAcceptedUser setup.suite setup.decisions side setup.config known tried payload a) (sym at.side_is) (was_accepted known payload made later a e succeeds left);
       }
 
   -- a message that is read
-  by_read : (p : Phase) (strict guess waits : Bool) (known : Known) (tried : List Tried) (payload : List ℕ) → known.reached ≡ reached_after nothing_reached tried → line_by role p strict guess waits (kind payload) ≡ line.Reads → (a : AgreedData)
-      → (r : Result MessageData MsgFault) → message_in known.shares payload ≡ r → (read_reply m d role party known (kind payload) r).end ≡ Authenticated a
-      → Agrees m d role party p guess known tried payload a
+  by_read : (p : Phase) (strict guess waits : Bool) (known : Known) (tried : List Tried) (payload : List ℕ) → known.reached ≡ reached_after nothing_reached tried → line_by setup.role p strict guess waits (kind payload) ≡ line.Reads → (a : AgreedData)
+      → (r : Result MessageData MsgFault) → message_in known.shares payload ≡ r → (read_reply setup known (kind payload) r).end ≡ Authenticated a
+      → Agrees setup p guess known tried payload a
   by_read p strict guess waits known tried payload kept reads_it a (Err f) e end = absurd cc
-  by_read p strict guess waits known tried payload kept reads_it a (Ok c) e end = by (work_ends m d role party known c)
+  by_read p strict guess waits known tried payload kept reads_it a (Ok c) e end = by (work_ends setup known c)
     where
-      by : WorkEnds m d party known c (work m d role party known c).end → Agrees m d role party p guess known tried payload a
+      by : WorkEnds setup.suite setup.decisions setup.config known c (work setup known c).end → Agrees setup p guess known tried payload a
       by (Early h) = absurd (true≢false (sym h ∙ ap is_early end))
-      by (Requested user service method same has successful done is) = requested p guess known tried payload user service method a (reads role p strict waits (kind payload) guess reads_it)
+      by (Requested user service method same has successful done is) = requested p guess known tried payload user service method a (reads setup.role p strict waits (kind payload) guess reads_it)
           (e ∙ ap Ok same) has successful done kept (same_agreed (agreed_by known user service) a (sym is ∙ end))
-      by (Succeeded made later same left is) = succeeded p guess known tried payload made later a (reads role p strict waits (kind payload) guess reads_it)
+      by (Succeeded made later same left is) = succeeded p guess known tried payload made later a (reads setup.role p strict waits (kind payload) guess reads_it)
           (e ∙ ap Ok same) left (same_agreed (agreed_by known made.user made.service) a (sym is ∙ end))
 
-  by_line : (p : Phase) (strict guess waits : Bool) (known : Known) (tried : List Tried) (packet : ℕ) (payload : List ℕ) (l : Line) → known.reached ≡ reached_after nothing_reached tried → line_by role p strict guess waits (kind payload) ≡ l → (a : AgreedData)
-      → (line_reply m d role party known packet l payload).end ≡ Authenticated a → Agrees m d role party p guess known tried payload a
+  by_line : (p : Phase) (strict guess waits : Bool) (known : Known) (tried : List Tried) (packet : ℕ) (payload : List ℕ) (l : Line) → known.reached ≡ reached_after nothing_reached tried → line_by setup.role p strict guess waits (kind payload) ≡ l → (a : AgreedData)
+      → (line_reply setup known packet l payload).end ≡ Authenticated a → Agrees setup p guess known tried payload a
   unfolding line_reply
   by_line p strict guess waits known tried packet payload line.Reads kept is a end = by_read p strict guess waits known tried payload kept is a (message_in known.shares payload) refl end
   by_line p strict guess waits known tried packet payload line.Drops kept is a end = absurd cc
@@ -245,76 +245,76 @@ module _ (below : Below) (m : SuiteData) (d : DecisionsData) (role : Side) (part
   by_line p strict guess waits known tried packet payload line.Unexpected kept is a end = absurd cc
 
   -- at an endpoint that stood open before
-  at_last : (version : List ℕ) (before : Units) (payload : List ℕ) (p : Phase) → Tied role party.offer before p → (a : AgreedData)
-      → end_at m d role party (version ∷ before) payload ≡ Authenticated a
-      → Agrees m d role party p (expects_guess role party.offer before) (known_at m d role party version before) (tried_at m d role party version before) payload a
+  at_last : (version : List ℕ) (before : Units) (payload : List ℕ) (p : Phase) → Tied setup.role setup.config.offer before p → (a : AgreedData)
+      → end_at setup (version ∷ before) payload ≡ Authenticated a
+      → Agrees setup p (expects_guess setup.role setup.config.offer before) (known_at setup version before) (tried_at setup version before) payload a
   at_last version before payload p t a end =
-      let l = line_by role p (strict_at role party before) (expects_guess role party.offer before) (waits_at role party before) (kind payload) in
-      by_line p (strict_at role party before) (expects_guess role party.offer before) (waits_at role party before) (known_at m d role party version before) (tried_at m d role party version before) (number_in role party before) payload l refl refl a
-      (ap (λ (l : Line). (line_reply m d role party (known_at m d role party version before) (number_in role party before) l payload).end) (line_is below m d role party version before payload p t) ∙ end)
+      let l = line_by setup.role p (strict_at setup.role setup.config before) (expects_guess setup.role setup.config.offer before) (waits_at setup.role setup.config before) (kind payload) in
+      by_line p (strict_at setup.role setup.config before) (expects_guess setup.role setup.config.offer before) (waits_at setup.role setup.config before) (known_at setup version before) (tried_at setup version before) (number_in setup.role setup.config before) payload l refl refl a
+      (ap (λ (l : Line). (line_reply setup (known_at setup version before) (number_in setup.role setup.config before) l payload).end) (line_is below setup version before payload p t) ∙ end)
 
-  pub last_tied : (version : List ℕ) (before : Units) (last : List ℕ) (p : Phase) → Tied role party.offer before p → (a : AgreedData)
-      → end_at m d role party (version ∷ before) last ≡ Authenticated a → Tied role party.offer before phase.Auth
-  last_tied version before last p t a end = subst (Tied role party.offer before) (at_last version before last p t a end).at t
+  pub last_tied : (version : List ℕ) (before : Units) (last : List ℕ) (p : Phase) → Tied setup.role setup.config.offer before p → (a : AgreedData)
+      → end_at setup (version ∷ before) last ≡ Authenticated a → Tied setup.role setup.config.offer before phase.Auth
+  last_tied version before last p t a end = subst (Tied setup.role setup.config.offer before) (at_last version before last p t a end).at t
 
   -- the phase stays there the payload
-  stays_tied : (version : List ℕ) (before : Units) (last : List ℕ) (p : Phase) → Tied role party.offer before p → (a : AgreedData)
-      → end_at m d role party (version ∷ before) last ≡ Authenticated a → Tied role party.offer (before ++ last ∷ []) phase.Auth
+  stays_tied : (version : List ℕ) (before : Units) (last : List ℕ) (p : Phase) → Tied setup.role setup.config.offer before p → (a : AgreedData)
+      → end_at setup (version ∷ before) last ≡ Authenticated a → Tied setup.role setup.config.offer (before ++ last ∷ []) phase.Auth
   stays_tied version before last p t a end =
       let at = at_last version before last p t a end in
-      tied_leaves role party.offer before last phase.Auth (last_tied version before last p t a end) at.none_due at.leaves
+      tied_leaves setup.role setup.config.offer before last phase.Auth (last_tied version before last p t a end) at.none_due at.leaves
 
-  pub authenticated : (units : Units) (refusal : Option Refusal) (a : AgreedData) → Ends m d role party units refusal (Authenticated a) → IsAuthenticated m d role party units a
+  pub authenticated : (units : Units) (refusal : Option Refusal) (a : AgreedData) → Ends setup units refusal (Authenticated a) → IsAuthenticated setup units a
   authenticated units refusal a (goes_on stays is) = absurd (none_refused refusal a is)
   authenticated units refusal a (ended [] last units_are stays is shut none) = absurd cc
   authenticated units refusal a (ended (version ∷ before) last units_are stays is shut none) =
-      let f = stands below m d role party version [] before phase.KexInit (begun_none below m d role party) stays.1 in
+      let f = stands below setup version [] before phase.KexInit (begun_none below setup) stays.1 in
       let at = at_last version before last f.0 f.1.tied a (sym is) in
       record {
         version = version;
         before = before;
         last = last;
         units_are = units_are;
-        in_auth = tied_phase role party.offer before phase.Auth (last_tied version before last f.0 f.1.tied a (sym is));
-        stays_in_auth = ap (λ (l : Units). phase_at role party.offer (payloads_in l)) units_are
-            ∙ tied_phase role party.offer (before ++ last ∷ []) phase.Auth (stays_tied version before last f.0 f.1.tied a (sym is));
+        in_auth = tied_phase setup.role setup.config.offer before phase.Auth (last_tied version before last f.0 f.1.tied a (sym is));
+        stays_in_auth = ap (λ (l : Units). phase_at setup.role setup.config.offer (payloads_in l)) units_are
+            ∙ tied_phase setup.role setup.config.offer (before ++ last ∷ []) phase.Auth (stays_tied version before last f.0 f.1.tied a (sym is));
         agrees = at.agreed_is;
         accepted_user = at.accepted_user;
       }
 
   one_tried : (session : List ℕ) (n : ℕ) (payload user service : List ℕ) (method : MethodData) → message_in Mpint payload ≡ Ok (UserauthRequest user service method)
-      → is_successful_at m d party session n user service method ≡ true → tried_in m d party session n payload ≡ tried_with user service method true ∷ []
+      → is_successful_at setup.suite setup.decisions setup.config session n user service method ≡ true → tried_in setup.suite setup.decisions setup.config session n payload ≡ tried_with user service method true ∷ []
   unfolding tried_in
   one_tried session n payload user service method read successful = rw (read, successful) refl
 
-  tried_here : (version : List ℕ) (before : Units) (payload : List ℕ) → kept role party.offer 50 before payload ≡ true
-      → tried_place m d role party version before payload ≡ tried_in m d party (session_known m role party version before) (count_kept role party.offer 50 before + 1) payload
+  tried_here : (version : List ℕ) (before : Units) (payload : List ℕ) → kept setup.role setup.config.offer 50 before payload ≡ true
+      → tried_place setup version before payload ≡ tried_in setup.suite setup.decisions setup.config (session_known setup.suite setup.role setup.config version before) (count_kept setup.role setup.config.offer 50 before + 1) payload
   tried_here version before payload here = rw here refl
 
   -- at a server, the requests end with the one that is accepted
-  tried_last : (version : List ℕ) (before : Units) (last : List ℕ) (p : Phase) → Tied role party.offer before p → (a : AgreedData) → end_at m d role party (version ∷ before) last ≡ Authenticated a → role ≡ Server
-      → (method : MethodData) × (tried_at m d role party version (before ++ last ∷ []) ≡ tried_at m d role party version before ++ tried_with a.user a.service method true ∷ [])
+  tried_last : (version : List ℕ) (before : Units) (last : List ℕ) (p : Phase) → Tied setup.role setup.config.offer before p → (a : AgreedData) → end_at setup (version ∷ before) last ≡ Authenticated a → setup.role ≡ Server
+      → (method : MethodData) × (tried_at setup version (before ++ last ∷ []) ≡ tried_at setup version before ++ tried_with a.user a.service method true ∷ [])
   tried_last version before last p t a end server =
       let at = at_last version before last p t a end in
-      let known : Known = known_at m d role party version before in
-      let r : AcceptsUser m d party known (tried_at m d role party version before) last a = subst (λ (side : Side). IsAcceptedUser m d side party known (tried_at m d role party version before) last a) server at.accepted_user in
+      let known : Known = known_at setup version before in
+      let r : AcceptsUser setup.suite setup.decisions setup.config known (tried_at setup version before) last a = subst (λ (side : Side). IsAcceptedUser setup.suite setup.decisions side setup.config known (tried_at setup version before) last a) server at.accepted_user in
       let is : kind last ≡ 50 = below.numbers known.shares last (UserauthRequest a.user a.service r.method) r.requests in
       let read : message_in Mpint last ≡ Ok (UserauthRequest a.user a.service r.method) = below.alike Mpint known.shares last (λ q. omega (arith, q, is)) (λ q. omega (arith, q, is)) ∙ r.requests in
-      let here : kept role party.offer 50 before last ≡ true = kept_free role party.offer before last 50 at.none_due ∙ rw is refl in (
+      let here : kept setup.role setup.config.offer 50 before last ≡ true = kept_free setup.role setup.config.offer before last 50 at.none_due ∙ rw is refl in (
         r.method,
-        tried_push m d role party version before last
-            ∙ ap (λ (l : List Tried). tried_at m d role party version before ++ l) (tried_here version before last here
-            ∙ one_tried (session_known m role party version before) (count_kept role party.offer 50 before + 1) last a.user a.service r.method read r.successful),
+        tried_push setup version before last
+            ∙ ap (λ (l : List Tried). tried_at setup version before ++ l) (tried_here version before last here
+            ∙ one_tried (session_known setup.suite setup.role setup.config version before) (count_kept setup.role setup.config.offer 50 before + 1) last a.user a.service r.method read r.successful),
       )
 
-  pub ends_tried : (units : Units) (refusal : Option Refusal) (a : AgreedData) → Ends m d role party units refusal (Authenticated a) → role ≡ Server
-      → (tried : List Tried) × (method : MethodData) × (tried_at m d role party (version_in units) (payloads_in units) ≡ tried ++ tried_with a.user a.service method true ∷ [])
+  pub ends_tried : (units : Units) (refusal : Option Refusal) (a : AgreedData) → Ends setup units refusal (Authenticated a) → setup.role ≡ Server
+      → (tried : List Tried) × (method : MethodData) × (tried_at setup (version_in units) (payloads_in units) ≡ tried ++ tried_with a.user a.service method true ∷ [])
   ends_tried units refusal a (goes_on stays is) server = absurd (none_refused refusal a is)
   ends_tried units refusal a (ended [] last units_are stays is shut none) server = absurd cc
   ends_tried units refusal a (ended (version ∷ before) last units_are stays is shut none) server =
-      let f = stands below m d role party version [] before phase.KexInit (begun_none below m d role party) stays.1 in
+      let f = stands below setup version [] before phase.KexInit (begun_none below setup) stays.1 in
       let x = tried_last version before last f.0 f.1.tied a (sym is) server in
-      (tried_at m d role party version before, x.0, ap (λ (l : Units). tried_at m d role party (version_in l) (payloads_in l)) units_are ∙ x.1)
+      (tried_at setup version before, x.0, ap (λ (l : Units). tried_at setup (version_in l) (payloads_in l)) units_are ∙ x.1)
 
 -- an endpoint in phase auth has received NEWKEYS
 pub auth_switched : (role : Side) (own : KexInitData) (payloads : Units) → phase_at role own payloads ≡ phase.Auth → stood role own 21 payloads ≡ true

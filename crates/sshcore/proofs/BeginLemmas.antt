@@ -21,7 +21,7 @@ use Rattle.sshcore.specs.Inputs.{AsReceived, Begins, EndpointStands, IsInput, pe
 use Rattle.sshcore.specs.StateData.{StateData, begun}
 use Rattle.sshcore.specs.Known.{Known}
 use Rattle.sshcore.specs.Output.{Sending, Speaks, sent_from}
-use Rattle.sshcore.specs.EndpointParts.{ConfigData, DecisionsData}
+use Rattle.sshcore.specs.EndpointParts.{ConfigData, Setup}
 use Rattle.sshcore.specs.Phases.{past_exchange, past_kexinit}
 use Rattle.sshcore.specs.Standing.{Sits}
 use Rattle.sshcore.specs.Work.{making}
@@ -48,17 +48,17 @@ speaks_first m role party =
 not_past : (p : Phase) → p ≡ phase.KexInit → past_kexinit p ≡ true → ⊥
 not_past p e past = true≢false (sym past ∙ ap past_kexinit e)
 
-module _ (below : Below) (streams : Streams) (m : SuiteData) (d : DecisionsData) (role : Side) (party : ConfigData) (new : StateData) (i : Input) (lines sent : List ℕ) (strict : Bool) (next : KeysData) where
-  pub begins_stands : new ≡ record (begun party) { sending = new.sending } → Gives m party.seed strict next (begun party) new lines sent (goes (making m role party)) → lines ≡ preamble_of party → Begins role i
-      → EndpointStands m d role party new i [] sent
+module _ (below : Below) (streams : Streams) (setup : Setup) (new : StateData) (i : Input) (lines sent : List ℕ) (strict : Bool) (next : KeysData) where
+  pub begins_stands : new ≡ record (begun setup.config) { sending = new.sending } → Gives setup.suite setup.config.seed strict next (begun setup.config) new lines sent (goes (making setup.suite setup.role setup.config)) → lines ≡ preamble_of setup.config → Begins setup.role i
+      → EndpointStands setup new i [] sent
   begins_stands is gives lines_are reads =
-      let first = making m role party in
-      let spoken = sent_quiet m role party [] strict next [] first (record { keys = None; number = 0 }) (none_sent first (still_making m role party)) (speaks_first m role party) in
-      let bytes : sent ≡ flat_places (spells m role party []) [] (party.version ∷ first) =
-      gives.output ∙ ap (λ (l : List ℕ). l ++ sent_from m party.seed strict next (record { keys = None; number = 0 }) first) lines_are
-      ∙ ap (λ (l : List ℕ). preamble_of party ++ l) spoken.0 in
-      let begin = history.begins below streams m d role party gives.fits in
-      let speaks : Speaks m role party [] first new.sending = subst (λ (o : Sending). Speaks m role party [] first o) (sym gives.sends) spoken.1 in
+      let first = making setup.suite setup.role setup.config in
+      let spoken = sent_quiet setup.suite setup.role setup.config [] strict next [] first (record { keys = None; number = 0 }) (none_sent first (still_making setup.suite setup.role setup.config)) (speaks_first setup.suite setup.role setup.config) in
+      let bytes : sent ≡ flat_places (spells setup.suite setup.role setup.config []) [] (setup.config.version ∷ first) =
+      gives.output ∙ ap (λ (l : List ℕ). l ++ sent_from setup.suite setup.config.seed strict next (record { keys = None; number = 0 }) first) lines_are
+      ∙ ap (λ (l : List ℕ). preamble_of setup.config ++ l) spoken.0 in
+      let begin = history.begins below streams setup gives.fits in
+      let speaks : Speaks setup.suite setup.role setup.config [] first new.sending = subst (λ (o : Sending). Speaks setup.suite setup.role setup.config [] first o) (sym gives.sends) spoken.1 in
       let phase_is : new.phase ≡ phase.KexInit = ap (λ (k : StateData). k.phase) is in
       record {
         units = [];
@@ -66,22 +66,22 @@ module _ (below : Below) (streams : Streams) (m : SuiteData) (d : DecisionsData)
         refusal = None;
         answers = first;
         received_end = Open;
-        history = subst (λ (l : List ℕ). History m d role party [] [] None first Open [] l) (sym bytes) begin;
+        history = subst (λ (l : List ℕ). History setup [] [] None first Open [] l) (sym bytes) begin;
         ends = AsReceived (ap (λ (k : StateData). k.end) is);
         inside = λ o. record {
-          sits = subst (λ (p : Phase). Sits m d role party [] [] p new.guess new.known) (sym phase_is)
-              (subst (λ (b : Bool). Sits m d role party [] [] phase.KexInit b new.known) (sym (ap (λ (k : StateData). k.guess) is))
-              (subst (λ (k : Known). Sits m d role party [] [] phase.KexInit false k) (sym (ap (λ (k : StateData). k.known) is)) (standing.begins m d role party [])));
+          sits = subst (λ (p : Phase). Sits setup [] [] p new.guess new.known) (sym phase_is)
+              (subst (λ (b : Bool). Sits setup [] [] phase.KexInit b new.known) (sym (ap (λ (k : StateData). k.guess) is))
+              (subst (λ (k : Known). Sits setup [] [] phase.KexInit false k) (sym (ap (λ (k : StateData). k.known) is)) (standing.begins setup [])));
           form = record {
             form = λ past. absurd (not_past new.phase phase_is past);
-            clear = λ not. clear_before m role party [] first phase.KexInit new.sending ((standing.begins m d role party []).tied.exchange) speaks begin.keyed refl;
+            clear = λ not. clear_before setup.suite setup.role setup.config [] first phase.KexInit new.sending ((standing.begins setup []).tied.exchange) speaks begin.keyed refl;
           };
-          reads = first_input m role party i reads;
+          reads = first_input setup.suite setup.role setup.config i reads;
           carries = record {
-            pending = ap (λ (k : StateData). k.carried.pending) is ∙ ap (λ (p : Phase). pending_at p (keys_at m role party [] [] (other role))) (sym phase_is);
+            pending = ap (λ (k : StateData). k.carried.pending) is ∙ ap (λ (p : Phase). pending_at p (keys_at setup.suite setup.role setup.config [] [] (other setup.role))) (sym phase_is);
             own_version = λ past. absurd (true≢false (sym past ∙ ap past_exchange phase_is));
             host_key = λ past. absurd (true≢false (sym past ∙ ap past_exchange phase_is));
-            user_key = ap (λ (k : StateData). k.carried.user_key) is ∙ sym (no_successful_key m d role party []);
+            user_key = ap (λ (k : StateData). k.carried.user_key) is ∙ sym (no_successful_key setup []);
           };
           speaks = speaks;
         };

@@ -9,7 +9,6 @@ use Rattle.sshmsg.specs.Numbers.{kind}
 use Rattle.sshmsg.specs.Written.{written_message}
 use Rattle.sshneg.specs.declared.side.Side.{Side}
 use Rattle.sshpacket.specs.KeysData.{KeysData}
-use Rattle.sshpacket.specs.Suite.{SuiteData}
 use Rattle.sshcore.specs.declared.end.Fault.{Fault}
 use Rattle.sshcore.specs.declared.end.Fault.TheVariants as fault
 use Rattle.sshcore.specs.declared.table.Line.{Line}
@@ -18,7 +17,7 @@ use Rattle.sshcore.specs.declared.table.Phase.{Phase}
 use Rattle.sshcore.specs.Brings.{Brings, Drops, Gives, Stays, Works, received_one}
 use Rattle.sshcore.specs.EndData.{Open, fails, goes}
 use Rattle.sshcore.specs.StateData.{StateData}
-use Rattle.sshcore.specs.EndpointParts.{ConfigData, DecisionsData}
+use Rattle.sshcore.specs.EndpointParts.{Setup}
 use Rattle.sshcore.specs.Plan.{is_waiting}
 use Rattle.sshcore.specs.Phases.{leaving}
 use Rattle.sshcore.specs.Replies.{line_reply, read_reply}
@@ -91,60 +90,60 @@ module _ (role : Side) (p : Phase) (strict guess waits : Bool) (n : ℕ) where
 not_unknown : (n : ℕ) → is_unknown n ≡ true → (n ≢ 50) × (n ≢ 51) × (n ≢ 60)
 not_unknown n e = (λ q. absurd (true≢false (sym e ∙ rw q refl)), λ q. absurd (true≢false (sym e ∙ rw q refl)), λ q. absurd (true≢false (sym e ∙ rw q refl)))
 
-module _ (m : SuiteData) (d : DecisionsData) (role : Side) (party : ConfigData) (old new : StateData) (packet : ℕ) (payload before after : List ℕ) where
-  pub reads_brings : line_by role old.phase old.known.strict old.guess (is_waiting old.known.left) (kind payload) ≡ line.Reads
-      → Works m d role party old new payload before after (read_reply m d role party old.known (kind payload) (message_in old.known.shares payload))
-      → Brings m d role party old new packet payload before after
+module _ (setup : Setup) (old new : StateData) (packet : ℕ) (payload before after : List ℕ) where
+  pub reads_brings : line_by setup.role old.phase old.known.strict old.guess (is_waiting old.known.left) (kind payload) ≡ line.Reads
+      → Works setup old new payload before after (read_reply setup old.known (kind payload) (message_in old.known.shares payload))
+      → Brings setup old new packet payload before after
   unfolding line_reply
   reads_brings is works = rw is works
 
   -- it fails, so nothing goes on
-  fails_works : (f : Fault) → ((strict : Bool) (next : KeysData) → Gives m party.seed strict next old new before after (fails f)) → Works m d role party old new payload before after (fails f)
+  fails_works : (f : Fault) → ((strict : Bool) (next : KeysData) → Gives setup.suite setup.config.seed strict next old new before after (fails f)) → Works setup old new payload before after (fails f)
   fails_works f gives = record { gives = gives _ _; moves = λ goes_on. absurd (failed_ends new.end f (gives false (record { cipher = []; mac = []; iv = []; enc = []; mac_key = [] })).ends goes_on) }
 
-  pub deviates_brings : (n : ℕ) → n ≡ kind payload → line_by role old.phase old.known.strict old.guess (is_waiting old.known.left) (kind payload) ≡ line.Deviates
-      → ((strict : Bool) (next : KeysData) → Gives m party.seed strict next old new before after (fails (fault.Strict n)))
-      → Brings m d role party old new packet payload before after
+  pub deviates_brings : (n : ℕ) → n ≡ kind payload → line_by setup.role old.phase old.known.strict old.guess (is_waiting old.known.left) (kind payload) ≡ line.Deviates
+      → ((strict : Bool) (next : KeysData) → Gives setup.suite setup.config.seed strict next old new before after (fails (fault.Strict n)))
+      → Brings setup old new packet payload before after
   unfolding line_reply
   deviates_brings n same is gives = rw (is, ← same) (fails_works (fault.Strict n) gives)
 
-  pub unexpected_brings : (n : ℕ) → n ≡ kind payload → line_by role old.phase old.known.strict old.guess (is_waiting old.known.left) (kind payload) ≡ line.Unexpected
-      → ((strict : Bool) (next : KeysData) → Gives m party.seed strict next old new before after (fails (fault.Unexpected n)))
-      → Brings m d role party old new packet payload before after
+  pub unexpected_brings : (n : ℕ) → n ≡ kind payload → line_by setup.role old.phase old.known.strict old.guess (is_waiting old.known.left) (kind payload) ≡ line.Unexpected
+      → ((strict : Bool) (next : KeysData) → Gives setup.suite setup.config.seed strict next old new before after (fails (fault.Unexpected n)))
+      → Brings setup old new packet payload before after
   unfolding line_reply
   unexpected_brings n same is gives = rw (is, ← same) (fails_works (fault.Unexpected n) gives)
 
-  pub unknown_brings : line_by role old.phase old.known.strict old.guess (is_waiting old.known.left) (kind payload) ≡ line.Unknown
-      → ((strict : Bool) (next : KeysData) → Gives m party.seed strict next old new before after (goes (written_message (Unimplemented packet) ∷ [])))
+  pub unknown_brings : line_by setup.role old.phase old.known.strict old.guess (is_waiting old.known.left) (kind payload) ≡ line.Unknown
+      → ((strict : Bool) (next : KeysData) → Gives setup.suite setup.config.seed strict next old new before after (goes (written_message (Unimplemented packet) ∷ [])))
       → new ≡ record old { known = received_one old.known; sending = new.sending }
-      → Brings m d role party old new packet payload before after
+      → Brings setup old new packet payload before after
   unfolding line_reply
   unknown_brings is gives stays =
-      let seen = unknown role old.phase old.known.strict old.guess (is_waiting old.known.left) (kind payload) _ (sees role old.phase old.known.strict (is_waiting old.known.left) (kind payload) old.guess) is in
+      let seen = unknown setup.role old.phase old.known.strict old.guess (is_waiting old.known.left) (kind payload) _ (sees setup.role old.phase old.known.strict (is_waiting old.known.left) (kind payload) old.guess) is in
       let none : old.guess ≡ false = seen.0 in
-      let other = not_unknown (kind payload) (meaningless role old.phase old.known.strict old.guess (is_waiting old.known.left) (kind payload) is) in
-      let works : Works m d role party old new payload before after (goes (written_message (Unimplemented packet) ∷ [])) = record {
+      let other = not_unknown (kind payload) (meaningless setup.role old.phase old.known.strict old.guess (is_waiting old.known.left) (kind payload) is) in
+      let works : Works setup old new payload before after (goes (written_message (Unimplemented packet) ∷ [])) = record {
         gives = gives _ _;
         moves = λ goes_on. Stays none seen.1
-            (ap (λ (k : StateData). k.carried) stays ∙ sym (carried_stays m d party old.known payload old.carried other.0))
+            (ap (λ (k : StateData). k.carried) stays ∙ sym (carried_stays setup.suite setup.decisions setup.config old.known payload old.carried other.0))
             (record {
               phase_is = ap (λ (k : StateData). k.phase) stays;
               guess_is = ap (λ (k : StateData). k.guess) stays ∙ none;
-              known_is = ap (λ (k : StateData). k.known) stays ∙ sym (after_received m d party old.known payload other.0 other.1 other.2);
+              known_is = ap (λ (k : StateData). k.known) stays ∙ sym (after_received setup.suite setup.decisions setup.config old.known payload other.0 other.1 other.2);
             });
       } in
       rw is works
 
 -- the packet of a wrong guess is dropped, and nothing is sent
-pub drops_brings : (m : SuiteData) (d : DecisionsData) (role : Side) (party : ConfigData) (old new : StateData) (packet : ℕ) (payload before : List ℕ)
-    → line_by role old.phase old.known.strict old.guess (is_waiting old.known.left) (kind payload) ≡ line.Drops → old.end ≡ Open
+pub drops_brings : (setup : Setup) (old new : StateData) (packet : ℕ) (payload before : List ℕ)
+    → line_by setup.role old.phase old.known.strict old.guess (is_waiting old.known.left) (kind payload) ≡ line.Drops → old.end ≡ Open
     → new ≡ record old { guess = false; known = received_one old.known }
-    → Brings m d role party old new packet payload before before
+    → Brings setup old new packet payload before before
 unfolding line_reply
-drops_brings m d role party old new packet payload before is stays next =
-    let seen = dropped role old.phase old.known.strict old.guess (is_waiting old.known.left) (kind payload) _ (sees role old.phase old.known.strict (is_waiting old.known.left) (kind payload) old.guess) is in
-    let works : Works m d role party old new payload before before (goes []) = record {
-      gives = silent m party.seed old.known.strict _ old new before Open (ap (λ (k : StateData). k.end) next ∙ stays) (ap (λ (k : StateData). k.sending) next);
+drops_brings setup old new packet payload before is stays next =
+    let seen = dropped setup.role old.phase old.known.strict old.guess (is_waiting old.known.left) (kind payload) _ (sees setup.role old.phase old.known.strict (is_waiting old.known.left) (kind payload) old.guess) is in
+    let works : Works setup old new payload before before (goes []) = record {
+      gives = silent setup.suite setup.config.seed old.known.strict _ old new before Open (ap (λ (k : StateData). k.end) next ∙ stays) (ap (λ (k : StateData). k.sending) next);
       moves = λ goes_on. Drops seen.0 seen.1
           (ap (λ (k : StateData). k.carried) next)
           (record {

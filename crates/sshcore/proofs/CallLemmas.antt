@@ -11,14 +11,14 @@ use Rattle.sshpacket.specs.Suite.{SuiteData}
 use Rattle.sshcore.specs.Brings.{Gives}
 use Rattle.sshcore.specs.EndData.{Open, by_owner, disconnects, end_data, parting}
 use Rattle.sshcore.specs.Endpoints.{Breaks, EndpointAfter, Fed, IsSameEndpoint, Leaves, endpoint_end}
-use Rattle.sshcore.specs.EndpointData.{EndpointData}
+use Rattle.sshcore.specs.EndpointData.{EndpointData, endpoint_setup}
 use Rattle.sshcore.specs.History.{BrokenOff}
 use Rattle.sshcore.specs.declared.input.Input.{Input}
 use Rattle.sshcore.specs.declared.state.State.{State}
 use Rattle.sshcore.specs.Inputs.{EndpointStands, Steps}
 use Rattle.sshcore.specs.StateData.{state_data}
 use Rattle.sshcore.specs.Output.{sent_from}
-use Rattle.sshcore.specs.EndpointParts.{ConfigData, DecisionsData}
+use Rattle.sshcore.specs.EndpointParts.{ConfigData, DecisionsData, setup_with}
 use Rattle.sshcore.proofs.FeedLemmas.{SentMore, sent_last, stands_left}
 use Rattle.sshcore.proofs.HistoryLemmas.{broken}
 
@@ -74,16 +74,16 @@ module _ {S D : Type 0} (meaning : S → SuiteData) (policy : D → DecisionsDat
     within = omega arith;
     added = [];
     appended = sym (append-nil out);
-    follows = λ h s a. subst (λ (x : List ℕ). BrokenOff (meaning e.suite) (policy e.decisions) e.role e.party x (s ++ [])) (sym (append-nil h))
-        (subst (λ (x : List ℕ). BrokenOff (meaning e.suite) (policy e.decisions) e.role e.party h x) (sym (append-nil s))
-        (broken (meaning e.suite) (policy e.decisions) e.role e.party a.units a.rest a.refusal a.answers a.received_end h s a.history));
+    follows = λ h s a. subst (λ (x : List ℕ). BrokenOff (endpoint_setup meaning policy e) x (s ++ [])) (sym (append-nil h))
+        (subst (λ (x : List ℕ). BrokenOff (endpoint_setup meaning policy e) h x) (sym (append-nil s))
+        (broken (endpoint_setup meaning policy e) a.units a.rest a.refusal a.answers a.received_end h s a.history));
     same = same;
   }
 
-  broken_as : (m n : SuiteData) (d c : DecisionsData) (r q : Side) (p o : ConfigData) (h k s t : List ℕ) → m ≡ n → d ≡ c → r ≡ q → p ≡ o → h ≡ k → s ≡ t → BrokenOff m d r p h s → BrokenOff n c q o k t
+  broken_as : (m n : SuiteData) (d c : DecisionsData) (r q : Side) (p o : ConfigData) (h k s t : List ℕ) → m ≡ n → d ≡ c → r ≡ q → p ≡ o → h ≡ k → s ≡ t → BrokenOff (setup_with m d r p) h s → BrokenOff (setup_with n c q o) k t
   broken_as m n d c r q p o h k s t em ed er ep eh es x =
-      subst (λ (m : SuiteData). BrokenOff m c q o k t) em (subst (λ (d : DecisionsData). BrokenOff m d q o k t) ed (subst (λ (r : Side). BrokenOff m d r o k t) er
-      (subst (λ (p : ConfigData). BrokenOff m d r p k t) ep (subst (λ (h : List ℕ). BrokenOff m d r p h t) eh (subst (λ (s : List ℕ). BrokenOff m d r p h s) es x)))))
+      subst (λ (m : SuiteData). BrokenOff (setup_with m c q o) k t) em (subst (λ (d : DecisionsData). BrokenOff (setup_with m d q o) k t) ed (subst (λ (r : Side). BrokenOff (setup_with m d r o) k t) er
+      (subst (λ (p : ConfigData). BrokenOff (setup_with m d r p) k t) ep (subst (λ (h : List ℕ). BrokenOff (setup_with m d r p) h t) eh (subst (λ (s : List ℕ). BrokenOff (setup_with m d r p) h s) es x)))))
 
   -- memory runs out after what went well
   pub breaks_then : (old mid new : EndpointData S D) (piece : List ℕ) (n : ℕ) (o0 o1 o2 : List ℕ) → n ≤ length piece → Fed meaning policy old mid (take n piece) o0 o1
@@ -107,14 +107,14 @@ module _ {S D : Type 0} (meaning : S → SuiteData) (policy : D → DecisionsDat
 
   -- a step of what an endpoint keeps is a call that used these bytes
   pub fed_by : (role : Side) (party : ConfigData) (suite : S) (decisions : D) (i j : Input) (x y : State) (taken before after : List ℕ)
-      → (added : List ℕ) × (after ≡ before ++ added) × Steps (meaning suite) (policy decisions) role party i (state_data x) j (state_data y) taken [] added
+      → (added : List ℕ) × (after ≡ before ++ added) × Steps (setup_with (meaning suite) (policy decisions) role party) i (state_data x) j (state_data y) taken [] added
       → Fed meaning policy (record { role = role; party = party; suite = suite; decisions = decisions; input = i; state = x })
       (record { role = role; party = party; suite = suite; decisions = decisions; input = j; state = y }) taken before after
   fed_by role party suite decisions i j x y taken before after step = record {
     added = step.0;
     appended = step.1;
     follows = λ h s a. let g = step.2 h s a in
-        subst (λ (l : List ℕ). EndpointStands (meaning suite) (policy decisions) role party (state_data y) j (h ++ taken) (s ++ l)) (sym g.appended) g.stands;
+        subst (λ (l : List ℕ). EndpointStands (setup_with (meaning suite) (policy decisions) role party) (state_data y) j (h ++ taken) (s ++ l)) (sym g.appended) g.stands;
     uncut = λ h s a owned. absurd (true≢false (sym owned ∙ (step.2 h s a).uncut));
     same = record { same_role = refl; same_config = refl; same_suite = refl; same_decisions = refl };
   }
@@ -128,8 +128,8 @@ module _ {S D : Type 0} (meaning : S → SuiteData) (policy : D → DecisionsDat
     left = gives.ends;
     added = sent_from (meaning suite) party.seed strict next (state_data x).sending (parting reason description ∷ []);
     appended = gives.output;
-    follows = λ h s a. stands_left (meaning suite) (policy decisions) role party (state_data x) i h s is a (state_data y) reason gives.ends;
-    sent = λ h s a. sent_last (meaning suite) (policy decisions) role party (state_data x) i h s is a more reason description strict next;
+    follows = λ h s a. stands_left (setup_with (meaning suite) (policy decisions) role party) (state_data x) i h s is a (state_data y) reason gives.ends;
+    sent = λ h s a. sent_last (setup_with (meaning suite) (policy decisions) role party) (state_data x) i h s is a more reason description strict next;
     same = record { same_role = refl; same_config = refl; same_suite = refl; same_decisions = refl };
   }
 

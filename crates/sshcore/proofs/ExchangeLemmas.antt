@@ -30,7 +30,7 @@ use Rattle.sshcore.specs.Exchanged.{Accepts, AnswersInit, HasForm, IsSigned, Jud
 use Rattle.sshcore.specs.History.{AllFit, FitsPacket}
 use Rattle.sshcore.specs.StateData.{StateData, with_exchange}
 use Rattle.sshcore.specs.Output.{Sending, sending_from, sent_from, with_newkeys, with_packet}
-use Rattle.sshcore.specs.EndpointParts.{ConfigData, DecisionsData}
+use Rattle.sshcore.specs.EndpointParts.{ConfigData, DecisionsData, setup_with}
 use Rattle.sshcore.specs.Phases.{past_exchange, past_kexinit}
 use Rattle.sshcore.specs.Work.{answered_by, init_reply, reply_in, reply_reply, signed_by, userauth}
 use Rattle.sshcore.proofs.OutputLemmas.{sent_switch, sent_two}
@@ -234,7 +234,7 @@ module _ (m : SuiteData) (d : DecisionsData) (party : ConfigData) (old new : Sta
 
   -- and what it replies, where it trusts the host key
   reply_is : (shared : List ℕ) → d.host_key old.known.algorithms.host_key host_key ≡ true → m.shared old.known.algorithms.kex party.random share ≡ Some shared
-      → reply_reply m d Client party old.known message signature
+      → reply_reply (setup_with m d Client party) old.known message signature
       ≡ signed_by m old.known (exchanged Client party old.known (client_shares m party old.known host_key share shared)) signature (Some (record { share = share; shared = shared }))
   unfolding reply_reply
   reply_is shared trusts given = rw (hashed_client shared given, trusts, read, given) refl
@@ -242,26 +242,26 @@ module _ (m : SuiteData) (d : DecisionsData) (party : ConfigData) (old new : Sta
   -- it fails where it doesn't trust the host key
   pub reply_distrusts : d.host_key old.known.algorithms.host_key host_key ≡ false
       → ((strict : Bool) (next : KeysData) → Gives m party.seed strict next old new before after (fails fault.HostKey))
-      → ReceivesExchange m Client party old new before after message (reply_reply m d Client party old.known message signature)
+      → ReceivesExchange m Client party old new before after message (reply_reply (setup_with m d Client party) old.known message signature)
   unfolding reply_reply exchange_with exchange_by
   reply_distrusts off gives =
-      receives_failure m Client party old new before after message fault.HostKey (reply_reply m d Client party old.known message signature) (rw (told, off) refl) gives
+      receives_failure m Client party old new before after message fault.HostKey (reply_reply (setup_with m d Client party) old.known message signature) (rw (told, off) refl) gives
 
   -- and where there is no shared secret
   pub reply_fails : d.host_key old.known.algorithms.host_key host_key ≡ true → m.shared old.known.algorithms.kex party.random share ≡ None
       → ((strict : Bool) (next : KeysData) → Gives m party.seed strict next old new before after (fails fault.Exchange))
-      → ReceivesExchange m Client party old new before after message (reply_reply m d Client party old.known message signature)
+      → ReceivesExchange m Client party old new before after message (reply_reply (setup_with m d Client party) old.known message signature)
   unfolding reply_reply exchange_with exchange_by
   reply_fails trusts none gives =
-      receives_failure m Client party old new before after message fault.Exchange (reply_reply m d Client party old.known message signature) (rw (told, trusts, read, none) refl) gives
+      receives_failure m Client party old new before after message fault.Exchange (reply_reply (setup_with m d Client party) old.known message signature) (rw (told, trusts, read, none) refl) gives
 
   -- else the signature decides
   judged_as_client : (shared : List ℕ) → d.host_key old.known.algorithms.host_key host_key ≡ true → m.shared old.known.algorithms.kex party.random share ≡ Some shared
       → old.end ≡ Open → old.phase ≡ phase.Exchange → HasForm m old
       → JudgesReply m Client party old new (client_shares m party old.known host_key share shared) signature before after
-      → ReceivesExchange m Client party old new before after message (reply_reply m d Client party old.known message signature)
+      → ReceivesExchange m Client party old new before after message (reply_reply (setup_with m d Client party) old.known message signature)
   judged_as_client shared trusts given ongoing at form (Refuses off gives) =
-      receives_failure m Client party old new before after message fault.Signature (reply_reply m d Client party old.known message signature)
+      receives_failure m Client party old new before after message fault.Signature (reply_reply (setup_with m d Client party) old.known message signature)
       (reply_is shared trusts given ∙ rw off refl) gives
   judged_as_client shared trusts given ongoing at form (Accepts on sent) =
       let a : AlgorithmsData = old.known.algorithms in
@@ -271,7 +271,7 @@ module _ (m : SuiteData) (d : DecisionsData) (party : ConfigData) (old new : Sta
       let keys : kex_keys m a shared hash Client ≡ next = keys_of_exchange m a x Client in
       let request : List ℕ = written_message (ServiceRequest userauth) in
       let o : Sending = with_newkeys old.known.strict (kex_keys m a shared hash Client) old.sending in
-      let is : reply_reply m d Client party old.known message signature ≡ goes (written_message NewKeys ∷ request ∷ []) = reply_is shared trusts given ∙ rw on refl in
+      let is : reply_reply (setup_with m d Client party) old.known message signature ≡ goes (written_message NewKeys ∷ request ∷ []) = reply_is shared trusts given ∙ rw on refl in
       let two = sent_switch m party.seed old.known.strict next old.sending (written_message NewKeys) request newkeys_kind request_kind (form.clear (ap past_exchange at)) in
       subst (λ (r : Reply). ReceivesExchange m Client party old new before after message r) (sym is)
       (receives_on m Client party old new before after message x hash (with_packet o) (written_message NewKeys ∷ request ∷ []) (hashed_client shared given) refl ongoing sent.stands
@@ -283,7 +283,7 @@ module _ (m : SuiteData) (d : DecisionsData) (party : ConfigData) (old new : Sta
   pub reply_judged : (role : Side) (shared body : List ℕ) → role ≡ Client → shared ≡ body → d.host_key old.known.algorithms.host_key host_key ≡ true
       → m.shared old.known.algorithms.kex party.random share ≡ Some body → old.end ≡ Open → old.phase ≡ phase.Exchange → HasForm m old
       → JudgesReply m role party old new (client_shares m party old.known host_key share shared) signature before after
-      → ReceivesExchange m Client party old new before after message (reply_reply m d Client party old.known message signature)
+      → ReceivesExchange m Client party old new before after message (reply_reply (setup_with m d Client party) old.known message signature)
   reply_judged role shared body is same trusts given ongoing at form judged =
       judged_as_client body trusts given ongoing at form
       (subst (λ (l : List ℕ). JudgesReply m Client party old new (client_shares m party old.known host_key share l) signature before after) same

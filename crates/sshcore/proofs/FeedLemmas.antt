@@ -29,7 +29,7 @@ use Rattle.sshcore.specs.Inputs.{AsReceived, CutOff, EndpointStands, GoesOn, IsC
 use Rattle.sshcore.specs.StateData.{Carried, StateData, keys_due, keys_left}
 use Rattle.sshcore.specs.Known.{Known}
 use Rattle.sshcore.specs.Output.{Sending, Speaks, sending_from, sent_from}
-use Rattle.sshcore.specs.EndpointParts.{ConfigData, DecisionsData}
+use Rattle.sshcore.specs.EndpointParts.{ConfigData, Setup}
 use Rattle.sshcore.specs.Plan.{is_waiting}
 use Rattle.sshcore.specs.Phases.{leaving, past_exchange, past_kexinit}
 use Rattle.sshcore.specs.Replies.{Ends, answers_at, end_at, ended, fault_of, goes_on, line_reply, reply_at}
@@ -82,9 +82,9 @@ received_open received_end end (AsReceived e) o = sym e ∙ o
 received_open received_end end (CutOff h e) o = absurd cc
 received_open received_end end (Left reason h e) o = absurd cc
 
-pub none_refused : (m : SuiteData) (d : DecisionsData) (role : Side) (party : ConfigData) (units : Units) (r : Option Refusal) (end : EndData) → end ≡ Open → Ends m d role party units r end → r ≡ None
-none_refused m d role party units r end o (goes_on stays e) = no_refusal r (sym e ∙ o)
-none_refused m d role party units r end o (ended before last is stays e shut none) = none
+pub none_refused : (setup : Setup) (units : Units) (r : Option Refusal) (end : EndData) → end ≡ Open → Ends setup units r end → r ≡ None
+none_refused setup units r end o (goes_on stays e) = no_refusal r (sym e ∙ o)
+none_refused setup units r end o (ended before last is stays e shut none) = none
 
 -- before the exchange was received nothing is sealed
 clear_by : (b : Bool) (k : KeysData) → b ≡ false → cond b (Some k) None ≡ None
@@ -98,13 +98,13 @@ clear_before m role party units answers p o exchange speaks keyed not_past = eli
   | inr off ↦ speaks.keys ∙ clear_by (switched_out answers) (keys_at m role party (version_in units) (payloads_in units) role) off
 ]
 
-clear_at : (m : SuiteData) (d : DecisionsData) (role : Side) (party : ConfigData) (version : List ℕ) (before : Units) (payload : List ℕ) (last : StateData)
-    → Sits m d role party version (before ++ payload ∷ []) last.phase last.guess last.known → {units_after : Units} → units_after ≡ version ∷ (before ++ payload ∷ [])
-    → (answers : Units) → Speaks m role party units_after answers last.sending → (switched_out answers ≡ true → IsReady role party (payloads_in units_after))
+clear_at : (setup : Setup) (version : List ℕ) (before : Units) (payload : List ℕ) (last : StateData)
+    → Sits setup version (before ++ payload ∷ []) last.phase last.guess last.known → {units_after : Units} → units_after ≡ version ∷ (before ++ payload ∷ [])
+    → (answers : Units) → Speaks setup.suite setup.role setup.config units_after answers last.sending → (switched_out answers ≡ true → IsReady setup.role setup.config (payloads_in units_after))
     → past_exchange last.phase ≡ false → last.sending.keys ≡ None
-clear_at m d role party version before payload last s {units_after} is answers speaks keyed not_past =
-    clear_before m role party units_after answers last.phase last.sending
-    (ap (λ (us : Units). stood role party.offer (leaving role phase.Exchange) (payloads_in us)) is ∙ s.tied.exchange) speaks keyed not_past
+clear_at setup version before payload last s {units_after} is answers speaks keyed not_past =
+    clear_before setup.suite setup.role setup.config units_after answers last.phase last.sending
+    (ap (λ (us : Units). stood setup.role setup.config.offer (leaving setup.role phase.Exchange) (payloads_in us)) is ∙ s.tied.exchange) speaks keyed not_past
 
 -- a DISCONNECT is no NEWKEYS
 quiet_parting : (reason : ℕ) (description : List ℕ) → (kind (parting reason description) == 21) ≡ false
@@ -116,9 +116,9 @@ abbrev pub SentMore : Type 0
 SentMore = (spelled : Units → List ℕ → List ℕ) (stream : List ℕ) (us more : Units) → Sent spelled stream us → Sent spelled (stream ++ flat_places spelled us more) (us ++ more)
 
 -- Its owner tells an endpoint that stands open to disconnect.
-module _ (m : SuiteData) (d : DecisionsData) (role : Side) (party : ConfigData) (kept : StateData) (i : Input) (h s : List ℕ) (is : kept.end ≡ Open) (a : EndpointStands m d role party kept i h s) where
+module _ (setup : Setup) (kept : StateData) (i : Input) (h s : List ℕ) (is : kept.end ≡ Open) (a : EndpointStands setup kept i h s) where
   -- it has received and sent the same before that
-  pub stands_left : (new : StateData) (reason : ℕ) → new.end ≡ Disconnected reason → EndpointStands m d role party new i h s
+  pub stands_left : (new : StateData) (reason : ℕ) → new.end ≡ Disconnected reason → EndpointStands setup new i h s
   stands_left new reason ends = record {
     units = a.units;
     rest = a.rest;
@@ -132,47 +132,47 @@ module _ (m : SuiteData) (d : DecisionsData) (role : Side) (party : ConfigData) 
 
   -- and the DISCONNECT is spelled after what it had sent
   pub sent_last : SentMore → (reason : ℕ) (description : List ℕ) (strict : Bool) (next : KeysData)
-      → Sent (spells m role party a.units) (s ++ sent_from m party.seed strict next kept.sending (parting reason description ∷ [])) (party.version ∷ (a.answers ++ parting reason description ∷ []))
+      → Sent (spells setup.suite setup.role setup.config a.units) (s ++ sent_from setup.suite setup.config.seed strict next kept.sending (parting reason description ∷ [])) (setup.config.version ∷ (a.answers ++ parting reason description ∷ []))
   sent_last more reason description strict next =
-      let spoken = sent_quiet m role party a.units strict next a.answers (parting reason description ∷ []) kept.sending (quiet_parting reason description, tt) (a.inside (inl is)).speaks in
-      subst (λ (l : List ℕ). Sent (spells m role party a.units) (s ++ l) (party.version ∷ (a.answers ++ parting reason description ∷ []))) (sym spoken.0)
-      (more (spells m role party a.units) s (party.version ∷ a.answers) (parting reason description ∷ []) a.history.sent)
+      let spoken = sent_quiet setup.suite setup.role setup.config a.units strict next a.answers (parting reason description ∷ []) kept.sending (quiet_parting reason description, tt) (a.inside (inl is)).speaks in
+      subst (λ (l : List ℕ). Sent (spells setup.suite setup.role setup.config a.units) (s ++ l) (setup.config.version ∷ (a.answers ++ parting reason description ∷ []))) (sym spoken.0)
+      (more (spells setup.suite setup.role setup.config a.units) s (setup.config.version ∷ a.answers) (parting reason description ∷ []) a.history.sent)
 
-module _ (below : Below) (streams : Streams) (m : SuiteData) (d : DecisionsData) (role : Side) (party : ConfigData) (kept : StateData) (i : Input) (h s : List ℕ) (is : kept.end ≡ Open) (a : EndpointStands m d role party kept i h s) where
+module _ (below : Below) (streams : Streams) (setup : Setup) (kept : StateData) (i : Input) (h s : List ℕ) (is : kept.end ≡ Open) (a : EndpointStands setup kept i h s) where
   received_is : a.received_end ≡ Open
   received_is = received_open a.received_end kept.end a.ends is
 
   none : a.refusal ≡ None
-  none = none_refused m d role party a.units a.refusal a.received_end received_is a.history.replies.ends
+  none = none_refused setup a.units a.refusal a.received_end received_is a.history.replies.ends
 
-  pub open_history : History m d role party a.units a.rest None a.answers Open h s
-  open_history = subst (λ (r : Option Refusal). History m d role party a.units a.rest r a.answers Open h s) none
-      (subst (λ (e : EndData). History m d role party a.units a.rest a.refusal a.answers e h s) received_is a.history)
+  pub open_history : History setup a.units a.rest None a.answers Open h s
+  open_history = subst (λ (r : Option Refusal). History setup a.units a.rest r a.answers Open h s) none
+      (subst (λ (e : EndData). History setup a.units a.rest a.refusal a.answers e h s) received_is a.history)
 
-  pub within : IsInside m d role party a.units a.answers a.rest kept i
+  pub within : IsInside setup a.units a.answers a.rest kept i
   within = a.inside (inl is)
 
   -- more bytes of an unfinished unit
-  pub stands_part : (j : Input) (piece : List ℕ) → parsers m role party a.units (a.rest ++ piece) ≡ unfinished → IsInput m role party a.units (a.rest ++ piece) j
-      → EndpointStands m d role party kept j (h ++ piece) s
+  pub stands_part : (j : Input) (piece : List ℕ) → parsers setup.suite setup.role setup.config a.units (a.rest ++ piece) ≡ unfinished → IsInput setup.suite setup.role setup.config a.units (a.rest ++ piece) j
+      → EndpointStands setup kept j (h ++ piece) s
   stands_part j piece e reads = record {
     units = a.units;
     rest = a.rest ++ piece;
     refusal = None;
     answers = a.answers;
     received_end = Open;
-    history = history.part below streams m d role party a.units a.rest a.answers h s open_history piece e;
+    history = history.part below streams setup a.units a.rest a.answers h s open_history piece e;
     ends = AsReceived is;
     inside = λ o. record { sits = within.sits; form = within.form; reads = reads; carries = within.carries; speaks = within.speaks };
   }
 
   -- the bytes are refused
   pub stands_refused : (new : StateData) (j : Input) (piece : List ℕ) (used : ℕ) (r : Refusal) (before after : List ℕ) (strict : Bool) (next : KeysData) → used ≤ length piece
-      → parsers m role party a.units (a.rest ++ piece) ≡ refused r (length a.rest + used) → Gives m party.seed strict next kept new before after (fails (fault_of r))
-      → GoesOn m d role party new j h s (take used piece) before after
+      → parsers setup.suite setup.role setup.config a.units (a.rest ++ piece) ≡ refused r (length a.rest + used) → Gives setup.suite setup.config.seed strict next kept new before after (fails (fault_of r))
+      → GoesOn setup new j h s (take used piece) before after
   stands_refused new j piece used r before after strict next low e gives =
-      let sent = sent_quiet m role party a.units strict next a.answers (disconnect (fault_of r)) kept.sending (none_sent (disconnect (fault_of r)) (still_fails (fault_of r))) within.speaks in record {
-        added = flat_places (spells m role party a.units) (party.version ∷ a.answers) (disconnect (fault_of r));
+      let sent = sent_quiet setup.suite setup.role setup.config a.units strict next a.answers (disconnect (fault_of r)) kept.sending (none_sent (disconnect (fault_of r)) (still_fails (fault_of r))) within.speaks in record {
+        added = flat_places (spells setup.suite setup.role setup.config a.units) (setup.config.version ∷ a.answers) (disconnect (fault_of r));
         appended = gives.output ∙ ap (λ (l : List ℕ). before ++ l) sent.0;
         stands = record {
           units = a.units;
@@ -180,7 +180,7 @@ module _ (below : Below) (streams : Streams) (m : SuiteData) (d : DecisionsData)
           refusal = Some r;
           answers = a.answers ++ disconnect (fault_of r);
           received_end = Failed (fault_of r);
-          history = history.refusal below streams m d role party a.units a.rest a.answers h s open_history piece used r low e gives.fits;
+          history = history.refusal below streams setup a.units a.rest a.answers h s open_history piece used r low e gives.fits;
           ends = AsReceived gives.ends;
           inside = λ o. absurd (failed_over (fault_of r) new.end gives.ends o);
         };
@@ -189,32 +189,32 @@ module _ (below : Below) (streams : Streams) (m : SuiteData) (d : DecisionsData)
 
   -- a packet, with its answers
   module _ (version : List ℕ) (before_units : Units) (units_are : a.units ≡ version ∷ before_units) (new last : StateData) (j : Input) (piece payload : List ℕ) (used packet : ℕ) (before after : List ℕ)
-      (low : used ≤ length piece) (read : parsers m role party a.units (a.rest ++ piece) ≡ whole payload (length a.rest + used))
-      (number : packet ≡ number_in role party before_units)
-      (brings : Brings m d role party kept new packet payload before after)
+      (low : used ≤ length piece) (read : parsers setup.suite setup.role setup.config a.units (a.rest ++ piece) ≡ whole payload (length a.rest + used))
+      (number : packet ≡ number_in setup.role setup.config before_units)
+      (brings : Brings setup kept new packet payload before after)
       (same_end : last.end ≡ new.end) (same_phase : last.phase ≡ new.phase) (same_guess : last.guess ≡ new.guess) (same_known : last.known ≡ new.known) (same_sending : last.sending ≡ new.sending)
       (left : last.carried ≡ record new.carried { pending = keys_left new.phase new.carried.pending })
-      (reads : keys_in m role party version (before_units ++ payload ∷ []) ≡ keys_with (keys_due new.phase new.carried.pending) (keys_in m role party version before_units)
-      → number_in role party (before_units ++ payload ∷ []) ≡ number_with (keys_due new.phase new.carried.pending) new.known.strict (number_in role party before_units)
-      → IsInput m role party (a.units ++ payload ∷ []) [] j) where
+      (reads : keys_in setup.suite setup.role setup.config version (before_units ++ payload ∷ []) ≡ keys_with (keys_due new.phase new.carried.pending) (keys_in setup.suite setup.role setup.config version before_units)
+      → number_in setup.role setup.config (before_units ++ payload ∷ []) ≡ number_with (keys_due new.phase new.carried.pending) new.known.strict (number_in setup.role setup.config before_units)
+      → IsInput setup.suite setup.role setup.config (a.units ++ payload ∷ []) [] j) where
     abbrev more : Units
-    more = answers_at m d role party a.units payload
+    more = answers_at setup a.units payload
 
-    sits : Sits m d role party version before_units kept.phase kept.guess kept.known
-    sits = subst (λ (us : Units). Sits m d role party (version_in us) (payloads_in us) kept.phase kept.guess kept.known) units_are within.sits
+    sits : Sits setup version before_units kept.phase kept.guess kept.known
+    sits = subst (λ (us : Units). Sits setup (version_in us) (payloads_in us) kept.phase kept.guess kept.known) units_are within.sits
 
     abbrev reply : Reply
-    reply = line_reply m d role party kept.known packet (line_by role kept.phase kept.known.strict kept.guess (is_waiting kept.known.left) (kind payload)) payload
+    reply = line_reply setup kept.known packet (line_by setup.role kept.phase kept.known.strict kept.guess (is_waiting kept.known.left) (kind payload)) payload
 
-    reply_is : reply ≡ reply_at m d role party version before_units payload
-    reply_is = ap (λ n. line_reply m d role party kept.known n (line_by role kept.phase kept.known.strict kept.guess (is_waiting kept.known.left) (kind payload)) payload) number
-        ∙ sym (standing.replies m d role party version before_units payload kept.phase kept.guess kept.known sits)
+    reply_is : reply ≡ reply_at setup version before_units payload
+    reply_is = ap (λ n. line_reply setup kept.known n (line_by setup.role kept.phase kept.known.strict kept.guess (is_waiting kept.known.left) (kind payload)) payload) number
+        ∙ sym (standing.replies setup version before_units payload kept.phase kept.guess kept.known sits)
 
     answers_are : reply.answers ≡ more
-    answers_are = ap (λ (r : Reply). r.answers) reply_is ∙ ap (λ (us : Units). answers_at m d role party us payload) (sym units_are)
+    answers_are = ap (λ (r : Reply). r.answers) reply_is ∙ ap (λ (us : Units). answers_at setup us payload) (sym units_are)
 
-    end_is : reply.end ≡ end_at m d role party a.units payload
-    end_is = ap (λ (r : Reply). r.end) reply_is ∙ ap (λ (us : Units). end_at m d role party us payload) (sym units_are)
+    end_is : reply.end ≡ end_at setup a.units payload
+    end_is = ap (λ (r : Reply). r.end) reply_is ∙ ap (λ (us : Units). end_at setup us payload) (sym units_are)
 
     abbrev units_after : Units
     units_after = a.units ++ payload ∷ []
@@ -222,94 +222,94 @@ module _ (below : Below) (streams : Streams) (m : SuiteData) (d : DecisionsData)
     units_after_is : units_after ≡ version ∷ (before_units ++ payload ∷ [])
     units_after_is = ap (λ (us : Units). us ++ payload ∷ []) units_are
 
-    done : History m d role party units_after [] None (a.answers ++ more) (end_at m d role party a.units payload) (h ++ take used piece)
-        (s ++ flat_places (spells m role party units_after) (party.version ∷ a.answers) more)
-    done = history.unit below streams m d role party a.units a.rest a.answers h s open_history piece payload used low read (subst (λ (us : Units). AllFit us) answers_are brings.gives.fits)
+    done : History setup units_after [] None (a.answers ++ more) (end_at setup a.units payload) (h ++ take used piece)
+        (s ++ flat_places (spells setup.suite setup.role setup.config units_after) (setup.config.version ∷ a.answers) more)
+    done = history.unit below streams setup a.units a.rest a.answers h s open_history piece payload used low read (subst (λ (us : Units). AllFit us) answers_are brings.gives.fits)
 
-    speaks_on : Speaks m role party units_after a.answers kept.sending
-    speaks_on = speaks_received m role party a.units (payload ∷ []) a.answers kept.sending a.history.keyed within.speaks
+    speaks_on : Speaks setup.suite setup.role setup.config units_after a.answers kept.sending
+    speaks_on = speaks_received setup.suite setup.role setup.config a.units (payload ∷ []) a.answers kept.sending a.history.keyed within.speaks
 
     abbrev next : KeysData
-    next = keys_by m kept.known.algorithms (exchange_received m role party kept.known payload) role
+    next = keys_by setup.suite kept.known.algorithms (exchange_received setup.suite setup.role setup.config kept.known payload) setup.role
 
     abbrev Spoken : Type 0
-    Spoken = (sent_from m party.seed kept.known.strict next kept.sending more ≡ flat_places (spells m role party units_after) (party.version ∷ a.answers) more)
-        × Speaks m role party units_after (a.answers ++ more) (sending_from kept.known.strict next kept.sending more)
+    Spoken = (sent_from setup.suite setup.config.seed kept.known.strict next kept.sending more ≡ flat_places (spells setup.suite setup.role setup.config units_after) (setup.config.version ∷ a.answers) more)
+        × Speaks setup.suite setup.role setup.config units_after (a.answers ++ more) (sending_from kept.known.strict next kept.sending more)
 
-    told : switched_out more ≡ true → IsExchangePlace role party before_units payload kept.phase
-    told on = told_at below m d role party version before_units payload kept.phase sits.tied (ap switched_out (ap (λ (us : Units). answers_at m d role party us payload) (sym units_are)) ∙ on)
+    told : switched_out more ≡ true → IsExchangePlace setup.role setup.config before_units payload kept.phase
+    told on = told_at below setup version before_units payload kept.phase sits.tied (ap switched_out (ap (λ (us : Units). answers_at setup us payload) (sym units_are)) ∙ on)
 
-    exchange_told : IsExchangePlace role party before_units payload kept.phase → Spoken
+    exchange_told : IsExchangePlace setup.role setup.config before_units payload kept.phase → Spoken
     exchange_told e =
-        let s0 : Sits m d role party version before_units phase.Exchange false kept.known =
-        subst (λ (g : Bool). Sits m d role party version before_units phase.Exchange g kept.known) (sym sits.due ∙ e.none_due)
-        (subst (λ (p : Phase). Sits m d role party version before_units p kept.guess kept.known) e.at sits) in
-        let t0 = standing.exchanges m d role party version before_units payload kept.known s0 e.leaves in
-        let strict_is : kept.known.strict ≡ strict_at role party (payloads_in units_after) =
-        sym (ap (λ (k : Known). k.strict) t0.knows) ∙ ap (λ (us : Units). strict_at role party (payloads_in us)) (sym units_after_is) in
-        let keys_are : next ≡ keys_at m role party (version_in units_after) (payloads_in units_after) role =
-        sym (standing.makes_keys m d role party version before_units payload kept.known s0 e.leaves role)
-        ∙ ap (λ (us : Units). keys_at m role party (version_in us) (payloads_in us) role) (sym units_after_is) in
-        sent_is m role party units_after kept.known.strict next a.answers more kept.sending strict_is keys_are speaks_on
+        let s0 : Sits setup version before_units phase.Exchange false kept.known =
+        subst (λ (g : Bool). Sits setup version before_units phase.Exchange g kept.known) (sym sits.due ∙ e.none_due)
+        (subst (λ (p : Phase). Sits setup version before_units p kept.guess kept.known) e.at sits) in
+        let t0 = standing.exchanges setup version before_units payload kept.known s0 e.leaves in
+        let strict_is : kept.known.strict ≡ strict_at setup.role setup.config (payloads_in units_after) =
+        sym (ap (λ (k : Known). k.strict) t0.knows) ∙ ap (λ (us : Units). strict_at setup.role setup.config (payloads_in us)) (sym units_after_is) in
+        let keys_are : next ≡ keys_at setup.suite setup.role setup.config (version_in units_after) (payloads_in units_after) setup.role =
+        sym (standing.makes_keys setup version before_units payload kept.known s0 e.leaves setup.role)
+        ∙ ap (λ (us : Units). keys_at setup.suite setup.role setup.config (version_in us) (payloads_in us) setup.role) (sym units_after_is) in
+        sent_is setup.suite setup.role setup.config units_after kept.known.strict next a.answers more kept.sending strict_is keys_are speaks_on
 
     spoken : Spoken
     spoken = elim (cases_Bool (switched_out more)) [
       | inl on ↦ exchange_told (told on)
-      | inr off ↦ sent_quiet m role party units_after kept.known.strict next a.answers more kept.sending (none_sent more off) speaks_on
+      | inr off ↦ sent_quiet setup.suite setup.role setup.config units_after kept.known.strict next a.answers more kept.sending (none_sent more off) speaks_on
     ]
 
-    end_new : last.end ≡ end_at m d role party a.units payload
+    end_new : last.end ≡ end_at setup a.units payload
     end_new = same_end ∙ brings.gives.ends ∙ end_is
 
-    inside_new : IsOngoing last.end → IsInside m d role party units_after (a.answers ++ more) [] last j
+    inside_new : IsOngoing last.end → IsInside setup units_after (a.answers ++ more) [] last j
     inside_new ongoing =
         let moves = brings.moves (subst IsOngoing same_end ongoing) in
-        let s1 : Sits m d role party version (before_units ++ payload ∷ []) new.phase new.guess new.known = sits_after below m d role party version before_units payload kept new sits moves in
-        let s2 : Sits m d role party version (before_units ++ payload ∷ []) last.phase last.guess last.known =
-        subst (λ (k : Known). Sits m d role party version (before_units ++ payload ∷ []) last.phase last.guess k) (sym same_known)
-        (subst (λ (g : Bool). Sits m d role party version (before_units ++ payload ∷ []) last.phase g new.known) (sym same_guess)
-        (subst (λ (p : Phase). Sits m d role party version (before_units ++ payload ∷ []) p new.guess new.known) (sym same_phase) s1)) in
-        let carried : IsCarried m d role party version before_units kept.phase kept.carried =
-        subst (λ (us : Units). IsCarried m d role party (version_in us) (payloads_in us) kept.phase kept.carried) units_are within.carries in
-        let t = turned below m d role party version before_units payload kept new sits carried.pending moves in
-        let on = carries_on below m d role party version before_units payload kept new sits carried moves in
-        let carries : IsCarried m d role party version (before_units ++ payload ∷ []) last.phase last.carried = record {
-          pending = ap (λ (x : Carried). x.pending) left ∙ t.left ∙ ap (λ (p : Phase). pending_at p (keys_at m role party version (before_units ++ payload ∷ []) (other role))) (sym same_phase);
+        let s1 : Sits setup version (before_units ++ payload ∷ []) new.phase new.guess new.known = sits_after below setup version before_units payload kept new sits moves in
+        let s2 : Sits setup version (before_units ++ payload ∷ []) last.phase last.guess last.known =
+        subst (λ (k : Known). Sits setup version (before_units ++ payload ∷ []) last.phase last.guess k) (sym same_known)
+        (subst (λ (g : Bool). Sits setup version (before_units ++ payload ∷ []) last.phase g new.known) (sym same_guess)
+        (subst (λ (p : Phase). Sits setup version (before_units ++ payload ∷ []) p new.guess new.known) (sym same_phase) s1)) in
+        let carried : IsCarried setup version before_units kept.phase kept.carried =
+        subst (λ (us : Units). IsCarried setup (version_in us) (payloads_in us) kept.phase kept.carried) units_are within.carries in
+        let t = turned below setup version before_units payload kept new sits carried.pending moves in
+        let on = carries_on below setup version before_units payload kept new sits carried moves in
+        let carries : IsCarried setup version (before_units ++ payload ∷ []) last.phase last.carried = record {
+          pending = ap (λ (x : Carried). x.pending) left ∙ t.left ∙ ap (λ (p : Phase). pending_at p (keys_at setup.suite setup.role setup.config version (before_units ++ payload ∷ []) (other setup.role))) (sym same_phase);
           own_version = λ past. ap (λ (x : Carried). x.own_version) left ∙ on.own_version (ap past_exchange (sym same_phase) ∙ past);
           host_key = λ past. ap (λ (x : Carried). x.host_key) left ∙ on.host_key (ap past_exchange (sym same_phase) ∙ past);
           user_key = ap (λ (x : Carried). x.user_key) left ∙ on.user_key;
         } in
-        let speaks : Speaks m role party units_after (a.answers ++ more) last.sending =
-        subst (λ (o : Sending). Speaks m role party units_after (a.answers ++ more) o)
+        let speaks : Speaks setup.suite setup.role setup.config units_after (a.answers ++ more) last.sending =
+        subst (λ (o : Sending). Speaks setup.suite setup.role setup.config units_after (a.answers ++ more) o)
         (sym (same_sending ∙ brings.gives.sends ∙ ap (λ (us : Units). sending_from kept.known.strict next kept.sending us) answers_are)) spoken.1 in
         record {
-          sits = subst (λ (us : Units). Sits m d role party (version_in us) (payloads_in us) last.phase last.guess last.known) (sym units_after_is) s2;
+          sits = subst (λ (us : Units). Sits setup (version_in us) (payloads_in us) last.phase last.guess last.known) (sym units_after_is) s2;
           form = record {
-            form = λ past. form_new (form_after below m d role party version before_units payload kept new sits carried.pending within.form.form moves) past;
-            clear = λ not_past. clear_at m d role party version before_units payload last s2 units_after_is (a.answers ++ more) speaks done.keyed not_past;
+            form = λ past. form_new (form_after below setup version before_units payload kept new sits carried.pending within.form.form moves) past;
+            clear = λ not_past. clear_at setup version before_units payload last s2 units_after_is (a.answers ++ more) speaks done.keyed not_past;
           };
           reads = reads t.keys t.number;
-          carries = subst (λ (us : Units). IsCarried m d role party (version_in us) (payloads_in us) last.phase last.carried) (sym units_after_is) carries;
+          carries = subst (λ (us : Units). IsCarried setup (version_in us) (payloads_in us) last.phase last.carried) (sym units_after_is) carries;
           speaks = speaks;
         }
       where
-        form_new : (past_kexinit new.phase ≡ true → new.known.shares ≡ m.share_form new.known.algorithms.kex) → past_kexinit last.phase ≡ true → last.known.shares ≡ m.share_form last.known.algorithms.kex
+        form_new : (past_kexinit new.phase ≡ true → new.known.shares ≡ setup.suite.share_form new.known.algorithms.kex) → past_kexinit last.phase ≡ true → last.known.shares ≡ setup.suite.share_form last.known.algorithms.kex
         form_new form past =
-            ap (λ (k : Known). k.shares) same_known ∙ form (ap past_kexinit (sym same_phase) ∙ past) ∙ ap (λ (k : Known). m.share_form k.algorithms.kex) (sym same_known)
+            ap (λ (k : Known). k.shares) same_known ∙ form (ap past_kexinit (sym same_phase) ∙ past) ∙ ap (λ (k : Known). setup.suite.share_form k.algorithms.kex) (sym same_known)
 
-    pub stands_unit : GoesOn m d role party last j h s (take used piece) before after
+    pub stands_unit : GoesOn setup last j h s (take used piece) before after
     stands_unit = record {
-      added = flat_places (spells m role party units_after) (party.version ∷ a.answers) more;
-      appended = brings.gives.output ∙ ap (λ (us : Units). before ++ sent_from m party.seed kept.known.strict next kept.sending us) answers_are ∙ ap (λ (l : List ℕ). before ++ l) spoken.0;
+      added = flat_places (spells setup.suite setup.role setup.config units_after) (setup.config.version ∷ a.answers) more;
+      appended = brings.gives.output ∙ ap (λ (us : Units). before ++ sent_from setup.suite setup.config.seed kept.known.strict next kept.sending us) answers_are ∙ ap (λ (l : List ℕ). before ++ l) spoken.0;
       stands = record {
         units = units_after;
         rest = [];
         refusal = None;
         answers = a.answers ++ more;
-        received_end = end_at m d role party a.units payload;
+        received_end = end_at setup a.units payload;
         history = done;
         ends = AsReceived end_new;
         inside = inside_new;
       };
-      uncut = unit_stays m d role party a.units payload last.end end_new;
+      uncut = unit_stays setup a.units payload last.end end_new;
     }

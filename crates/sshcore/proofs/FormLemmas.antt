@@ -7,12 +7,11 @@ use Rattle.sshmsg.specs.MessageData.{KexEcdhInit, KexEcdhReply, KexInit, KexdhIn
 use Rattle.sshmsg.specs.Messages.{message_in}
 use Rattle.sshmsg.specs.Numbers.{kind, number_of}
 use Rattle.sshneg.specs.declared.side.Side.{Side}
-use Rattle.sshpacket.specs.Suite.{SuiteData}
 use Rattle.sshcore.specs.declared.table.Line.{Line}
 use Rattle.sshcore.specs.declared.table.Line.TheVariants as line
 use Rattle.sshcore.specs.declared.table.Phase.TheVariants as phase
 use Rattle.sshcore.specs.Known.{Known}
-use Rattle.sshcore.specs.EndpointParts.{ConfigData, DecisionsData}
+use Rattle.sshcore.specs.EndpointParts.{Setup}
 use Rattle.sshcore.specs.Plan.{is_waiting}
 use Rattle.sshcore.specs.Replies.{line_reply, read_reply}
 use Rattle.sshcore.specs.Table.{line_by}
@@ -33,8 +32,8 @@ no_share role strict n (Leaving none here is) =
 no_share role strict n (Staying none off out calm e) = (calm.init, calm.reply)
 no_share role strict n (Useless none off out is) = absurd cc
 
-module _ (below : Below) (m : SuiteData) (d : DecisionsData) (role : Side) (party : ConfigData) where
-  alike_work : (known : Known) (form : ShareForm) (c : MessageData) → number_of c ≢ 30 → number_of c ≢ 31 → work m d role party (record known { shares = form }) c ≡ work m d role party known c
+module _ (below : Below) (setup : Setup) where
+  alike_work : (known : Known) (form : ShareForm) (c : MessageData) → number_of c ≢ 30 → number_of c ≢ 31 → work setup (record known { shares = form }) c ≡ work setup known c
   unfolding work kexinit_reply request_reply
   alike_work known form (KexInit peer) a b = refl
   alike_work known form (KexdhInit e) a b = absurd (a refl)
@@ -44,25 +43,25 @@ module _ (below : Below) (m : SuiteData) (d : DecisionsData) (role : Side) (part
   alike_work known form _ a b = refl
 
   alike_read : (known : Known) (form : ShareForm) (payload : List ℕ) → kind payload ≢ 30 → kind payload ≢ 31
-      → read_reply m d role party (record known { shares = form }) (kind payload) (message_in form payload) ≡ read_reply m d role party known (kind payload) (message_in known.shares payload)
+      → read_reply setup (record known { shares = form }) (kind payload) (message_in form payload) ≡ read_reply setup known (kind payload) (message_in known.shares payload)
   alike_read known form payload a b =
-      ap (λ r. read_reply m d role party (record known { shares = form }) (kind payload) r) (below.alike form known.shares payload a b) ∙ by (message_in known.shares payload) refl
+      ap (λ r. read_reply setup (record known { shares = form }) (kind payload) r) (below.alike form known.shares payload a b) ∙ by (message_in known.shares payload) refl
     where
-      by : (r : Result MessageData MsgFault) → message_in known.shares payload ≡ r → read_reply m d role party (record known { shares = form }) (kind payload) r ≡ read_reply m d role party known (kind payload) r
+      by : (r : Result MessageData MsgFault) → message_in known.shares payload ≡ r → read_reply setup (record known { shares = form }) (kind payload) r ≡ read_reply setup known (kind payload) r
       by (Ok c) e = let is = below.numbers known.shares payload c e in alike_work known form c (λ q. a (is ∙ q)) (λ q. b (is ∙ q))
       by (Err f) e = refl
 
-  alike_line : (known : Known) (packet : ℕ) (payload : List ℕ) (form : ShareForm) (strict : Bool) (l : Line) → Sees role phase.KexInit strict false (kind payload) l
-      → line_reply m d role party (record known { shares = form }) packet l payload ≡ line_reply m d role party known packet l payload
+  alike_line : (known : Known) (packet : ℕ) (payload : List ℕ) (form : ShareForm) (strict : Bool) (l : Line) → Sees setup.role phase.KexInit strict false (kind payload) l
+      → line_reply setup (record known { shares = form }) packet l payload ≡ line_reply setup known packet l payload
   unfolding line_reply
-  alike_line known packet payload form strict line.Reads s = let two = no_share role strict (kind payload) s in alike_read known form payload two.0 two.1
+  alike_line known packet payload form strict line.Reads s = let two = no_share setup.role strict (kind payload) s in alike_read known form payload two.0 two.1
   alike_line known packet payload form strict line.Drops s = refl
   alike_line known packet payload form strict line.Deviates s = refl
   alike_line known packet payload form strict line.Unknown s = refl
   alike_line known packet payload form strict line.Unexpected s = refl
 
   pub formless : (known : Known) (packet : ℕ) (payload : List ℕ) (form : ShareForm)
-      → line_reply m d role party (record known { shares = form }) packet (line_by role phase.KexInit known.strict false (is_waiting known.left) (kind payload)) payload
-      ≡ line_reply m d role party known packet (line_by role phase.KexInit known.strict false (is_waiting known.left) (kind payload)) payload
+      → line_reply setup (record known { shares = form }) packet (line_by setup.role phase.KexInit known.strict false (is_waiting known.left) (kind payload)) payload
+      ≡ line_reply setup known packet (line_by setup.role phase.KexInit known.strict false (is_waiting known.left) (kind payload)) payload
   formless known packet payload form =
-      alike_line known packet payload form known.strict (line_by role phase.KexInit known.strict false (is_waiting known.left) (kind payload)) (sees role phase.KexInit known.strict (is_waiting known.left) (kind payload) false)
+      alike_line known packet payload form known.strict (line_by setup.role phase.KexInit known.strict false (is_waiting known.left) (kind payload)) (sees setup.role phase.KexInit known.strict (is_waiting known.left) (kind payload) false)

@@ -16,7 +16,7 @@ use Rattle.sshcore.specs.Counting.{switched_out}
 use Rattle.sshcore.specs.Directions.{others_of, parsers, payloads_in, protection_in, spells}
 use Rattle.sshcore.specs.EndData.{Authenticated, Closed, Disconnected, EndData, Failed, Open, disconnect}
 use Rattle.sshcore.specs.History.{AllFit, BrokenOff, FitsPacket, History, IsReady}
-use Rattle.sshcore.specs.EndpointParts.{ConfigData, DecisionsData}
+use Rattle.sshcore.specs.EndpointParts.{ConfigData, Setup}
 use Rattle.sshcore.specs.Replies.{Ends, Replies, StaysOpen, answers_at, end_at, ended, fault_of, goes_on, refusal_reply}
 use Rattle.sshcore.specs.Work.{making}
 use Rattle.sshcore.proofs.Below.{Below}
@@ -69,42 +69,42 @@ module _ (streams : Streams) (m : SuiteData) (role : Side) (party : ConfigData) 
   each [] = streams.lines (others_of role)
   each (version ∷ before) = streams.packets (protection_in m role party version before)
 
-module _ (below : Below) (streams : Streams) (m : SuiteData) (d : DecisionsData) (role : Side) (party : ConfigData) where
-  open_stays : (units : Units) (r : Option Refusal) (end : EndData) → end ≡ Open → Ends m d role party units r end → StaysOpen m d role party units
+module _ (below : Below) (streams : Streams) (setup : Setup) where
+  open_stays : (units : Units) (r : Option Refusal) (end : EndData) → end ≡ Open → Ends setup units r end → StaysOpen setup units
   open_stays units r end is (goes_on stays e) = stays
   open_stays units r end is (ended before last units_are stays e shut none) = absurd (shut is)
 
   -- before any byte
-  pub begins : AllFit (making m role party)
-      → History m d role party [] [] None (making m role party) Open [] (flat_places (spells m role party []) [] (party.version ∷ making m role party))
+  pub begins : AllFit (making setup.suite setup.role setup.config)
+      → History setup [] [] None (making setup.suite setup.role setup.config) Open [] (flat_places (spells setup.suite setup.role setup.config []) [] (setup.config.version ∷ making setup.suite setup.role setup.config))
   begins fit = record {
-    received = streams.nothing (parsers m role party) (each streams m role party);
+    received = streams.nothing (parsers setup.suite setup.role setup.config) (each streams setup.suite setup.role setup.config);
     sent = record { spelled = refl };
-    replies = record { in_order = sym (append-nil (making m role party)); ends = goes_on tt refl };
+    replies = record { in_order = sym (append-nil (making setup.suite setup.role setup.config)); ends = goes_on tt refl };
     fits = fit;
-    keyed = λ on. absurd (true≢false (sym on ∙ still_making m role party));
+    keyed = λ on. absurd (true≢false (sym on ∙ still_making setup.suite setup.role setup.config));
     last = λ shut. absurd (shut refl);
   }
 
   -- the packet after an open history is answered by NEWKEYS only where the exchange is received with it
-  keyed_unit : (units : Units) (u : List ℕ) → StaysOpen m d role party units → switched_out (answers_at m d role party units u) ≡ true → IsReady role party (payloads_in (units ++ u ∷ []))
+  keyed_unit : (units : Units) (u : List ℕ) → StaysOpen setup units → switched_out (answers_at setup units u) ≡ true → IsReady setup.role setup.config (payloads_in (units ++ u ∷ []))
   unfolding switched_out
   keyed_unit [] u stays on = absurd (true≢false (sym on))
   keyed_unit (version ∷ before) u stays on =
-      let f = stands below m d role party version [] before phase.KexInit (begun_none below m d role party) stays.1 in
-      keyed below m d role party version before u f.0 f.1.tied on
+      let f = stands below setup version [] before phase.KexInit (begun_none below setup) stays.1 in
+      keyed below setup version before u f.0 f.1.tied on
 
-  module _ (units : Units) (rest : List ℕ) (answers : Units) (h s : List ℕ) (a : History m d role party units rest None answers Open h s) where
-    all_open : StaysOpen m d role party units
+  module _ (units : Units) (rest : List ℕ) (answers : Units) (h s : List ℕ) (a : History setup units rest None answers Open h s) where
+    all_open : StaysOpen setup units
     all_open = open_stays units None Open refl a.replies.ends
 
-    in_order : answers ≡ making m role party ++ flat_places (answers_at m d role party) [] units
-    in_order = a.replies.in_order ∙ ap (λ (l : Units). making m role party ++ l) (append-nil (flat_places (answers_at m d role party) [] units))
+    in_order : answers ≡ making setup.suite setup.role setup.config ++ flat_places (answers_at setup) [] units
+    in_order = a.replies.in_order ∙ ap (λ (l : Units). making setup.suite setup.role setup.config ++ l) (append-nil (flat_places (answers_at setup) [] units))
 
     -- more bytes of an unfinished unit
-    pub part : (piece : List ℕ) → parsers m role party units (rest ++ piece) ≡ unfinished → History m d role party units (rest ++ piece) None answers Open (h ++ piece) s
+    pub part : (piece : List ℕ) → parsers setup.suite setup.role setup.config units (rest ++ piece) ≡ unfinished → History setup units (rest ++ piece) None answers Open (h ++ piece) s
     part piece e = record {
-      received = streams.part (parsers m role party) (each streams m role party) h piece units rest a.received e;
+      received = streams.part (parsers setup.suite setup.role setup.config) (each streams setup.suite setup.role setup.config) h piece units rest a.received e;
       sent = a.sent;
       replies = record { in_order = a.replies.in_order; ends = goes_on all_open refl };
       fits = a.fits;
@@ -113,14 +113,14 @@ module _ (below : Below) (streams : Streams) (m : SuiteData) (d : DecisionsData)
     }
 
     -- the bytes are refused
-    pub refusal : (piece : List ℕ) (used : ℕ) (r : Refusal) → used ≤ length piece → parsers m role party units (rest ++ piece) ≡ refused r (length rest + used) → AllFit (disconnect (fault_of r))
-        → History m d role party units (rest ++ take used piece) (Some r) (answers ++ disconnect (fault_of r)) (Failed (fault_of r)) (h ++ take used piece)
-        (s ++ flat_places (spells m role party units) (party.version ∷ answers) (disconnect (fault_of r)))
+    pub refusal : (piece : List ℕ) (used : ℕ) (r : Refusal) → used ≤ length piece → parsers setup.suite setup.role setup.config units (rest ++ piece) ≡ refused r (length rest + used) → AllFit (disconnect (fault_of r))
+        → History setup units (rest ++ take used piece) (Some r) (answers ++ disconnect (fault_of r)) (Failed (fault_of r)) (h ++ take used piece)
+        (s ++ flat_places (spells setup.suite setup.role setup.config units) (setup.config.version ∷ answers) (disconnect (fault_of r)))
     refusal piece used r low e fit = record {
-      received = streams.refusal (parsers m role party) (each streams m role party) h piece units rest r used a.received low e;
-      sent = streams.sent (spells m role party units) s (party.version ∷ answers) (disconnect (fault_of r)) a.sent;
+      received = streams.refusal (parsers setup.suite setup.role setup.config) (each streams setup.suite setup.role setup.config) h piece units rest r used a.received low e;
+      sent = streams.sent (spells setup.suite setup.role setup.config units) s (setup.config.version ∷ answers) (disconnect (fault_of r)) a.sent;
       replies = record {
-        in_order = ap (λ (l : Units). l ++ disconnect (fault_of r)) in_order ∙ append_assoc (making m role party) (flat_places (answers_at m d role party) [] units) (disconnect (fault_of r));
+        in_order = ap (λ (l : Units). l ++ disconnect (fault_of r)) in_order ∙ append_assoc (making setup.suite setup.role setup.config) (flat_places (answers_at setup) [] units) (disconnect (fault_of r));
         ends = goes_on all_open refl;
       };
       fits = fit_both answers (disconnect (fault_of r)) a.fits fit;
@@ -132,61 +132,61 @@ module _ (below : Below) (streams : Streams) (m : SuiteData) (d : DecisionsData)
         told true e on = e
         told false e on = absurd (true≢false (sym on ∙ (switched_append answers (disconnect (fault_of r)) ∙ rw e (still_fails (fault_of r)))))
 
-    replies_after : (u : List ℕ) → Replies m d role party (units ++ u ∷ []) None (answers ++ answers_at m d role party units u) (end_at m d role party units u)
+    replies_after : (u : List ℕ) → Replies setup (units ++ u ∷ []) None (answers ++ answers_at setup units u) (end_at setup units u)
     replies_after u =
-        let more = answers_at m d role party units u in
+        let more = answers_at setup units u in
         record {
           in_order = ap (λ (l : Units). l ++ more) in_order
-              ∙ append_assoc (making m role party) (flat_places (answers_at m d role party) [] units) more
-              ∙ ap (λ (l : Units). making m role party ++ l) (sym (flat-push (answers_at m d role party) [] units u) ∙ sym (append-nil (flat_places (answers_at m d role party) [] (units ++ u ∷ []))));
-          ends = pushed (is_open (end_at m d role party units u));
+              ∙ append_assoc (making setup.suite setup.role setup.config) (flat_places (answers_at setup) [] units) more
+              ∙ ap (λ (l : Units). making setup.suite setup.role setup.config ++ l) (sym (flat-push (answers_at setup) [] units u) ∙ sym (append-nil (flat_places (answers_at setup) [] (units ++ u ∷ []))));
+          ends = pushed (is_open (end_at setup units u));
         }
       where
-        pushed : (end_at m d role party units u ≡ Open) ⊎ (end_at m d role party units u ≢ Open) → Ends m d role party (units ++ u ∷ []) None (end_at m d role party units u)
-        pushed (inl o) = goes_on (each-push (λ before unit. end_at m d role party before unit ≡ Open) [] units u all_open o) o
+        pushed : (end_at setup units u ≡ Open) ⊎ (end_at setup units u ≢ Open) → Ends setup (units ++ u ∷ []) None (end_at setup units u)
+        pushed (inl o) = goes_on (each-push (λ before unit. end_at setup before unit ≡ Open) [] units u all_open o) o
         pushed (inr shut) = ended units u refl all_open refl shut refl
 
     -- a whole unit, with its answers
-    pub unit : (piece u : List ℕ) (used : ℕ) → used ≤ length piece → parsers m role party units (rest ++ piece) ≡ whole u (length rest + used) → AllFit (answers_at m d role party units u)
-        → History m d role party (units ++ u ∷ []) [] None (answers ++ answers_at m d role party units u) (end_at m d role party units u) (h ++ take used piece)
-        (s ++ flat_places (spells m role party (units ++ u ∷ [])) (party.version ∷ answers) (answers_at m d role party units u))
+    pub unit : (piece u : List ℕ) (used : ℕ) → used ≤ length piece → parsers setup.suite setup.role setup.config units (rest ++ piece) ≡ whole u (length rest + used) → AllFit (answers_at setup units u)
+        → History setup (units ++ u ∷ []) [] None (answers ++ answers_at setup units u) (end_at setup units u) (h ++ take used piece)
+        (s ++ flat_places (spells setup.suite setup.role setup.config (units ++ u ∷ [])) (setup.config.version ∷ answers) (answers_at setup units u))
     unit piece u used low e fit =
-        let more = answers_at m d role party units u in
+        let more = answers_at setup units u in
         record {
-          received = streams.unit (parsers m role party) (each streams m role party) h piece units rest u used a.received low e;
-          sent = streams.sent (spells m role party (units ++ u ∷ [])) s (party.version ∷ answers) more (sent_stays m role party units (u ∷ []) answers s a.keyed a.sent);
+          received = streams.unit (parsers setup.suite setup.role setup.config) (each streams setup.suite setup.role setup.config) h piece units rest u used a.received low e;
+          sent = streams.sent (spells setup.suite setup.role setup.config (units ++ u ∷ [])) s (setup.config.version ∷ answers) more (sent_stays setup.suite setup.role setup.config units (u ∷ []) answers s a.keyed a.sent);
           replies = replies_after u;
           fits = fit_both answers more a.fits fit;
           keyed = λ on. keyed_by (switched_out answers) refl on;
           last = λ _ _. refl;
         }
       where
-        keyed_by : (b : Bool) → switched_out answers ≡ b → switched_out (answers ++ answers_at m d role party units u) ≡ true → IsReady role party (payloads_in (units ++ u ∷ []))
-        keyed_by true e on = ready_units role party units (u ∷ []) (a.keyed e)
-        keyed_by false e on = keyed_unit units u all_open (sym (switched_append answers (answers_at m d role party units u) ∙ rw e refl) ∙ on)
+        keyed_by : (b : Bool) → switched_out answers ≡ b → switched_out (answers ++ answers_at setup units u) ≡ true → IsReady setup.role setup.config (payloads_in (units ++ u ∷ []))
+        keyed_by true e on = ready_units setup.role setup.config units (u ∷ []) (a.keyed e)
+        keyed_by false e on = keyed_unit units u all_open (sym (switched_append answers (answers_at setup units u) ∙ rw e refl) ∙ on)
 
     -- memory runs out while the answers to a unit are sent
-    pub breaks : (piece u : List ℕ) (used : ℕ) (some : Units) → used ≤ length piece → parsers m role party units (rest ++ piece) ≡ whole u (length rest + used) → IsPrefix some (answers_at m d role party units u)
-        → BrokenOff m d role party (h ++ take used piece) (s ++ flat_places (spells m role party (units ++ u ∷ [])) (party.version ∷ answers) some)
+    pub breaks : (piece u : List ℕ) (used : ℕ) (some : Units) → used ≤ length piece → parsers setup.suite setup.role setup.config units (rest ++ piece) ≡ whole u (length rest + used) → IsPrefix some (answers_at setup units u)
+        → BrokenOff setup (h ++ take used piece) (s ++ flat_places (spells setup.suite setup.role setup.config (units ++ u ∷ [])) (setup.config.version ∷ answers) some)
     breaks piece u used some low e prefix =
-        let more = answers_at m d role party units u in
+        let more = answers_at setup units u in
         record {
           units = units ++ u ∷ [];
           rest = [];
           refusal = None;
           answers = answers ++ more;
-          end = end_at m d role party units u;
+          end = end_at setup units u;
           some_answers = answers ++ some;
-          received = streams.unit (parsers m role party) (each streams m role party) h piece units rest u used a.received low e;
+          received = streams.unit (parsers setup.suite setup.role setup.config) (each streams setup.suite setup.role setup.config) h piece units rest u used a.received low e;
           replies = replies_after u;
           prefix = record { rest = prefix.rest; whole_is = ap (λ (l : Units). answers ++ l) prefix.whole_is ∙ sym (append_assoc answers some prefix.rest) };
-          sent = streams.sent (spells m role party (units ++ u ∷ [])) s (party.version ∷ answers) some (sent_stays m role party units (u ∷ []) answers s a.keyed a.sent);
+          sent = streams.sent (spells setup.suite setup.role setup.config (units ++ u ∷ [])) s (setup.config.version ∷ answers) some (sent_stays setup.suite setup.role setup.config units (u ∷ []) answers s a.keyed a.sent);
         }
 
 -- and before any of them
-pub broken : (m : SuiteData) (d : DecisionsData) (role : Side) (party : ConfigData) (units : Units) (rest : List ℕ) (refusal : Option Refusal) (answers : Units) (end : EndData) (h s : List ℕ)
-    → History m d role party units rest refusal answers end h s → BrokenOff m d role party h s
-broken m d role party units rest refusal answers end h s a = record {
+pub broken : (setup : Setup) (units : Units) (rest : List ℕ) (refusal : Option Refusal) (answers : Units) (end : EndData) (h s : List ℕ)
+    → History setup units rest refusal answers end h s → BrokenOff setup h s
+broken setup units rest refusal answers end h s a = record {
   units = units;
   rest = rest;
   refusal = refusal;

@@ -2,16 +2,14 @@
 
 use Rattle.std.proofs.Common.{◌≡◌, ◌≢◌, ◌⊎◌, inl, inr, ℕ, ◌+◌, List, [], ◌∷◌, ◌++◌, length, drop, Option, None, Some, refl, sym, ap, ◌∙◌, subst, append_assoc, arith}
 use Rattle.std.proofs.lemmas.List.{append-nil, length-append}
-use Rattle.sshneg.specs.declared.side.Side.{Side}
 use Rattle.sshpacket.specs.Parse.{Refusal, refused, unfinished}
 use Rattle.sshpacket.specs.Places.{IsPrefix}
 use Rattle.sshpacket.specs.Stream.{IsIncremental, IsRest, Parser, Read, Units}
-use Rattle.sshpacket.specs.Suite.{SuiteData}
 use Rattle.sshpacket.proofs.Places.{each-after, each-prefix, prefix-cons}
 use Rattle.sshcore.specs.Directions.{parsers}
 use Rattle.sshcore.specs.EndData.{EndData, Open}
 use Rattle.sshcore.specs.History.{History, IsOneHistory}
-use Rattle.sshcore.specs.EndpointParts.{ConfigData, DecisionsData}
+use Rattle.sshcore.specs.EndpointParts.{Setup}
 use Rattle.sshcore.specs.Replies.{Ends, StaysOpen, end_at, ended, goes_on, refusal_reply}
 use Rattle.sshcore.proofs.HistoryLemmas.{Streams, each}
 use Rattle.sshcore.proofs.OneHistory.{last_open, one_by}
@@ -80,65 +78,65 @@ module _ (parsers : Units → Parser) where
         let again : parsers us (rest ++ z) ≡ refused f (length rest) = (each us).more rest z (λ none. cc) ∙ k in
         absurd cc
 
-module _ (m : SuiteData) (d : DecisionsData) (role : Side) (party : ConfigData) where
+module _ (setup : Setup) where
   -- where more units were received after one, it left the endpoint open
   open_within : (units before : Units) (u w : List ℕ) (ws : Units) (r : Option Refusal) (end : EndData)
-      → Ends m d role party units r end → units ≡ before ++ u ∷ w ∷ ws → end_at m d role party before u ≡ Open
+      → Ends setup units r end → units ≡ before ++ u ∷ w ∷ ws → end_at setup before u ≡ Open
   open_within units before u w ws r end (goes_on stays e) are =
-      (each-after (λ b v. end_at m d role party b v ≡ Open) [] before (u ∷ w ∷ ws) (subst (StaysOpen m d role party) are stays)).0
+      (each-after (λ b v. end_at setup b v ≡ Open) [] before (u ∷ w ∷ ws) (subst (StaysOpen setup) are stays)).0
   open_within units before u w ws r end (ended front last is stays e shut none) are =
       let p : IsPrefix (before ++ u ∷ []) front = before_last front before last u w ws (sym is ∙ are) in
-      last_open m d role party (before ++ u ∷ []) before u refl
-      (each-prefix (λ b v. end_at m d role party b v ≡ Open) [] (before ++ u ∷ []) p.rest (subst (StaysOpen m d role party) p.whole_is stays))
+      last_open setup (before ++ u ∷ []) before u refl
+      (each-prefix (λ b v. end_at setup b v ≡ Open) [] (before ++ u ∷ []) p.rest (subst (StaysOpen setup) p.whole_is stays))
 
   -- where the last unit ended the endpoint, it has ended, and nothing was refused
   shut_after : (units before : Units) (u : List ℕ) (r : Option Refusal) (end : EndData)
-      → Ends m d role party units r end → units ≡ before ++ u ∷ [] → end_at m d role party before u ≢ Open → (end ≢ Open) × (r ≡ None)
-  shut_after units before u r end (goes_on stays e) are shut = absurd (shut (last_open m d role party units before u are stays))
+      → Ends setup units r end → units ≡ before ++ u ∷ [] → end_at setup before u ≢ Open → (end ≢ Open) × (r ≡ None)
+  shut_after units before u r end (goes_on stays e) are shut = absurd (shut (last_open setup units before u are stays))
   shut_after units before u r end (ended front last is stays e closed none) are shut = (closed, none)
 
-module _ (streams : Streams) (m : SuiteData) (d : DecisionsData) (role : Side) (party : ConfigData) where
+module _ (streams : Streams) (setup : Setup) where
   -- an endpoint that isn't open uses no byte more
   none_used : (units other_units : Units) (rest other_rest : List ℕ) (r other_r : Option Refusal) (answers other_answers : Units) (end other_end : EndData) (h z s t : List ℕ)
-      → History m d role party units rest r answers end h s → History m d role party other_units other_rest other_r other_answers other_end (h ++ z) t
+      → History setup units rest r answers end h s → History setup other_units other_rest other_r other_answers other_end (h ++ z) t
       → (end ≡ Open → z ≡ []) → z ≡ []
   none_used units other_units rest other_rest r other_r answers other_answers end other_end h z s t a b all = by_ends a.replies.ends
     where
       front : IsPrefix units other_units
-      front = streams.front (parsers m role party) (each streams m role party) h z units other_units rest other_rest r other_r a.received b.received
+      front = streams.front (parsers setup.suite setup.role setup.config) (each streams setup.suite setup.role setup.config) h z units other_units rest other_rest r other_r a.received b.received
 
-      after : Read (parsers m role party) units (rest ++ z) front.rest other_rest
-      after = read_after (parsers m role party) [] (h ++ z) units front.rest (rest ++ z) other_rest
-          (streams.more (parsers m role party) (each streams m role party) [] h z units rest a.received.read)
-          (subst (λ (us : Units). Read (parsers m role party) [] (h ++ z) us other_rest) front.whole_is b.received.read)
+      after : Read (parsers setup.suite setup.role setup.config) units (rest ++ z) front.rest other_rest
+      after = read_after (parsers setup.suite setup.role setup.config) [] (h ++ z) units front.rest (rest ++ z) other_rest
+          (streams.more (parsers setup.suite setup.role setup.config) (each streams setup.suite setup.role setup.config) [] h z units rest a.received.read)
+          (subst (λ (us : Units). Read (parsers setup.suite setup.role setup.config) [] (h ++ z) us other_rest) front.whole_is b.received.read)
 
       by_refusal : (q : Option Refusal) → r ≡ q → end ≡ (refusal_reply q).end → z ≡ []
       by_refusal None is e = all e
       by_refusal (Some f) is e =
-          none_refused (parsers m role party) (each streams m role party) units front.rest rest z other_rest f other_r
-          (subst (λ (q : Option Refusal). IsRest (parsers m role party units) rest q) is a.received.then_rest)
+          none_refused (parsers setup.suite setup.role setup.config) (each streams setup.suite setup.role setup.config) units front.rest rest z other_rest f other_r
+          (subst (λ (q : Option Refusal). IsRest (parsers setup.suite setup.role setup.config units) rest q) is a.received.then_rest)
           after
-          (subst (λ (us : Units). IsRest (parsers m role party us) other_rest other_r) front.whole_is b.received.then_rest)
+          (subst (λ (us : Units). IsRest (parsers setup.suite setup.role setup.config us) other_rest other_r) front.whole_is b.received.then_rest)
 
       -- the unit that ended the endpoint is the last of both
-      by_last : (before : Units) (u : List ℕ) (w : Units) → units ≡ before ++ u ∷ [] → other_units ≡ units ++ w → Read (parsers m role party) units (rest ++ z) w other_rest
-          → end_at m d role party before u ≢ Open → rest ≡ [] → z ≡ []
+      by_last : (before : Units) (u : List ℕ) (w : Units) → units ≡ before ++ u ∷ [] → other_units ≡ units ++ w → Read (parsers setup.suite setup.role setup.config) units (rest ++ z) w other_rest
+          → end_at setup before u ≢ Open → rest ≡ [] → z ≡ []
       by_last before u [] is are read shut none =
-          let both = shut_after m d role party other_units before u other_r other_end b.replies.ends (are ∙ append-nil units ∙ is) shut in
+          let both = shut_after setup other_units before u other_r other_end b.replies.ends (are ∙ append-nil units ∙ is) shut in
           let left : rest ++ z ≡ [] = read ∙ b.last both.0 both.1 in
           ap (λ (l : List ℕ). l ++ z) (sym none) ∙ left
       by_last before u (w ∷ ws) is are read shut none =
-          absurd (shut (open_within m d role party other_units before u w ws other_r other_end b.replies.ends
+          absurd (shut (open_within setup other_units before u w ws other_r other_end b.replies.ends
           (are ∙ ap (λ (us : Units). us ++ w ∷ ws) is ∙ append_assoc before (u ∷ []) (w ∷ ws))))
 
-      by_ends : Ends m d role party units r end → z ≡ []
+      by_ends : Ends setup units r end → z ≡ []
       by_ends (goes_on stays e) = by_refusal r refl e
       by_ends (ended before last is stays e shut none) =
           by_last before last front.rest is front.whole_is after (λ o. shut (e ∙ o)) (a.last shut none)
 
   -- the histories of two endpoints that were given one input, of which each uses a prefix, and all of it while it stands open
   pub joined : (units other_units : Units) (rest other_rest : List ℕ) (r other_r : Option Refusal) (answers other_answers : Units) (end other_end : EndData) (h g s t x y : List ℕ)
-      → History m d role party units rest r answers end h s → History m d role party other_units other_rest other_r other_answers other_end g t
+      → History setup units rest r answers end h s → History setup other_units other_rest other_r other_answers other_end g t
       → h ++ x ≡ g ++ y → (end ≡ Open → x ≡ []) → (other_end ≡ Open → y ≡ [])
       → (h ≡ g) × IsOneHistory units other_units rest other_rest r other_r answers other_answers end other_end s t
   joined units other_units rest other_rest r other_r answers other_answers end other_end h g s t x y a b e all other_all = (same, one)
@@ -146,21 +144,21 @@ module _ (streams : Streams) (m : SuiteData) (d : DecisionsData) (role : Side) (
       by_front : ((z : List ℕ) × (g ≡ h ++ z) × (x ≡ z ++ y)) ⊎ ((z : List ℕ) × (h ≡ g ++ z) × (y ≡ z ++ x)) → h ≡ g
       by_front (inl (z, is, left)) =
           let none : z ≡ [] = none_used units other_units rest other_rest r other_r answers other_answers end other_end h z s t a
-          (subst (λ (l : List ℕ). History m d role party other_units other_rest other_r other_answers other_end l t) is b)
+          (subst (λ (l : List ℕ). History setup other_units other_rest other_r other_answers other_end l t) is b)
           (λ o. none_front x z y left (all o)) in
           sym (is ∙ ap (λ (l : List ℕ). h ++ l) none ∙ append-nil h)
       by_front (inr (z, is, left)) =
           let none : z ≡ [] = none_used other_units units other_rest rest other_r r other_answers answers other_end end g z t s b
-          (subst (λ (l : List ℕ). History m d role party units rest r answers end l s) is a)
+          (subst (λ (l : List ℕ). History setup units rest r answers end l s) is a)
           (λ o. none_front y z x left (other_all o)) in
           is ∙ ap (λ (l : List ℕ). g ++ l) none ∙ append-nil g
 
       same : h ≡ g
       same = by_front (either_front h g x y e)
 
-      at_same : History m d role party other_units other_rest other_r other_answers other_end h t
-      at_same = subst (λ (l : List ℕ). History m d role party other_units other_rest other_r other_answers other_end l t) (sym same) b
+      at_same : History setup other_units other_rest other_r other_answers other_end h t
+      at_same = subst (λ (l : List ℕ). History setup other_units other_rest other_r other_answers other_end l t) (sym same) b
 
       one : IsOneHistory units other_units rest other_rest r other_r answers other_answers end other_end s t
-      one = one_by m d role party units other_units r other_r rest other_rest answers other_answers end other_end h s t
-          (streams.one (parsers m role party) h units other_units rest other_rest r other_r a.received at_same.received) a at_same
+      one = one_by setup units other_units r other_r rest other_rest answers other_answers end other_end h s t
+          (streams.one (parsers setup.suite setup.role setup.config) h units other_units rest other_rest r other_r a.received at_same.received) a at_same

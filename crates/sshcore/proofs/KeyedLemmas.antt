@@ -32,7 +32,7 @@ use Rattle.sshcore.specs.EndData.{Reply, disconnect_by, fails, goes, reason_of}
 use Rattle.sshcore.specs.Exchange.{choice_with, own_kexinit}
 use Rattle.sshcore.specs.History.{IsReady}
 use Rattle.sshcore.specs.Known.{Known, known_at, waits_at}
-use Rattle.sshcore.specs.EndpointParts.{ConfigData, DecisionsData}
+use Rattle.sshcore.specs.EndpointParts.{ConfigData, DecisionsData, Setup}
 use Rattle.sshcore.specs.Phases.{leaving}
 use Rattle.sshcore.specs.Plan.{after_query, next_after}
 use Rattle.sshcore.specs.Replies.{answers_at, line_reply, read_reply}
@@ -158,32 +158,32 @@ pub record IsExchangePlace (role : Side) (party : ConfigData) (before : Units) (
   pub none_due : expects_guess role party.offer before ≡ false
   pub leaves : kind payload ≡ leaving role phase.Exchange
 
-module _ (below : Below) (m : SuiteData) (d : DecisionsData) (role : Side) (party : ConfigData) where
+module _ (below : Below) (setup : Setup) where
   -- a message that isn't an exchange message is answered without one
-  still_work : (known : Known) (c : MessageData) → number_of c ≢ 30 → number_of c ≢ 31 → IsStill (work m d role party known c).answers
+  still_work : (known : Known) (c : MessageData) → number_of c ≢ 30 → number_of c ≢ 31 → IsStill (work setup known c).answers
   unfolding work
-  still_work known (KexInit peer) a b = still_kexinit m party role known peer
+  still_work known (KexInit peer) a b = still_kexinit setup.suite setup.config setup.role known peer
   still_work known (KexdhInit e) a b = absurd (a refl)
   still_work known (KexEcdhInit share) a b = absurd (a refl)
   still_work known (KexdhReply key f signature) a b = absurd (b refl)
   still_work known (KexEcdhReply key share signature) a b = absurd (b refl)
-  still_work known (ServiceRequest service) a b = still_service party service
-  still_work known (ServiceAccept service) a b = still_accept m known service
-  still_work known (UserauthRequest user service method) a b = still_request m d party known user service method
-  still_work known (UserauthFailure listed partial) a b = still_attempt m known.session (next_after listed known.left)
+  still_work known (ServiceRequest service) a b = still_service setup.config service
+  still_work known (ServiceAccept service) a b = still_accept setup.suite known service
+  still_work known (UserauthRequest user service method) a b = still_request setup.suite setup.decisions setup.config known user service method
+  still_work known (UserauthFailure listed partial) a b = still_attempt setup.suite known.session (next_after listed known.left)
   still_work known UserauthSuccess a b = still_success known known.left
-  still_work known (UserauthPkOk algorithm key) a b = still_confirmed m known algorithm key known.left
+  still_work known (UserauthPkOk algorithm key) a b = still_confirmed setup.suite known algorithm key known.left
   still_work known _ a b = still_none
 
-  still_read : (known : Known) (packet : ℕ) (payload : List ℕ) → kind payload ≢ 30 → kind payload ≢ 31 → IsStill (line_reply m d role party known packet line.Reads payload).answers
+  still_read : (known : Known) (packet : ℕ) (payload : List ℕ) → kind payload ≢ 30 → kind payload ≢ 31 → IsStill (line_reply setup known packet line.Reads payload).answers
   unfolding line_reply
   still_read known packet payload a b = by (message_in known.shares payload) refl
     where
-      by : (r : Result MessageData MsgFault) → message_in known.shares payload ≡ r → IsStill (read_reply m d role party known (kind payload) r).answers
+      by : (r : Result MessageData MsgFault) → message_in known.shares payload ≡ r → IsStill (read_reply setup known (kind payload) r).answers
       by (Ok c) e = let is = below.numbers known.shares payload c e in still_work known c (λ q. a (is ∙ q)) (λ q. b (is ∙ q))
       by (Err f) e = still_fails (fault.Malformed (kind payload))
 
-  still_unknown : (known : Known) (packet : ℕ) (payload : List ℕ) → IsStill (line_reply m d role party known packet line.Unknown payload).answers
+  still_unknown : (known : Known) (packet : ℕ) (payload : List ℕ) → IsStill (line_reply setup known packet line.Unknown payload).answers
   unfolding line_reply switched_out written_message
   still_unknown known packet payload = refl
 
@@ -220,25 +220,25 @@ module _ (below : Below) (m : SuiteData) (d : DecisionsData) (role : Side) (part
       by Server h (inr e) = absurd (omega arith)
 
   module _ (version : List ℕ) (before : Units) (payload : List ℕ) where
-    ready_after : (p : Phase) → Tied role party.offer before p → expects_guess role party.offer before ≡ false → p ≡ phase.Exchange → kind payload ≡ leaving role phase.Exchange
-        → IsReady role party (before ++ payload ∷ [])
+    ready_after : (p : Phase) → Tied setup.role setup.config.offer before p → expects_guess setup.role setup.config.offer before ≡ false → p ≡ phase.Exchange → kind payload ≡ leaving setup.role phase.Exchange
+        → IsReady setup.role setup.config (before ++ payload ∷ [])
     ready_after phase.Exchange t none e is =
         let begun : offered before ≡ true = t.offer in
-        let off : stood role party.offer (leaving role phase.Exchange) before ≡ false = t.exchange in
-        let here : kept role party.offer (leaving role phase.Exchange) before payload ≡ true =
-        kept_free role party.offer before payload (leaving role phase.Exchange) none ∙ eq-eqb (kind payload) (leaving role phase.Exchange) is in
+        let off : stood setup.role setup.config.offer (leaving setup.role phase.Exchange) before ≡ false = t.exchange in
+        let here : kept setup.role setup.config.offer (leaving setup.role phase.Exchange) before payload ≡ true =
+        kept_free setup.role setup.config.offer before payload (leaving setup.role phase.Exchange) none ∙ eq-eqb (kind payload) (leaving setup.role phase.Exchange) is in
         record {
           offer = offered_push before payload ∙ rw begun refl;
-          exchange = stood_push role party.offer before payload (leaving role phase.Exchange) ∙ rw (off, here) refl;
+          exchange = stood_push setup.role setup.config.offer before payload (leaving setup.role phase.Exchange) ∙ rw (off, here) refl;
         }
     ready_after phase.KexInit t none e is = absurd cc
     ready_after phase.NewKeys t none e is = absurd cc
     ready_after phase.Service t none e is = absurd cc
     ready_after phase.Auth t none e is = absurd cc
 
-    by_line : (known : Known) (packet : ℕ) (p : Phase) → Tied role party.offer before p → (l : Line)
-        → Sees role p (strict_at role party before) (expects_guess role party.offer before) (kind payload) l
-        → switched_out (line_reply m d role party known packet l payload).answers ≡ true → IsExchangePlace role party before payload p
+    by_line : (known : Known) (packet : ℕ) (p : Phase) → Tied setup.role setup.config.offer before p → (l : Line)
+        → Sees setup.role p (strict_at setup.role setup.config before) (expects_guess setup.role setup.config.offer before) (kind payload) l
+        → switched_out (line_reply setup known packet l payload).answers ≡ true → IsExchangePlace setup.role setup.config before payload p
     unfolding line_reply
     by_line known packet p t l (Closing one is) on = absurd (true≢false (sym (rw is at on) ∙ still_read known packet payload (λ q. omega arith) (λ q. omega arith)))
     by_line known packet p t l (Dropped one due r is) on = absurd (true≢false (sym (rw is at on) ∙ still_none))
@@ -258,21 +258,21 @@ module _ (below : Below) (m : SuiteData) (d : DecisionsData) (role : Side) (part
       ]
     ]
       where
-        exchanged : (kind payload ≡ 30) ⊎ (kind payload ≡ 31) → IsExchangePlace role party before payload p
+        exchanged : (kind payload ≡ 30) ⊎ (kind payload ≡ 31) → IsExchangePlace setup.role setup.config before payload p
         exchanged two =
-            let q : p ≡ phase.Exchange = from_exchange role p (kind payload) here two in
-            record { at = q; none_due = none; leaves = here ∙ ap (leaving role) q }
+            let q : p ≡ phase.Exchange = from_exchange setup.role p (kind payload) here two in
+            record { at = q; none_due = none; leaves = here ∙ ap (leaving setup.role) q }
 
     -- NEWKEYS is answered at the exchange message alone
-    pub told_at : (p : Phase) → Tied role party.offer before p → switched_out (answers_at m d role party (version ∷ before) payload) ≡ true → IsExchangePlace role party before payload p
+    pub told_at : (p : Phase) → Tied setup.role setup.config.offer before p → switched_out (answers_at setup (version ∷ before) payload) ≡ true → IsExchangePlace setup.role setup.config before payload p
     told_at p t on =
-        by_line (known_at m d role party version before) (number_in role party before) p t
-        (line_by role p (strict_at role party before) (expects_guess role party.offer before) (waits_at role party before) (kind payload))
-        (sees role p (strict_at role party before) (waits_at role party before) (kind payload) (expects_guess role party.offer before))
-        (ap (λ (l : Line). switched_out (line_reply m d role party (known_at m d role party version before) (number_in role party before) l payload).answers)
-        (line_is below m d role party version before payload p t) ∙ on)
+        by_line (known_at setup version before) (number_in setup.role setup.config before) p t
+        (line_by setup.role p (strict_at setup.role setup.config before) (expects_guess setup.role setup.config.offer before) (waits_at setup.role setup.config before) (kind payload))
+        (sees setup.role p (strict_at setup.role setup.config before) (waits_at setup.role setup.config before) (kind payload) (expects_guess setup.role setup.config.offer before))
+        (ap (λ (l : Line). switched_out (line_reply setup (known_at setup version before) (number_in setup.role setup.config before) l payload).answers)
+        (line_is below setup version before payload p t) ∙ on)
 
-    pub keyed : (p : Phase) → Tied role party.offer before p → switched_out (answers_at m d role party (version ∷ before) payload) ≡ true → IsReady role party (before ++ payload ∷ [])
+    pub keyed : (p : Phase) → Tied setup.role setup.config.offer before p → switched_out (answers_at setup (version ∷ before) payload) ≡ true → IsReady setup.role setup.config (before ++ payload ∷ [])
     keyed p t on =
         let e = told_at p t on in
         ready_after p t e.none_due e.at e.leaves

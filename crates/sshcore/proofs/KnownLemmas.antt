@@ -19,7 +19,7 @@ use Rattle.sshcore.specs.Before.{all_kept, count_kept, expects_guess, first_kept
 use Rattle.sshcore.specs.ConfigParts.{AttemptData}
 use Rattle.sshcore.specs.Exchange.{algorithms_at, choice_with, chosen_or, exchange_at, exchange_message, exchange_with, keys_at, keys_by, session_at, shares_by}
 use Rattle.sshcore.specs.Known.{Known, known_at, left_at}
-use Rattle.sshcore.specs.EndpointParts.{ConfigData, DecisionsData}
+use Rattle.sshcore.specs.EndpointParts.{ConfigData, DecisionsData, Setup, setup_with}
 use Rattle.sshcore.specs.Phases.{leaving}
 use Rattle.sshcore.specs.Plan.{left_after}
 use Rattle.sshcore.specs.Reached.{ReachedData, nothing_reached, reached_after}
@@ -103,13 +103,13 @@ module _ (m : SuiteData) (role : Side) (party : ConfigData) (version : List ℕ)
         ap (λ (k : List ℕ). session_by_payloads k (exchange_message role party (before ++ payload ∷ []))) (kexinit_stays before payload is)
         ∙ ap (λ (l : List ℕ). session_by_payloads (kexinit before) l) message_is
 
-    pub exchange_is : (d : DecisionsData) → exchange_at m role party version (before ++ payload ∷ []) ≡ exchange_received m role party (known_at m d role party version before) payload
+    pub exchange_is : (d : DecisionsData) → exchange_at m role party version (before ++ payload ∷ []) ≡ exchange_received m role party (known_at (setup_with m d role party) version before) payload
     exchange_is d =
         ap (λ (k : List ℕ). exchange_by_payloads k (exchange_message role party (before ++ payload ∷ []))) (kexinit_stays before payload is)
         ∙ ap (λ (l : List ℕ). exchange_by_payloads (kexinit before) l) message_is
 
     pub keys_are : (d : DecisionsData) (sender : Side) → keys_at m role party version (before ++ payload ∷ []) sender
-        ≡ keys_by m (algorithms_at m role party before) (exchange_received m role party (known_at m d role party version before) payload) sender
+        ≡ keys_by m (algorithms_at m role party before) (exchange_received m role party (known_at (setup_with m d role party) version before) payload) sender
     keys_are d sender =
         ap (λ (k : List ℕ). keys_by_payloads sender k (exchange_message role party (before ++ payload ∷ []))) (kexinit_stays before payload is)
         ∙ ap (λ (l : List ℕ). keys_by_payloads sender (kexinit before) l) message_is
@@ -141,57 +141,57 @@ module _ (m : SuiteData) (role : Side) (party : ConfigData) (version : List ℕ)
             rw (off, now) refl
 
 -- what is known
-module _ (m : SuiteData) (d : DecisionsData) (role : Side) (party : ConfigData) (version : List ℕ) where
-  module _ (before : Units) (payload : List ℕ) (is : offered before ≡ true) (none : stood role party.offer (leaving role phase.Exchange) before ≡ false)
-      (here : kept role party.offer (leaving role phase.Exchange) before payload ≡ true) where
-    pub known_exchanged : known_at m d role party version (before ++ payload ∷ []) ≡ after_exchange m role party (known_at m d role party version before) payload
+module _ (setup : Setup) (version : List ℕ) where
+  module _ (before : Units) (payload : List ℕ) (is : offered before ≡ true) (none : stood setup.role setup.config.offer (leaving setup.role phase.Exchange) before ≡ false)
+      (here : kept setup.role setup.config.offer (leaving setup.role phase.Exchange) before payload ≡ true) where
+    pub known_exchanged : known_at setup version (before ++ payload ∷ []) ≡ after_exchange setup.suite setup.role setup.config (known_at setup version before) payload
     known_exchanged =
         let k : kexinit (before ++ payload ∷ []) ≡ kexinit before = kexinit_stays before payload is in
-        known_same version _ _ _ _ _ _ _ _ _ _ _ _ _ _ _ _ _ _ k (ap (algorithms_of m role party version) k) (ap (shares_data m role party version) k)
-        (rw (stood_on m role party version before payload is none here) (session_is m role party version before payload is none here))
-        (ap (λ (n : ℕ). n + 1) (requests_stay role party.offer before payload (kept_exchange role party.offer before payload 50 (λ q. omega arith) (λ q. omega arith) here)))
-        (left_stays role party before payload (unanswered_exchange role party.offer before payload here))
-        (reached_stays m d role party version before payload (kept_exchange role party.offer before payload 50 (λ q. omega arith) (λ q. omega arith) here))
-        (ap (λ (x : List ℕ). strict_towards role party.strict (offer_in x)) k) (one_more before payload ∙ sym (some_stood before is))
+        known_same version _ _ _ _ _ _ _ _ _ _ _ _ _ _ _ _ _ _ k (ap (algorithms_of setup.suite setup.role setup.config version) k) (ap (shares_data setup.suite setup.role setup.config version) k)
+        (rw (stood_on setup.suite setup.role setup.config version before payload is none here) (session_is setup.suite setup.role setup.config version before payload is none here))
+        (ap (λ (n : ℕ). n + 1) (requests_stay setup.role setup.config.offer before payload (kept_exchange setup.role setup.config.offer before payload 50 (λ q. omega arith) (λ q. omega arith) here)))
+        (left_stays setup.role setup.config before payload (unanswered_exchange setup.role setup.config.offer before payload here))
+        (reached_stays setup version before payload (kept_exchange setup.role setup.config.offer before payload 50 (λ q. omega arith) (λ q. omega arith) here))
+        (ap (λ (x : List ℕ). strict_towards setup.role setup.config.strict (offer_in x)) k) (one_more before payload ∙ sym (some_stood before is))
 
   module _ (before : Units) (payload : List ℕ)
       (same : kexinit (before ++ payload ∷ []) ≡ kexinit before)
-      (side : ((offered before ≡ true) × (stood role party.offer (leaving role phase.Exchange) before ≡ true))
-      ⊎ ((stood role party.offer (leaving role phase.Exchange) before ≡ false) × (kept role party.offer (leaving role phase.Exchange) before payload ≡ false))) where
-    pub known_kept : (request : ℕ) (left : List AttemptData) (reached : ReachedData) → count_kept role party.offer 50 (before ++ payload ∷ []) + 1 ≡ request
-        → left_at role party (before ++ payload ∷ []) ≡ left
-        → reached_after nothing_reached (tried_at m d role party version (before ++ payload ∷ [])) ≡ reached
-        → known_at m d role party version (before ++ payload ∷ []) ≡ record (known_at m d role party version before) { request = request; left = left; reached = reached; first = false }
+      (side : ((offered before ≡ true) × (stood setup.role setup.config.offer (leaving setup.role phase.Exchange) before ≡ true))
+      ⊎ ((stood setup.role setup.config.offer (leaving setup.role phase.Exchange) before ≡ false) × (kept setup.role setup.config.offer (leaving setup.role phase.Exchange) before payload ≡ false))) where
+    pub known_kept : (request : ℕ) (left : List AttemptData) (reached : ReachedData) → count_kept setup.role setup.config.offer 50 (before ++ payload ∷ []) + 1 ≡ request
+        → left_at setup.role setup.config (before ++ payload ∷ []) ≡ left
+        → reached_after nothing_reached (tried_at setup version (before ++ payload ∷ [])) ≡ reached
+        → known_at setup version (before ++ payload ∷ []) ≡ record (known_at setup version before) { request = request; left = left; reached = reached; first = false }
     known_kept request left reached er el eg =
-        known_same version _ _ _ _ _ _ _ _ _ _ _ _ _ _ _ _ _ _ same (ap (algorithms_of m role party version) same) (ap (shares_data m role party version) same) (session_kept m role party version before payload same side) er el eg
-        (ap (λ (x : List ℕ). strict_towards role party.strict (offer_in x)) same) (one_more before payload)
+        known_same version _ _ _ _ _ _ _ _ _ _ _ _ _ _ _ _ _ _ same (ap (algorithms_of setup.suite setup.role setup.config version) same) (ap (shares_data setup.suite setup.role setup.config version) same) (session_kept setup.suite setup.role setup.config version before payload same side) er el eg
+        (ap (λ (x : List ℕ). strict_towards setup.role setup.config.strict (offer_in x)) same) (one_more before payload)
 
     -- one that is dropped, and one that isn't
-    pub known_dropped : ((k : ℕ) → kept role party.offer k before payload ≡ false)
-        → known_at m d role party version (before ++ payload ∷ []) ≡ record (known_at m d role party version before) { first = false }
+    pub known_dropped : ((k : ℕ) → kept setup.role setup.config.offer k before payload ≡ false)
+        → known_at setup version (before ++ payload ∷ []) ≡ record (known_at setup version before) { first = false }
     known_dropped none =
-        known_kept _ _ _ (ap (λ (n : ℕ). n + 1) (requests_stay role party.offer before payload (none 50))) (left_stays role party before payload (unanswered_from role party.offer before payload (none 51) (none 60)))
-        (reached_stays m d role party version before payload (none 50))
+        known_kept _ _ _ (ap (λ (n : ℕ). n + 1) (requests_stay setup.role setup.config.offer before payload (none 50))) (left_stays setup.role setup.config before payload (unanswered_from setup.role setup.config.offer before payload (none 51) (none 60)))
+        (reached_stays setup version before payload (none 50))
 
-    pub known_after : expects_guess role party.offer before ≡ false
-        → known_at m d role party version (before ++ payload ∷ []) ≡ after_payload m d party (known_at m d role party version before) payload
-    known_after none = known_kept _ _ _ (requests_more role party.offer before payload none) (left_more role party before payload none) (reached_more m d role party version before payload none)
+    pub known_after : expects_guess setup.role setup.config.offer before ≡ false
+        → known_at setup version (before ++ payload ∷ []) ≡ after_payload setup.suite setup.decisions setup.config (known_at setup version before) payload
+    known_after none = known_kept _ _ _ (requests_more setup.role setup.config.offer before payload none) (left_more setup.role setup.config before payload none) (reached_more setup version before payload none)
 
-  pub known_none : known_at m d role party version [] ≡ nothing_known party version
+  pub known_none : known_at setup version [] ≡ nothing_known setup.config version
   unfolding kexinit stood message_in all_kept count_kept left_after tried_at
   known_none = refl
 
   -- the first KEXINIT
   pub known_offered : (before : Units) (payload : List ℕ) (peer : KexInitData) → offered before ≡ false → kind payload ≡ 20 → offer_in payload ≡ Some peer
-      → stood role party.offer (leaving role phase.Exchange) before ≡ false → stood role party.offer (leaving role phase.Exchange) (before ++ payload ∷ []) ≡ false
-      → known_at m d role party version (before ++ payload ∷ []) ≡ after_offer m role party (known_at m d role party version before) payload peer
+      → stood setup.role setup.config.offer (leaving setup.role phase.Exchange) before ≡ false → stood setup.role setup.config.offer (leaving setup.role phase.Exchange) (before ++ payload ∷ []) ≡ false
+      → known_at setup version (before ++ payload ∷ []) ≡ after_offer setup.suite setup.role setup.config (known_at setup version before) payload peer
   known_offered before payload peer none is offers off now =
       let k : kexinit (before ++ payload ∷ []) ≡ payload = first_kexinit before payload none is in
-      let not_kept : (n : ℕ) → 20 ≢ n → kept role party.offer n before payload ≡ false = λ n other. kept_kind role party.offer before payload 20 n other is in
+      let not_kept : (n : ℕ) → 20 ≢ n → kept setup.role setup.config.offer n before payload ≡ false = λ n other. kept_kind setup.role setup.config.offer before payload 20 n other is in
       known_same version _ _ _ _ _ _ _ _ _ _ _ _ _ _ _ _ _ _ k
-      (ap (algorithms_of m role party version) k ∙ ap (λ o. chosen_or (choice_with m role party.offer o)) offers)
-      (ap (shares_data m role party version) k ∙ ap (λ o. shares_by m (choice_with m role party.offer o)) offers) (rw (off, now) refl)
-      (ap (λ (n : ℕ). n + 1) (requests_stay role party.offer before payload (not_kept 50 (λ q. omega arith))))
-      (left_stays role party before payload (unanswered_from role party.offer before payload (not_kept 51 (λ q. omega arith)) (not_kept 60 (λ q. omega arith))))
-      (reached_stays m d role party version before payload (not_kept 50 (λ q. omega arith)))
-      (ap (λ (x : List ℕ). strict_towards role party.strict (offer_in x)) k ∙ ap (λ o. strict_towards role party.strict o) offers) (one_more before payload)
+      (ap (algorithms_of setup.suite setup.role setup.config version) k ∙ ap (λ o. chosen_or (choice_with setup.suite setup.role setup.config.offer o)) offers)
+      (ap (shares_data setup.suite setup.role setup.config version) k ∙ ap (λ o. shares_by setup.suite (choice_with setup.suite setup.role setup.config.offer o)) offers) (rw (off, now) refl)
+      (ap (λ (n : ℕ). n + 1) (requests_stay setup.role setup.config.offer before payload (not_kept 50 (λ q. omega arith))))
+      (left_stays setup.role setup.config before payload (unanswered_from setup.role setup.config.offer before payload (not_kept 51 (λ q. omega arith)) (not_kept 60 (λ q. omega arith))))
+      (reached_stays setup version before payload (not_kept 50 (λ q. omega arith)))
+      (ap (λ (x : List ℕ). strict_towards setup.role setup.config.strict (offer_in x)) k ∙ ap (λ o. strict_towards setup.role setup.config.strict o) offers) (one_more before payload)

@@ -35,7 +35,7 @@ use Rattle.sshcore.specs.StateData.{StateData}
 use Rattle.sshcore.specs.Known.{Known}
 use Rattle.sshcore.specs.Phases.{past_exchange}
 use Rattle.sshcore.specs.Output.{Speaks, sending_from, sent_from}
-use Rattle.sshcore.specs.EndpointParts.{ConfigData, DecisionsData}
+use Rattle.sshcore.specs.EndpointParts.{ConfigData, Setup}
 use Rattle.sshcore.specs.Standing.{Sits, nothing_known}
 use Rattle.sshcore.proofs.Below.{Below}
 use Rattle.sshcore.proofs.FeedLemmas.{open_history, stands_part, stands_refused, within}
@@ -71,68 +71,68 @@ keys_none : (m : SuiteData) (role : Side) (party : ConfigData) (version : List �
 keys_none m role party version = rw ((tied_none role party.offer).newkeys) refl
 
 -- where an endpoint stands that has received no line
-first_phase : (m : SuiteData) (d : DecisionsData) (role : Side) (party : ConfigData) (p : Phase) (g : Bool) (k : Known) → Sits m d role party [] [] p g k → p ≡ phase.KexInit
-first_phase m d role party p g k s = sym (tied_phase role party.offer [] p s.tied) ∙ tied_phase role party.offer [] phase.KexInit (tied_none role party.offer)
+first_phase : (setup : Setup) (p : Phase) (g : Bool) (k : Known) → Sits setup [] [] p g k → p ≡ phase.KexInit
+first_phase setup p g k s = sym (tied_phase setup.role setup.config.offer [] p s.tied) ∙ tied_phase setup.role setup.config.offer [] phase.KexInit (tied_none setup.role setup.config.offer)
 
-first_guess : (m : SuiteData) (d : DecisionsData) (role : Side) (party : ConfigData) (p : Phase) (g : Bool) (k : Known) → Sits m d role party [] [] p g k → g ≡ false
-first_guess m d role party p g k s = sym s.due ∙ (standing.begins m d role party []).due
+first_guess : (setup : Setup) (p : Phase) (g : Bool) (k : Known) → Sits setup [] [] p g k → g ≡ false
+first_guess setup p g k s = sym s.due ∙ (standing.begins setup []).due
 
-first_known : (m : SuiteData) (d : DecisionsData) (role : Side) (party : ConfigData) (p : Phase) (g : Bool) (k : Known) → Sits m d role party [] [] p g k → k ≡ nothing_known party []
-first_known m d role party p g k s = sym s.knows ∙ (standing.begins m d role party []).knows
+first_known : (setup : Setup) (p : Phase) (g : Bool) (k : Known) → Sits setup [] [] p g k → k ≡ nothing_known setup.config []
+first_known setup p g k s = sym s.knows ∙ (standing.begins setup []).knows
 
 -- a version line is answered by nothing
-module _ (below : Below) (streams : Streams) (m : SuiteData) (d : DecisionsData) (role : Side) (party : ConfigData) (h s : List ℕ) where
-  at_first : (rest : List ℕ) (answers : Units) → History m d role party [] rest None answers Open h s → (piece version : List ℕ) (used : ℕ) → used ≤ length piece
-      → parsers m role party [] (rest ++ piece) ≡ whole version (length rest + used)
-      → History m d role party (version ∷ []) [] None (answers ++ []) Open (h ++ take used piece) (s ++ [])
-  at_first rest answers a piece version used low seen = history.unit below streams m d role party [] rest answers h s a piece version used low seen tt
+module _ (below : Below) (streams : Streams) (setup : Setup) (h s : List ℕ) where
+  at_first : (rest : List ℕ) (answers : Units) → History setup [] rest None answers Open h s → (piece version : List ℕ) (used : ℕ) → used ≤ length piece
+      → parsers setup.suite setup.role setup.config [] (rest ++ piece) ≡ whole version (length rest + used)
+      → History setup (version ∷ []) [] None (answers ++ []) Open (h ++ take used piece) (s ++ [])
+  at_first rest answers a piece version used low seen = history.unit below streams setup [] rest answers h s a piece version used low seen tt
 
-  version_history : (units : Units) (rest : List ℕ) (answers : Units) → units ≡ [] → History m d role party units rest None answers Open h s → (piece version : List ℕ) (used : ℕ) → used ≤ length piece
-      → parsers m role party units (rest ++ piece) ≡ whole version (length rest + used)
-      → History m d role party (units ++ version ∷ []) [] None (answers ++ []) Open (h ++ take used piece) (s ++ [])
+  version_history : (units : Units) (rest : List ℕ) (answers : Units) → units ≡ [] → History setup units rest None answers Open h s → (piece version : List ℕ) (used : ℕ) → used ≤ length piece
+      → parsers setup.suite setup.role setup.config units (rest ++ piece) ≡ whole version (length rest + used)
+      → History setup (units ++ version ∷ []) [] None (answers ++ []) Open (h ++ take used piece) (s ++ [])
   version_history [] rest answers none a piece version used low seen = at_first rest answers a piece version used low seen
   version_history (u ∷ us) rest answers none a piece version used low seen = absurd cc
 
-module _ (laws : LineLaws) (below : Below) (streams : Streams) (m : SuiteData) (d : DecisionsData) (role : Side) (party : ConfigData) (kept : StateData) (i : Input) (h s : List ℕ) (is : kept.end ≡ Open) (a : EndpointStands m d role party kept i h s) (none : a.units ≡ []) where
-  lines_are : (bytes : List ℕ) → parsers m role party a.units bytes ≡ preamble_parser (others_of role) bytes
-  lines_are bytes = ap (λ (us : Units). parsers m role party us bytes) none
+module _ (laws : LineLaws) (below : Below) (streams : Streams) (setup : Setup) (kept : StateData) (i : Input) (h s : List ℕ) (is : kept.end ≡ Open) (a : EndpointStands setup kept i h s) (none : a.units ≡ []) where
+  lines_are : (bytes : List ℕ) → parsers setup.suite setup.role setup.config a.units bytes ≡ preamble_parser (others_of setup.role) bytes
+  lines_are bytes = ap (λ (us : Units). parsers setup.suite setup.role setup.config us bytes) none
 
-  pub part_goes : (old new : LineReaderData) (piece before : List ℕ) → StandsOpen (others_of role) (a.rest ++ piece) new.progress
-      → GoesOn m d role party kept (input.Lines new) h s (take (length piece) piece) before before
+  pub part_goes : (old new : LineReaderData) (piece before : List ℕ) → StandsOpen (others_of setup.role) (a.rest ++ piece) new.progress
+      → GoesOn setup kept (input.Lines new) h s (take (length piece) piece) before before
   part_goes old new piece before stands = record {
     added = [];
     appended = sym (append-nil before);
-    stands = subst (λ (t : List ℕ). EndpointStands m d role party kept (input.Lines new) (h ++ t) (s ++ [])) (sym (take-length piece))
-        (subst (λ (t : List ℕ). EndpointStands m d role party kept (input.Lines new) (h ++ piece) t) (sym (append-nil s))
-        (stands_part below streams m d role party kept i h s is a (input.Lines new) piece
-        (lines_are (a.rest ++ piece) ∙ open_unfinished laws (others_of role) (a.rest ++ piece) new.progress stands) (none, stands)));
+    stands = subst (λ (t : List ℕ). EndpointStands setup kept (input.Lines new) (h ++ t) (s ++ [])) (sym (take-length piece))
+        (subst (λ (t : List ℕ). EndpointStands setup kept (input.Lines new) (h ++ piece) t) (sym (append-nil s))
+        (stands_part below streams setup kept i h s is a (input.Lines new) piece
+        (lines_are (a.rest ++ piece) ∙ open_unfinished laws (others_of setup.role) (a.rest ++ piece) new.progress stands) (none, stands)));
     uncut = open_stays kept.end is;
   }
 
   pub refused_goes : (next : KeysData) (j : Input) (piece before : List ℕ) (used place : ℕ) (code : WireFault) → used ≤ length piece → place + 1 ≡ length a.rest + used
-      → LineRefused (others_of role) (a.rest ++ piece) place code
-      → GoesOn m d role party (record kept { end = Failed fault.Version }) j h s (take used piece) before before
+      → LineRefused (others_of setup.role) (a.rest ++ piece) place code
+      → GoesOn setup (record kept { end = Failed fault.Version }) j h s (take used piece) before before
   refused_goes next j piece before used place code low at refusal =
-      let seen : parsers m role party a.units (a.rest ++ piece) ≡ refused (OfLine code) (length a.rest + used) =
-      lines_are (a.rest ++ piece) ∙ laws.only (others_of role) (a.rest ++ piece) (refused (OfLine code) (length a.rest + used)) (place, sym at, refusal) in
-      stands_refused below streams m d role party kept i h s is a (record kept { end = Failed fault.Version }) j piece used (OfLine code) before before false next low seen
-      (gives_nothing m party.seed false next kept before)
+      let seen : parsers setup.suite setup.role setup.config a.units (a.rest ++ piece) ≡ refused (OfLine code) (length a.rest + used) =
+      lines_are (a.rest ++ piece) ∙ laws.only (others_of setup.role) (a.rest ++ piece) (refused (OfLine code) (length a.rest + used)) (place, sym at, refusal) in
+      stands_refused below streams setup kept i h s is a (record kept { end = Failed fault.Version }) j piece used (OfLine code) before before false next low seen
+      (gives_nothing setup.suite setup.config.seed false next kept before)
 
-  pub version_goes : (q : PacketReader) (piece before version : List ℕ) (used : ℕ) → used ≤ length piece → Preamble (others_of role) version (a.rest ++ take used piece)
+  pub version_goes : (q : PacketReader) (piece before version : List ℕ) (used : ℕ) → used ≤ length piece → Preamble (others_of setup.role) version (a.rest ++ take used piece)
       → packet_reader_data q ≡ record { keys = None; seq = 0; held = []; fault = None }
-      → GoesOn m d role party (record kept { known = record kept.known { version = version } }) (input.Packets q) h s (take used piece) before before
+      → GoesOn setup (record kept { known = record kept.known { version = version } }) (input.Packets q) h s (take used piece) before before
   version_goes q piece before version used low preamble fresh =
       let bytes : List ℕ = a.rest ++ take used piece in
       let all : bytes ++ drop used piece ≡ a.rest ++ piece = append_assoc a.rest (take used piece) (drop used piece) ∙ ap (λ (l : List ℕ). a.rest ++ l) (take-append-drop used piece) in
       let size : length bytes ≡ length a.rest + used = length-append a.rest (take used piece) ∙ ap (λ n. length a.rest + n) (length-take-le used piece low) in
-      let seen : parsers m role party a.units (a.rest ++ piece) ≡ whole version (length a.rest + used) =
-      lines_are (a.rest ++ piece) ∙ ap (λ (l : List ℕ). preamble_parser (others_of role) l) (sym all)
-      ∙ laws.preamble (others_of role) version bytes (drop used piece) preamble ∙ ap (λ n. whole version n) size in
-      let w = within below streams m d role party kept i h s is a in
-      let sits : Sits m d role party [] [] kept.phase kept.guess kept.known = subst (λ (us : Units). Sits m d role party (version_in us) (payloads_in us) kept.phase kept.guess kept.known) none w.sits in
-      let p = first_phase m d role party kept.phase kept.guess kept.known sits in
-      let g = first_guess m d role party kept.phase kept.guess kept.known sits in
-      let k = first_known m d role party kept.phase kept.guess kept.known sits in
+      let seen : parsers setup.suite setup.role setup.config a.units (a.rest ++ piece) ≡ whole version (length a.rest + used) =
+      lines_are (a.rest ++ piece) ∙ ap (λ (l : List ℕ). preamble_parser (others_of setup.role) l) (sym all)
+      ∙ laws.preamble (others_of setup.role) version bytes (drop used piece) preamble ∙ ap (λ n. whole version n) size in
+      let w = within below streams setup kept i h s is a in
+      let sits : Sits setup [] [] kept.phase kept.guess kept.known = subst (λ (us : Units). Sits setup (version_in us) (payloads_in us) kept.phase kept.guess kept.known) none w.sits in
+      let p = first_phase setup kept.phase kept.guess kept.known sits in
+      let g = first_guess setup kept.phase kept.guess kept.known sits in
+      let k = first_known setup kept.phase kept.guess kept.known sits in
       let after : a.units ++ version ∷ [] ≡ version ∷ [] = ap (λ (us : Units). us ++ version ∷ []) none in
       record {
         added = [];
@@ -143,66 +143,66 @@ module _ (laws : LineLaws) (below : Below) (streams : Streams) (m : SuiteData) (
           refusal = None;
           answers = a.answers ++ [];
           received_end = Open;
-          history = version_history below streams m d role party h s a.units a.rest a.answers none (open_history below streams m d role party kept i h s is a) piece version used low seen;
+          history = version_history below streams setup h s a.units a.rest a.answers none (open_history below streams setup kept i h s is a) piece version used low seen;
           ends = AsReceived is;
           inside = λ o. record {
-            sits = subst (λ (us : Units). Sits m d role party (version_in us) (payloads_in us) kept.phase kept.guess (record kept.known { version = version })) (sym after)
-                (subst (λ (x : Phase). Sits m d role party version [] x kept.guess (record kept.known { version = version })) (sym p)
-                (subst (λ (x : Bool). Sits m d role party version [] phase.KexInit x (record kept.known { version = version })) (sym g)
-                (subst (λ (x : Known). Sits m d role party version [] phase.KexInit false (record x { version = version })) (sym k) (standing.begins m d role party version))));
+            sits = subst (λ (us : Units). Sits setup (version_in us) (payloads_in us) kept.phase kept.guess (record kept.known { version = version })) (sym after)
+                (subst (λ (x : Phase). Sits setup version [] x kept.guess (record kept.known { version = version })) (sym p)
+                (subst (λ (x : Bool). Sits setup version [] phase.KexInit x (record kept.known { version = version })) (sym g)
+                (subst (λ (x : Known). Sits setup version [] phase.KexInit false (record x { version = version })) (sym k) (standing.begins setup version))));
             form = record { form = w.form.form; clear = w.form.clear };
             reads = (
               version,
               [],
               after,
-              fresh ∙ ap (λ (x : Option KeysData). record { keys = x; seq = 0; held = []; fault = None }) (sym (keys_none m role party version))
-                  ∙ ap (λ (n : ℕ). record { keys = keys_in m role party version []; seq = n; held = []; fault = None }) (sym (number_none role party)),
+              fresh ∙ ap (λ (x : Option KeysData). record { keys = x; seq = 0; held = []; fault = None }) (sym (keys_none setup.suite setup.role setup.config version))
+                  ∙ ap (λ (n : ℕ). record { keys = keys_in setup.suite setup.role setup.config version []; seq = n; held = []; fault = None }) (sym (number_none setup.role setup.config)),
             );
             carries = record {
-              pending = w.carries.pending ∙ ap (λ (x : Phase). pending_at x (keys_at m role party (version_in a.units) (payloads_in a.units) (other role))) p
-                  ∙ ap (λ (x : Phase). pending_at x (keys_at m role party (version_in (a.units ++ version ∷ [])) (payloads_in (a.units ++ version ∷ [])) (other role))) (sym p);
+              pending = w.carries.pending ∙ ap (λ (x : Phase). pending_at x (keys_at setup.suite setup.role setup.config (version_in a.units) (payloads_in a.units) (other setup.role))) p
+                  ∙ ap (λ (x : Phase). pending_at x (keys_at setup.suite setup.role setup.config (version_in (a.units ++ version ∷ [])) (payloads_in (a.units ++ version ∷ [])) (other setup.role))) (sym p);
               own_version = λ past. absurd (true≢false (sym past ∙ ap past_exchange p));
               host_key = λ past. absurd (true≢false (sym past ∙ ap past_exchange p));
-              user_key = w.carries.user_key ∙ ap (λ (us : Units). last_successful_key m d role party (version_in us) (payloads_in us)) none ∙ no_successful_key m d role party []
-                  ∙ sym (no_successful_key m d role party version) ∙ sym (ap (λ (us : Units). last_successful_key m d role party (version_in us) (payloads_in us)) after);
+              user_key = w.carries.user_key ∙ ap (λ (us : Units). last_successful_key setup (version_in us) (payloads_in us)) none ∙ no_successful_key setup []
+                  ∙ sym (no_successful_key setup version) ∙ sym (ap (λ (us : Units). last_successful_key setup (version_in us) (payloads_in us)) after);
             };
-            speaks = speaks_received m role party a.units (version ∷ []) (a.answers ++ []) kept.sending
+            speaks = speaks_received setup.suite setup.role setup.config a.units (version ∷ []) (a.answers ++ []) kept.sending
                 (λ on. a.history.keyed (sym (ap switched_out (append-nil a.answers)) ∙ on))
-                (subst (λ (us : Units). Speaks m role party a.units us kept.sending) (sym (append-nil a.answers)) w.speaks);
+                (subst (λ (us : Units). Speaks setup.suite setup.role setup.config a.units us kept.sending) (sym (append-nil a.answers)) w.speaks);
           };
         };
         uncut = open_stays kept.end is;
       }
 
-module _ (laws : LineLaws) (below : Below) (streams : Streams) (m : SuiteData) (d : DecisionsData) (role : Side) (party : ConfigData) (next : KeysData) (old : LineReaderData) (kept : StateData) (piece before : List ℕ) (is : kept.end ≡ Open) where
-  goes_as : (new last : StateData) (j : Input) (h s : List ℕ) (n k : ℕ) → last ≡ new → k ≡ n → GoesOn m d role party new j h s (take n piece) before before → GoesOn m d role party last j h s (take k piece) before before
+module _ (laws : LineLaws) (below : Below) (streams : Streams) (setup : Setup) (next : KeysData) (old : LineReaderData) (kept : StateData) (piece before : List ℕ) (is : kept.end ≡ Open) where
+  goes_as : (new last : StateData) (j : Input) (h s : List ℕ) (n k : ℕ) → last ≡ new → k ≡ n → GoesOn setup new j h s (take n piece) before before → GoesOn setup last j h s (take k piece) before before
   goes_as new last j h s n k e f g =
-      subst (λ (x : ℕ). GoesOn m d role party last j h s (take x piece) before before) (sym f) (subst (λ (x : StateData). GoesOn m d role party x j h s (take n piece) before before) (sym e) g)
+      subst (λ (x : ℕ). GoesOn setup last j h s (take x piece) before before) (sym f) (subst (λ (x : StateData). GoesOn setup x j h s (take n piece) before before) (sym e) g)
 
   -- the version line hasn't come
   pub lines_part : (new : LineReaderData) (last : StateData) (used : ℕ) → ((k : ℕ) (bytes : List ℕ) → StandsOpen k bytes old.progress → ReceivesLines k bytes new kept last piece (received.Part used))
-      → Steps m d role party (input.Lines old) kept (input.Lines new) last (take used piece) before before
+      → Steps setup (input.Lines old) kept (input.Lines new) last (take used piece) before before
   lines_part new last used receives h s a =
-      let w = within below streams m d role party kept (input.Lines old) h s is a in
-      let x = receives (others_of role) a.rest w.reads.1 in
+      let w = within below streams setup kept (input.Lines old) h s is a in
+      let x = receives (others_of setup.role) a.rest w.reads.1 in
       goes_as kept last (input.Lines new) h s (length piece) used x.2 x.1
-      (part_goes laws below streams m d role party kept (input.Lines old) h s is a w.reads.0 old new piece before x.0)
+      (part_goes laws below streams setup kept (input.Lines old) h s is a w.reads.0 old new piece before x.0)
 
   -- a line is refused
   pub lines_refused : (new : LineReaderData) (j : Input) (last : StateData) (used : ℕ) → ((k : ℕ) (bytes : List ℕ) → StandsOpen k bytes old.progress → ReceivesLines k bytes new kept last piece (received.Refused used))
-      → Steps m d role party (input.Lines old) kept j last (take used piece) before before
+      → Steps setup (input.Lines old) kept j last (take used piece) before before
   lines_refused new j last used receives h s a =
-      let w = within below streams m d role party kept (input.Lines old) h s is a in
-      let x = receives (others_of role) a.rest w.reads.1 in
+      let w = within below streams setup kept (input.Lines old) h s is a in
+      let x = receives (others_of setup.role) a.rest w.reads.1 in
       goes_as (record kept { end = Failed fault.Version }) last j h s used used x.5 refl
-      (refused_goes laws below streams m d role party kept (input.Lines old) h s is a w.reads.0 next j piece before used x.0 x.1 x.4 x.2 x.3)
+      (refused_goes laws below streams setup kept (input.Lines old) h s is a w.reads.0 next j piece before used x.0 x.1 x.4 x.2 x.3)
 
   -- the version line has come
   pub lines_whole : (new : LineReaderData) (q : PacketReader) (last : StateData) (used : ℕ) → ((k : ℕ) (bytes : List ℕ) → StandsOpen k bytes old.progress → ReceivesLines k bytes new kept last piece (received.Whole used))
       → packet_reader_data q ≡ record { keys = None; seq = 0; held = []; fault = None }
-      → Steps m d role party (input.Lines old) kept (input.Packets q) last (take used piece) before before
+      → Steps setup (input.Lines old) kept (input.Packets q) last (take used piece) before before
   lines_whole new q last used receives fresh h s a =
-      let w = within below streams m d role party kept (input.Lines old) h s is a in
-      let x = receives (others_of role) a.rest w.reads.1 in
+      let w = within below streams setup kept (input.Lines old) h s is a in
+      let x = receives (others_of setup.role) a.rest w.reads.1 in
       goes_as (record kept { known = record kept.known { version = x.0 } }) last (input.Packets q) h s used used x.3 refl
-      (version_goes laws below streams m d role party kept (input.Lines old) h s is a w.reads.0 q piece before x.0 used x.2 x.1 fresh)
+      (version_goes laws below streams setup kept (input.Lines old) h s is a w.reads.0 q piece before x.0 used x.2 x.1 fresh)

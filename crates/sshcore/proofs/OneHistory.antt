@@ -1,16 +1,14 @@
 -- The bytes that an endpoint received decide what it has sent and how it ends.
 
 use Rattle.std.proofs.Common.{◌≡◌, ℕ, List, [], ◌∷◌, ◌++◌, Option, refl, sym, ap, ◌∙◌, subst}
-use Rattle.sshneg.specs.declared.side.Side.{Side}
 use Rattle.sshpacket.specs.Parse.{Refusal}
 use Rattle.sshpacket.specs.Places.{flat_places}
 use Rattle.sshpacket.specs.Stream.{Same, Units}
-use Rattle.sshpacket.specs.Suite.{SuiteData}
 use Rattle.sshpacket.proofs.Places.{each-last}
 use Rattle.sshcore.specs.Directions.{spells}
 use Rattle.sshcore.specs.EndData.{EndData, Open}
 use Rattle.sshcore.specs.History.{History, IsOneHistory}
-use Rattle.sshcore.specs.EndpointParts.{ConfigData, DecisionsData}
+use Rattle.sshcore.specs.EndpointParts.{Setup}
 use Rattle.sshcore.specs.Replies.{Ends, StaysOpen, answers_at, end_at, ended, goes_on, refusal_reply}
 use Rattle.sshcore.specs.Work.{making}
 
@@ -22,29 +20,29 @@ last_same (b ∷ []) [] x y e = absurd cc
 last_same (b ∷ c ∷ cs) [] x y e = absurd cc
 last_same (b ∷ bs) (c ∷ cs) x y e = let t = last_same bs cs x y cc in (let first : b ≡ c = cc in let after : bs ≡ cs = t.0 in cc, t.1)
 
-module _ (m : SuiteData) (d : DecisionsData) (role : Side) (party : ConfigData) where
+module _ (setup : Setup) where
   -- where an endpoint stays open, its last unit leaves it open
-  pub last_open : (units before : Units) (last : List ℕ) → units ≡ before ++ last ∷ [] → StaysOpen m d role party units → end_at m d role party before last ≡ Open
+  pub last_open : (units before : Units) (last : List ℕ) → units ≡ before ++ last ∷ [] → StaysOpen setup units → end_at setup before last ≡ Open
   last_open units before last is stays =
-      each-last (λ b u. end_at m d role party b u ≡ Open) [] before last (subst (StaysOpen m d role party) is stays)
+      each-last (λ b u. end_at setup b u ≡ Open) [] before last (subst (StaysOpen setup) is stays)
 
-  same_end : (units : Units) (refusal : Option Refusal) (x y : EndData) → Ends m d role party units refusal x → Ends m d role party units refusal y → x ≡ y
+  same_end : (units : Units) (refusal : Option Refusal) (x y : EndData) → Ends setup units refusal x → Ends setup units refusal y → x ≡ y
   same_end units refusal x y (goes_on a e) (goes_on b f) = e ∙ sym f
   same_end units refusal x y (goes_on a e) (ended before last is stays f shut none) = absurd (shut (f ∙ last_open units before last is a))
   same_end units refusal x y (ended before last is stays e shut none) (goes_on b f) = absurd (shut (e ∙ last_open units before last is b))
   same_end units refusal x y (ended before last is stays e shut none) (ended other end is_too stays_too f shut_too none_too) =
       let t = last_same before other last end (sym is ∙ is_too) in
-      e ∙ ap (λ (b : Units). end_at m d role party b last) t.0 ∙ ap (λ (u : List ℕ). end_at m d role party other u) t.1 ∙ sym f
+      e ∙ ap (λ (b : Units). end_at setup b last) t.0 ∙ ap (λ (u : List ℕ). end_at setup other u) t.1 ∙ sym f
 
   pub one_by : (units other_units : Units) (refusal other_refusal : Option Refusal) (rest other_rest : List ℕ) (answers other_answers : Units) (end other_end : EndData) (h s t : List ℕ)
       → Same units other_units rest other_rest refusal other_refusal
-      → History m d role party units rest refusal answers end h s → History m d role party other_units other_rest other_refusal other_answers other_end h t
+      → History setup units rest refusal answers end h s → History setup other_units other_rest other_refusal other_answers other_end h t
       → IsOneHistory units other_units rest other_rest refusal other_refusal answers other_answers end other_end s t
   one_by units other_units refusal other_refusal rest other_rest answers other_answers end other_end h s t same a b =
       let replied : answers ≡ other_answers =
       a.replies.in_order
-      ∙ ap (λ (us : Units). making m role party ++ (flat_places (answers_at m d role party) [] us ++ (refusal_reply refusal).answers)) same.same_units
-      ∙ ap (λ (r : Option Refusal). making m role party ++ (flat_places (answers_at m d role party) [] other_units ++ (refusal_reply r).answers)) same.same_refusal
+      ∙ ap (λ (us : Units). making setup.suite setup.role setup.config ++ (flat_places (answers_at setup) [] us ++ (refusal_reply refusal).answers)) same.same_units
+      ∙ ap (λ (r : Option Refusal). making setup.suite setup.role setup.config ++ (flat_places (answers_at setup) [] other_units ++ (refusal_reply r).answers)) same.same_refusal
       ∙ sym b.replies.in_order in
       record {
         same_units = same.same_units;
@@ -52,10 +50,10 @@ module _ (m : SuiteData) (d : DecisionsData) (role : Side) (party : ConfigData) 
         same_refusal = same.same_refusal;
         same_answers = replied;
         same_end = same_end other_units other_refusal end other_end
-            (subst (λ (r : Option Refusal). Ends m d role party other_units r end) same.same_refusal (subst (λ (us : Units). Ends m d role party us refusal end) same.same_units a.replies.ends))
+            (subst (λ (r : Option Refusal). Ends setup other_units r end) same.same_refusal (subst (λ (us : Units). Ends setup us refusal end) same.same_units a.replies.ends))
             b.replies.ends;
         same_sent = a.sent.spelled
-            ∙ ap (λ (us : Units). flat_places (spells m role party us) [] (party.version ∷ answers)) same.same_units
-            ∙ ap (λ (l : Units). flat_places (spells m role party other_units) [] (party.version ∷ l)) replied
+            ∙ ap (λ (us : Units). flat_places (spells setup.suite setup.role setup.config us) [] (setup.config.version ∷ answers)) same.same_units
+            ∙ ap (λ (l : Units). flat_places (spells setup.suite setup.role setup.config other_units) [] (setup.config.version ∷ l)) replied
             ∙ sym b.sent.spelled;
       }

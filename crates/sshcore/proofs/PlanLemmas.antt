@@ -9,13 +9,12 @@ use Rattle.sshmsg.specs.Numbers.{kind}
 use Rattle.sshneg.specs.declared.side.Side.{Side}
 use Rattle.sshneg.specs.declared.side.Side.TheVariants.{Client, Server}
 use Rattle.sshpacket.specs.Stream.{Units}
-use Rattle.sshpacket.specs.Suite.{SuiteData}
 use Rattle.sshpacket.proofs.Places.{count-push, flat-push}
 use Rattle.sshcore.specs.declared.table.Phase.TheVariants as phase
 use Rattle.sshcore.specs.Before.{all_kept, count_kept, dropped, expects_guess, kept}
 use Rattle.sshcore.specs.ConfigParts.{AttemptData}
 use Rattle.sshcore.specs.Known.{left_at}
-use Rattle.sshcore.specs.EndpointParts.{ConfigData, DecisionsData, UserKeyData}
+use Rattle.sshcore.specs.EndpointParts.{ConfigData, Setup, UserKeyData}
 use Rattle.sshcore.specs.Phases.{leaving}
 use Rattle.sshcore.specs.Plan.{is_answer, left_after, left_after_one}
 use Rattle.sshcore.specs.Reached.{ReachedData, Tried, nothing_reached, reached_after, reached_after_one}
@@ -100,31 +99,31 @@ pub reached_push : (r : ReachedData) (xs ys : List Tried) → reached_after r (x
 reached_push r [] ys = refl
 reached_push r (x ∷ xs) ys = reached_push (reached_after_one r x) xs ys
 
-module _ (m : SuiteData) (d : DecisionsData) (role : Side) (party : ConfigData) (version : List ℕ) (before : Units) (payload : List ℕ) where
-  pub tried_push : tried_at m d role party version (before ++ payload ∷ []) ≡ tried_at m d role party version before ++ tried_place m d role party version before payload
+module _ (setup : Setup) (version : List ℕ) (before : Units) (payload : List ℕ) where
+  pub tried_push : tried_at setup version (before ++ payload ∷ []) ≡ tried_at setup version before ++ tried_place setup version before payload
   unfolding tried_at
-  tried_push = flat-push (tried_place m d role party version) [] before payload
+  tried_push = flat-push (tried_place setup version) [] before payload
 
-  reached_so : reached_after nothing_reached (tried_at m d role party version (before ++ payload ∷ []))
-      ≡ reached_after (reached_after nothing_reached (tried_at m d role party version before)) (tried_place m d role party version before payload)
-  reached_so = ap (reached_after nothing_reached) tried_push ∙ reached_push nothing_reached (tried_at m d role party version before) (tried_place m d role party version before payload)
+  reached_so : reached_after nothing_reached (tried_at setup version (before ++ payload ∷ []))
+      ≡ reached_after (reached_after nothing_reached (tried_at setup version before)) (tried_place setup version before payload)
+  reached_so = ap (reached_after nothing_reached) tried_push ∙ reached_push nothing_reached (tried_at setup version before) (tried_place setup version before payload)
 
-  pub reached_stays : kept role party.offer 50 before payload ≡ false
-      → reached_after nothing_reached (tried_at m d role party version (before ++ payload ∷ [])) ≡ reached_after nothing_reached (tried_at m d role party version before)
+  pub reached_stays : kept setup.role setup.config.offer 50 before payload ≡ false
+      → reached_after nothing_reached (tried_at setup version (before ++ payload ∷ [])) ≡ reached_after nothing_reached (tried_at setup version before)
   reached_stays none = reached_so ∙ rw none refl
 
-  pub reached_more : expects_guess role party.offer before ≡ false
-      → reached_after nothing_reached (tried_at m d role party version (before ++ payload ∷ []))
-      ≡ cond (kind payload == 50) (reached_after (reached_after nothing_reached (tried_at m d role party version before))
-      (tried_in m d party (session_known m role party version before) (count_kept role party.offer 50 before + 1) payload))
-      (reached_after nothing_reached (tried_at m d role party version before))
-  reached_more none = reached_so ∙ rw (kept_free role party.offer before payload 50 none) (by (kind payload == 50))
+  pub reached_more : expects_guess setup.role setup.config.offer before ≡ false
+      → reached_after nothing_reached (tried_at setup version (before ++ payload ∷ []))
+      ≡ cond (kind payload == 50) (reached_after (reached_after nothing_reached (tried_at setup version before))
+      (tried_in setup.suite setup.decisions setup.config (session_known setup.suite setup.role setup.config version before) (count_kept setup.role setup.config.offer 50 before + 1) payload))
+      (reached_after nothing_reached (tried_at setup version before))
+  reached_more none = reached_so ∙ rw (kept_free setup.role setup.config.offer before payload 50 none) (by (kind payload == 50))
     where
-      by : (b : Bool) → reached_after (reached_after nothing_reached (tried_at m d role party version before))
-          (cond b (tried_in m d party (session_known m role party version before) (count_kept role party.offer 50 before + 1) payload) [])
-          ≡ cond b (reached_after (reached_after nothing_reached (tried_at m d role party version before))
-          (tried_in m d party (session_known m role party version before) (count_kept role party.offer 50 before + 1) payload))
-          (reached_after nothing_reached (tried_at m d role party version before))
+      by : (b : Bool) → reached_after (reached_after nothing_reached (tried_at setup version before))
+          (cond b (tried_in setup.suite setup.decisions setup.config (session_known setup.suite setup.role setup.config version before) (count_kept setup.role setup.config.offer 50 before + 1) payload) [])
+          ≡ cond b (reached_after (reached_after nothing_reached (tried_at setup version before))
+          (tried_in setup.suite setup.decisions setup.config (session_known setup.suite setup.role setup.config version before) (count_kept setup.role setup.config.offer 50 before + 1) payload))
+          (reached_after nothing_reached (tried_at setup version before))
       by true = refl
       by false = refl
 
@@ -133,30 +132,30 @@ last_push : (key : Option UserKeyData) (xs ys : List UserKeyData) → last_key k
 last_push key [] ys = refl
 last_push key (x ∷ xs) ys = last_push (Some x) xs ys
 
-module _ (m : SuiteData) (d : DecisionsData) (role : Side) (party : ConfigData) (version : List ℕ) where
+module _ (setup : Setup) (version : List ℕ) where
   abbrev pub last_successful_key : Units → Option UserKeyData
-  last_successful_key before = last_key None (successful_keys_at m d role party version before)
+  last_successful_key before = last_key None (successful_keys_at setup version before)
 
   pub no_successful_key : last_successful_key [] ≡ None
   unfolding successful_keys_at
   no_successful_key = refl
 
   module _ (before : Units) (payload : List ℕ) where
-    keys_push : successful_keys_at m d role party version (before ++ payload ∷ []) ≡ successful_keys_at m d role party version before ++ successful_key_place m d role party version before payload
+    keys_push : successful_keys_at setup version (before ++ payload ∷ []) ≡ successful_keys_at setup version before ++ successful_key_place setup version before payload
     unfolding successful_keys_at
-    keys_push = flat-push (successful_key_place m d role party version) [] before payload
+    keys_push = flat-push (successful_key_place setup version) [] before payload
 
-    last_so : last_successful_key (before ++ payload ∷ []) ≡ last_key (last_successful_key before) (successful_key_place m d role party version before payload)
-    last_so = ap (last_key None) keys_push ∙ last_push None (successful_keys_at m d role party version before) (successful_key_place m d role party version before payload)
+    last_so : last_successful_key (before ++ payload ∷ []) ≡ last_key (last_successful_key before) (successful_key_place setup version before payload)
+    last_so = ap (last_key None) keys_push ∙ last_push None (successful_keys_at setup version before) (successful_key_place setup version before payload)
 
-    pub key_stays : kept role party.offer 50 before payload ≡ false → last_successful_key (before ++ payload ∷ []) ≡ last_successful_key before
+    pub key_stays : kept setup.role setup.config.offer 50 before payload ≡ false → last_successful_key (before ++ payload ∷ []) ≡ last_successful_key before
     key_stays none = last_so ∙ rw none refl
 
-    pub key_more : expects_guess role party.offer before ≡ false → last_successful_key (before ++ payload ∷ [])
-        ≡ cond (kind payload == 50) (last_key (last_successful_key before) (successful_key_in m d party (session_known m role party version before) (count_kept role party.offer 50 before + 1) payload)) (last_successful_key before)
-    key_more none = last_so ∙ rw (kept_free role party.offer before payload 50 none) (by (kind payload == 50))
+    pub key_more : expects_guess setup.role setup.config.offer before ≡ false → last_successful_key (before ++ payload ∷ [])
+        ≡ cond (kind payload == 50) (last_key (last_successful_key before) (successful_key_in setup.suite setup.decisions setup.config (session_known setup.suite setup.role setup.config version before) (count_kept setup.role setup.config.offer 50 before + 1) payload)) (last_successful_key before)
+    key_more none = last_so ∙ rw (kept_free setup.role setup.config.offer before payload 50 none) (by (kind payload == 50))
       where
-        by : (b : Bool) → last_key (last_successful_key before) (cond b (successful_key_in m d party (session_known m role party version before) (count_kept role party.offer 50 before + 1) payload) [])
-            ≡ cond b (last_key (last_successful_key before) (successful_key_in m d party (session_known m role party version before) (count_kept role party.offer 50 before + 1) payload)) (last_successful_key before)
+        by : (b : Bool) → last_key (last_successful_key before) (cond b (successful_key_in setup.suite setup.decisions setup.config (session_known setup.suite setup.role setup.config version before) (count_kept setup.role setup.config.offer 50 before + 1) payload) [])
+            ≡ cond b (last_key (last_successful_key before) (successful_key_in setup.suite setup.decisions setup.config (session_known setup.suite setup.role setup.config version before) (count_kept setup.role setup.config.offer 50 before + 1) payload)) (last_successful_key before)
         by true = refl
         by false = refl

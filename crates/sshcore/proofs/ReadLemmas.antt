@@ -20,7 +20,7 @@ use Rattle.sshcore.specs.EndData.{Open, fails}
 use Rattle.sshcore.specs.Exchanged.{HasForm}
 use Rattle.sshcore.specs.Inputs.{EndpointStands, Steps}
 use Rattle.sshcore.specs.StateData.{StateData, keys_due, keys_left}
-use Rattle.sshcore.specs.EndpointParts.{ConfigData, DecisionsData}
+use Rattle.sshcore.specs.EndpointParts.{ConfigData, Setup}
 use Rattle.sshcore.specs.Replies.{fault_of}
 use Rattle.sshcore.proofs.Below.{Below}
 use Rattle.sshcore.proofs.FeedLemmas.{stands_part, stands_refused, stands_unit, within}
@@ -51,63 +51,63 @@ refused_some parser inc rest piece zero r e f =
     apart r n e = absurd cc
 refused_some parser inc rest piece (suc used) r e f = omega arith
 
-module _ (below : Below) (streams : Streams) (m : SuiteData) (d : DecisionsData) (role : Side) (party : ConfigData) (r q : PacketReader) (kept : StateData) (piece before after : List ℕ) (is : kept.end ≡ Open) where
+module _ (below : Below) (streams : Streams) (setup : Setup) (r q : PacketReader) (kept : StateData) (piece before after : List ℕ) (is : kept.end ≡ Open) where
   -- more bytes are wanted
-  pub packets_part : ahead m (packet_reader_data r) piece ≡ unfinished → packet_reader_data q ≡ record (packet_reader_data r) { held = (packet_reader_data r).held ++ piece }
-      → Steps m d role party (input.Packets r) kept (input.Packets q) kept (take (length piece) piece) before before
+  pub packets_part : ahead setup.suite (packet_reader_data r) piece ≡ unfinished → packet_reader_data q ≡ record (packet_reader_data r) { held = (packet_reader_data r).held ++ piece }
+      → Steps setup (input.Packets r) kept (input.Packets q) kept (take (length piece) piece) before before
   packets_part e left h s a =
-      let i = within below streams m d role party kept (input.Packets r) h s is a in
+      let i = within below streams setup kept (input.Packets r) h s is a in
       let x = i.reads in
-      let seen : parsers m role party a.units (a.rest ++ piece) ≡ unfinished = read_as m role party a.units x.0 x.1 a.rest piece (packet_reader_data r) x.2 x.3 ∙ e in
-      let held : packet_reader_data q ≡ record { keys = keys_in m role party x.0 x.1; seq = number_in role party x.1; held = a.rest ++ piece; fault = None } =
+      let seen : parsers setup.suite setup.role setup.config a.units (a.rest ++ piece) ≡ unfinished = read_as setup.suite setup.role setup.config a.units x.0 x.1 a.rest piece (packet_reader_data r) x.2 x.3 ∙ e in
+      let held : packet_reader_data q ≡ record { keys = keys_in setup.suite setup.role setup.config x.0 x.1; seq = number_in setup.role setup.config x.1; held = a.rest ++ piece; fault = None } =
       left ∙ ap (λ (t : PacketReaderData). record t { held = t.held ++ piece }) x.3 in
       record {
         added = [];
         appended = sym (append-nil before);
-        stands = subst (λ (t : List ℕ). EndpointStands m d role party kept (input.Packets q) (h ++ t) (s ++ [])) (sym (take-length piece))
-            (subst (λ (t : List ℕ). EndpointStands m d role party kept (input.Packets q) (h ++ piece) t) (sym (append-nil s))
-            (stands_part below streams m d role party kept (input.Packets r) h s is a (input.Packets q) piece seen (x.0, x.1, x.2, held)));
+        stands = subst (λ (t : List ℕ). EndpointStands setup kept (input.Packets q) (h ++ t) (s ++ [])) (sym (take-length piece))
+            (subst (λ (t : List ℕ). EndpointStands setup kept (input.Packets q) (h ++ piece) t) (sym (append-nil s))
+            (stands_part below streams setup kept (input.Packets r) h s is a (input.Packets q) piece seen (x.0, x.1, x.2, held)));
         uncut = open_stays kept.end is;
       }
 
   -- the packet is refused
   pub packets_refused : (new : StateData) (used : ℕ) (f : PacketFault) (strict : Bool) (next : KeysData) → used ≤ length piece
-      → ahead m (packet_reader_data r) piece ≡ refused (OfPacket f) (length (packet_reader_data r).held + used) → Gives m party.seed strict next kept new before after (fails (fault_of (OfPacket f)))
-      → Steps m d role party (input.Packets r) kept (input.Packets q) new (take used piece) before after
+      → ahead setup.suite (packet_reader_data r) piece ≡ refused (OfPacket f) (length (packet_reader_data r).held + used) → Gives setup.suite setup.config.seed strict next kept new before after (fails (fault_of (OfPacket f)))
+      → Steps setup (input.Packets r) kept (input.Packets q) new (take used piece) before after
   packets_refused new used f strict next low e gives h s a =
-      let i = within below streams m d role party kept (input.Packets r) h s is a in
+      let i = within below streams setup kept (input.Packets r) h s is a in
       let x = i.reads in
-      let seen : parsers m role party a.units (a.rest ++ piece) ≡ refused (OfPacket f) (length a.rest + used) =
-      read_as m role party a.units x.0 x.1 a.rest piece (packet_reader_data r) x.2 x.3 ∙ e ∙ ap (λ (t : PacketReaderData). refused (OfPacket f) (length t.held + used)) x.3 in
-      stands_refused below streams m d role party kept (input.Packets r) h s is a new (input.Packets q) piece used (OfPacket f) before after strict next low seen gives
+      let seen : parsers setup.suite setup.role setup.config a.units (a.rest ++ piece) ≡ refused (OfPacket f) (length a.rest + used) =
+      read_as setup.suite setup.role setup.config a.units x.0 x.1 a.rest piece (packet_reader_data r) x.2 x.3 ∙ e ∙ ap (λ (t : PacketReaderData). refused (OfPacket f) (length t.held + used)) x.3 in
+      stands_refused below streams setup kept (input.Packets r) h s is a new (input.Packets q) piece used (OfPacket f) before after strict next low seen gives
 
   -- a packet was read, and answered
   pub packets_unit : (p : PacketReader) (new last : StateData) (used packet : ℕ) (payload : List ℕ) → used ≤ length piece
-      → ahead m (packet_reader_data r) piece ≡ whole payload (length (packet_reader_data r).held + used) → packet ≡ (packet_reader_data r).seq
+      → ahead setup.suite (packet_reader_data r) piece ≡ whole payload (length (packet_reader_data r).held + used) → packet ≡ (packet_reader_data r).seq
       → packet_reader_data p ≡ record (packet_reader_data r) { held = []; seq = ((packet_reader_data r).seq + 1) % 2 ^ 32 }
-      → (HasForm m kept → Brings m d role party kept new packet payload before after)
+      → (HasForm setup.suite kept → Brings setup kept new packet payload before after)
       → last.end ≡ new.end → last.phase ≡ new.phase → last.guess ≡ new.guess → last.known ≡ new.known → last.sending ≡ new.sending
       → last.carried ≡ record new.carried { pending = keys_left new.phase new.carried.pending }
       → packet_reader_data q ≡ reader_with (keys_due new.phase new.carried.pending) new.known.strict (packet_reader_data p)
-      → Steps m d role party (input.Packets r) kept (input.Packets q) last (take used piece) before after
+      → Steps setup (input.Packets r) kept (input.Packets q) last (take used piece) before after
   packets_unit p new last used packet payload low e number left brings same_end same_phase same_guess same_known same_sending carried set h s a =
-      let i = within below streams m d role party kept (input.Packets r) h s is a in
+      let i = within below streams setup kept (input.Packets r) h s is a in
       let x = i.reads in
-      let seen : parsers m role party a.units (a.rest ++ piece) ≡ whole payload (length a.rest + used) =
-      read_as m role party a.units x.0 x.1 a.rest piece (packet_reader_data r) x.2 x.3 ∙ e ∙ ap (λ (t : PacketReaderData). whole payload (length t.held + used)) x.3 in
-      let number_is : packet ≡ number_in role party x.1 = number ∙ ap (λ (t : PacketReaderData). t.seq) x.3 in
-      let held : packet_reader_data p ≡ record { keys = keys_in m role party x.0 x.1; seq = (number_in role party x.1 + 1) % 2 ^ 32; held = []; fault = None } =
+      let seen : parsers setup.suite setup.role setup.config a.units (a.rest ++ piece) ≡ whole payload (length a.rest + used) =
+      read_as setup.suite setup.role setup.config a.units x.0 x.1 a.rest piece (packet_reader_data r) x.2 x.3 ∙ e ∙ ap (λ (t : PacketReaderData). whole payload (length t.held + used)) x.3 in
+      let number_is : packet ≡ number_in setup.role setup.config x.1 = number ∙ ap (λ (t : PacketReaderData). t.seq) x.3 in
+      let held : packet_reader_data p ≡ record { keys = keys_in setup.suite setup.role setup.config x.0 x.1; seq = (number_in setup.role setup.config x.1 + 1) % 2 ^ 32; held = []; fault = None } =
       left ∙ ap (λ (t : PacketReaderData). record t { held = []; seq = (t.seq + 1) % 2 ^ 32 }) x.3 in
-      stands_unit below streams m d role party kept (input.Packets r) h s is a x.0 x.1 x.2 new last (input.Packets q) piece payload used packet before after low seen number_is
+      stands_unit below streams setup kept (input.Packets r) h s is a x.0 x.1 x.2 new last (input.Packets q) piece payload used packet before after low seen number_is
       (brings i.form) same_end same_phase same_guess same_known same_sending carried
       (λ keys_are seq_is. (
         x.0,
         x.1 ++ payload ∷ [],
         ap (λ (us : Units). us ++ payload ∷ []) x.2,
         set ∙ ap (λ (t : PacketReaderData). reader_with (keys_due new.phase new.carried.pending) new.known.strict t) held
-            ∙ with_keys (keys_due new.phase new.carried.pending) new.known.strict (keys_in m role party x.0 x.1) (number_in role party x.1)
-            ∙ ap (λ (k : Option KeysData). record { keys = k; seq = number_with (keys_due new.phase new.carried.pending) new.known.strict (number_in role party x.1); held = []; fault = None }) (sym keys_are)
-            ∙ ap (λ (n : ℕ). record { keys = keys_in m role party x.0 (x.1 ++ payload ∷ []); seq = n; held = []; fault = None }) (sym seq_is),
+            ∙ with_keys (keys_due new.phase new.carried.pending) new.known.strict (keys_in setup.suite setup.role setup.config x.0 x.1) (number_in setup.role setup.config x.1)
+            ∙ ap (λ (k : Option KeysData). record { keys = k; seq = number_with (keys_due new.phase new.carried.pending) new.known.strict (number_in setup.role setup.config x.1); held = []; fault = None }) (sym keys_are)
+            ∙ ap (λ (n : ℕ). record { keys = keys_in setup.suite setup.role setup.config x.0 (x.1 ++ payload ∷ []); seq = n; held = []; fault = None }) (sym seq_is),
       ))
     where
       with_keys : (k : Option KeysData) (strict : Bool) (keys : Option KeysData) (n : ℕ)

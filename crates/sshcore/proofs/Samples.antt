@@ -6,7 +6,7 @@ use Rattle.std.specs.Char.{encode_utf8}
 use Rattle.std.specs.Str.{bytes_eq, chars, is_utf8}
 use Rattle.sshmsg.specs.Form.{utf8_at}
 use Rattle.sshmsg.specs.MessageData.{Disconnect, ServiceAccept, ServiceRequest, UserauthBanner}
-use Rattle.sshmsg.specs.MessageData as messages
+use Rattle.sshmsg.specs.Messages as messages
 use Rattle.sshmsg.specs.Messages.{message_in}
 use Rattle.sshmsg.specs.Written.{written_message}
 use Rattle.sshwire.specs.TypeReadings as readings
@@ -25,7 +25,7 @@ use Rattle.sshcore.specs.ConfigParts.{ByKey, ByNothing, ByPassword}
 use Rattle.sshcore.specs.Counting.{number_in, number_out, switched_out}
 use Rattle.sshcore.specs.EndData.{AgreedData, Authenticated, Closed, Failed, disconnect, fails, goes}
 use Rattle.sshcore.specs.Exchange.{exchange_with, secret_of, exchange_at, session_at}
-use Rattle.sshcore.specs.EndpointParts.{ConfigData, DecisionsData, KeyProof, NoProof, PasswordProof, ProofData}
+use Rattle.sshcore.specs.EndpointParts.{ConfigData, DecisionsData, KeyProof, NoProof, PasswordProof, ProofData, setup_with}
 use Rattle.sshcore.specs.Phases.{phase_at}
 use Rattle.sshcore.specs.Plan.{left_after, listed_in, next_listed}
 use Rattle.sshcore.specs.Replies.{answers_at, end_at, line_reply, unit_reply}
@@ -55,12 +55,12 @@ hello : Bool → List ℕ
 hello strict = kexinit_of Client strict a false
 
 -- An IGNORE before KEXINIT is ignored, and punished at a KEXINIT with the marker, whatever the suite; without one it is forgiven.
-ignored_before : (m : SuiteData) (d : DecisionsData) (v : List ℕ) → (unit_reply m d Server server (v ∷ []) ignore ≡ goes []) × (end_at m d Server server (v ∷ ignore ∷ []) (hello true) ≡ Failed (fault.Strict 20)) × (answers_at m d Server server (v ∷ ignore ∷ []) (hello true) ≡ (1 ∷ 0 ∷ 0 ∷ 0 ∷ 2 ∷ 0 ∷ 0 ∷ 0 ∷ 0 ∷ 0 ∷ 0 ∷ 0 ∷ 0 ∷ []) ∷ []) × (unit_reply toy d Server server (v ∷ ignore ∷ []) (hello false) ≡ goes [])
+ignored_before : (m : SuiteData) (d : DecisionsData) (v : List ℕ) → (unit_reply (setup_with m d Server server) (v ∷ []) ignore ≡ goes []) × (end_at (setup_with m d Server server) (v ∷ ignore ∷ []) (hello true) ≡ Failed (fault.Strict 20)) × (answers_at (setup_with m d Server server) (v ∷ ignore ∷ []) (hello true) ≡ (1 ∷ 0 ∷ 0 ∷ 0 ∷ 2 ∷ 0 ∷ 0 ∷ 0 ∷ 0 ∷ 0 ∷ 0 ∷ 0 ∷ 0 ∷ []) ∷ []) × (unit_reply (setup_with toy d Server server) (v ∷ ignore ∷ []) (hello false) ≡ goes [])
 unfolding toy kexinit_data config_data kexinit_of a ab ba o trusting wary written_message offered kexinit since_offer expects_guess stood first_kept since line_by line_reply work kexinit_reply init_reply reply_reply secret_of choice choice_of_directions exchange_with exchange_by exchange_text number_out switched_out derived key message_in messages.form_of messages.ext_info messages.extensions messages.kexinit readings.string_at readings.uint32_at readings.names_at readings.names_in readings.mpint_at readings.mpint_in ignore server client hello
 ignored_before m d v = (refl, refl, refl, refl)
 
 -- At KEXINIT: no common method; a KEXINIT that is cut short, before strictness; a boolean of 02 is TRUE.
-at_kexinit : (m : SuiteData) (d : DecisionsData) (v : List ℕ) → (unit_reply m d Server (config_data Server true (codes "b" ∷ []) false) (v ∷ []) (hello true) ≡ fails (fault.NoCommon field.Kex)) × (unit_reply m d Server server (v ∷ ignore ∷ []) (20 ∷ 0 ∷ []) ≡ fails (fault.Malformed 20))
+at_kexinit : (m : SuiteData) (d : DecisionsData) (v : List ℕ) → (unit_reply (setup_with m d Server (config_data Server true (codes "b" ∷ []) false)) (v ∷ []) (hello true) ≡ fails (fault.NoCommon field.Kex)) × (unit_reply (setup_with m d Server server) (v ∷ ignore ∷ []) (20 ∷ 0 ∷ []) ≡ fails (fault.Malformed 20))
 unfolding toy kexinit_data config_data kexinit_of a ab ba o trusting wary written_message offered kexinit since_offer expects_guess stood first_kept since line_by line_reply work kexinit_reply init_reply reply_reply secret_of choice choice_of_directions exchange_with exchange_by exchange_text number_out switched_out derived key message_in messages.form_of messages.ext_info messages.extensions messages.kexinit readings.string_at readings.uint32_at readings.names_at readings.names_in readings.mpint_at readings.mpint_in ignore server client hello
 at_kexinit m d v = (refl, refl)
 
@@ -82,7 +82,7 @@ welcome : Bool → List ℕ
 welcome strict = kexinit_of Server strict a false
 
 -- what a server sends in a session without a guess
-server_sends : (d : DecisionsData) (v : List ℕ) → (making toy Server server ≡ welcome true ∷ []) × (unit_reply toy d Server server [] v ≡ goes []) × (unit_reply toy d Server server (v ∷ []) (hello true) ≡ goes []) × (unit_reply toy d Server server (v ∷ hello true ∷ []) init ≡ goes (reply ∷ (21 ∷ []) ∷ [])) × (unit_reply toy d Server server (v ∷ hello true ∷ init ∷ []) (21 ∷ []) ≡ goes []) × (unit_reply toy d Server server (v ∷ hello true ∷ init ∷ (21 ∷ []) ∷ []) request ≡ goes (accept ∷ []))
+server_sends : (d : DecisionsData) (v : List ℕ) → (making toy Server server ≡ welcome true ∷ []) × (unit_reply (setup_with toy d Server server) [] v ≡ goes []) × (unit_reply (setup_with toy d Server server) (v ∷ []) (hello true) ≡ goes []) × (unit_reply (setup_with toy d Server server) (v ∷ hello true ∷ []) init ≡ goes (reply ∷ (21 ∷ []) ∷ [])) × (unit_reply (setup_with toy d Server server) (v ∷ hello true ∷ init ∷ []) (21 ∷ []) ≡ goes []) × (unit_reply (setup_with toy d Server server) (v ∷ hello true ∷ init ∷ (21 ∷ []) ∷ []) request ≡ goes (accept ∷ []))
 unfolding toy kexinit_data config_data kexinit_of a ab ba o trusting wary written_message offered kexinit since_offer expects_guess stood first_kept since line_by line_reply work kexinit_reply init_reply reply_reply secret_of choice choice_of_directions exchange_with exchange_by exchange_text number_out switched_out derived key message_in messages.form_of messages.ext_info messages.extensions messages.kexinit readings.string_at readings.uint32_at readings.names_at readings.names_in readings.mpint_at readings.mpint_in ignore server client hello init reply request accept welcome
 server_sends d v = (refl, refl, refl, refl, refl, refl)
 
@@ -124,17 +124,17 @@ guesser : ConfigData
 guesser = config_data Client true ab true
 
 -- a wrong guess is dropped, whatever it says, and counts; what follows is used
-wrong_guesses : (d : DecisionsData) (v : List ℕ) → (expects_guess Server other_server.offer (guessing true ∷ []) ≡ true) × (unit_reply toy d Server other_server (v ∷ guessing true ∷ []) init ≡ goes []) × (unit_reply toy d Server other_server (v ∷ guessing true ∷ init ∷ []) init ≡ goes (reply ∷ (21 ∷ []) ∷ [])) × (phase_at Server other_server.offer (guessing true ∷ init ∷ []) ≡ phase.Exchange) × (number_in Server other_server (guessing true ∷ init ∷ []) ≡ 2) × (number_in Server other_server (guessing true ∷ init ∷ init ∷ (21 ∷ []) ∷ []) ≡ 0) × (number_in Server other_server (guessing false ∷ init ∷ init ∷ (21 ∷ []) ∷ []) ≡ 4)
+wrong_guesses : (d : DecisionsData) (v : List ℕ) → (expects_guess Server other_server.offer (guessing true ∷ []) ≡ true) × (unit_reply (setup_with toy d Server other_server) (v ∷ guessing true ∷ []) init ≡ goes []) × (unit_reply (setup_with toy d Server other_server) (v ∷ guessing true ∷ init ∷ []) init ≡ goes (reply ∷ (21 ∷ []) ∷ [])) × (phase_at Server other_server.offer (guessing true ∷ init ∷ []) ≡ phase.Exchange) × (number_in Server other_server (guessing true ∷ init ∷ []) ≡ 2) × (number_in Server other_server (guessing true ∷ init ∷ init ∷ (21 ∷ []) ∷ []) ≡ 0) × (number_in Server other_server (guessing false ∷ init ∷ init ∷ (21 ∷ []) ∷ []) ≡ 4)
 unfolding toy kexinit_data config_data kexinit_of a ab ba o trusting wary written_message offered kexinit since_offer expects_guess stood first_kept since line_by line_reply work kexinit_reply init_reply reply_reply secret_of choice choice_of_directions exchange_with exchange_by exchange_text number_out switched_out derived key message_in messages.form_of messages.ext_info messages.extensions messages.kexinit readings.string_at readings.uint32_at readings.names_at readings.names_in readings.mpint_at readings.mpint_in ignore server client hello init reply request accept welcome to_server to_client guessing other_server guesser
 wrong_guesses d v = (refl, refl, refl, refl, refl, refl, refl)
 
 -- in its place: a NEWKEYS is dropped and switches no keys; a DISCONNECT closes; under strictness a number outside 30 to 49 deviates
-guess_places : (d : DecisionsData) (v : List ℕ) → (unit_reply toy d Server other_server (v ∷ guessing false ∷ []) (21 ∷ []) ≡ goes []) × (stood Server other_server.offer 21 (guessing false ∷ (21 ∷ []) ∷ []) ≡ false) × (number_in Server other_server (guessing false ∷ (21 ∷ []) ∷ []) ≡ 2) × (unit_reply toy d Server other_server (v ∷ guessing true ∷ []) (21 ∷ []) ≡ fails (fault.Strict 21)) × (unit_reply toy d Server other_server (v ∷ guessing true ∷ []) ignore ≡ fails (fault.Strict 2)) × (unit_reply toy d Server other_server (v ∷ guessing true ∷ []) (49 ∷ []) ≡ goes []) × (unit_reply toy d Server other_server (v ∷ guessing true ∷ []) (50 ∷ []) ≡ fails (fault.Strict 50)) × (end_at toy d Server other_server (v ∷ guessing true ∷ []) (written_message (Disconnect 11 [] [])) ≡ Closed 11) × (unit_reply toy d Server other_server (v ∷ guessing true ∷ []) (1 ∷ []) ≡ fails (fault.Malformed 1))
+guess_places : (d : DecisionsData) (v : List ℕ) → (unit_reply (setup_with toy d Server other_server) (v ∷ guessing false ∷ []) (21 ∷ []) ≡ goes []) × (stood Server other_server.offer 21 (guessing false ∷ (21 ∷ []) ∷ []) ≡ false) × (number_in Server other_server (guessing false ∷ (21 ∷ []) ∷ []) ≡ 2) × (unit_reply (setup_with toy d Server other_server) (v ∷ guessing true ∷ []) (21 ∷ []) ≡ fails (fault.Strict 21)) × (unit_reply (setup_with toy d Server other_server) (v ∷ guessing true ∷ []) ignore ≡ fails (fault.Strict 2)) × (unit_reply (setup_with toy d Server other_server) (v ∷ guessing true ∷ []) (49 ∷ []) ≡ goes []) × (unit_reply (setup_with toy d Server other_server) (v ∷ guessing true ∷ []) (50 ∷ []) ≡ fails (fault.Strict 50)) × (end_at (setup_with toy d Server other_server) (v ∷ guessing true ∷ []) (written_message (Disconnect 11 [] [])) ≡ Closed 11) × (unit_reply (setup_with toy d Server other_server) (v ∷ guessing true ∷ []) (1 ∷ []) ≡ fails (fault.Malformed 1))
 unfolding toy kexinit_data config_data kexinit_of a ab ba o trusting wary written_message offered kexinit since_offer expects_guess stood first_kept since line_by line_reply work kexinit_reply init_reply reply_reply secret_of choice choice_of_directions exchange_with exchange_by exchange_text number_out switched_out derived key message_in messages.form_of messages.ext_info messages.extensions messages.kexinit readings.string_at readings.uint32_at readings.names_at readings.names_in readings.mpint_at readings.mpint_in ignore server client hello init reply request accept welcome to_server to_client guessing other_server guesser
 guess_places d v = (refl, refl, refl, refl, refl, refl, refl, refl, refl)
 
 -- a client guesses at its making, and sends it again only where the guess was wrong; a right guess is used
-guesses : (d : DecisionsData) (v : List ℕ) → (making toy Client guesser ≡ guessing true ∷ init ∷ []) × (guessed_method (config_data Client true (codes "ext-info-c" ∷ ba) true) ≡ codes "b") × (unit_reply toy d Client guesser (v ∷ []) (kexinit_of Server true ba false) ≡ goes (init ∷ [])) × (unit_reply toy d Client guesser (v ∷ []) (kexinit_of Server true ab false) ≡ goes []) × (expects_guess Server (config_data Server true ab false).offer (guessing true ∷ []) ≡ false) × (unit_reply toy d Server (config_data Server true ab false) (v ∷ guessing true ∷ []) init ≡ goes (reply ∷ (21 ∷ []) ∷ []))
+guesses : (d : DecisionsData) (v : List ℕ) → (making toy Client guesser ≡ guessing true ∷ init ∷ []) × (guessed_method (config_data Client true (codes "ext-info-c" ∷ ba) true) ≡ codes "b") × (unit_reply (setup_with toy d Client guesser) (v ∷ []) (kexinit_of Server true ba false) ≡ goes (init ∷ [])) × (unit_reply (setup_with toy d Client guesser) (v ∷ []) (kexinit_of Server true ab false) ≡ goes []) × (expects_guess Server (config_data Server true ab false).offer (guessing true ∷ []) ≡ false) × (unit_reply (setup_with toy d Server (config_data Server true ab false)) (v ∷ guessing true ∷ []) init ≡ goes (reply ∷ (21 ∷ []) ∷ []))
 unfolding toy kexinit_data config_data kexinit_of a ab ba o trusting wary written_message offered kexinit since_offer expects_guess stood first_kept since line_by line_reply work kexinit_reply init_reply reply_reply secret_of choice choice_of_directions exchange_with exchange_by exchange_text number_out switched_out derived key message_in messages.form_of messages.ext_info messages.extensions messages.kexinit readings.string_at readings.uint32_at readings.names_at readings.names_in readings.mpint_at readings.mpint_in ignore server client hello init reply request accept welcome to_server to_client guessing other_server guesser
 guesses d v = (refl, refl, refl, refl, refl, refl)
 
@@ -148,17 +148,17 @@ unfolding toy kexinit_data config_data kexinit_of a ab ba o trusting wary writte
 loose_boolean = (refl, refl, refl)
 
 -- an unknown number is told with the number of its packet, and deviates under strictness
-unknown_numbers : (m : SuiteData) (d : DecisionsData) (v : List ℕ) → (unit_reply m d Server server (v ∷ hello false ∷ []) (40 ∷ []) ≡ goes ((3 ∷ 0 ∷ 0 ∷ 0 ∷ 1 ∷ []) ∷ [])) × (unit_reply m d Server server (v ∷ hello true ∷ []) (40 ∷ []) ≡ fails (fault.Strict 40)) × (unit_reply m d Server server (v ∷ []) (19 ∷ []) ≡ goes ((3 ∷ 0 ∷ 0 ∷ 0 ∷ 0 ∷ []) ∷ [])) × (unit_reply m d Server server (v ∷ []) (21 ∷ []) ≡ fails (fault.Unexpected 21)) × (unit_reply m d Server server (v ∷ hello true ∷ init ∷ (21 ∷ []) ∷ request ∷ []) (79 ∷ []) ≡ goes ((3 ∷ 0 ∷ 0 ∷ 0 ∷ 1 ∷ []) ∷ [])) × (unit_reply m d Server server (v ∷ hello true ∷ init ∷ (21 ∷ []) ∷ request ∷ []) (80 ∷ []) ≡ fails (fault.Unexpected 80))
+unknown_numbers : (m : SuiteData) (d : DecisionsData) (v : List ℕ) → (unit_reply (setup_with m d Server server) (v ∷ hello false ∷ []) (40 ∷ []) ≡ goes ((3 ∷ 0 ∷ 0 ∷ 0 ∷ 1 ∷ []) ∷ [])) × (unit_reply (setup_with m d Server server) (v ∷ hello true ∷ []) (40 ∷ []) ≡ fails (fault.Strict 40)) × (unit_reply (setup_with m d Server server) (v ∷ []) (19 ∷ []) ≡ goes ((3 ∷ 0 ∷ 0 ∷ 0 ∷ 0 ∷ []) ∷ [])) × (unit_reply (setup_with m d Server server) (v ∷ []) (21 ∷ []) ≡ fails (fault.Unexpected 21)) × (unit_reply (setup_with m d Server server) (v ∷ hello true ∷ init ∷ (21 ∷ []) ∷ request ∷ []) (79 ∷ []) ≡ goes ((3 ∷ 0 ∷ 0 ∷ 0 ∷ 1 ∷ []) ∷ [])) × (unit_reply (setup_with m d Server server) (v ∷ hello true ∷ init ∷ (21 ∷ []) ∷ request ∷ []) (80 ∷ []) ≡ fails (fault.Unexpected 80))
 unfolding toy kexinit_data config_data kexinit_of a ab ba o trusting wary written_message offered kexinit since_offer expects_guess stood first_kept since line_by line_reply work kexinit_reply init_reply reply_reply secret_of choice choice_of_directions exchange_with exchange_by exchange_text number_out switched_out derived key message_in messages.form_of messages.ext_info messages.extensions messages.kexinit readings.string_at readings.uint32_at readings.names_at readings.names_in readings.mpint_at readings.mpint_in ignore server client hello init reply request accept welcome to_server to_client guessing other_server guesser loose
 unknown_numbers m d v = (refl, refl, refl, refl, refl, refl)
 
 -- in phase auth a server reads 50 and a client 51 to 53; a SUCCESS that answers no attempt has no use
-auth_numbers : (m : SuiteData) (d : DecisionsData) (v : List ℕ) → (unit_reply m d Server (config_data Server true a false) (v ∷ kexinit_of Client true a false ∷ init ∷ (21 ∷ []) ∷ request ∷ []) (50 ∷ []) ≡ fails (fault.Malformed 50)) × (unit_reply m d Server (config_data Server true a false) (v ∷ kexinit_of Client true a false ∷ init ∷ (21 ∷ []) ∷ request ∷ []) (51 ∷ []) ≡ fails (fault.Unexpected 51)) × (unit_reply m d Server (config_data Server true a false) (v ∷ kexinit_of Client true a false ∷ init ∷ (21 ∷ []) ∷ request ∷ []) (52 ∷ []) ≡ fails (fault.Unexpected 52)) × (unit_reply m d Server (config_data Server true a false) (v ∷ kexinit_of Client true a false ∷ init ∷ (21 ∷ []) ∷ request ∷ []) (53 ∷ []) ≡ fails (fault.Unexpected 53)) × (unit_reply m d Client (config_data Client true a false) (v ∷ kexinit_of Server true a false ∷ reply ∷ (21 ∷ []) ∷ accept ∷ []) (50 ∷ []) ≡ fails (fault.Unexpected 50)) × (unit_reply m d Client (config_data Client true a false) (v ∷ kexinit_of Server true a false ∷ reply ∷ (21 ∷ []) ∷ accept ∷ []) (51 ∷ []) ≡ fails (fault.Malformed 51)) × (unit_reply m d Client (config_data Client true a false) (v ∷ kexinit_of Server true a false ∷ reply ∷ (21 ∷ []) ∷ accept ∷ []) (52 ∷ []) ≡ fails (fault.Unexpected 52)) × (unit_reply m d Client (config_data Client true a false) (v ∷ kexinit_of Server true a false ∷ reply ∷ (21 ∷ []) ∷ accept ∷ []) (53 ∷ []) ≡ fails (fault.Malformed 53))
+auth_numbers : (m : SuiteData) (d : DecisionsData) (v : List ℕ) → (unit_reply (setup_with m d Server (config_data Server true a false)) (v ∷ kexinit_of Client true a false ∷ init ∷ (21 ∷ []) ∷ request ∷ []) (50 ∷ []) ≡ fails (fault.Malformed 50)) × (unit_reply (setup_with m d Server (config_data Server true a false)) (v ∷ kexinit_of Client true a false ∷ init ∷ (21 ∷ []) ∷ request ∷ []) (51 ∷ []) ≡ fails (fault.Unexpected 51)) × (unit_reply (setup_with m d Server (config_data Server true a false)) (v ∷ kexinit_of Client true a false ∷ init ∷ (21 ∷ []) ∷ request ∷ []) (52 ∷ []) ≡ fails (fault.Unexpected 52)) × (unit_reply (setup_with m d Server (config_data Server true a false)) (v ∷ kexinit_of Client true a false ∷ init ∷ (21 ∷ []) ∷ request ∷ []) (53 ∷ []) ≡ fails (fault.Unexpected 53)) × (unit_reply (setup_with m d Client (config_data Client true a false)) (v ∷ kexinit_of Server true a false ∷ reply ∷ (21 ∷ []) ∷ accept ∷ []) (50 ∷ []) ≡ fails (fault.Unexpected 50)) × (unit_reply (setup_with m d Client (config_data Client true a false)) (v ∷ kexinit_of Server true a false ∷ reply ∷ (21 ∷ []) ∷ accept ∷ []) (51 ∷ []) ≡ fails (fault.Malformed 51)) × (unit_reply (setup_with m d Client (config_data Client true a false)) (v ∷ kexinit_of Server true a false ∷ reply ∷ (21 ∷ []) ∷ accept ∷ []) (52 ∷ []) ≡ fails (fault.Unexpected 52)) × (unit_reply (setup_with m d Client (config_data Client true a false)) (v ∷ kexinit_of Server true a false ∷ reply ∷ (21 ∷ []) ∷ accept ∷ []) (53 ∷ []) ≡ fails (fault.Malformed 53))
 unfolding toy kexinit_data config_data kexinit_of a ab ba o trusting wary written_message offered kexinit since_offer expects_guess stood first_kept since line_by line_reply work kexinit_reply init_reply reply_reply secret_of choice choice_of_directions exchange_with exchange_by exchange_text number_out switched_out derived key message_in messages.form_of messages.ext_info messages.extensions messages.kexinit readings.string_at readings.uint32_at readings.names_at readings.names_in readings.mpint_at readings.mpint_in ignore server client hello init reply request accept welcome to_server to_client guessing other_server guesser loose all_kept count_kept left_after next_listed listed_in proof_in tried_in tried_at request_reply signed_text messages.password messages.publickey messages.userauth_request utf8_at
 auth_numbers m d v = (refl, refl, refl, refl, refl, refl, refl, refl)
 
 -- after NEWKEYS: EXT_INFO is ignored, and before it is not; IGNORE is; a service that is not there; an answer for another service
-after_newkeys : (m : SuiteData) (d : DecisionsData) (v : List ℕ) → (unit_reply m d Server server (v ∷ hello true ∷ init ∷ (21 ∷ []) ∷ []) (7 ∷ 0 ∷ 0 ∷ 0 ∷ 0 ∷ []) ≡ goes []) × (unit_reply m d Server server (v ∷ hello false ∷ init ∷ []) (7 ∷ 0 ∷ 0 ∷ 0 ∷ 0 ∷ []) ≡ fails (fault.Unexpected 7)) × (unit_reply m d Server server (v ∷ hello true ∷ init ∷ []) ignore ≡ fails (fault.Strict 2)) × (unit_reply m d Server server (v ∷ hello true ∷ init ∷ (21 ∷ []) ∷ []) ignore ≡ goes []) × (unit_reply m d Server server (v ∷ hello true ∷ init ∷ (21 ∷ []) ∷ []) (2 ∷ []) ≡ fails (fault.Malformed 2)) × (unit_reply m d Server server (v ∷ hello true ∷ init ∷ (21 ∷ []) ∷ []) (hello true) ≡ fails (fault.Unexpected 20)) × (unit_reply m d Server server (v ∷ hello true ∷ init ∷ (21 ∷ []) ∷ []) (written_message (ServiceRequest (codes "ssh-connection"))) ≡ fails fault.Service) × (unit_reply m d Client client (v ∷ welcome true ∷ reply ∷ (21 ∷ []) ∷ []) (written_message (ServiceAccept (codes "ssh-connection"))) ≡ fails (fault.Unexpected 6))
+after_newkeys : (m : SuiteData) (d : DecisionsData) (v : List ℕ) → (unit_reply (setup_with m d Server server) (v ∷ hello true ∷ init ∷ (21 ∷ []) ∷ []) (7 ∷ 0 ∷ 0 ∷ 0 ∷ 0 ∷ []) ≡ goes []) × (unit_reply (setup_with m d Server server) (v ∷ hello false ∷ init ∷ []) (7 ∷ 0 ∷ 0 ∷ 0 ∷ 0 ∷ []) ≡ fails (fault.Unexpected 7)) × (unit_reply (setup_with m d Server server) (v ∷ hello true ∷ init ∷ []) ignore ≡ fails (fault.Strict 2)) × (unit_reply (setup_with m d Server server) (v ∷ hello true ∷ init ∷ (21 ∷ []) ∷ []) ignore ≡ goes []) × (unit_reply (setup_with m d Server server) (v ∷ hello true ∷ init ∷ (21 ∷ []) ∷ []) (2 ∷ []) ≡ fails (fault.Malformed 2)) × (unit_reply (setup_with m d Server server) (v ∷ hello true ∷ init ∷ (21 ∷ []) ∷ []) (hello true) ≡ fails (fault.Unexpected 20)) × (unit_reply (setup_with m d Server server) (v ∷ hello true ∷ init ∷ (21 ∷ []) ∷ []) (written_message (ServiceRequest (codes "ssh-connection"))) ≡ fails fault.Service) × (unit_reply (setup_with m d Client client) (v ∷ welcome true ∷ reply ∷ (21 ∷ []) ∷ []) (written_message (ServiceAccept (codes "ssh-connection"))) ≡ fails (fault.Unexpected 6))
 unfolding toy kexinit_data config_data kexinit_of a ab ba o trusting wary written_message offered kexinit since_offer expects_guess stood first_kept since line_by line_reply work kexinit_reply init_reply reply_reply secret_of choice choice_of_directions exchange_with exchange_by exchange_text number_out switched_out derived key message_in messages.form_of messages.ext_info messages.extensions messages.kexinit readings.string_at readings.uint32_at readings.names_at readings.names_in readings.mpint_at readings.mpint_in ignore server client hello init reply request accept welcome to_server to_client guessing other_server guesser loose all_kept count_kept left_after next_listed listed_in proof_in tried_in tried_at request_reply signed_text messages.password messages.publickey messages.userauth_request utf8_at
 after_newkeys m d v = (refl, refl, refl, refl, refl, refl, refl, refl)
 
@@ -167,7 +167,7 @@ banner_server : ConfigData
 banner_server = record server { banner = Some (codes "hi") }
 
 -- it sends the banner after the answer
-banners : (m : SuiteData) (d : DecisionsData) (v : List ℕ) → unit_reply m d Server banner_server (v ∷ hello true ∷ init ∷ (21 ∷ []) ∷ []) request ≡ goes (accept ∷ written_message (UserauthBanner (codes "hi") []) ∷ [])
+banners : (m : SuiteData) (d : DecisionsData) (v : List ℕ) → unit_reply (setup_with m d Server banner_server) (v ∷ hello true ∷ init ∷ (21 ∷ []) ∷ []) request ≡ goes (accept ∷ written_message (UserauthBanner (codes "hi") []) ∷ [])
 unfolding toy kexinit_data config_data kexinit_of a ab ba o trusting wary written_message offered kexinit since_offer expects_guess stood first_kept since line_by line_reply work kexinit_reply init_reply reply_reply secret_of choice choice_of_directions exchange_with exchange_by exchange_text number_out switched_out derived key message_in messages.form_of messages.ext_info messages.extensions messages.kexinit readings.string_at readings.uint32_at readings.names_at readings.names_in readings.mpint_at readings.mpint_in ignore server client hello init reply request accept welcome to_server to_client guessing other_server guesser loose banner_server
 banners m d v = refl
 
@@ -188,7 +188,7 @@ octet_welcome : List ℕ
 octet_welcome = kexinit_of Server true o false
 
 -- 30 is read in the form of the chosen method: 0005 is a share as octets, and no mpint
-forms : (d : DecisionsData) (v : List ℕ) → (unit_reply toy d Server octet_server (v ∷ octet_hello ∷ []) octets ≡ goes (reply ∷ (21 ∷ []) ∷ [])) × ((exchange_at toy Server octet_server v (octet_hello ∷ octets ∷ [])).client_share ≡ 0 ∷ 5 ∷ []) × (unit_reply toy d Server server (v ∷ hello true ∷ []) octets ≡ fails (fault.Malformed 30)) × (unit_reply toy trusting Client octet_client (v ∷ octet_welcome ∷ []) reply ≡ goes ((21 ∷ []) ∷ request ∷ [])) × (unit_reply toy d Server server (v ∷ []) octets ≡ fails (fault.Unexpected 30))
+forms : (d : DecisionsData) (v : List ℕ) → (unit_reply (setup_with toy d Server octet_server) (v ∷ octet_hello ∷ []) octets ≡ goes (reply ∷ (21 ∷ []) ∷ [])) × ((exchange_at toy Server octet_server v (octet_hello ∷ octets ∷ [])).client_share ≡ 0 ∷ 5 ∷ []) × (unit_reply (setup_with toy d Server server) (v ∷ hello true ∷ []) octets ≡ fails (fault.Malformed 30)) × (unit_reply toy trusting Client octet_client (v ∷ octet_welcome ∷ []) reply ≡ goes ((21 ∷ []) ∷ request ∷ [])) × (unit_reply (setup_with toy d Server server) (v ∷ []) octets ≡ fails (fault.Unexpected 30))
 unfolding toy kexinit_data config_data kexinit_of a ab ba o trusting wary written_message offered kexinit since_offer expects_guess stood first_kept since line_by line_reply work kexinit_reply init_reply reply_reply secret_of choice choice_of_directions exchange_with exchange_by exchange_text number_out switched_out derived key message_in messages.form_of messages.ext_info messages.extensions messages.kexinit readings.string_at readings.uint32_at readings.names_at readings.names_in readings.mpint_at readings.mpint_in ignore server client hello init reply request accept welcome to_server to_client guessing other_server guesser loose banner_server octet_server octet_client octets octet_hello octet_welcome
 forms d v = (refl, refl, refl, refl, refl)
 
@@ -203,7 +203,7 @@ forged : List ℕ
 forged = 31 ∷ 0 ∷ 0 ∷ 0 ∷ 2 ∷ 66 ∷ 0 ∷ 0 ∷ 0 ∷ 0 ∷ 2 ∷ 1 ∷ 9 ∷ 0 ∷ 0 ∷ 0 ∷ 2 ∷ 83 ∷ 1 ∷ []
 
 -- an exchange fails in this order at a client: the host key, the shared secret, the signature
-failed_exchanges : (d : DecisionsData) (v : List ℕ) → (unit_reply toy d Server octet_server (v ∷ octet_hello ∷ []) no_share ≡ fails fault.Exchange) × (unit_reply toy wary Client octet_client (v ∷ octet_welcome ∷ []) no_answer ≡ fails fault.HostKey) × (unit_reply toy trusting Client octet_client (v ∷ octet_welcome ∷ []) no_answer ≡ fails fault.Exchange) × (unit_reply toy trusting Client octet_client (v ∷ octet_welcome ∷ []) forged ≡ fails fault.Signature)
+failed_exchanges : (d : DecisionsData) (v : List ℕ) → (unit_reply (setup_with toy d Server octet_server) (v ∷ octet_hello ∷ []) no_share ≡ fails fault.Exchange) × (unit_reply toy wary Client octet_client (v ∷ octet_welcome ∷ []) no_answer ≡ fails fault.HostKey) × (unit_reply toy trusting Client octet_client (v ∷ octet_welcome ∷ []) no_answer ≡ fails fault.Exchange) × (unit_reply toy trusting Client octet_client (v ∷ octet_welcome ∷ []) forged ≡ fails fault.Signature)
 unfolding toy kexinit_data config_data kexinit_of a ab ba o trusting wary written_message offered kexinit since_offer expects_guess stood first_kept since line_by line_reply work kexinit_reply init_reply reply_reply secret_of choice choice_of_directions exchange_with exchange_by exchange_text number_out switched_out derived key message_in messages.form_of messages.ext_info messages.extensions messages.kexinit readings.string_at readings.uint32_at readings.names_at readings.names_in readings.mpint_at readings.mpint_in ignore server client hello init reply request accept welcome to_server to_client guessing other_server guesser loose banner_server octet_server octet_client octets octet_hello octet_welcome no_share no_answer forged
 failed_exchanges d v = (refl, refl, refl, refl)
 

@@ -48,7 +48,7 @@ use Rattle.sshcore.specs.Inputs.{AsReceived, CutOff, EndpointStands, IsInside, L
 use Rattle.sshcore.specs.StateData.{StateData, user_key_data}
 use Rattle.sshcore.specs.Known.{Known, known_at, waits_at}
 use Rattle.sshcore.specs.Output.{Sending}
-use Rattle.sshcore.specs.EndpointParts.{ConfigData, DecisionsData, UserKeyData}
+use Rattle.sshcore.specs.EndpointParts.{ConfigData, DecisionsData, Setup, UserKeyData, setup_with}
 use Rattle.sshcore.specs.Phases.{leaving, past_exchange}
 use Rattle.sshcore.specs.Reached.{ReachedData, Tried, is_successful_for, nothing_reached, reached_after, run_of}
 use Rattle.sshcore.specs.Replies.{Ends, Replies, answers_at, end_at, ended, goes_on, line_reply, read_reply, refusal_reply}
@@ -113,22 +113,22 @@ module _ (m : SuiteData) (d : DecisionsData) (party : ConfigData) (known : Known
 failed_open : (f : Fault) → Failed f ≡ Open → ⊥
 failed_open f e = cc
 
-module _ (below : Below) (m : SuiteData) (d : DecisionsData) (role : Side) (party : ConfigData) where
-  exchange_switches : (known : Known) (c : MessageData) → (number_of c ≡ 30) ⊎ (number_of c ≡ 31) → (work m d role party known c).end ≡ Open → Switches (work m d role party known c).answers
+module _ (below : Below) (setup : Setup) where
+  exchange_switches : (known : Known) (c : MessageData) → (number_of c ≡ 30) ⊎ (number_of c ≡ 31) → (work setup known c).end ≡ Open → Switches (work setup known c).answers
   unfolding work init_reply reply_reply
-  exchange_switches known (KexdhInit e) two is_open = answered_switches m d party known (exchange_with m role party known.algorithms known.version known.kexinit (Ok (KexdhInit e)))
-      (answer_with m role party known.algorithms (Ok (KexdhInit e))) is_open
-  exchange_switches known (KexEcdhInit share) two is_open = answered_switches m d party known (exchange_with m role party known.algorithms known.version known.kexinit (Ok (KexEcdhInit share)))
-      (answer_with m role party known.algorithms (Ok (KexEcdhInit share))) is_open
-  exchange_switches known (KexdhReply key f signature) two is_open = trusted_switches m d party known (exchange_with m role party known.algorithms known.version known.kexinit (Ok (KexdhReply key f signature))) signature
-      (answer_with m role party known.algorithms (Ok (KexdhReply key f signature))) is_open
-  exchange_switches known (KexEcdhReply key share signature) two is_open = trusted_switches m d party known (exchange_with m role party known.algorithms known.version known.kexinit (Ok (KexEcdhReply key share signature))) signature
-      (answer_with m role party known.algorithms (Ok (KexEcdhReply key share signature))) is_open
+  exchange_switches known (KexdhInit e) two is_open = answered_switches setup.suite setup.decisions setup.config known (exchange_with setup.suite setup.role setup.config known.algorithms known.version known.kexinit (Ok (KexdhInit e)))
+      (answer_with setup.suite setup.role setup.config known.algorithms (Ok (KexdhInit e))) is_open
+  exchange_switches known (KexEcdhInit share) two is_open = answered_switches setup.suite setup.decisions setup.config known (exchange_with setup.suite setup.role setup.config known.algorithms known.version known.kexinit (Ok (KexEcdhInit share)))
+      (answer_with setup.suite setup.role setup.config known.algorithms (Ok (KexEcdhInit share))) is_open
+  exchange_switches known (KexdhReply key f signature) two is_open = trusted_switches setup.suite setup.decisions setup.config known (exchange_with setup.suite setup.role setup.config known.algorithms known.version known.kexinit (Ok (KexdhReply key f signature))) signature
+      (answer_with setup.suite setup.role setup.config known.algorithms (Ok (KexdhReply key f signature))) is_open
+  exchange_switches known (KexEcdhReply key share signature) two is_open = trusted_switches setup.suite setup.decisions setup.config known (exchange_with setup.suite setup.role setup.config known.algorithms known.version known.kexinit (Ok (KexEcdhReply key share signature))) signature
+      (answer_with setup.suite setup.role setup.config known.algorithms (Ok (KexEcdhReply key share signature))) is_open
   exchange_switches known _ (inl e) is_open = absurd (omega (arith, e))
   exchange_switches known _ (inr e) is_open = absurd (omega (arith, e))
 
   read_switches : (known : Known) (payload : List ℕ) (r : Result MessageData MsgFault) → message_in known.shares payload ≡ r → (kind payload ≡ 30) ⊎ (kind payload ≡ 31)
-      → (read_reply m d role party known (kind payload) r).end ≡ Open → Switches (read_reply m d role party known (kind payload) r).answers
+      → (read_reply setup known (kind payload) r).end ≡ Open → Switches (read_reply setup known (kind payload) r).answers
   read_switches known payload (Ok c) e two is_open = exchange_switches known c (numbered two) is_open
     where
       numbered : (kind payload ≡ 30) ⊎ (kind payload ≡ 31) → (number_of c ≡ 30) ⊎ (number_of c ≡ 31)
@@ -145,76 +145,76 @@ module _ (below : Below) (m : SuiteData) (d : DecisionsData) (role : Side) (part
   not_closing Server n e one = omega arith
 
   module _ (version : List ℕ) (before : Units) (payload : List ℕ) where
-    by_line : (known : Known) (packet : ℕ) (p : Phase) (l : Line) → Sees role p (strict_at role party before) (expects_guess role party.offer before) (kind payload) l
-        → kept role party.offer (leaving role phase.Exchange) before payload ≡ true → kind payload ≡ leaving role phase.Exchange
-        → (line_reply m d role party known packet l payload).end ≡ Open → Switches (line_reply m d role party known packet l payload).answers
+    by_line : (known : Known) (packet : ℕ) (p : Phase) (l : Line) → Sees setup.role p (strict_at setup.role setup.config before) (expects_guess setup.role setup.config.offer before) (kind payload) l
+        → kept setup.role setup.config.offer (leaving setup.role phase.Exchange) before payload ≡ true → kind payload ≡ leaving setup.role phase.Exchange
+        → (line_reply setup known packet l payload).end ≡ Open → Switches (line_reply setup known packet l payload).answers
     unfolding line_reply
-    by_line known packet p l (Closing one is) here number is_open = absurd (not_closing role (kind payload) number one)
-    by_line known packet p l (Dropped one due r is) here number is_open = absurd (true≢false (sym here ∙ kept_dropped role party.offer before payload (leaving role phase.Exchange) due one))
+    by_line known packet p l (Closing one is) here number is_open = absurd (not_closing setup.role (kind payload) number one)
+    by_line known packet p l (Dropped one due r is) here number is_open = absurd (true≢false (sym here ∙ kept_dropped setup.role setup.config.offer before payload (leaving setup.role phase.Exchange) due one))
     by_line known packet p l (OffGuess one due r out is) here number is_open = absurd (failed_open (fault.Strict (kind payload)) (rw is at is_open))
     by_line known packet p l (OffPhase one none r out is) here number is_open = absurd (failed_open (fault.Strict (kind payload)) (rw is at is_open))
     by_line known packet p l (Useless none off out is) here number is_open = absurd (failed_open (fault.Unexpected (kind payload)) (rw is at is_open))
     by_line known packet p l (Staying none off out quiet e) here number is_open =
-        absurd (true≢false (sym (eq-eqb (kind payload) (leaving role phase.Exchange) number) ∙ quiet.leaves.exchange))
+        absurd (true≢false (sym (eq-eqb (kind payload) (leaving setup.role phase.Exchange) number) ∙ quiet.leaves.exchange))
     by_line known packet p l (Leaving none at is) here number is_open =
-        rw is (read_switches known payload (message_in known.shares payload) refl (exchange_number role (kind payload) number) (rw is at is_open))
+        rw is (read_switches known payload (message_in known.shares payload) refl (exchange_number setup.role (kind payload) number) (rw is at is_open))
 
     -- where the exchange message is received, and the endpoint stays open, NEWKEYS is sent
-    received_switches : (p : Phase) → Tied role party.offer before p → end_at m d role party (version ∷ before) payload ≡ Open
-        → stood role party.offer (leaving role phase.Exchange) before ≡ false → stood role party.offer (leaving role phase.Exchange) (before ++ payload ∷ []) ≡ true
-        → Switches (answers_at m d role party (version ∷ before) payload)
+    received_switches : (p : Phase) → Tied setup.role setup.config.offer before p → end_at setup (version ∷ before) payload ≡ Open
+        → stood setup.role setup.config.offer (leaving setup.role phase.Exchange) before ≡ false → stood setup.role setup.config.offer (leaving setup.role phase.Exchange) (before ++ payload ∷ []) ≡ true
+        → Switches (answers_at setup (version ∷ before) payload)
     received_switches p t is_open off on =
-        let k = leaving role phase.Exchange in
-        let here : kept role party.offer k before payload ≡ true = sym (stood_push role party.offer before payload k ∙ rw off refl) ∙ on in
-        let l = line_by role p (strict_at role party before) (expects_guess role party.offer before) (waits_at role party before) (kind payload) in
-        let same = line_is below m d role party version before payload p t in
-        let known = known_at m d role party version before in
-        ap (λ (l : Line). switched_out (line_reply m d role party known (number_in role party before) l payload).answers) (sym same)
-        ∙ by_line known (number_in role party before) p l (sees role p (strict_at role party before) (waits_at role party before) (kind payload) (expects_guess role party.offer before)) here
+        let k = leaving setup.role phase.Exchange in
+        let here : kept setup.role setup.config.offer k before payload ≡ true = sym (stood_push setup.role setup.config.offer before payload k ∙ rw off refl) ∙ on in
+        let l = line_by setup.role p (strict_at setup.role setup.config before) (expects_guess setup.role setup.config.offer before) (waits_at setup.role setup.config before) (kind payload) in
+        let same = line_is below setup version before payload p t in
+        let known = known_at setup version before in
+        ap (λ (l : Line). switched_out (line_reply setup known (number_in setup.role setup.config before) l payload).answers) (sym same)
+        ∙ by_line known (number_in setup.role setup.config before) p l (sees setup.role p (strict_at setup.role setup.config before) (waits_at setup.role setup.config before) (kind payload) (expects_guess setup.role setup.config.offer before)) here
         (eqb-true (kind payload) k (and_parts _ _ here).0)
-        (ap (λ (l : Line). (line_reply m d role party known (number_in role party before) l payload).end) same ∙ is_open)
+        (ap (λ (l : Line). (line_reply setup known (number_in setup.role setup.config before) l payload).end) same ∙ is_open)
 
   -- an endpoint that stays open while the exchange message is received has sent NEWKEYS
-  open_switches : (version : List ℕ) (before us : Units) (p : Phase) → Follows role party before p → EachPlace (λ b u. end_at m d role party b u ≡ Open) (version ∷ before) us
-      → stood role party.offer (leaving role phase.Exchange) before ≡ false → stood role party.offer (leaving role phase.Exchange) (before ++ us) ≡ true
-      → Switches (flat_places (answers_at m d role party) (version ∷ before) us)
-  open_switches version before [] p f each off on = absurd (true≢false (sym (ap (stood role party.offer (leaving role phase.Exchange)) (sym (append-nil before)) ∙ on) ∙ off))
-  open_switches version before (u ∷ us) p f each off on = elim (cases_Bool (stood role party.offer (leaving role phase.Exchange) (before ++ u ∷ []))) [
-    | inl now ↦ switches_first (answers_at m d role party (version ∷ before) u) (flat_places (answers_at m d role party) (version ∷ (before ++ u ∷ [])) us)
+  open_switches : (version : List ℕ) (before us : Units) (p : Phase) → Follows setup.role setup.config before p → EachPlace (λ b u. end_at setup b u ≡ Open) (version ∷ before) us
+      → stood setup.role setup.config.offer (leaving setup.role phase.Exchange) before ≡ false → stood setup.role setup.config.offer (leaving setup.role phase.Exchange) (before ++ us) ≡ true
+      → Switches (flat_places (answers_at setup) (version ∷ before) us)
+  open_switches version before [] p f each off on = absurd (true≢false (sym (ap (stood setup.role setup.config.offer (leaving setup.role phase.Exchange)) (sym (append-nil before)) ∙ on) ∙ off))
+  open_switches version before (u ∷ us) p f each off on = elim (cases_Bool (stood setup.role setup.config.offer (leaving setup.role phase.Exchange) (before ++ u ∷ []))) [
+    | inl now ↦ switches_first (answers_at setup (version ∷ before) u) (flat_places (answers_at setup) (version ∷ (before ++ u ∷ [])) us)
         (received_switches version before u p f.tied each.0 off now)
-    | inr still ↦ switches_last (answers_at m d role party (version ∷ before) u) (flat_places (answers_at m d role party) (version ∷ (before ++ u ∷ [])) us)
-        (later (step below m d role party version before u p f) (λ q g. open_switches version (before ++ u ∷ []) us q g each.1 still
-        (ap (stood role party.offer (leaving role phase.Exchange)) (append_assoc before (u ∷ []) us) ∙ on)))
+    | inr still ↦ switches_last (answers_at setup (version ∷ before) u) (flat_places (answers_at setup) (version ∷ (before ++ u ∷ [])) us)
+        (later (step below setup version before u p f) (λ q g. open_switches version (before ++ u ∷ []) us q g each.1 still
+        (ap (stood setup.role setup.config.offer (leaving setup.role phase.Exchange)) (append_assoc before (u ∷ []) us) ∙ on)))
   ]
     where
-      later : Step role party before u (end_at m d role party (version ∷ before) u) → ((q : Phase) → Follows role party (before ++ u ∷ []) q → Switches (flat_places (answers_at m d role party) (version ∷ (before ++ u ∷ [])) us))
-          → Switches (flat_places (answers_at m d role party) (version ∷ (before ++ u ∷ [])) us)
+      later : Step setup.role setup.config before u (end_at setup (version ∷ before) u) → ((q : Phase) → Follows setup.role setup.config (before ++ u ∷ []) q → Switches (flat_places (answers_at setup) (version ∷ (before ++ u ∷ [])) us))
+          → Switches (flat_places (answers_at setup) (version ∷ (before ++ u ∷ [])) us)
       later (Goes q g) next = next q g
       later (Off e) next = absurd (not_open (kind u) _ e each.0)
       later (Fails shut c) next = absurd (shut each.0)
 
-  none_stood : stood role party.offer (leaving role phase.Exchange) [] ≡ false
+  none_stood : stood setup.role setup.config.offer (leaving setup.role phase.Exchange) [] ≡ false
   unfolding stood
   none_stood = refl
 
   -- so has one that ended authenticated
-  authenticated_switches : (units : Units) (refusal : Option Refusal) (answers : Units) (a : AgreedData) → Replies m d role party units refusal answers (Authenticated a) → Switches answers
+  authenticated_switches : (units : Units) (refusal : Option Refusal) (answers : Units) (a : AgreedData) → Replies setup units refusal answers (Authenticated a) → Switches answers
   authenticated_switches units refusal answers a r = by r.ends
     where
-      whole : Switches (flat_places (answers_at m d role party) [] units) → Switches answers
-      whole on = ap switched_out r.in_order ∙ switches_last (making m role party) (flat_places (answers_at m d role party) [] units ++ (refusal_reply refusal).answers)
-          (switches_first (flat_places (answers_at m d role party) [] units) (refusal_reply refusal).answers on)
+      whole : Switches (flat_places (answers_at setup) [] units) → Switches answers
+      whole on = ap switched_out r.in_order ∙ switches_last (making setup.suite setup.role setup.config) (flat_places (answers_at setup) [] units ++ (refusal_reply refusal).answers)
+          (switches_first (flat_places (answers_at setup) [] units) (refusal_reply refusal).answers on)
 
-      by : Ends m d role party units refusal (Authenticated a) → Switches answers
+      by : Ends setup units refusal (Authenticated a) → Switches answers
       by (goes_on stays is) = absurd (none_refused refusal a is)
       by (ended [] last units_are stays is shut none) = absurd cc
       by (ended (version ∷ before) last units_are stays is shut none) =
-          let f = stands below m d role party version [] before phase.KexInit (begun_none below m d role party) stays.1 in
-          let tied : Tied role party.offer before phase.Auth = last_tied below m d role party version before last f.0 f.1.tied a (sym is) in
-          whole (ap (λ (l : Units). switched_out (flat_places (answers_at m d role party) [] l)) units_are
-          ∙ ap switched_out (flat-push (answers_at m d role party) [] (version ∷ before) last)
-          ∙ switches_first (flat_places (answers_at m d role party) [] (version ∷ before)) (answers_at m d role party (version ∷ before) last)
-          (open_switches version [] before phase.KexInit (begun_none below m d role party) stays.1 none_stood tied.exchange))
+          let f = stands below setup version [] before phase.KexInit (begun_none below setup) stays.1 in
+          let tied : Tied setup.role setup.config.offer before phase.Auth = last_tied below setup version before last f.0 f.1.tied a (sym is) in
+          whole (ap (λ (l : Units). switched_out (flat_places (answers_at setup) [] l)) units_are
+          ∙ ap switched_out (flat-push (answers_at setup) [] (version ∷ before) last)
+          ∙ switches_first (flat_places (answers_at setup) [] (version ∷ before)) (answers_at setup (version ∷ before) last)
+          (open_switches version [] before phase.KexInit (begun_none below setup) stays.1 none_stood tied.exchange))
 
 -- What an endpoint keeps that ended authenticated: the keys of both directions, and the numbers of the next packets.
 pub record HandsOver (m : SuiteData) (role : Side) (party : ConfigData) (units answers : Units) (reading : PacketReaderData) (sending : Sending) : Type 0 where
@@ -228,9 +228,9 @@ pub record HandsOver (m : SuiteData) (role : Side) (party : ConfigData) (units a
   pub outgoing_number : sending.number ≡ number_out (strict_at role party (payloads_in units)) answers
 
 -- an endpoint that ended authenticated was refused nothing, and isn't open
-none_refused_at : (m : SuiteData) (d : DecisionsData) (role : Side) (party : ConfigData) (units : Units) (refusal : Option Refusal) (a : AgreedData) → Ends m d role party units refusal (Authenticated a) → refusal ≡ None
-none_refused_at m d role party units refusal a (goes_on stays is) = absurd (none_refused refusal a is)
-none_refused_at m d role party units refusal a (ended before last units_are stays is shut none) = none
+none_refused_at : (setup : Setup) (units : Units) (refusal : Option Refusal) (a : AgreedData) → Ends setup units refusal (Authenticated a) → refusal ≡ None
+none_refused_at setup units refusal a (goes_on stays is) = absurd (none_refused refusal a is)
+none_refused_at setup units refusal a (ended before last units_are stays is shut none) = none
 
 authenticated_shut : (end : EndData) (a : AgreedData) → end ≡ Authenticated a → end ≢ Open
 authenticated_shut end a is is_open = cc
@@ -240,47 +240,47 @@ uncut_end received_end end a (AsReceived same) is = sym same ∙ is
 uncut_end received_end end a (CutOff was_open cut) is = absurd cc
 uncut_end received_end end a (Left reason was_open left) is = absurd cc
 
-module _ (below : Below) (m : SuiteData) (d : DecisionsData) (role : Side) (party : ConfigData) where
-  module _ (kept : StateData) (i : Input) (h s : List ℕ) (p : EndpointStands m d role party kept i h s) (a : AgreedData) (is : kept.end ≡ Authenticated a) where
-    replies : Replies m d role party p.units p.refusal p.answers (Authenticated a)
-    replies = subst (Replies m d role party p.units p.refusal p.answers) (uncut_end p.received_end kept.end a p.ends is) p.history.replies
+module _ (below : Below) (setup : Setup) where
+  module _ (kept : StateData) (i : Input) (h s : List ℕ) (p : EndpointStands setup kept i h s) (a : AgreedData) (is : kept.end ≡ Authenticated a) where
+    replies : Replies setup p.units p.refusal p.answers (Authenticated a)
+    replies = subst (Replies setup p.units p.refusal p.answers) (uncut_end p.received_end kept.end a p.ends is) p.history.replies
 
-    ended_so : IsAuthenticated m d role party p.units a
-    ended_so = authenticated below m d role party p.units p.refusal a replies.ends
+    ended_so : IsAuthenticated setup p.units a
+    ended_so = authenticated below setup p.units p.refusal a replies.ends
 
-    inside : IsInside m d role party p.units p.answers p.rest kept i
+    inside : IsInside setup p.units p.answers p.rest kept i
     inside = p.inside (inr (a, is))
 
     -- nothing stands after the bytes that it used
     pub none_left : p.rest ≡ []
-    none_left = p.history.last (authenticated_shut p.received_end a (uncut_end p.received_end kept.end a p.ends is)) (none_refused_at m d role party p.units p.refusal a replies.ends)
+    none_left = p.history.last (authenticated_shut p.received_end a (uncut_end p.received_end kept.end a p.ends is)) (none_refused_at setup p.units p.refusal a replies.ends)
 
-  by_packets : (kept : StateData) (reader : PacketReader) (h s : List ℕ) (p : EndpointStands m d role party kept (input.Packets reader) h s) (a : AgreedData) → kept.end ≡ Authenticated a
-      → HandsOver m role party p.units p.answers (packet_reader_data reader) kept.sending
+  by_packets : (kept : StateData) (reader : PacketReader) (h s : List ℕ) (p : EndpointStands setup kept (input.Packets reader) h s) (a : AgreedData) → kept.end ≡ Authenticated a
+      → HandsOver setup.suite setup.role setup.config p.units p.answers (packet_reader_data reader) kept.sending
   by_packets kept reader h s p a is =
       let e = ended_so kept (input.Packets reader) h s p a is in
       let inner = inside kept (input.Packets reader) h s p a is in
-      let on = authenticated_switches below m d role party p.units p.refusal p.answers a (replies kept (input.Packets reader) h s p a is) in
+      let on = authenticated_switches below setup p.units p.refusal p.answers a (replies kept (input.Packets reader) h s p a is) in
       let version = inner.reads.0 in
       let before = inner.reads.1 in
       let units_are : p.units ≡ version ∷ before = inner.reads.2 in
-      let reading : packet_reader_data reader ≡ record { keys = keys_in m role party version before; seq = number_in role party before; held = p.rest; fault = None } = inner.reads.3 in
-      let in_keys : keys_in m role party (version_in p.units) (payloads_in p.units) ≡ Some (keys_at m role party (version_in p.units) (payloads_in p.units) (other role)) =
-      rw (auth_switched role party.offer (payloads_in p.units) e.stays_in_auth) refl in
-      let out_keys : keys_out m role party p.units p.answers ≡ Some (keys_at m role party (version_in p.units) (payloads_in p.units) role) = rw on refl in
+      let reading : packet_reader_data reader ≡ record { keys = keys_in setup.suite setup.role setup.config version before; seq = number_in setup.role setup.config before; held = p.rest; fault = None } = inner.reads.3 in
+      let in_keys : keys_in setup.suite setup.role setup.config (version_in p.units) (payloads_in p.units) ≡ Some (keys_at setup.suite setup.role setup.config (version_in p.units) (payloads_in p.units) (other setup.role)) =
+      rw (auth_switched setup.role setup.config.offer (payloads_in p.units) e.stays_in_auth) refl in
+      let out_keys : keys_out setup.suite setup.role setup.config p.units p.answers ≡ Some (keys_at setup.suite setup.role setup.config (version_in p.units) (payloads_in p.units) setup.role) = rw on refl in
       record {
-        incoming = keys_at m role party (version_in p.units) (payloads_in p.units) (other role);
-        outgoing = keys_at m role party (version_in p.units) (payloads_in p.units) role;
-        reads_with = ap (λ (r : PacketReaderData). r.keys) reading ∙ ap (λ (l : Units). keys_in m role party (version_in l) (payloads_in l)) (sym units_are) ∙ in_keys;
+        incoming = keys_at setup.suite setup.role setup.config (version_in p.units) (payloads_in p.units) (other setup.role);
+        outgoing = keys_at setup.suite setup.role setup.config (version_in p.units) (payloads_in p.units) setup.role;
+        reads_with = ap (λ (r : PacketReaderData). r.keys) reading ∙ ap (λ (l : Units). keys_in setup.suite setup.role setup.config (version_in l) (payloads_in l)) (sym units_are) ∙ in_keys;
         sends_with = inner.speaks.keys ∙ out_keys;
         incoming_keys = in_keys;
-        incoming_number = ap (λ (r : PacketReaderData). r.seq) reading ∙ ap (λ (l : Units). number_in role party (payloads_in l)) (sym units_are);
+        incoming_number = ap (λ (r : PacketReaderData). r.seq) reading ∙ ap (λ (l : Units). number_in setup.role setup.config (payloads_in l)) (sym units_are);
         outgoing_keys = out_keys;
         outgoing_number = inner.speaks.number;
       }
 
   -- an endpoint that ended authenticated reads packets
-  none_by_lines : (kept : StateData) (i : Input) (reader : LineReaderData) → i ≡ input.Lines reader → (h s : List ℕ) (p : EndpointStands m d role party kept i h s) (a : AgreedData) → kept.end ≡ Authenticated a → ⊥
+  none_by_lines : (kept : StateData) (i : Input) (reader : LineReaderData) → i ≡ input.Lines reader → (h s : List ℕ) (p : EndpointStands setup kept i h s) (a : AgreedData) → kept.end ≡ Authenticated a → ⊥
   none_by_lines kept (input.Lines r) reader same h s p a is =
       let e = ended_so kept (input.Lines r) h s p a is in
       let none : p.units ≡ [] = (inside kept (input.Lines r) h s p a is).reads.0 in
@@ -288,16 +288,16 @@ module _ (below : Below) (m : SuiteData) (d : DecisionsData) (role : Side) (part
       cc
   none_by_lines kept (input.Packets r) reader same h s p a is = cc
 
-  pub packets_at : (kept : StateData) (i : Input) (h s : List ℕ) (p : EndpointStands m d role party kept i h s) (a : AgreedData) → kept.end ≡ Authenticated a → (reader : PacketReader) × (i ≡ input.Packets reader)
+  pub packets_at : (kept : StateData) (i : Input) (h s : List ℕ) (p : EndpointStands setup kept i h s) (a : AgreedData) → kept.end ≡ Authenticated a → (reader : PacketReader) × (i ≡ input.Packets reader)
   packets_at kept (input.Lines r) h s p a is = absurd (none_by_lines kept (input.Lines r) r refl h s p a is)
   packets_at kept (input.Packets r) h s p a is = (r, refl)
 
-  pub hands_over : (kept : StateData) (i : Input) (reader : PacketReader) → i ≡ input.Packets reader → (h s : List ℕ) (p : EndpointStands m d role party kept i h s) (a : AgreedData) → kept.end ≡ Authenticated a
-      → HandsOver m role party p.units p.answers (packet_reader_data reader) kept.sending
+  pub hands_over : (kept : StateData) (i : Input) (reader : PacketReader) → i ≡ input.Packets reader → (h s : List ℕ) (p : EndpointStands setup kept i h s) (a : AgreedData) → kept.end ≡ Authenticated a
+      → HandsOver setup.suite setup.role setup.config p.units p.answers (packet_reader_data reader) kept.sending
   hands_over kept (input.Lines r) reader same h s p a is = absurd cc
   hands_over kept (input.Packets r) reader same h s p a is =
       let e : r ≡ reader = cc in
-      subst (λ (x : PacketReader). HandsOver m role party p.units p.answers (packet_reader_data x) kept.sending) e (by_packets kept r h s p a is)
+      subst (λ (x : PacketReader). HandsOver setup.suite setup.role setup.config p.units p.answers (packet_reader_data x) kept.sending) e (by_packets kept r h s p a is)
 
 -- an end that is authenticated
 pub authenticated_at : (e : End) (a : AgreedData) → end_data e ≡ Authenticated a → (agreed : Agreed) × (e ≡ end.Authenticated agreed)
@@ -308,40 +308,40 @@ authenticated_at (end.Closed reason) a is = absurd cc
 authenticated_at (end.Disconnected reason) a is = absurd cc
 
 -- what is handed over besides: both version lines, the host key, and how the user was accepted
-pub record HandsOn (m : SuiteData) (d : DecisionsData) (role : Side) (party : ConfigData) (units : Units) (a : AgreedData) (own_version peer_version host_key : List ℕ) (accepted : Option Accepted) : Type 0 where
-  pub own_version_is : own_version ≡ party.version
+pub record HandsOn (setup : Setup) (units : Units) (a : AgreedData) (own_version peer_version host_key : List ℕ) (accepted : Option Accepted) : Type 0 where
+  pub own_version_is : own_version ≡ setup.config.version
   pub peer_version_is : peer_version ≡ version_in units
-  pub host_key_is : host_key ≡ (exchange_at m role party (version_in units) (payloads_in units)).host_key
-  pub accepted_is : HasAccepted m d role party (version_in units) (payloads_in units) a accepted
+  pub host_key_is : host_key ≡ (exchange_at setup.suite setup.role setup.config (version_in units) (payloads_in units)).host_key
+  pub accepted_is : HasAccepted setup.suite setup.decisions setup.role setup.config (version_in units) (payloads_in units) a accepted
 
 -- a key that is there or not
 key_there : (b : Bool) (key : Option UserKey) → user_key_data (cond b key None) ≡ cond b (user_key_data key) None
 key_there true key = refl
 key_there false key = refl
 
-module _ (below : Below) (m : SuiteData) (d : DecisionsData) (role : Side) (party : ConfigData) (kept : StateData) (i : Input) (h s : List ℕ) (p : EndpointStands m d role party kept i h s) (a : AgreedData) (is : kept.end ≡ Authenticated a) where
+module _ (below : Below) (setup : Setup) (kept : StateData) (i : Input) (h s : List ℕ) (p : EndpointStands setup kept i h s) (a : AgreedData) (is : kept.end ≡ Authenticated a) where
   abbrev tried : List Tried
-  tried = tried_at m d role party (version_in p.units) (payloads_in p.units)
+  tried = tried_at setup (version_in p.units) (payloads_in p.units)
 
   abbrev keys : List UserKeyData
-  keys = successful_keys_at m d role party (version_in p.units) (payloads_in p.units)
+  keys = successful_keys_at setup (version_in p.units) (payloads_in p.units)
 
-  inner : IsInside m d role party p.units p.answers p.rest kept i
-  inner = inside below m d role party kept i h s p a is
+  inner : IsInside setup p.units p.answers p.rest kept i
+  inner = inside below setup kept i h s p a is
 
   past : past_exchange kept.phase ≡ true
   past =
-      let e = ended_so below m d role party kept i h s p a is in
-      ap past_exchange (sym (tied_phase role party.offer (payloads_in p.units) kept.phase inner.sits.tied) ∙ e.stays_in_auth)
+      let e = ended_so below setup kept i h s p a is in
+      ap past_exchange (sym (tied_phase setup.role setup.config.offer (payloads_in p.units) kept.phase inner.sits.tied) ∙ e.stays_in_auth)
 
   reached_is : reached_after nothing_reached tried ≡ kept.known.reached
   reached_is = ap (λ (k : Known). k.reached) inner.sits.knows
 
   -- at a server
-  came_in : role ≡ Server → (key : Option UserKey) → user_key_data key ≡ kept.carried.user_key
+  came_in : setup.role ≡ Server → (key : Option UserKey) → user_key_data key ≡ kept.carried.user_key
       → AcceptedBy tried keys a.user a.service (record { password = kept.known.reached.password; key = cond kept.known.reached.publickey key None })
   came_in server key same =
-      let t = ends_tried below m d role party p.units p.refusal a (replies below m d role party kept i h s p a is).ends server in
+      let t = ends_tried below setup p.units p.refusal a (replies below setup kept i h s p a is).ends server in
       let by : Tried = tried_with a.user a.service t.1 true in
       record {
         password = sym (ap (λ (r : ReachedData). r.password) reached_is) ∙ ap (λ (l : List Tried). (reached_after nothing_reached l).password) t.2
@@ -352,26 +352,26 @@ module _ (below : Below) (m : SuiteData) (d : DecisionsData) (role : Side) (part
             ∙ publickey_now t.0 by (method_name t.1) refl ∙ ap (λ (l : List Tried). list_any (is_successful_for (codes "publickey")) (run_of a.user a.service l)) (sym t.2));
       }
 
-  module _ (accepted : Option Accepted) (key : Option UserKey) (same : user_key_data key ≡ kept.carried.user_key) (at_client : role ≡ Client → accepted ≡ None)
-      (at_server : role ≡ Server → accepted ≡ Some (record { password = kept.known.reached.password; key = cond kept.known.reached.publickey key None })) where
-    accepted_as : (side : Side) → role ≡ side → HasAccepted m d side party (version_in p.units) (payloads_in p.units) a accepted
+  module _ (accepted : Option Accepted) (key : Option UserKey) (same : user_key_data key ≡ kept.carried.user_key) (at_client : setup.role ≡ Client → accepted ≡ None)
+      (at_server : setup.role ≡ Server → accepted ≡ Some (record { password = kept.known.reached.password; key = cond kept.known.reached.publickey key None })) where
+    accepted_as : (side : Side) → setup.role ≡ side → HasAccepted setup.suite setup.decisions side setup.config (version_in p.units) (payloads_in p.units) a accepted
     accepted_as Client e = at_client e
     accepted_as Server e =
         let here : Accepted = record { password = kept.known.reached.password; key = cond kept.known.reached.publickey key None } in
-        subst (λ (o : Option Accepted). HasAccepted m d Server party (version_in p.units) (payloads_in p.units) a o) (sym (at_server e))
-        (subst (λ (r : Side). AcceptedBy (tried_at m d r party (version_in p.units) (payloads_in p.units)) (successful_keys_at m d r party (version_in p.units) (payloads_in p.units)) a.user a.service here) e (came_in e key same))
+        subst (λ (o : Option Accepted). HasAccepted setup.suite setup.decisions Server setup.config (version_in p.units) (payloads_in p.units) a o) (sym (at_server e))
+        (subst (λ (r : Side). AcceptedBy (tried_at (setup_with setup.suite setup.decisions r setup.config) (version_in p.units) (payloads_in p.units)) (successful_keys_at (setup_with setup.suite setup.decisions r setup.config) (version_in p.units) (payloads_in p.units)) a.user a.service here) e (came_in e key same))
 
-    pub hands_on : HandsOn m d role party p.units a kept.carried.own_version kept.known.version kept.carried.host_key accepted
+    pub hands_on : HandsOn setup p.units a kept.carried.own_version kept.known.version kept.carried.host_key accepted
     hands_on = record {
       own_version_is = inner.carries.own_version past;
       peer_version_is = sym (ap (λ (k : Known). k.version) inner.sits.knows);
       host_key_is = inner.carries.host_key past;
-      accepted_is = accepted_as role refl;
+      accepted_is = accepted_as setup.role refl;
     }
 
 -- what is made of what is handed over is the session
-pub session_is : (m : SuiteData) (d : DecisionsData) (role : Side) (party : ConfigData) (units answers : Units) (rest : List ℕ) (reading : PacketReaderData) (sending : Sending) → HandsOver m role party units answers reading sending → rest ≡ []
-    → (agreed : Agreed) (a : AgreedData) → Authenticated (agreed_data agreed) ≡ Authenticated a → (own peer host_key : Vec ℕ Global) (accepted : Option Accepted) → HandsOn m d role party units a own.items peer.items host_key.items accepted
+pub session_is : (setup : Setup) (units answers : Units) (rest : List ℕ) (reading : PacketReaderData) (sending : Sending) → HandsOver setup.suite setup.role setup.config units answers reading sending → rest ≡ []
+    → (agreed : Agreed) (a : AgreedData) → Authenticated (agreed_data agreed) ≡ Authenticated a → (own peer host_key : Vec ℕ Global) (accepted : Option Accepted) → HandsOn setup units a own.items peer.items host_key.items accepted
     → (keys : Option KeysData) (number : ℕ) → keys ≡ reading.keys → number ≡ reading.seq → (result : Option Session)
     → ((x y : KeysData) → keys ≡ Some x → sending.keys ≡ Some y → result ≡ Some (record {
       agreed = agreed;
@@ -382,8 +382,8 @@ pub session_is : (m : SuiteData) (d : DecisionsData) (role : Side) (party : Conf
       incoming = record { keys = x; sequence_number = number };
       outgoing = record { keys = y; sequence_number = sending.number };
     }))
-    → (session : Session) × (result ≡ Some session) × IsSession m d role party units answers a session × (rest ≡ [])
-session_is m d role party units answers rest reading sending over none agreed a same own peer host_key accepted on keys number keys_are number_is result whole = (
+    → (session : Session) × (result ≡ Some session) × IsSession setup units answers a session × (rest ≡ [])
+session_is setup units answers rest reading sending over none agreed a same own peer host_key accepted on keys number keys_are number_is result whole = (
   record {
     agreed = agreed;
     own_version = own;

@@ -8,12 +8,11 @@ use Rattle.sshneg.specs.declared.side.Side.{Side}
 use Rattle.sshneg.specs.declared.side.Side.TheVariants.{Client, Server}
 use Rattle.sshpacket.specs.Places.{EachPlace}
 use Rattle.sshpacket.specs.Stream.{Units}
-use Rattle.sshpacket.specs.Suite.{SuiteData}
 use Rattle.sshcore.specs.declared.table.Phase.{Phase}
 use Rattle.sshcore.specs.declared.table.Phase.TheVariants as phase
 use Rattle.sshcore.specs.Before.{expects_guess, kept, offered, stood, strict_at}
 use Rattle.sshcore.specs.EndData.{EndData, Open}
-use Rattle.sshcore.specs.EndpointParts.{ConfigData, DecisionsData}
+use Rattle.sshcore.specs.EndpointParts.{ConfigData, Setup}
 use Rattle.sshcore.specs.Phases.{leaving, past_newkeys, phase_at, phase_by}
 use Rattle.sshcore.specs.Replies.{end_at}
 use Rattle.sshcore.specs.StrictSequence.{AsClosed, AsMalformed, AsStrict, Begins, BeginsStrictly, Conforms, EndsStrictly, Guessed, IsBegun, share_number}
@@ -117,12 +116,12 @@ not_open n end (AsStrict e) q = absurd cc
 not_open n end (AsClosed one reason e) q = absurd cc
 not_open n end (AsMalformed one e) q = absurd cc
 
-module _ (below : Below) (m : SuiteData) (d : DecisionsData) (role : Side) (party : ConfigData) where
+module _ (below : Below) (setup : Setup) where
   module _ (version : List ℕ) (before : Units) (payload : List ℕ) where
     -- a payload that shows the marker and a deviation
-    pub deviates : (p : Phase) → Follows role party before p → strict_at role party (before ++ payload ∷ []) ≡ true → (Conforms role party.offer (before ++ payload ∷ []) → ⊥)
-        → EndsStrictly (kind payload) (end_at m d role party (version ∷ before) payload)
-    deviates p f s not = by (step below m d role party version before payload p f)
+    pub deviates : (p : Phase) → Follows setup.role setup.config before p → strict_at setup.role setup.config (before ++ payload ∷ []) ≡ true → (Conforms setup.role setup.config.offer (before ++ payload ∷ []) → ⊥)
+        → EndsStrictly (kind payload) (end_at setup (version ∷ before) payload)
+    deviates p f s not = by (step below setup version before payload p f)
       where
         is_phase : (q : Phase) → (q ≡ phase.KexInit) ⊎ (q ≢ phase.KexInit)
         is_phase phase.KexInit = inl refl
@@ -135,32 +134,32 @@ module _ (below : Below) (m : SuiteData) (d : DecisionsData) (role : Side) (part
         unoffered true k e = absurd (true≢false e)
         unoffered false k e = (refl, e)
 
-        by : Step role party before payload (end_at m d role party (version ∷ before) payload) → EndsStrictly (kind payload) (end_at m d role party (version ∷ before) payload)
+        by : Step setup.role setup.config before payload (end_at setup (version ∷ before) payload) → EndsStrictly (kind payload) (end_at setup (version ∷ before) payload)
         by (Off e) = e
         by (Fails shut c) = absurd (not (c s))
         by (Goes q g) = elim (is_phase q) [
           | inl e ↦
-              let h : Follows role party (before ++ payload ∷ []) phase.KexInit = subst (Follows role party (before ++ payload ∷ [])) e g in
+              let h : Follows setup.role setup.config (before ++ payload ∷ []) phase.KexInit = subst (Follows setup.role setup.config (before ++ payload ∷ [])) e g in
               let two = unoffered (offered before) (kind payload == 20) (sym (offered_push before payload) ∙ h.tied.offer) in
-              absurd (true≢false (sym s ∙ strict_none role party before payload two.0 two.1))
-          | inr e ↦ absurd (not (conforms role party (before ++ payload ∷ []) q (g.so_far s) e))
+              absurd (true≢false (sym s ∙ strict_none setup.role setup.config before payload two.0 two.1))
+          | inr e ↦ absurd (not (conforms setup.role setup.config (before ++ payload ∷ []) q (g.so_far s) e))
         ]
 
   -- where an endpoint that stays open at each of these stands
-  pub stands : (version : List ℕ) (before us : Units) (p : Phase) → Follows role party before p → EachPlace (λ b u. end_at m d role party b u ≡ Open) (version ∷ before) us
-      → (q : Phase) × Follows role party (before ++ us) q
-  stands version before [] p f each = (p, subst (λ (l : Units). Follows role party l p) (sym (append-nil before)) f)
-  stands version before (u ∷ us) p f each = on version before u us each.0 (step below m d role party version before u p f)
-      (λ q g. subst (λ (l : Units). (q : Phase) × Follows role party l q) (append_assoc before (u ∷ []) us) (stands version (before ++ u ∷ []) us q g each.1))
+  pub stands : (version : List ℕ) (before us : Units) (p : Phase) → Follows setup.role setup.config before p → EachPlace (λ b u. end_at setup b u ≡ Open) (version ∷ before) us
+      → (q : Phase) × Follows setup.role setup.config (before ++ us) q
+  stands version before [] p f each = (p, subst (λ (l : Units). Follows setup.role setup.config l p) (sym (append-nil before)) f)
+  stands version before (u ∷ us) p f each = on version before u us each.0 (step below setup version before u p f)
+      (λ q g. subst (λ (l : Units). (q : Phase) × Follows setup.role setup.config l q) (append_assoc before (u ∷ []) us) (stands version (before ++ u ∷ []) us q g each.1))
     where
-      on : (version : List ℕ) (before : Units) (u : List ℕ) (us : Units) → end_at m d role party (version ∷ before) u ≡ Open → Step role party before u (end_at m d role party (version ∷ before) u)
-          → ((q : Phase) → Follows role party (before ++ u ∷ []) q → (r : Phase) × Follows role party (before ++ u ∷ us) r) → (r : Phase) × Follows role party (before ++ u ∷ us) r
+      on : (version : List ℕ) (before : Units) (u : List ℕ) (us : Units) → end_at setup (version ∷ before) u ≡ Open → Step setup.role setup.config before u (end_at setup (version ∷ before) u)
+          → ((q : Phase) → Follows setup.role setup.config (before ++ u ∷ []) q → (r : Phase) × Follows setup.role setup.config (before ++ u ∷ us) r) → (r : Phase) × Follows setup.role setup.config (before ++ u ∷ us) r
       on version before u us stays (Goes q g) next = next q g
       on version before u us stays (Off e) next = absurd (not_open (kind u) _ e stays)
       on version before u us stays (Fails shut c) next = absurd (shut stays)
 
-  pub begun_none : Follows role party [] phase.KexInit
-  begun_none = record { tied = tied_none role party.offer; none_due = λ e. absurd (true≢false (sym e)); so_far = λ _. tt }
+  pub begun_none : Follows setup.role setup.config [] phase.KexInit
+  begun_none = record { tied = tied_none setup.role setup.config.offer; none_due = λ e. absurd (true≢false (sym e)); so_far = λ _. tt }
 
 -- the last element of a list that ends both ways
 record Cut (b before more : Units) (last u : List ℕ) : Type 0 where

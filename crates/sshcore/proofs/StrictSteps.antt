@@ -11,7 +11,6 @@ use Rattle.sshmsg.specs.Numbers.{kind, number_of}
 use Rattle.sshneg.specs.declared.side.Side.{Side}
 use Rattle.sshneg.specs.ExchangeEnd.{offer_in}
 use Rattle.sshpacket.specs.Stream.{Units}
-use Rattle.sshpacket.specs.Suite.{SuiteData}
 use Rattle.sshcore.specs.declared.end.Fault.TheVariants as fault
 use Rattle.sshcore.specs.declared.table.Line.{Line}
 use Rattle.sshcore.specs.declared.table.Line.TheVariants as line
@@ -21,7 +20,7 @@ use Rattle.sshcore.specs.Before.{expects_guess, offered, strict_at, strict_towar
 use Rattle.sshcore.specs.Counting.{number_in}
 use Rattle.sshcore.specs.EndData.{EndData, Failed, Open}
 use Rattle.sshcore.specs.Known.{Known, known_at, waits_at}
-use Rattle.sshcore.specs.EndpointParts.{ConfigData, DecisionsData}
+use Rattle.sshcore.specs.EndpointParts.{ConfigData, Setup}
 use Rattle.sshcore.specs.Phases.{leaving, past_exchange}
 use Rattle.sshcore.specs.Replies.{end_at, line_at, line_reply, read_reply}
 use Rattle.sshcore.specs.Standing.{LeavesNone, Tied}
@@ -41,75 +40,75 @@ pub data Step (role : Side) (party : ConfigData) (before : Units) (payload : Lis
   Off : EndsStrictly (kind payload) end → Step role party before payload end
   Fails : end ≢ Open → (strict_at role party (before ++ payload ∷ []) ≡ true → Conforms role party.offer (before ++ payload ∷ [])) → Step role party before payload end
 
-module _ (below : Below) (m : SuiteData) (d : DecisionsData) (role : Side) (party : ConfigData) where
-  closes : (known : Known) (payload : List ℕ) (c : MessageData) → kind payload ≡ 1 → number_of c ≡ 1 → EndsStrictly (kind payload) (work m d role party known c).end
+module _ (below : Below) (setup : Setup) where
+  closes : (known : Known) (payload : List ℕ) (c : MessageData) → kind payload ≡ 1 → number_of c ≡ 1 → EndsStrictly (kind payload) (work setup known c).end
   unfolding work
   closes known payload (Disconnect reason description language) is e = AsClosed is reason refl
   closes known payload _ is e = absurd (omega (arith, e))
 
-  pub closing : (known : Known) (packet : ℕ) (payload : List ℕ) → kind payload ≡ 1 → EndsStrictly (kind payload) (line_reply m d role party known packet line.Reads payload).end
+  pub closing : (known : Known) (packet : ℕ) (payload : List ℕ) → kind payload ≡ 1 → EndsStrictly (kind payload) (line_reply setup known packet line.Reads payload).end
   unfolding line_reply
   closing known packet payload is = by (message_in known.shares payload) refl
     where
-      by : (r : Result MessageData MsgFault) → message_in known.shares payload ≡ r → EndsStrictly (kind payload) (read_reply m d role party known (kind payload) r).end
+      by : (r : Result MessageData MsgFault) → message_in known.shares payload ≡ r → EndsStrictly (kind payload) (read_reply setup known (kind payload) r).end
       by (Ok c) e = closes known payload c is (sym (below.numbers known.shares payload c e) ∙ is)
       by (Err f) e = AsMalformed is (ap (λ n. Failed (fault.Malformed n)) is)
 
-  module _ (before : Units) (payload : List ℕ) (p : Phase) (f : Follows role party before p) where
-    pub not_due : offered before ≡ true → past_exchange p ≡ true → expects_guess role party.offer (more role party before payload) ≡ false
-    not_due is e = no_guess role party.offer before payload is
+  module _ (before : Units) (payload : List ℕ) (p : Phase) (f : Follows setup.role setup.config before p) where
+    pub not_due : offered before ≡ true → past_exchange p ≡ true → expects_guess setup.role setup.config.offer (more setup.role setup.config before payload) ≡ false
+    not_due is e = no_guess setup.role setup.config.offer before payload is
 
-    drops : expects_guess role party.offer before ≡ true → (kind payload == 1) ≡ false
-        → (is_ruled p (strict_at role party before) ≡ true → is_of_method (kind payload) ≡ true) → Follows role party (before ++ payload ∷ []) p
+    drops : expects_guess setup.role setup.config.offer before ≡ true → (kind payload == 1) ≡ false
+        → (is_ruled p (strict_at setup.role setup.config before) ≡ true → is_of_method (kind payload) ≡ true) → Follows setup.role setup.config (before ++ payload ∷ []) p
     drops due one ruled =
-        let is = guess_offered role party.offer before payload due in
+        let is = guess_offered setup.role setup.config.offer before payload due in
         record {
-          tied = tied_dropped role party.offer before payload p f.tied due one;
-          none_due = λ _. no_guess role party.offer before payload is;
-          so_far = λ s. dropped_guess role party before payload p f due ruled (sym (strict_push role party before payload is) ∙ s);
+          tied = tied_dropped setup.role setup.config.offer before payload p f.tied due one;
+          none_due = λ _. no_guess setup.role setup.config.offer before payload is;
+          so_far = λ s. dropped_guess setup.role setup.config before payload p f due ruled (sym (strict_push setup.role setup.config before payload is) ∙ s);
         }
 
-    so_far_stays : (q : Phase) → p ≡ q → LeavesNone role (kind payload) → is_ruled q (strict_at role party before) ≡ false → strict_at role party (before ++ payload ∷ []) ≡ true
-        → SoFar role party.offer (before ++ payload ∷ []) q
+    so_far_stays : (q : Phase) → p ≡ q → LeavesNone setup.role (kind payload) → is_ruled q (strict_at setup.role setup.config before) ≡ false → strict_at setup.role setup.config (before ++ payload ∷ []) ≡ true
+        → SoFar setup.role setup.config.offer (before ++ payload ∷ []) q
     so_far_stays phase.KexInit e l off s = tt
-    so_far_stays phase.Exchange e l off s = let g : Follows role party before phase.Exchange = subst (Follows role party before) e f in
-        stays_so_far role party before payload phase.Exchange g off (strict_before role party before payload phase.Exchange g.tied refl s)
-    so_far_stays phase.NewKeys e l off s = let g : Follows role party before phase.NewKeys = subst (Follows role party before) e f in
-        stays_so_far role party before payload phase.NewKeys g off (strict_before role party before payload phase.NewKeys g.tied refl s)
-    so_far_stays phase.Service e l off s = let g : Follows role party before phase.Service = subst (Follows role party before) e f in
-        stays_so_far role party before payload phase.Service g off (strict_before role party before payload phase.Service g.tied refl s)
-    so_far_stays phase.Auth e l off s = let g : Follows role party before phase.Auth = subst (Follows role party before) e f in
-        stays_so_far role party before payload phase.Auth g off (strict_before role party before payload phase.Auth g.tied refl s)
+    so_far_stays phase.Exchange e l off s = let g : Follows setup.role setup.config before phase.Exchange = subst (Follows setup.role setup.config before) e f in
+        stays_so_far setup.role setup.config before payload phase.Exchange g off (strict_before setup.role setup.config before payload phase.Exchange g.tied refl s)
+    so_far_stays phase.NewKeys e l off s = let g : Follows setup.role setup.config before phase.NewKeys = subst (Follows setup.role setup.config before) e f in
+        stays_so_far setup.role setup.config before payload phase.NewKeys g off (strict_before setup.role setup.config before payload phase.NewKeys g.tied refl s)
+    so_far_stays phase.Service e l off s = let g : Follows setup.role setup.config before phase.Service = subst (Follows setup.role setup.config before) e f in
+        stays_so_far setup.role setup.config before payload phase.Service g off (strict_before setup.role setup.config before payload phase.Service g.tied refl s)
+    so_far_stays phase.Auth e l off s = let g : Follows setup.role setup.config before phase.Auth = subst (Follows setup.role setup.config before) e f in
+        stays_so_far setup.role setup.config before payload phase.Auth g off (strict_before setup.role setup.config before payload phase.Auth g.tied refl s)
 
-    stays : expects_guess role party.offer before ≡ false → is_ruled p (strict_at role party before) ≡ false → LeavesNone role (kind payload) → Follows role party (before ++ payload ∷ []) p
+    stays : expects_guess setup.role setup.config.offer before ≡ false → is_ruled p (strict_at setup.role setup.config before) ≡ false → LeavesNone setup.role (kind payload) → Follows setup.role setup.config (before ++ payload ∷ []) p
     stays none off l = record {
-      tied = tied_stays role party.offer before payload p f.tied none l;
-      none_due = λ past. no_guess role party.offer before payload (past_offer role party before payload p f.tied past);
+      tied = tied_stays setup.role setup.config.offer before payload p f.tied none l;
+      none_due = λ past. no_guess setup.role setup.config.offer before payload (past_offer setup.role setup.config before payload p f.tied past);
       so_far = λ s. so_far_stays p refl l off s;
     }
 
-    useless : (q : Phase) → p ≡ q → is_ruled q (strict_at role party before) ≡ false → (kind payload == leaving role q) ≡ false → strict_at role party (before ++ payload ∷ []) ≡ true
-        → Conforms role party.offer (before ++ payload ∷ [])
+    useless : (q : Phase) → p ≡ q → is_ruled q (strict_at setup.role setup.config before) ≡ false → (kind payload == leaving setup.role q) ≡ false → strict_at setup.role setup.config (before ++ payload ∷ []) ≡ true
+        → Conforms setup.role setup.config.offer (before ++ payload ∷ [])
     useless phase.KexInit e off not_here s =
-        let t : Tied role party.offer before phase.KexInit = subst (Tied role party.offer before) e f.tied in
-        let other_kind : (kind payload == 20) ≡ false = ap (λ n. kind payload == n) (sym (leaving_kexinit role)) ∙ not_here in
-        absurd (true≢false (sym s ∙ strict_none role party before payload t.offer other_kind))
-    useless phase.Exchange e off not_here s = let g : Follows role party before phase.Exchange = subst (Follows role party before) e f in
-        absurd (true≢false (sym (strict_before role party before payload phase.Exchange g.tied refl s) ∙ off))
-    useless phase.NewKeys e off not_here s = let g : Follows role party before phase.NewKeys = subst (Follows role party before) e f in
-        absurd (true≢false (sym (strict_before role party before payload phase.NewKeys g.tied refl s) ∙ off))
-    useless phase.Service e off not_here s = let g : Follows role party before phase.Service = subst (Follows role party before) e f in
-        Begins (begins_more role party.offer before payload (g.so_far (strict_before role party before payload phase.Service g.tied refl s)))
-    useless phase.Auth e off not_here s = let g : Follows role party before phase.Auth = subst (Follows role party before) e f in
-        Begins (begins_more role party.offer before payload (g.so_far (strict_before role party before payload phase.Auth g.tied refl s)))
+        let t : Tied setup.role setup.config.offer before phase.KexInit = subst (Tied setup.role setup.config.offer before) e f.tied in
+        let other_kind : (kind payload == 20) ≡ false = ap (λ n. kind payload == n) (sym (leaving_kexinit setup.role)) ∙ not_here in
+        absurd (true≢false (sym s ∙ strict_none setup.role setup.config before payload t.offer other_kind))
+    useless phase.Exchange e off not_here s = let g : Follows setup.role setup.config before phase.Exchange = subst (Follows setup.role setup.config before) e f in
+        absurd (true≢false (sym (strict_before setup.role setup.config before payload phase.Exchange g.tied refl s) ∙ off))
+    useless phase.NewKeys e off not_here s = let g : Follows setup.role setup.config before phase.NewKeys = subst (Follows setup.role setup.config before) e f in
+        absurd (true≢false (sym (strict_before setup.role setup.config before payload phase.NewKeys g.tied refl s) ∙ off))
+    useless phase.Service e off not_here s = let g : Follows setup.role setup.config before phase.Service = subst (Follows setup.role setup.config before) e f in
+        Begins (begins_more setup.role setup.config.offer before payload (g.so_far (strict_before setup.role setup.config before payload phase.Service g.tied refl s)))
+    useless phase.Auth e off not_here s = let g : Follows setup.role setup.config before phase.Auth = subst (Follows setup.role setup.config before) e f in
+        Begins (begins_more setup.role setup.config.offer before payload (g.so_far (strict_before setup.role setup.config before payload phase.Auth g.tied refl s)))
 
   -- at a KEXINIT with a marker, where another payload stood before
-  late : (known : Known) (packet : ℕ) (payload : List ℕ) → kind payload ≡ 20 → strict_towards role party.strict (offer_in payload) ≡ true → known.shares ≡ Mpint → known.first ≡ false
-      → (line_reply m d role party known packet line.Reads payload).end ≡ Failed (fault.Strict (kind payload))
+  late : (known : Known) (packet : ℕ) (payload : List ℕ) → kind payload ≡ 20 → strict_towards setup.role setup.config.strict (offer_in payload) ≡ true → known.shares ≡ Mpint → known.first ≡ false
+      → (line_reply setup known packet line.Reads payload).end ≡ Failed (fault.Strict (kind payload))
   unfolding line_reply work kexinit_reply
   late known packet payload is s form not_first =
-      let x = shown role party.strict payload s in
-      let flag : strict_towards role party.strict (Some x.0) ≡ true = ap (λ o. strict_towards role party.strict o) (sym x.1) ∙ s in
+      let x = shown setup.role setup.config.strict payload s in
+      let flag : strict_towards setup.role setup.config.strict (Some x.0) ≡ true = ap (λ o. strict_towards setup.role setup.config.strict o) (sym x.1) ∙ s in
       let reads : message_in known.shares payload ≡ Ok (KexInit x.0) = ap (λ f. message_in f payload) form ∙ read_offer payload x.0 x.1 in
       rw (reads, flag, not_first) (ap (λ n. Failed (fault.Strict n)) (sym is))
 
@@ -117,52 +116,52 @@ module _ (below : Below) (m : SuiteData) (d : DecisionsData) (role : Side) (part
   first_none before e = nil_from_length before (eqb-true (length before) 0 e)
 
   module _ (version : List ℕ) (before : Units) (payload : List ℕ) where
-    leaves_kexinit : Follows role party before phase.KexInit → expects_guess role party.offer before ≡ false → kind payload ≡ 20
-        → Step role party before payload (line_reply m d role party (known_at m d role party version before) (number_in role party before) line.Reads payload).end
-    leaves_kexinit f none is = elim (cases_Bool (strict_towards role party.strict (offer_in payload))) [
+    leaves_kexinit : Follows setup.role setup.config before phase.KexInit → expects_guess setup.role setup.config.offer before ≡ false → kind payload ≡ 20
+        → Step setup.role setup.config before payload (line_reply setup (known_at setup version before) (number_in setup.role setup.config before) line.Reads payload).end
+    leaves_kexinit f none is = elim (cases_Bool (strict_towards setup.role setup.config.strict (offer_in payload))) [
       | inl s ↦ elim (cases_Bool (length before == 0)) [
         | inl first ↦ Goes phase.Exchange (record {
-          tied = tied_leaves role party.offer before payload phase.KexInit f.tied none (is ∙ sym (leaving_kexinit role));
+          tied = tied_leaves setup.role setup.config.offer before payload phase.KexInit f.tied none (is ∙ sym (leaving_kexinit setup.role));
           none_due = λ e. absurd (true≢false (sym e));
-          so_far = λ _. ([], opens role party before payload below (shown role party.strict payload s).0 (first_none before first) f.tied.offer is (shown role party.strict payload s).1);
+          so_far = λ _. ([], opens setup.role setup.config before payload below (shown setup.role setup.config.strict payload s).0 (first_none before first) f.tied.offer is (shown setup.role setup.config.strict payload s).1);
         })
-        | inr not_first ↦ Off (AsStrict (late (known_at m d role party version before) (number_in role party before) payload is s (none_chosen m role party before f.tied.offer) not_first))
+        | inr not_first ↦ Off (AsStrict (late (known_at setup version before) (number_in setup.role setup.config before) payload is s (none_chosen setup.suite setup.role setup.config before f.tied.offer) not_first))
       ]
       | inr s ↦ Goes phase.Exchange (record {
-        tied = tied_leaves role party.offer before payload phase.KexInit f.tied none (is ∙ sym (leaving_kexinit role));
+        tied = tied_leaves setup.role setup.config.offer before payload phase.KexInit f.tied none (is ∙ sym (leaving_kexinit setup.role));
         none_due = λ e. absurd (true≢false (sym e));
-        so_far = λ t. absurd (true≢false (sym t ∙ (strict_first role party before payload f.tied.offer is ∙ s)));
+        so_far = λ t. absurd (true≢false (sym t ∙ (strict_first setup.role setup.config before payload f.tied.offer is ∙ s)));
       })
     ]
 
-    leaves : (p : Phase) → Follows role party before p → expects_guess role party.offer before ≡ false → kind payload ≡ leaving role p
-        → Step role party before payload (line_reply m d role party (known_at m d role party version before) (number_in role party before) line.Reads payload).end
-    leaves phase.KexInit f none is = leaves_kexinit f none (is ∙ leaving_kexinit role)
+    leaves : (p : Phase) → Follows setup.role setup.config before p → expects_guess setup.role setup.config.offer before ≡ false → kind payload ≡ leaving setup.role p
+        → Step setup.role setup.config before payload (line_reply setup (known_at setup version before) (number_in setup.role setup.config before) line.Reads payload).end
+    leaves phase.KexInit f none is = leaves_kexinit f none (is ∙ leaving_kexinit setup.role)
     leaves phase.Exchange f none is = Goes phase.NewKeys (record {
-      tied = tied_leaves role party.offer before payload phase.Exchange f.tied none is;
-      none_due = λ _. no_guess role party.offer before payload f.tied.offer;
-      so_far = λ s. shares role party before payload f none is (strict_before role party before payload phase.Exchange f.tied refl s);
+      tied = tied_leaves setup.role setup.config.offer before payload phase.Exchange f.tied none is;
+      none_due = λ _. no_guess setup.role setup.config.offer before payload f.tied.offer;
+      so_far = λ s. shares setup.role setup.config before payload f none is (strict_before setup.role setup.config before payload phase.Exchange f.tied refl s);
     })
     leaves phase.NewKeys f none is = Goes phase.Service (record {
-      tied = tied_leaves role party.offer before payload phase.NewKeys f.tied none is;
-      none_due = λ _. no_guess role party.offer before payload f.tied.offer;
-      so_far = λ s. completes role party before payload f is (strict_before role party before payload phase.NewKeys f.tied refl s);
+      tied = tied_leaves setup.role setup.config.offer before payload phase.NewKeys f.tied none is;
+      none_due = λ _. no_guess setup.role setup.config.offer before payload f.tied.offer;
+      so_far = λ s. completes setup.role setup.config before payload f is (strict_before setup.role setup.config before payload phase.NewKeys f.tied refl s);
     })
     leaves phase.Service f none is = Goes phase.Auth (record {
-      tied = tied_leaves role party.offer before payload phase.Service f.tied none is;
-      none_due = λ _. no_guess role party.offer before payload f.tied.offer;
-      so_far = λ s. begins_more role party.offer before payload (f.so_far (strict_before role party before payload phase.Service f.tied refl s));
+      tied = tied_leaves setup.role setup.config.offer before payload phase.Service f.tied none is;
+      none_due = λ _. no_guess setup.role setup.config.offer before payload f.tied.offer;
+      so_far = λ s. begins_more setup.role setup.config.offer before payload (f.so_far (strict_before setup.role setup.config before payload phase.Service f.tied refl s));
     })
     leaves phase.Auth f none is = Goes phase.Auth (record {
-      tied = tied_leaves role party.offer before payload phase.Auth f.tied none is;
-      none_due = λ _. no_guess role party.offer before payload f.tied.offer;
-      so_far = λ s. begins_more role party.offer before payload (f.so_far (strict_before role party before payload phase.Auth f.tied refl s));
+      tied = tied_leaves setup.role setup.config.offer before payload phase.Auth f.tied none is;
+      none_due = λ _. no_guess setup.role setup.config.offer before payload f.tied.offer;
+      so_far = λ s. begins_more setup.role setup.config.offer before payload (f.so_far (strict_before setup.role setup.config before payload phase.Auth f.tied refl s));
     })
 
-    by_line : (p : Phase) → Follows role party before p → (l : Line) → Sees role p (strict_at role party before) (expects_guess role party.offer before) (kind payload) l
-        → Step role party before payload (line_reply m d role party (known_at m d role party version before) (number_in role party before) l payload).end
+    by_line : (p : Phase) → Follows setup.role setup.config before p → (l : Line) → Sees setup.role p (strict_at setup.role setup.config before) (expects_guess setup.role setup.config.offer before) (kind payload) l
+        → Step setup.role setup.config before payload (line_reply setup (known_at setup version before) (number_in setup.role setup.config before) l payload).end
     unfolding line_reply
-    by_line p f l (Closing one is) = rw is (Off (closing (known_at m d role party version before) (number_in role party before) payload one))
+    by_line p f l (Closing one is) = rw is (Off (closing (known_at setup version before) (number_in setup.role setup.config before) payload one))
     by_line p f l (Dropped one due ruled is) = Goes p (drops before payload p f due one ruled)
     by_line p f l (OffGuess one due ruled out is) = rw is (Off (AsStrict refl))
     by_line p f l (OffPhase one none ruled out is) = rw is (Off (AsStrict refl))
@@ -170,11 +169,11 @@ module _ (below : Below) (m : SuiteData) (d : DecisionsData) (role : Side) (part
     by_line p f l (Staying none off not_here quiet not_drops) = Goes p (stays before payload p f none off quiet.leaves)
     by_line p f l (Useless none off not_here is) = rw is (Fails (λ e. absurd cc) (λ s. useless before payload p f p refl off not_here s))
 
-    pub line_is : (p : Phase) → Tied role party.offer before p
-        → line_by role p (strict_at role party before) (expects_guess role party.offer before) (waits_at role party before) (kind payload) ≡ line_at role party before payload
-    line_is p t = ap (λ q. line_by role q (strict_at role party before) (expects_guess role party.offer before) (waits_at role party before) (kind payload)) (sym (tied_phase role party.offer before p t))
+    pub line_is : (p : Phase) → Tied setup.role setup.config.offer before p
+        → line_by setup.role p (strict_at setup.role setup.config before) (expects_guess setup.role setup.config.offer before) (waits_at setup.role setup.config before) (kind payload) ≡ line_at setup.role setup.config before payload
+    line_is p t = ap (λ q. line_by setup.role q (strict_at setup.role setup.config before) (expects_guess setup.role setup.config.offer before) (waits_at setup.role setup.config before) (kind payload)) (sym (tied_phase setup.role setup.config.offer before p t))
 
-    pub step : (p : Phase) → Follows role party before p → Step role party before payload (end_at m d role party (version ∷ before) payload)
-    step p f = subst (λ (l : Line). Step role party before payload (line_reply m d role party (known_at m d role party version before) (number_in role party before) l payload).end) (line_is p f.tied)
-        (by_line p f (line_by role p (strict_at role party before) (expects_guess role party.offer before) (waits_at role party before) (kind payload))
-        (sees role p (strict_at role party before) (waits_at role party before) (kind payload) (expects_guess role party.offer before)))
+    pub step : (p : Phase) → Follows setup.role setup.config before p → Step setup.role setup.config before payload (end_at setup (version ∷ before) payload)
+    step p f = subst (λ (l : Line). Step setup.role setup.config before payload (line_reply setup (known_at setup version before) (number_in setup.role setup.config before) l payload).end) (line_is p f.tied)
+        (by_line p f (line_by setup.role p (strict_at setup.role setup.config before) (expects_guess setup.role setup.config.offer before) (waits_at setup.role setup.config before) (kind payload))
+        (sees setup.role p (strict_at setup.role setup.config before) (waits_at setup.role setup.config before) (kind payload) (expects_guess setup.role setup.config.offer before)))

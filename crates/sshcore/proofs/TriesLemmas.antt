@@ -21,7 +21,7 @@ use Rattle.sshcore.specs.Before.{count_kept, expects_guess, kept, strict_at}
 use Rattle.sshcore.specs.Counting.{number_in}
 use Rattle.sshcore.specs.EndData.{Authenticated, Failed, Open, Reply}
 use Rattle.sshcore.specs.Known.{Known, known_at, waits_at}
-use Rattle.sshcore.specs.EndpointParts.{ConfigData, DecisionsData}
+use Rattle.sshcore.specs.EndpointParts.{ConfigData, DecisionsData, setup_with}
 use Rattle.sshcore.specs.Phases.{phase_at}
 use Rattle.sshcore.specs.Replies.{StaysOpen, end_at, line_at, line_reply, read_reply}
 use Rattle.sshcore.specs.Requests.{is_last_try, request_reply}
@@ -58,18 +58,18 @@ module _ (below : Below) (m : SuiteData) (d : DecisionsData) (party : ConfigData
       by (Last last is) = absurd (let shut : Failed fault.TooManyTries ≡ Open = ap (λ (r : Reply). r.end) (sym is) ∙ is_open in cc (shut))
       by (More x refusal more is) = more
 
-  work_tries : (known : Known) (c : MessageData) → number_of c ≡ 50 → (work m d Server party known c).end ≡ Open → is_last_try party known ≡ false
+  work_tries : (known : Known) (c : MessageData) → number_of c ≡ 50 → (work (setup_with m d Server party) known c).end ≡ Open → is_last_try party known ≡ false
   unfolding work
   work_tries known (UserauthRequest user service method) n is_open = request_tries known user service method is_open
   work_tries known _ n is_open = absurd (omega (arith, n))
 
   read_tries : (known : Known) (payload : List ℕ) (r : Result MessageData MsgFault) → message_in known.shares payload ≡ r → kind payload ≡ 50
-      → (read_reply m d Server party known (kind payload) r).end ≡ Open → is_last_try party known ≡ false
+      → (read_reply (setup_with m d Server party) known (kind payload) r).end ≡ Open → is_last_try party known ≡ false
   read_tries known payload (Ok c) e is is_open = work_tries known c (sym (below.numbers known.shares payload c e) ∙ is) is_open
   read_tries known payload (Err f) e is is_open = absurd cc
 
   line_tries : (known : Known) (packet : ℕ) (payload : List ℕ) (l : Line) → ReadsOrFails l → kind payload ≡ 50
-      → (line_reply m d Server party known packet l payload).end ≡ Open → is_last_try party known ≡ false
+      → (line_reply (setup_with m d Server party) known packet l payload).end ≡ Open → is_last_try party known ≡ false
   unfolding line_reply
   line_tries known packet payload line.Reads side is is_open = read_tries known payload (message_in known.shares payload) refl is is_open
   line_tries known packet payload line.Drops (inl e) is is_open = absurd cc
@@ -90,7 +90,7 @@ module _ (below : Below) (m : SuiteData) (d : DecisionsData) (party : ConfigData
     ]
 
     -- and where the endpoint stays open, another one may come
-    counted_open : end_at m d Server party (version ∷ before) payload ≡ Open → kept Server party.offer 50 before payload ≡ true
+    counted_open : end_at (setup_with m d Server party) (version ∷ before) payload ≡ Open → kept Server party.offer 50 before payload ≡ true
         → count_kept Server party.offer 50 before + 1 < party.tries
     counted_open is_open counts =
         let is : kind payload ≡ 50 = eqb-true (kind payload) 50 (and_parts _ _ counts).0 in
@@ -100,11 +100,11 @@ module _ (below : Below) (m : SuiteData) (d : DecisionsData) (party : ConfigData
         let same : line_by Server p strict false waits 50 ≡ line_at Server party before payload =
         ap (λ b. line_by Server p strict b waits 50) (sym (none_expected is counts)) ∙ ap (λ n. line_by Server p strict (expects_guess Server party.offer before) waits n) (sym is) in
         leb-false party.tries (count_kept Server party.offer 50 before + 1)
-        (line_tries (known_at m d Server party version before) (number_in Server party before) payload (line_at Server party before payload)
+        (line_tries (known_at (setup_with m d Server party) version before) (number_in Server party before) payload (line_at Server party before payload)
         (subst ReadsOrFails same (request_line p strict waits)) is is_open)
 
     -- one payload more
-    count_open : end_at m d Server party (version ∷ before) payload ≡ Open → count_kept Server party.offer 50 before < party.tries
+    count_open : end_at (setup_with m d Server party) (version ∷ before) payload ≡ Open → count_kept Server party.offer 50 before < party.tries
         → count_kept Server party.offer 50 (before ++ payload ∷ []) < party.tries
     count_open is_open few = elim (cases_Bool (kept Server party.offer 50 before payload)) [
       | inl counts ↦
@@ -116,7 +116,7 @@ module _ (below : Below) (m : SuiteData) (d : DecisionsData) (party : ConfigData
     ]
 
   -- after payloads at each of which it stays open
-  count_on : (version : List ℕ) (before us : Units) → EachPlace (λ b u. end_at m d Server party b u ≡ Open) (version ∷ before) us
+  count_on : (version : List ℕ) (before us : Units) → EachPlace (λ b u. end_at (setup_with m d Server party) b u ≡ Open) (version ∷ before) us
       → count_kept Server party.offer 50 before < party.tries → count_kept Server party.offer 50 (before ++ us) < party.tries
   count_on version before [] each few = subst (λ (l : Units). count_kept Server party.offer 50 l < party.tries) (sym (append-nil before)) few
   count_on version before (u ∷ us) each few =
@@ -127,5 +127,5 @@ module _ (below : Below) (m : SuiteData) (d : DecisionsData) (party : ConfigData
   unfolding count_kept
   none_counted some = some
 
-  pub granted : (version : List ℕ) (before : Units) → 1 ≤ party.tries → StaysOpen m d Server party (version ∷ before) → count_kept Server party.offer 50 before < party.tries
+  pub granted : (version : List ℕ) (before : Units) → 1 ≤ party.tries → StaysOpen (setup_with m d Server party) (version ∷ before) → count_kept Server party.offer 50 before < party.tries
   granted version before some stays = count_on version [] before stays.1 (none_counted some)

@@ -5,17 +5,15 @@ use Rattle.sshmsg.specs.declared.fault.MsgFault.{MsgFault}
 use Rattle.sshmsg.specs.MessageData.{MessageData}
 use Rattle.sshmsg.specs.Messages.{message_in}
 use Rattle.sshmsg.specs.Numbers.{kind}
-use Rattle.sshneg.specs.declared.side.Side.{Side}
 use Rattle.sshpacket.specs.declared.fault.PacketFault.TheVariants as packet
 use Rattle.sshpacket.specs.Parse.{OfLine, OfPacket, Refusal}
 use Rattle.sshpacket.specs.Stream.{Units}
-use Rattle.sshpacket.specs.Suite.{SuiteData}
 use Rattle.sshcore.specs.declared.table.Line.{Line}
 use Rattle.sshcore.specs.declared.table.Line.TheVariants as line
 use Rattle.sshcore.specs.Counting.{number_in}
 use Rattle.sshcore.specs.EndData.{EndData, Failed, Open, by_owner}
 use Rattle.sshcore.specs.Known.{Known, known_at}
-use Rattle.sshcore.specs.EndpointParts.{ConfigData, DecisionsData}
+use Rattle.sshcore.specs.EndpointParts.{Setup}
 use Rattle.sshcore.specs.Replies.{Ends, end_at, ended, fault_of, goes_on, line_at, line_reply, read_reply, refusal_reply}
 use Rattle.sshcore.specs.Work.{work}
 use Rattle.sshcore.proofs.AuthenticatedLemmas.{Early, Requested, Succeeded, WorkEnds, early_uncut, work_ends}
@@ -33,20 +31,20 @@ uncut_refusal (Some (OfPacket packet.Empty)) = refl
 uncut_refusal (Some (OfPacket packet.Mac)) = refl
 uncut_refusal (Some (OfPacket packet.Memory)) = refl
 
-module _ (m : SuiteData) (d : DecisionsData) (role : Side) (party : ConfigData) where
-  uncut_work : (known : Known) (c : MessageData) → IsUncut (work m d role party known c).end
-  uncut_work known c = by (work_ends m d role party known c)
+module _ (setup : Setup) where
+  uncut_work : (known : Known) (c : MessageData) → IsUncut (work setup known c).end
+  uncut_work known c = by (work_ends setup known c)
     where
-      by : WorkEnds m d party known c (work m d role party known c).end → IsUncut (work m d role party known c).end
-      by (Early h) = early_uncut (work m d role party known c).end h
+      by : WorkEnds setup.suite setup.decisions setup.config known c (work setup known c).end → IsUncut (work setup known c).end
+      by (Early h) = early_uncut (work setup known c).end h
       by (Requested _ _ _ same has successful done is) = ap by_owner is
       by (Succeeded _ _ same left is) = ap by_owner is
 
-  uncut_read : (known : Known) (n : ℕ) (r : Result MessageData MsgFault) → IsUncut (read_reply m d role party known n r).end
+  uncut_read : (known : Known) (n : ℕ) (r : Result MessageData MsgFault) → IsUncut (read_reply setup known n r).end
   uncut_read known n (Ok c) = uncut_work known c
   uncut_read known n (Err f) = refl
 
-  uncut_line : (known : Known) (packet : ℕ) (l : Line) (payload : List ℕ) → IsUncut (line_reply m d role party known packet l payload).end
+  uncut_line : (known : Known) (packet : ℕ) (l : Line) (payload : List ℕ) → IsUncut (line_reply setup known packet l payload).end
   unfolding line_reply
   uncut_line known packet line.Reads payload = uncut_read known (kind payload) (message_in known.shares payload)
   uncut_line known packet line.Drops payload = refl
@@ -54,11 +52,11 @@ module _ (m : SuiteData) (d : DecisionsData) (role : Side) (party : ConfigData) 
   uncut_line known packet line.Unknown payload = refl
   uncut_line known packet line.Unexpected payload = refl
 
-  pub uncut_unit : (before : Units) (unit : List ℕ) → IsUncut (end_at m d role party before unit)
+  pub uncut_unit : (before : Units) (unit : List ℕ) → IsUncut (end_at setup before unit)
   uncut_unit [] unit = refl
-  uncut_unit (version ∷ before) unit = uncut_line (known_at m d role party version before) (number_in role party before) (line_at role party before unit) unit
+  uncut_unit (version ∷ before) unit = uncut_line (known_at setup version before) (number_in setup.role setup.config before) (line_at setup.role setup.config before unit) unit
 
-  pub uncut_received : (units : Units) (r : Option Refusal) (end : EndData) → Ends m d role party units r end → IsUncut end
+  pub uncut_received : (units : Units) (r : Option Refusal) (end : EndData) → Ends setup units r end → IsUncut end
   uncut_received units r end (goes_on stays e) = ap by_owner e ∙ uncut_refusal r
   uncut_received units r end (ended before last is stays e shut none) = ap by_owner e ∙ uncut_unit before last
 
@@ -72,6 +70,6 @@ open_stays end is = still_uncut end Open is refl
 pub refusal_stays : (r : Refusal) (end : EndData) → end ≡ Failed (fault_of r) → IsUncut end
 refusal_stays r end is = still_uncut end (Failed (fault_of r)) is (uncut_refusal (Some r))
 
-pub unit_stays : (m : SuiteData) (d : DecisionsData) (role : Side) (party : ConfigData) (before : Units) (unit : List ℕ) (end : EndData)
-    → end ≡ end_at m d role party before unit → IsUncut end
-unit_stays m d role party before unit end is = still_uncut end (end_at m d role party before unit) is (uncut_unit m d role party before unit)
+pub unit_stays : (setup : Setup) (before : Units) (unit : List ℕ) (end : EndData)
+    → end ≡ end_at setup before unit → IsUncut end
+unit_stays setup before unit end is = still_uncut end (end_at setup before unit) is (uncut_unit setup before unit)

@@ -33,7 +33,7 @@ use Rattle.sshcore.specs.Exchanged.{ReceivesExchange}
 use Rattle.sshcore.specs.StateData.{StateData}
 use Rattle.sshcore.specs.Known.{Known}
 use Rattle.sshcore.specs.Output.{sending_from, sent_from}
-use Rattle.sshcore.specs.EndpointParts.{ConfigData, DecisionsData}
+use Rattle.sshcore.specs.EndpointParts.{Setup, setup_with}
 use Rattle.sshcore.specs.Phases.{leaving, next_phase, past_exchange}
 use Rattle.sshcore.specs.Plan.{is_waiting, listed_by, listed_in}
 use Rattle.sshcore.specs.Requests.{is_successful, request_reply}
@@ -141,30 +141,30 @@ module _ (role : Side) (old : StateData) (payload : List ℕ) (c : MessageData) 
   pub at_success : number_of c ≡ 52 → IsAt role Client old.phase phase.Auth old.guess
   at_success is = table.success_read role old.phase old.guess (at_number 52 is)
 
-module _ (m : SuiteData) (d : DecisionsData) (role : Side) (party : ConfigData) (old new : StateData) (payload before after : List ℕ) (c : MessageData) (has : HasPlace role old payload c) where
+module _ (setup : Setup) (old new : StateData) (payload before after : List ℕ) (c : MessageData) (has : HasPlace setup.role old payload c) where
   -- a message that is worked on so
-  by_reply : (r : Reply) → work m d role party old.known c ≡ r → Works m d role party old new payload before after r → Works m d role party old new payload before after (work m d role party old.known c)
-  by_reply r is w = subst (λ (x : Reply). Works m d role party old new payload before after x) (sym is) w
+  by_reply : (r : Reply) → work setup old.known c ≡ r → Works setup old new payload before after r → Works setup old new payload before after (work setup old.known c)
+  by_reply r is w = subst (λ (x : Reply). Works setup old new payload before after x) (sym is) w
 
   pub kexinit_works : (peer : KexInitData) → c ≡ KexInit peer
-      → ((strict : Bool) (next : KeysData) → Gives m party.seed strict next old new before after (kexinit_reply m role party old.known peer))
-      → (IsOngoing new.end → new.known.shares ≡ m.share_form new.known.algorithms.kex)
+      → ((strict : Bool) (next : KeysData) → Gives setup.suite setup.config.seed strict next old new before after (kexinit_reply setup.suite setup.role setup.config old.known peer))
+      → (IsOngoing new.end → new.known.shares ≡ setup.suite.share_form new.known.algorithms.kex)
       → new.carried ≡ old.carried
-      → (IsOngoing new.end → StandsAt new phase.Exchange (wrong_guess role party.offer (Some peer)) (after_offer m role party old.known payload peer))
-      → Works m d role party old new payload before after (work m d role party old.known c)
+      → (IsOngoing new.end → StandsAt new phase.Exchange (wrong_guess setup.role setup.config.offer (Some peer)) (after_offer setup.suite setup.role setup.config old.known payload peer))
+      → Works setup old new payload before after (work setup old.known c)
   unfolding work
   kexinit_works peer is gives form keys moves =
-      let at = at_kexinit role old payload c has (ap number_of is) in
-      by_reply (kexinit_reply m role party old.known peer) (ap (work m d role party old.known) is) (record {
+      let at = at_kexinit setup.role old payload c has (ap number_of is) in
+      by_reply (kexinit_reply setup.suite setup.role setup.config old.known peer) (ap (work setup old.known) is) (record {
         gives = gives _ _;
         moves = λ goes_on. Offers peer at.phase_is at.none_due (has.offers peer is) keys (form goes_on) (moves goes_on);
       })
 
   -- the exchange message, at the side that receives it
-  exchange_works : (side : Side) (n : ℕ) (r : Reply) → number_of c ≡ n → leaving side phase.Exchange ≡ n → IsAt role side old.phase phase.Exchange old.guess
-      → ReceivesExchange m side party old new before after c r → Works m d role party old new payload before after r
+  exchange_works : (side : Side) (n : ℕ) (r : Reply) → number_of c ≡ n → leaving side phase.Exchange ≡ n → IsAt setup.role side old.phase phase.Exchange old.guess
+      → ReceivesExchange setup.suite side setup.config old new before after c r → Works setup old new payload before after r
   exchange_works side n r number leaves at h =
-      let same : role ≡ side = at.side_is in
+      let same : setup.role ≡ side = at.side_is in
       let read = has.read_is in
       let none : old.guess ≡ false = at.none_due in
       record {
@@ -175,32 +175,32 @@ module _ (m : SuiteData) (d : DecisionsData) (role : Side) (party : ConfigData) 
             (rw (same, read, ← none) (h.stands goes_on));
       }
 
-  pub init_works : number_of c ≡ 30 → work m d role party old.known c ≡ init_reply m role party old.known c
-      → ReceivesExchange m Server party old new before after c (init_reply m Server party old.known c)
-      → Works m d role party old new payload before after (work m d role party old.known c)
+  pub init_works : number_of c ≡ 30 → work setup old.known c ≡ init_reply setup.suite setup.role setup.config old.known c
+      → ReceivesExchange setup.suite Server setup.config old new before after c (init_reply setup.suite Server setup.config old.known c)
+      → Works setup old new payload before after (work setup old.known c)
   init_works number is h =
-      let at = at_init role old payload c has number in
-      by_reply (init_reply m Server party old.known c) (is ∙ ap (λ (x : Side). init_reply m x party old.known c) at.side_is)
-      (exchange_works Server 30 (init_reply m Server party old.known c) number refl at h)
+      let at = at_init setup.role old payload c has number in
+      by_reply (init_reply setup.suite Server setup.config old.known c) (is ∙ ap (λ (x : Side). init_reply setup.suite x setup.config old.known c) at.side_is)
+      (exchange_works Server 30 (init_reply setup.suite Server setup.config old.known c) number refl at h)
 
-  pub reply_works : (signature : List ℕ) → number_of c ≡ 31 → work m d role party old.known c ≡ reply_reply m d role party old.known c signature
-      → ReceivesExchange m Client party old new before after c (reply_reply m d Client party old.known c signature)
-      → Works m d role party old new payload before after (work m d role party old.known c)
+  pub reply_works : (signature : List ℕ) → number_of c ≡ 31 → work setup old.known c ≡ reply_reply setup old.known c signature
+      → ReceivesExchange setup.suite Client setup.config old new before after c (reply_reply (setup_with setup.suite setup.decisions Client setup.config) old.known c signature)
+      → Works setup old new payload before after (work setup old.known c)
   reply_works signature number is h =
-      let at = at_reply role old payload c has number in
-      by_reply (reply_reply m d Client party old.known c signature) (is ∙ ap (λ (x : Side). reply_reply m d x party old.known c signature) at.side_is)
-      (exchange_works Client 31 (reply_reply m d Client party old.known c signature) number refl at h)
+      let at = at_reply setup.role old payload c has number in
+      by_reply (reply_reply (setup_with setup.suite setup.decisions Client setup.config) old.known c signature) (is ∙ ap (λ (x : Side). reply_reply (setup_with setup.suite setup.decisions x setup.config) old.known c signature) at.side_is)
+      (exchange_works Client 31 (reply_reply (setup_with setup.suite setup.decisions Client setup.config) old.known c signature) number refl at h)
 
   -- a message that leaves a phase after the exchange
   leaves_works : (side : Side) (p q : Phase) (n : ℕ) (k : Known) (r : Reply) → number_of c ≡ n → leaving side p ≡ n → past_exchange p ≡ true → next_phase p ≡ q
-      → IsAt role side old.phase p old.guess → after_payload m d party old.known payload ≡ k
-      → ((strict : Bool) (next : KeysData) → Gives m party.seed strict next old new before after r)
-      → (IsOngoing new.end → new.carried ≡ carried_after m d party old.known old.carried payload)
+      → IsAt setup.role side old.phase p old.guess → after_payload setup.suite setup.decisions setup.config old.known payload ≡ k
+      → ((strict : Bool) (next : KeysData) → Gives setup.suite setup.config.seed strict next old new before after r)
+      → (IsOngoing new.end → new.carried ≡ carried_after setup.suite setup.decisions setup.config old.known old.carried payload)
       → (IsOngoing new.end → StandsAt new q old.guess k)
-      → Works m d role party old new payload before after r
+      → Works setup old new payload before after r
   leaves_works side p q n k r number leaves past next at known gives keys stands =
       let none : old.guess ≡ false = at.none_due in
-      let here : kind payload ≡ leaving role old.phase = has.kind_is ∙ (number ∙ sym leaves ∙ sym (rw (at.phase_is, at.side_is) refl)) in
+      let here : kind payload ≡ leaving setup.role old.phase = has.kind_is ∙ (number ∙ sym leaves ∙ sym (rw (at.phase_is, at.side_is) refl)) in
       record {
         gives = gives _ _;
         moves = λ goes_on. Leaves none (ap past_exchange at.phase_is ∙ past) here (keys goes_on) (record {
@@ -211,51 +211,51 @@ module _ (m : SuiteData) (d : DecisionsData) (role : Side) (party : ConfigData) 
       }
 
   -- what is known after a message with another number than those of requests and FAILURE
-  received_as : (n : ℕ) → number_of c ≡ n → n ≢ 50 → n ≢ 51 → n ≢ 60 → after_payload m d party old.known payload ≡ received_one old.known
-  received_as n number request failure confirmation = received_number m d party old.known payload n (has.kind_is ∙ number) request failure confirmation
+  received_as : (n : ℕ) → number_of c ≡ n → n ≢ 50 → n ≢ 51 → n ≢ 60 → after_payload setup.suite setup.decisions setup.config old.known payload ≡ received_one old.known
+  received_as n number request failure confirmation = received_number setup.suite setup.decisions setup.config old.known payload n (has.kind_is ∙ number) request failure confirmation
 
   -- and what is carried along
-  carried_as : (n : ℕ) → number_of c ≡ n → n ≢ 50 → old.carried ≡ carried_after m d party old.known old.carried payload
-  carried_as n number request = sym (carried_number m d party old.known payload old.carried n (has.kind_is ∙ number) request)
+  carried_as : (n : ℕ) → number_of c ≡ n → n ≢ 50 → old.carried ≡ carried_after setup.suite setup.decisions setup.config old.known old.carried payload
+  carried_as n number request = sym (carried_number setup.suite setup.decisions setup.config old.known payload old.carried n (has.kind_is ∙ number) request)
 
   pub request_works : (service : List ℕ) → c ≡ ServiceRequest service
-      → ((strict : Bool) (next : KeysData) → Gives m party.seed strict next old new before after (service_reply party service))
+      → ((strict : Bool) (next : KeysData) → Gives setup.suite setup.config.seed strict next old new before after (service_reply setup.config service))
       → new.carried ≡ old.carried
       → (IsOngoing new.end → StandsAt new phase.Auth old.guess (received_one old.known))
-      → Works m d role party old new payload before after (work m d role party old.known c)
+      → Works setup old new payload before after (work setup old.known c)
   unfolding work
   request_works service is gives keys stands =
-      by_reply (service_reply party service) (ap (work m d role party old.known) is)
-      (leaves_works Server phase.Service phase.Auth 5 (received_one old.known) (service_reply party service) (ap number_of is) refl refl refl
-      (at_request role old payload c has (ap number_of is)) (received_as 5 (ap number_of is) (λ q. omega arith) (λ q. omega arith) (λ q. omega arith)) gives (λ _. keys ∙ carried_as 5 (ap number_of is) (λ q. omega arith)) stands)
+      by_reply (service_reply setup.config service) (ap (work setup old.known) is)
+      (leaves_works Server phase.Service phase.Auth 5 (received_one old.known) (service_reply setup.config service) (ap number_of is) refl refl refl
+      (at_request setup.role old payload c has (ap number_of is)) (received_as 5 (ap number_of is) (λ q. omega arith) (λ q. omega arith) (λ q. omega arith)) gives (λ _. keys ∙ carried_as 5 (ap number_of is) (λ q. omega arith)) stands)
 
   pub accept_works : (service : List ℕ) → c ≡ ServiceAccept service
-      → ((strict : Bool) (next : KeysData) → Gives m party.seed strict next old new before after (accept_reply m old.known service))
+      → ((strict : Bool) (next : KeysData) → Gives setup.suite setup.config.seed strict next old new before after (accept_reply setup.suite old.known service))
       → new.carried ≡ old.carried
       → (IsOngoing new.end → StandsAt new phase.Auth old.guess (received_one old.known))
-      → Works m d role party old new payload before after (work m d role party old.known c)
+      → Works setup old new payload before after (work setup old.known c)
   unfolding work
   accept_works service is gives keys stands =
-      by_reply (accept_reply m old.known service) (ap (work m d role party old.known) is)
-      (leaves_works Client phase.Service phase.Auth 6 (received_one old.known) (accept_reply m old.known service) (ap number_of is) refl refl refl
-      (at_accept role old payload c has (ap number_of is)) (received_as 6 (ap number_of is) (λ q. omega arith) (λ q. omega arith) (λ q. omega arith)) gives (λ _. keys ∙ carried_as 6 (ap number_of is) (λ q. omega arith)) stands)
+      by_reply (accept_reply setup.suite old.known service) (ap (work setup old.known) is)
+      (leaves_works Client phase.Service phase.Auth 6 (received_one old.known) (accept_reply setup.suite old.known service) (ap number_of is) refl refl refl
+      (at_accept setup.role old payload c has (ap number_of is)) (received_as 6 (ap number_of is) (λ q. omega arith) (λ q. omega arith) (λ q. omega arith)) gives (λ _. keys ∙ carried_as 6 (ap number_of is) (λ q. omega arith)) stands)
 
   pub user_request_works : (user service : List ℕ) (method : MethodData) → c ≡ UserauthRequest user service method
-      → ((strict : Bool) (next : KeysData) → Gives m party.seed strict next old new before after (request_reply m d party old.known user service method))
+      → ((strict : Bool) (next : KeysData) → Gives setup.suite setup.config.seed strict next old new before after (request_reply setup.suite setup.decisions setup.config old.known user service method))
       → (IsOngoing new.end → new ≡ record old {
         end = new.end;
-        known = counted_request old.known (tried_with user service method (is_successful m d party old.known user service method));
-        carried = tried_key old.carried method (is_successful m d party old.known user service method);
+        known = counted_request old.known (tried_with user service method (is_successful setup.suite setup.decisions setup.config old.known user service method));
+        carried = tried_key old.carried method (is_successful setup.suite setup.decisions setup.config old.known user service method);
         sending = new.sending;
       })
-      → Works m d role party old new payload before after (work m d role party old.known c)
+      → Works setup old new payload before after (work setup old.known c)
   unfolding work
   user_request_works user service method is gives stays =
-      let at = at_user_request role old payload c has (ap number_of is) in
-      by_reply (request_reply m d party old.known user service method) (ap (work m d role party old.known) is)
-      (leaves_works Server phase.Auth phase.Auth 50 (counted_request old.known (tried_with user service method (is_successful m d party old.known user service method))) (request_reply m d party old.known user service method) (ap number_of is) refl refl refl
-      at (request_after m d party old.known payload user service method (has.kind_is ∙ ap number_of is) (has.requests user service method is)) gives (λ goes_on. ap (λ (k : StateData). k.carried) (stays goes_on)
-      ∙ sym (carried_request m d party old.known payload old.carried user service method (has.kind_is ∙ ap number_of is) (has.requests user service method is)))
+      let at = at_user_request setup.role old payload c has (ap number_of is) in
+      by_reply (request_reply setup.suite setup.decisions setup.config old.known user service method) (ap (work setup old.known) is)
+      (leaves_works Server phase.Auth phase.Auth 50 (counted_request old.known (tried_with user service method (is_successful setup.suite setup.decisions setup.config old.known user service method))) (request_reply setup.suite setup.decisions setup.config old.known user service method) (ap number_of is) refl refl refl
+      at (request_after setup.suite setup.decisions setup.config old.known payload user service method (has.kind_is ∙ ap number_of is) (has.requests user service method is)) gives (λ goes_on. ap (λ (k : StateData). k.carried) (stays goes_on)
+      ∙ sym (carried_request setup.suite setup.decisions setup.config old.known payload old.carried user service method (has.kind_is ∙ ap number_of is) (has.requests user service method is)))
       (λ goes_on. record {
         phase_is = ap (λ (k : StateData). k.phase) (stays goes_on) ∙ at.phase_is;
         guess_is = ap (λ (k : StateData). k.guess) (stays goes_on);
@@ -263,13 +263,13 @@ module _ (m : SuiteData) (d : DecisionsData) (role : Side) (party : ConfigData) 
       }))
 
   pub success_works : c ≡ UserauthSuccess
-      → ((strict : Bool) (next : KeysData) → Gives m party.seed strict next old new before after (success_reply old.known))
+      → ((strict : Bool) (next : KeysData) → Gives setup.suite setup.config.seed strict next old new before after (success_reply old.known))
       → (IsOngoing new.end → new ≡ record old { end = new.end; known = received_one old.known })
-      → Works m d role party old new payload before after (work m d role party old.known c)
+      → Works setup old new payload before after (work setup old.known c)
   unfolding work
   success_works is gives stays =
-      let at = at_success role old payload c has (ap number_of is) in
-      by_reply (success_reply old.known) (ap (work m d role party old.known) is)
+      let at = at_success setup.role old payload c has (ap number_of is) in
+      by_reply (success_reply old.known) (ap (work setup old.known) is)
       (leaves_works Client phase.Auth phase.Auth 52 (received_one old.known) (success_reply old.known) (ap number_of is) refl refl refl
       at (received_as 52 (ap number_of is) (λ q. omega arith) (λ q. omega arith) (λ q. omega arith)) gives (λ goes_on. ap (λ (k : StateData). k.carried) (stays goes_on) ∙ carried_as 52 (ap number_of is) (λ q. omega arith))
       (λ goes_on. record {
@@ -279,42 +279,42 @@ module _ (m : SuiteData) (d : DecisionsData) (role : Side) (party : ConfigData) 
       }))
 
   pub failure_works : (listed : List (List ℕ)) (partial : Bool) → c ≡ UserauthFailure listed partial
-      → ((strict : Bool) (next : KeysData) → Gives m party.seed strict next old new before after (failure_reply m old.known listed))
+      → ((strict : Bool) (next : KeysData) → Gives setup.suite setup.config.seed strict next old new before after (failure_reply setup.suite old.known listed))
       → new ≡ record old { end = new.end; known = failed_attempt old.known listed; sending = new.sending }
-      → Works m d role party old new payload before after (work m d role party old.known c)
+      → Works setup old new payload before after (work setup old.known c)
   unfolding work
   failure_works listed partial is gives stays =
-      let at = at_failure role old payload c has (ap number_of is) in
+      let at = at_failure setup.role old payload c has (ap number_of is) in
       let none : old.guess ≡ false = at.none_due in
       let number : kind payload ≡ 51 = has.kind_is ∙ ap number_of is in
-      by_reply (failure_reply m old.known listed) (ap (work m d role party old.known) is) (record {
+      by_reply (failure_reply setup.suite old.known listed) (ap (work setup old.known) is) (record {
         gives = gives _ _;
-        moves = λ goes_on. Stays none (subst (λ (n : ℕ). LeavesNone role n) (sym number) (table.late_leaves role 51 (omega arith)))
+        moves = λ goes_on. Stays none (subst (λ (n : ℕ). LeavesNone setup.role n) (sym number) (table.late_leaves setup.role 51 (omega arith)))
             (ap (λ (k : StateData). k.carried) stays ∙ carried_as 51 (ap number_of is) (λ q. omega arith))
             (record {
               phase_is = ap (λ (k : StateData). k.phase) stays;
               guess_is = ap (λ (k : StateData). k.guess) stays ∙ none;
-              known_is = ap (λ (k : StateData). k.known) stays ∙ sym (failure_after m d party old.known payload listed number (has.lists listed partial is));
+              known_is = ap (λ (k : StateData). k.known) stays ∙ sym (failure_after setup.suite setup.decisions setup.config old.known payload listed number (has.lists listed partial is));
             });
       })
 
   pub pk_ok_works : (algorithm key : List ℕ) → c ≡ UserauthPkOk algorithm key
-      → ((strict : Bool) (next : KeysData) → Gives m party.seed strict next old new before after (pk_ok_reply m old.known algorithm key))
+      → ((strict : Bool) (next : KeysData) → Gives setup.suite setup.config.seed strict next old new before after (pk_ok_reply setup.suite old.known algorithm key))
       → (IsOngoing new.end → new ≡ record old { end = new.end; known = confirmed_attempt old.known; sending = new.sending })
-      → Works m d role party old new payload before after (work m d role party old.known c)
+      → Works setup old new payload before after (work setup old.known c)
   unfolding work
   pk_ok_works algorithm key is gives stays =
-      let at = at_confirmation role old payload c has (ap number_of is) in
+      let at = at_confirmation setup.role old payload c has (ap number_of is) in
       let none : old.guess ≡ false = at.none_due in
       let number : kind payload ≡ 60 = has.kind_is ∙ ap number_of is in
-      by_reply (pk_ok_reply m old.known algorithm key) (ap (work m d role party old.known) is) (record {
+      by_reply (pk_ok_reply setup.suite old.known algorithm key) (ap (work setup old.known) is) (record {
         gives = gives _ _;
-        moves = λ goes_on. Stays none (subst (λ (n : ℕ). LeavesNone role n) (sym number) (table.late_leaves role 60 (omega arith)))
+        moves = λ goes_on. Stays none (subst (λ (n : ℕ). LeavesNone setup.role n) (sym number) (table.late_leaves setup.role 60 (omega arith)))
             (ap (λ (k : StateData). k.carried) (stays goes_on) ∙ carried_as 60 (ap number_of is) (λ q. omega arith))
             (record {
               phase_is = ap (λ (k : StateData). k.phase) (stays goes_on);
               guess_is = ap (λ (k : StateData). k.guess) (stays goes_on) ∙ none;
-              known_is = ap (λ (k : StateData). k.known) (stays goes_on) ∙ sym (pk_ok_after m d party old.known payload number);
+              known_is = ap (λ (k : StateData). k.known) (stays goes_on) ∙ sym (pk_ok_after setup.suite setup.decisions setup.config old.known payload number);
             });
       })
 
@@ -330,72 +330,72 @@ fits_method (PublicKeyQuery algorithm key) short = tt
 fits_method (OtherMethod name fields) short = tt
 
 -- messages to which nothing is sent
-module _ (m : SuiteData) (d : DecisionsData) (role : Side) (party : ConfigData) (old new : StateData) (payload before : List ℕ) (c : MessageData) (has : HasPlace role old payload c) where
+module _ (setup : Setup) (old new : StateData) (payload before : List ℕ) (c : MessageData) (has : HasPlace setup.role old payload c) where
   pub disconnect_works : (reason : ℕ) (description language : List ℕ) → c ≡ Disconnect reason description language → new.end ≡ Closed reason → new.sending ≡ old.sending
-      → Works m d role party old new payload before before (work m d role party old.known c)
+      → Works setup old new payload before before (work setup old.known c)
   unfolding work
   disconnect_works reason description language is ends sends =
-      by_reply m d role party old new payload before before c has (record { answers = []; end = Closed reason }) (ap (work m d role party old.known) is) (record {
-        gives = silent m party.seed old.known.strict _ old new before (Closed reason) ends sends;
+      by_reply setup old new payload before before c has (record { answers = []; end = Closed reason }) (ap (work setup old.known) is) (record {
+        gives = silent setup.suite setup.config.seed old.known.strict _ old new before (Closed reason) ends sends;
         moves = λ goes_on. absurd (closed_ends new.end reason ends goes_on);
       })
 
   pub newkeys_works : c ≡ NewKeys → old.end ≡ Open → new ≡ record old { phase = phase.Service; known = received_one old.known }
-      → Works m d role party old new payload before before (work m d role party old.known c)
+      → Works setup old new payload before before (work setup old.known c)
   unfolding work
   newkeys_works is stays next =
-      let at = at_newkeys role old payload c has (ap number_of is) in
+      let at = at_newkeys setup.role old payload c has (ap number_of is) in
       let none : old.guess ≡ false = at.none_due in
-      by_reply m d role party old new payload before before c has (goes []) (ap (work m d role party old.known) is) (record {
-        gives = silent m party.seed old.known.strict _ old new before Open (ap (λ (k : StateData). k.end) next ∙ stays) (ap (λ (k : StateData). k.sending) next);
+      by_reply setup old new payload before before c has (goes []) (ap (work setup old.known) is) (record {
+        gives = silent setup.suite setup.config.seed old.known.strict _ old new before Open (ap (λ (k : StateData). k.end) next ∙ stays) (ap (λ (k : StateData). k.sending) next);
         moves = λ goes_on. Leaves none (ap past_exchange at.phase_is)
-            (has.kind_is ∙ ap number_of is ∙ sym (ap (leaving role) at.phase_is))
-            (ap (λ (k : StateData). k.carried) next ∙ sym (carried_number m d party old.known payload old.carried 21 (has.kind_is ∙ ap number_of is) (λ q. omega arith)))
+            (has.kind_is ∙ ap number_of is ∙ sym (ap (leaving setup.role) at.phase_is))
+            (ap (λ (k : StateData). k.carried) next ∙ sym (carried_number setup.suite setup.decisions setup.config old.known payload old.carried 21 (has.kind_is ∙ ap number_of is) (λ q. omega arith)))
             (record {
               phase_is = ap (λ (k : StateData). k.phase) next ∙ sym (ap next_phase at.phase_is);
               guess_is = ap (λ (k : StateData). k.guess) next ∙ none;
-              known_is = ap (λ (k : StateData). k.known) next ∙ sym (received_number m d party old.known payload 21 (has.kind_is ∙ ap number_of is) (λ q. omega arith) (λ q. omega arith) (λ q. omega arith));
+              known_is = ap (λ (k : StateData). k.known) next ∙ sym (received_number setup.suite setup.decisions setup.config old.known payload 21 (has.kind_is ∙ ap number_of is) (λ q. omega arith) (λ q. omega arith) (λ q. omega arith));
             });
       })
 
-  pub plain_works : IsPlain (number_of c) → work m d role party old.known c ≡ goes [] → old.end ≡ Open → new ≡ record old { known = received_one old.known }
-      → Works m d role party old new payload before before (work m d role party old.known c)
+  pub plain_works : IsPlain (number_of c) → work setup old.known c ≡ goes [] → old.end ≡ Open → new ≡ record old { known = received_one old.known }
+      → Works setup old new payload before before (work setup old.known c)
   plain_works plain is stays next =
-      let calm = table.plain_read role old.phase old.guess (number_of c) plain has.reads_it in
+      let calm = table.plain_read setup.role old.phase old.guess (number_of c) plain has.reads_it in
       let none : old.guess ≡ false = calm.0 in
-      by_reply m d role party old new payload before before c has (goes []) is (record {
-        gives = silent m party.seed old.known.strict _ old new before Open (ap (λ (k : StateData). k.end) next ∙ stays) (ap (λ (k : StateData). k.sending) next);
-        moves = λ goes_on. Stays none (subst (λ (n : ℕ). LeavesNone role n) (sym has.kind_is) calm.1)
-            (ap (λ (k : StateData). k.carried) next ∙ sym (carried_number m d party old.known payload old.carried (number_of c) has.kind_is plain.user_request))
+      by_reply setup old new payload before before c has (goes []) is (record {
+        gives = silent setup.suite setup.config.seed old.known.strict _ old new before Open (ap (λ (k : StateData). k.end) next ∙ stays) (ap (λ (k : StateData). k.sending) next);
+        moves = λ goes_on. Stays none (subst (λ (n : ℕ). LeavesNone setup.role n) (sym has.kind_is) calm.1)
+            (ap (λ (k : StateData). k.carried) next ∙ sym (carried_number setup.suite setup.decisions setup.config old.known payload old.carried (number_of c) has.kind_is plain.user_request))
             (record {
               phase_is = ap (λ (k : StateData). k.phase) next;
               guess_is = ap (λ (k : StateData). k.guess) next ∙ none;
-              known_is = ap (λ (k : StateData). k.known) next ∙ sym (received_number m d party old.known payload (number_of c) has.kind_is plain.user_request plain.failure plain.confirmation);
+              known_is = ap (λ (k : StateData). k.known) next ∙ sym (received_number setup.suite setup.decisions setup.config old.known payload (number_of c) has.kind_is plain.user_request plain.failure plain.confirmation);
             });
       })
 
 -- what the messages of the exchange are answered
-module _ (m : SuiteData) (d : DecisionsData) (role : Side) (party : ConfigData) (known : Known) (c : MessageData) where
-  pub kexdh_init : (e : List ℕ) → c ≡ KexdhInit e → work m d role party known c ≡ init_reply m role party known c
+module _ (setup : Setup) (known : Known) (c : MessageData) where
+  pub kexdh_init : (e : List ℕ) → c ≡ KexdhInit e → work setup known c ≡ init_reply setup.suite setup.role setup.config known c
   unfolding work
   kexdh_init e is = rw is refl
 
-  pub kex_ecdh_init : (share : List ℕ) → c ≡ KexEcdhInit share → work m d role party known c ≡ init_reply m role party known c
+  pub kex_ecdh_init : (share : List ℕ) → c ≡ KexEcdhInit share → work setup known c ≡ init_reply setup.suite setup.role setup.config known c
   unfolding work
   kex_ecdh_init share is = rw is refl
 
-  pub kexdh_reply : (host_key f signature : List ℕ) → c ≡ KexdhReply host_key f signature → work m d role party known c ≡ reply_reply m d role party known c signature
+  pub kexdh_reply : (host_key f signature : List ℕ) → c ≡ KexdhReply host_key f signature → work setup known c ≡ reply_reply setup known c signature
   unfolding work
   kexdh_reply host_key f signature is = rw is refl
 
-  pub kex_ecdh_reply : (host_key share signature : List ℕ) → c ≡ KexEcdhReply host_key share signature → work m d role party known c ≡ reply_reply m d role party known c signature
+  pub kex_ecdh_reply : (host_key share signature : List ℕ) → c ≡ KexEcdhReply host_key share signature → work setup known c ≡ reply_reply setup known c signature
   unfolding work
   kex_ecdh_reply host_key share signature is = rw is refl
 
 -- every other message is read and ignored
-pub record IsIgnored (m : SuiteData) (d : DecisionsData) (role : Side) (party : ConfigData) (known : Known) (c : MessageData) : Type 0 where
+pub record IsIgnored (setup : Setup) (known : Known) (c : MessageData) : Type 0 where
   pub plain : IsPlain (number_of c)
-  pub work_is : work m d role party known c ≡ goes []
+  pub work_is : work setup known c ≡ goes []
 
 -- none of the messages that the code names
 pub record IsNone (x : Message) : Type 0 where
@@ -413,8 +413,8 @@ pub record IsNone (x : Message) : Type 0 where
   pub success : x ≡ message.UserauthSuccess → ⊥
   pub confirmation : (algorithm key : Bor (List ℕ)) → x ≡ message.UserauthPkOk algorithm key → ⊥
 
-module _ (m : SuiteData) (d : DecisionsData) (role : Side) (party : ConfigData) (known : Known) where
-  pub ignores : (x : Message) → IsNone x → IsIgnored m d role party known (message_data x)
+module _ (setup : Setup) (known : Known) where
+  pub ignores : (x : Message) → IsNone x → IsIgnored setup known (message_data x)
   unfolding work
   ignores (message.Disconnect reason description language) h = absurd (h.disconnect reason description language refl)
   ignores (message.ServiceRequest service) h = absurd (h.request service refl)

@@ -14,7 +14,7 @@ use Rattle.sshcore.specs.ConfigParts.{AttemptData}
 use Rattle.sshcore.specs.Directions.{payloads_in}
 use Rattle.sshcore.specs.EndData.{AgreedData}
 use Rattle.sshcore.specs.Known.{Known, known_at}
-use Rattle.sshcore.specs.EndpointParts.{ConfigData, DecisionsData}
+use Rattle.sshcore.specs.EndpointParts.{ConfigData, DecisionsData, Setup}
 use Rattle.sshcore.specs.Phases.{phase_at}
 use Rattle.sshcore.specs.Reached.{Tried, are_reached}
 use Rattle.sshcore.specs.Requests.{is_successful}
@@ -48,12 +48,12 @@ IsAcceptedUser m d Server party known tried payload a = AcceptsUser m d party kn
 -- An endpoint ended authenticated: its last payload came in phase auth, and the phase is the same after it. It agreed on what
 -- the payloads before have given, which are the algorithms, strictness and the session identifier; and by what they have given
 -- this user is accepted by the last payload for this service.
-pub record IsAuthenticated (m : SuiteData) (d : DecisionsData) (role : Side) (party : ConfigData) (units : Units) (a : AgreedData) : Type 0 where
+pub record IsAuthenticated (setup : Setup) (units : Units) (a : AgreedData) : Type 0 where
   pub version : List ℕ
   pub before : Units
   pub last : List ℕ
   pub units_are : units ≡ version ∷ (before ++ last ∷ [])
-  pub in_auth : phase_at role party.offer before ≡ phase.Auth
-  pub stays_in_auth : phase_at role party.offer (payloads_in units) ≡ phase.Auth
-  pub agrees : a ≡ agreed_by (known_at m d role party version before) a.user a.service
-  pub accepted_user : IsAcceptedUser m d role party (known_at m d role party version before) (tried_at m d role party version before) last a
+  pub in_auth : phase_at setup.role setup.config.offer before ≡ phase.Auth
+  pub stays_in_auth : phase_at setup.role setup.config.offer (payloads_in units) ≡ phase.Auth
+  pub agrees : a ≡ agreed_by (known_at setup version before) a.user a.service
+  pub accepted_user : IsAcceptedUser setup.suite setup.decisions setup.role setup.config (known_at setup version before) (tried_at setup version before) last a

@@ -4,7 +4,6 @@ use Rattle.std.specs.Prelude.{◌≡◌, ◌⊎◌, ℕ, ◌==◌, Bool, true, f
 use Rattle.sshmsg.specs.declared.numbers.TheConstants.{SSH_MSG_DISCONNECT, SSH_MSG_USERAUTH_REQUEST}
 use Rattle.sshmsg.specs.MessageData.{KexInitData}
 use Rattle.sshmsg.specs.Numbers.{kind}
-use Rattle.sshneg.specs.declared.side.Side.{Side}
 use Rattle.sshneg.specs.ExchangeEnd.{offer_in}
 use Rattle.sshneg.specs.Markers.{other}
 use Rattle.sshpacket.specs.KeysData.{KeysData}
@@ -18,7 +17,7 @@ use Rattle.sshcore.specs.History.{AllFit}
 use Rattle.sshcore.specs.StateData.{Carried, StateData, with_exchange}
 use Rattle.sshcore.specs.Known.{Known}
 use Rattle.sshcore.specs.Output.{sending_from, sent_from}
-use Rattle.sshcore.specs.EndpointParts.{ConfigData, DecisionsData}
+use Rattle.sshcore.specs.EndpointParts.{ConfigData, DecisionsData, Setup}
 use Rattle.sshcore.specs.Phases.{leaving, next_phase, past_exchange}
 use Rattle.sshcore.specs.Plan.{is_waiting}
 use Rattle.sshcore.specs.Replies.{line_reply}
@@ -57,28 +56,28 @@ pub record StandsAt (new : StateData) (p : Phase) (guess : Bool) (known : Known)
 -- How a payload moves what is kept: after the peer's KEXINIT; after the packet of a wrong guess; after the exchange
 -- message, which brings the keys of what is received; after every other message that leaves a phase; and after one that
 -- leaves none.
-pub data Moves (m : SuiteData) (d : DecisionsData) (role : Side) (party : ConfigData) (payload : List ℕ) (old new : StateData) : Type 0 where
+pub data Moves (setup : Setup) (payload : List ℕ) (old new : StateData) : Type 0 where
   Offers : (peer : KexInitData) → old.phase ≡ phase.KexInit → old.guess ≡ false → offer_in payload ≡ Some peer → new.carried ≡ old.carried
-      → new.known.shares ≡ m.share_form new.known.algorithms.kex
-      → StandsAt new phase.Exchange (wrong_guess role party.offer (Some peer)) (after_offer m role party old.known payload peer) → Moves m d role party payload old new
+      → new.known.shares ≡ setup.suite.share_form new.known.algorithms.kex
+      → StandsAt new phase.Exchange (wrong_guess setup.role setup.config.offer (Some peer)) (after_offer setup.suite setup.role setup.config old.known payload peer) → Moves setup payload old new
   Drops : old.guess ≡ true → (kind payload == SSH_MSG_DISCONNECT) ≡ false → new.carried ≡ old.carried
-      → StandsAt new old.phase false (received_one old.known) → Moves m d role party payload old new
-  Exchanges : old.phase ≡ phase.Exchange → old.guess ≡ false → kind payload ≡ leaving role phase.Exchange
-      → new.carried ≡ with_exchange party (keys_by m old.known.algorithms (exchange_received m role party old.known payload) (other role))
-      (exchange_received m role party old.known payload).host_key old.carried
-      → StandsAt new phase.NewKeys false (after_exchange m role party old.known payload) → Moves m d role party payload old new
-  Leaves : old.guess ≡ false → past_exchange old.phase ≡ true → kind payload ≡ leaving role old.phase → new.carried ≡ carried_after m d party old.known old.carried payload
-      → StandsAt new (next_phase old.phase) false (after_payload m d party old.known payload) → Moves m d role party payload old new
-  Stays : old.guess ≡ false → LeavesNone role (kind payload) → new.carried ≡ carried_after m d party old.known old.carried payload
-      → StandsAt new old.phase false (after_payload m d party old.known payload) → Moves m d role party payload old new
+      → StandsAt new old.phase false (received_one old.known) → Moves setup payload old new
+  Exchanges : old.phase ≡ phase.Exchange → old.guess ≡ false → kind payload ≡ leaving setup.role phase.Exchange
+      → new.carried ≡ with_exchange setup.config (keys_by setup.suite old.known.algorithms (exchange_received setup.suite setup.role setup.config old.known payload) (other setup.role))
+      (exchange_received setup.suite setup.role setup.config old.known payload).host_key old.carried
+      → StandsAt new phase.NewKeys false (after_exchange setup.suite setup.role setup.config old.known payload) → Moves setup payload old new
+  Leaves : old.guess ≡ false → past_exchange old.phase ≡ true → kind payload ≡ leaving setup.role old.phase → new.carried ≡ carried_after setup.suite setup.decisions setup.config old.known old.carried payload
+      → StandsAt new (next_phase old.phase) false (after_payload setup.suite setup.decisions setup.config old.known payload) → Moves setup payload old new
+  Stays : old.guess ≡ false → LeavesNone setup.role (kind payload) → new.carried ≡ carried_after setup.suite setup.decisions setup.config old.known old.carried payload
+      → StandsAt new old.phase false (after_payload setup.suite setup.decisions setup.config old.known payload) → Moves setup payload old new
 
 -- What a packet brings: this reply, and where the session goes on the endpoint stands after the packet.
-pub record Works (m : SuiteData) (d : DecisionsData) (role : Side) (party : ConfigData) (old new : StateData) (payload before after : List ℕ) (r : Reply) : Type 0 where
-  pub gives : Gives m party.seed old.known.strict (keys_by m old.known.algorithms (exchange_received m role party old.known payload) role) old new before after r
-  pub moves : IsOngoing new.end → Moves m d role party payload old new
+pub record Works (setup : Setup) (old new : StateData) (payload before after : List ℕ) (r : Reply) : Type 0 where
+  pub gives : Gives setup.suite setup.config.seed old.known.strict (keys_by setup.suite old.known.algorithms (exchange_received setup.suite setup.role setup.config old.known payload) setup.role) old new before after r
+  pub moves : IsOngoing new.end → Moves setup payload old new
 
 -- What a packet with this sequence number brings: the reply of its line of the phase table.
-abbrev pub Brings : SuiteData → DecisionsData → Side → ConfigData → StateData → StateData → ℕ → List ℕ → List ℕ → List ℕ → Type 0
-Brings m d role party old new packet payload before after =
-    Works m d role party old new payload before after
-    (line_reply m d role party old.known packet (line_by role old.phase old.known.strict old.guess (is_waiting old.known.left) (kind payload)) payload)
+abbrev pub Brings : Setup → StateData → StateData → ℕ → List ℕ → List ℕ → List ℕ → Type 0
+Brings setup old new packet payload before after =
+    Works setup old new payload before after
+    (line_reply setup old.known packet (line_by setup.role old.phase old.known.strict old.guess (is_waiting old.known.left) (kind payload)) payload)

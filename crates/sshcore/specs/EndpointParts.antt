@@ -2,6 +2,9 @@
 
 use Rattle.std.specs.Prelude.{ℕ, Bool, List, [], Option, None}
 use Rattle.sshmsg.specs.MessageData.{KexInitData}
+use Rattle.sshneg.specs.declared.side.Side.{Side}
+use Rattle.sshneg.specs.declared.side.Side.TheVariants.{Client, Server}
+use Rattle.sshpacket.specs.Suite.{SuiteData}
 use Rattle.sshcore.specs.ConfigParts.{AttemptData, ClientData, HostKeyData, ServerData, client_offer, server_offer, version_of}
 
 -- What an endpoint is made of. What its role doesn't have is empty: notices, host keys, services, methods, required
@@ -71,3 +74,20 @@ pub record UserKeyData : Type 0 where
 pub record DecisionsData : Type 0 where
   pub host_key : List ℕ → List ℕ → Bool
   pub user : ℕ → List ℕ → List ℕ → ProofData → Bool
+
+-- An endpoint's setup: its suite, whom it asks, its role, and its config.
+pub record Setup : Type 0 where
+  pub suite : SuiteData
+  pub decisions : DecisionsData
+  pub role : Side
+  pub config : ConfigData
+
+abbrev pub setup_with : SuiteData → DecisionsData → Side → ConfigData → Setup
+setup_with suite decisions role config = record { suite = suite; decisions = decisions; role = role; config = config }
+
+-- of a client, and of a server
+abbrev pub client_setup : SuiteData → DecisionsData → ClientData → Setup
+client_setup suite decisions client = setup_with suite decisions Client (config_of_client client)
+
+abbrev pub server_setup : SuiteData → DecisionsData → ServerData → Setup
+server_setup suite decisions server = setup_with suite decisions Server (config_of_server server)

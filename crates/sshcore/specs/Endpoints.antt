@@ -8,7 +8,7 @@ use Rattle.sshpacket.specs.Suite.{SuiteData}
 use Rattle.sshcore.specs.declared.end.Fault.TheVariants as fault
 use Rattle.sshcore.specs.Directions.{others_of, spells}
 use Rattle.sshcore.specs.EndData.{Authenticated, Closed, Disconnected, EndData, Failed, Open, by_owner, end_data, parting}
-use Rattle.sshcore.specs.EndpointData.{EndpointData}
+use Rattle.sshcore.specs.EndpointData.{EndpointData, endpoint_setup}
 use Rattle.sshcore.specs.History.{BrokenOff}
 use Rattle.sshcore.specs.Inputs.{EndpointStands, held_by, turns_left}
 use Rattle.sshcore.specs.StateData.{state_data}
@@ -20,7 +20,7 @@ endpoint_end e = end_data e.state.end
 -- An endpoint has received and sent these bytes. Of one that ran out of memory BrokenOff tells what it has sent; of one that
 -- its owner told to disconnect these are the bytes before that, and Leaves tells what it sent last.
 abbrev pub EndpointAfter : {S D : Type 0} → (S → SuiteData) → (D → DecisionsData) → EndpointData S D → List ℕ → List ℕ → Type 0
-EndpointAfter meaning policy e h s = EndpointStands (meaning e.suite) (policy e.decisions) e.role e.party (state_data e.state) e.input h s
+EndpointAfter meaning policy e h s = EndpointStands (endpoint_setup meaning policy e) (state_data e.state) e.input h s
 
 -- what never changes
 pub record IsSameEndpoint {S D : Type 0} (old new : EndpointData S D) : Type 0 where
@@ -45,7 +45,7 @@ pub record Breaks {S D : Type 0} (meaning : S → SuiteData) (policy : D → Dec
   pub added : List ℕ
   pub appended : after ≡ before ++ added
   pub follows : (h s : List ℕ) → EndpointAfter meaning policy old h s
-      → BrokenOff (meaning old.suite) (policy old.decisions) old.role old.party (h ++ take used piece) (s ++ added)
+      → BrokenOff (endpoint_setup meaning policy old) (h ++ take used piece) (s ++ added)
   pub same : IsSameEndpoint old new
 
 -- an endpoint before any byte is received

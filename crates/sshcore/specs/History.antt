@@ -7,13 +7,12 @@ use Rattle.sshneg.specs.declared.side.Side.{Side}
 use Rattle.sshpacket.specs.Parse.{Refusal}
 use Rattle.sshpacket.specs.Places.{EachPlace, IsPrefix}
 use Rattle.sshpacket.specs.Stream.{Received, Sent, Units}
-use Rattle.sshpacket.specs.Suite.{SuiteData}
 use Rattle.sshcore.specs.declared.table.Phase.TheVariants as phase
 use Rattle.sshcore.specs.Before.{offered, stood}
 use Rattle.sshcore.specs.Counting.{switched_out}
 use Rattle.sshcore.specs.Directions.{parsers, payloads_in, spells}
 use Rattle.sshcore.specs.EndData.{EndData, Open}
-use Rattle.sshcore.specs.EndpointParts.{ConfigData, DecisionsData}
+use Rattle.sshcore.specs.EndpointParts.{ConfigData, Setup}
 use Rattle.sshcore.specs.Phases.{leaving}
 use Rattle.sshcore.specs.Replies.{Replies}
 
@@ -34,26 +33,26 @@ pub record IsReady (role : Side) (party : ConfigData) (payloads : Units) : Type 
 -- An endpoint that stands or ends so has received bytes that read as these units with a rest, which may be refused, and has sent
 -- bytes that spell its version line and these answers. What was sent fits packets; it is sealed only where the exchange was
 -- received; and nothing was taken after the unit that ended the endpoint.
-pub record History (m : SuiteData) (d : DecisionsData) (role : Side) (party : ConfigData) (units : Units) (rest : List ℕ) (refusal : Option Refusal) (answers : Units) (end : EndData) (received_bytes sent_bytes : List ℕ) : Type 0 where
-  pub received : Received (parsers m role party) received_bytes units rest refusal
-  pub sent : Sent (spells m role party units) sent_bytes (party.version ∷ answers)
-  pub replies : Replies m d role party units refusal answers end
+pub record History (setup : Setup) (units : Units) (rest : List ℕ) (refusal : Option Refusal) (answers : Units) (end : EndData) (received_bytes sent_bytes : List ℕ) : Type 0 where
+  pub received : Received (parsers setup.suite setup.role setup.config) received_bytes units rest refusal
+  pub sent : Sent (spells setup.suite setup.role setup.config units) sent_bytes (setup.config.version ∷ answers)
+  pub replies : Replies setup units refusal answers end
   pub fits : AllFit answers
-  pub keyed : switched_out answers ≡ true → IsReady role party (payloads_in units)
+  pub keyed : switched_out answers ≡ true → IsReady setup.role setup.config (payloads_in units)
   pub last : end ≢ Open → refusal ≡ None → rest ≡ []
 
 -- What was sent where memory ran out: whole packets, a prefix of the answers that would have been given.
-pub record BrokenOff (m : SuiteData) (d : DecisionsData) (role : Side) (party : ConfigData) (received_bytes sent_bytes : List ℕ) : Type 0 where
+pub record BrokenOff (setup : Setup) (received_bytes sent_bytes : List ℕ) : Type 0 where
   pub units : Units
   pub rest : List ℕ
   pub refusal : Option Refusal
   pub answers : Units
   pub end : EndData
   pub some_answers : Units
-  pub received : Received (parsers m role party) received_bytes units rest refusal
-  pub replies : Replies m d role party units refusal answers end
+  pub received : Received (parsers setup.suite setup.role setup.config) received_bytes units rest refusal
+  pub replies : Replies setup units refusal answers end
   pub prefix : IsPrefix some_answers answers
-  pub sent : Sent (spells m role party units) sent_bytes (party.version ∷ some_answers)
+  pub sent : Sent (spells setup.suite setup.role setup.config units) sent_bytes (setup.config.version ∷ some_answers)
 
 -- Two histories are one: the same units were received, with the same rest and refusal, and the same was answered, sent and come to.
 pub record IsOneHistory (units other_units : Units) (rest other_rest : List ℕ) (refusal other_refusal : Option Refusal) (answers other_answers : Units) (end other_end : EndData) (sent_bytes other_bytes : List ℕ) : Type 0 where

@@ -23,7 +23,7 @@ use Rattle.sshcore.specs.Exchanged.{HasForm}
 use Rattle.sshcore.specs.History.{History}
 use Rattle.sshcore.specs.StateData.{Carried, StateData}
 use Rattle.sshcore.specs.Output.{Speaks}
-use Rattle.sshcore.specs.EndpointParts.{ConfigData, DecisionsData}
+use Rattle.sshcore.specs.EndpointParts.{ConfigData, Setup}
 use Rattle.sshcore.specs.Phases.{past_exchange, past_newkeys}
 use Rattle.sshcore.specs.Standing.{Sits}
 use Rattle.sshcore.specs.Tries.{last_key, successful_keys_at}
@@ -62,19 +62,19 @@ pending_at p keys = if past_exchange p && not (past_newkeys p) then Some keys el
 
 -- what is carried along agrees with what was received: the keys of what is received; from the exchange on the own version line
 -- and the exchange's host key; and the key of the last request that was successful by one
-pub record IsCarried (m : SuiteData) (d : DecisionsData) (role : Side) (party : ConfigData) (version : List ℕ) (before : Units) (p : Phase) (carried : Carried) : Type 0 where
-  pub pending : carried.pending ≡ pending_at p (keys_at m role party version before (other role))
-  pub own_version : past_exchange p ≡ true → carried.own_version ≡ party.version
-  pub host_key : past_exchange p ≡ true → carried.host_key ≡ (exchange_at m role party version before).host_key
-  pub user_key : carried.user_key ≡ last_key None (successful_keys_at m d role party version before)
+pub record IsCarried (setup : Setup) (version : List ℕ) (before : Units) (p : Phase) (carried : Carried) : Type 0 where
+  pub pending : carried.pending ≡ pending_at p (keys_at setup.suite setup.role setup.config version before (other setup.role))
+  pub own_version : past_exchange p ≡ true → carried.own_version ≡ setup.config.version
+  pub host_key : past_exchange p ≡ true → carried.host_key ≡ (exchange_at setup.suite setup.role setup.config version before).host_key
+  pub user_key : carried.user_key ≡ last_key None (successful_keys_at setup version before)
 
 -- what an endpoint keeps agrees with what was received and sent, while its session goes on
-pub record IsInside (m : SuiteData) (d : DecisionsData) (role : Side) (party : ConfigData) (units answers : Units) (rest : List ℕ) (kept : StateData) (i : Input) : Type 0 where
-  pub sits : Sits m d role party (version_in units) (payloads_in units) kept.phase kept.guess kept.known
-  pub form : HasForm m kept
-  pub reads : IsInput m role party units rest i
-  pub carries : IsCarried m d role party (version_in units) (payloads_in units) kept.phase kept.carried
-  pub speaks : Speaks m role party units answers kept.sending
+pub record IsInside (setup : Setup) (units answers : Units) (rest : List ℕ) (kept : StateData) (i : Input) : Type 0 where
+  pub sits : Sits setup (version_in units) (payloads_in units) kept.phase kept.guess kept.known
+  pub form : HasForm setup.suite kept
+  pub reads : IsInput setup.suite setup.role setup.config units rest i
+  pub carries : IsCarried setup (version_in units) (payloads_in units) kept.phase kept.carried
+  pub speaks : Speaks setup.suite setup.role setup.config units answers kept.sending
 
 -- how an endpoint stands that has come to this end by what it received: so; or, where it stood open, cut off, or told to disconnect
 pub data StandsSo (received_end end : EndData) : Type 0 where
@@ -83,26 +83,26 @@ pub data StandsSo (received_end end : EndData) : Type 0 where
   Left : (reason : ℕ) → received_end ≡ Open → end ≡ Disconnected reason → StandsSo received_end end
 
 -- An endpoint that keeps this, with this reader, has received and sent these bytes; of one that left, what it sent before that.
-pub record EndpointStands (m : SuiteData) (d : DecisionsData) (role : Side) (party : ConfigData) (kept : StateData) (i : Input) (received_bytes sent_bytes : List ℕ) : Type 0 where
+pub record EndpointStands (setup : Setup) (kept : StateData) (i : Input) (received_bytes sent_bytes : List ℕ) : Type 0 where
   pub units : Units
   pub rest : List ℕ
   pub refusal : Option Refusal
   pub answers : Units
   pub received_end : EndData
-  pub history : History m d role party units rest refusal answers received_end received_bytes sent_bytes
+  pub history : History setup units rest refusal answers received_end received_bytes sent_bytes
   pub ends : StandsSo received_end kept.end
-  pub inside : IsOngoing kept.end → IsInside m d role party units answers rest kept i
+  pub inside : IsOngoing kept.end → IsInside setup units answers rest kept i
 
 -- An endpoint that goes on from here has received these bytes more, and sent what was appended; its owner didn't end it.
-pub record GoesOn (m : SuiteData) (d : DecisionsData) (role : Side) (party : ConfigData) (new : StateData) (j : Input) (h s taken before after : List ℕ) : Type 0 where
+pub record GoesOn (setup : Setup) (new : StateData) (j : Input) (h s taken before after : List ℕ) : Type 0 where
   pub added : List ℕ
   pub appended : after ≡ before ++ added
-  pub stands : EndpointStands m d role party new j (h ++ taken) (s ++ added)
+  pub stands : EndpointStands setup new j (h ++ taken) (s ++ added)
   pub uncut : by_owner new.end ≡ false
 
 -- what a step did that used these bytes, whatever was received and sent before
-abbrev pub Steps : SuiteData → DecisionsData → Side → ConfigData → Input → StateData → Input → StateData → List ℕ → List ℕ → List ℕ → Type 0
-Steps m d role party i old j new taken before after = (h s : List ℕ) → EndpointStands m d role party old i h s → GoesOn m d role party new j h s taken before after
+abbrev pub Steps : Setup → Input → StateData → Input → StateData → List ℕ → List ℕ → List ℕ → Type 0
+Steps setup i old j new taken before after = (h s : List ℕ) → EndpointStands setup old i h s → GoesOn setup new j h s taken before after
 
 -- before any byte is received
 abbrev pub Begins : Side → Input → Type 0

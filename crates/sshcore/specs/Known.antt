@@ -6,11 +6,10 @@ use Rattle.sshmsg.specs.declared.numbers.TheConstants.{SSH_MSG_USERAUTH_REQUEST}
 use Rattle.sshneg.specs.declared.side.Side.{Side}
 use Rattle.sshneg.specs.Fields.{AlgorithmsData}
 use Rattle.sshpacket.specs.Stream.{Units}
-use Rattle.sshpacket.specs.Suite.{SuiteData}
 use Rattle.sshcore.specs.Before.{all_kept, count_kept, kexinit, strict_at}
 use Rattle.sshcore.specs.ConfigParts.{AttemptData}
 use Rattle.sshcore.specs.Exchange.{algorithms_at, shares_at}
-use Rattle.sshcore.specs.EndpointParts.{ConfigData, DecisionsData}
+use Rattle.sshcore.specs.EndpointParts.{ConfigData, Setup}
 use Rattle.sshcore.specs.Plan.{is_answer, is_waiting, left_after}
 use Rattle.sshcore.specs.Reached.{ReachedData, nothing_reached, reached_after}
 use Rattle.sshcore.specs.Tries.{session_known, tried_at}
@@ -38,16 +37,16 @@ left_at role party before = left_after party.plan (all_kept role party.offer is_
 abbrev pub waits_at : Side → ConfigData → Units → Bool
 waits_at role party before = is_waiting (left_at role party before)
 
-abbrev pub known_at : SuiteData → DecisionsData → Side → ConfigData → List ℕ → Units → Known
-known_at m d role party version before = record {
+abbrev pub known_at : Setup → List ℕ → Units → Known
+known_at setup version before = record {
   version = version;
   kexinit = kexinit before;
-  algorithms = algorithms_at m role party before;
-  shares = shares_at m role party before;
-  session = session_known m role party version before;
-  request = count_kept role party.offer SSH_MSG_USERAUTH_REQUEST before + 1;
-  left = left_at role party before;
-  reached = reached_after nothing_reached (tried_at m d role party version before);
-  strict = strict_at role party before;
+  algorithms = algorithms_at setup.suite setup.role setup.config before;
+  shares = shares_at setup.suite setup.role setup.config before;
+  session = session_known setup.suite setup.role setup.config version before;
+  request = count_kept setup.role setup.config.offer SSH_MSG_USERAUTH_REQUEST before + 1;
+  left = left_at setup.role setup.config before;
+  reached = reached_after nothing_reached (tried_at setup version before);
+  strict = strict_at setup.role setup.config before;
   first = length before == 0;
 }

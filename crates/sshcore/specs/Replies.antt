@@ -12,7 +12,6 @@ use Rattle.sshpacket.specs.declared.fault.PacketFault.TheVariants as packet
 use Rattle.sshpacket.specs.Parse.{OfLine, OfPacket, Refusal}
 use Rattle.sshpacket.specs.Places.{EachPlace, flat_places}
 use Rattle.sshpacket.specs.Stream.{Units}
-use Rattle.sshpacket.specs.Suite.{SuiteData}
 use Rattle.sshcore.specs.declared.end.Fault.{Fault}
 use Rattle.sshcore.specs.declared.end.Fault.TheVariants as fault
 use Rattle.sshcore.specs.declared.table.Line.{Line}
@@ -21,23 +20,23 @@ use Rattle.sshcore.specs.Before.{expects_guess, strict_at}
 use Rattle.sshcore.specs.Counting.{number_in}
 use Rattle.sshcore.specs.EndData.{EndData, Open, Reply, fails, goes}
 use Rattle.sshcore.specs.Known.{Known, known_at, waits_at}
-use Rattle.sshcore.specs.EndpointParts.{ConfigData, DecisionsData}
+use Rattle.sshcore.specs.EndpointParts.{ConfigData, Setup}
 use Rattle.sshcore.specs.Phases.{phase_at}
 use Rattle.sshcore.specs.Table.{line_by}
 use Rattle.sshcore.specs.Work.{making, work}
 
 -- a message that is read is worked on, and one that can't be read is malformed
-abbrev pub read_reply : SuiteData → DecisionsData → Side → ConfigData → Known → ℕ → Result MessageData MsgFault → Reply
-read_reply m d role party known n (Ok content) = work m d role party known content
-read_reply m d role party known n (Err e) = fails (fault.Malformed n)
+abbrev pub read_reply : Setup → Known → ℕ → Result MessageData MsgFault → Reply
+read_reply setup known n (Ok content) = work setup known content
+read_reply setup known n (Err e) = fails (fault.Malformed n)
 
 -- what a line of the table says of a packet with this number; UNIMPLEMENTED tells it (RFC 4253 section 11.4)
-unfoldable pub line_reply : SuiteData → DecisionsData → Side → ConfigData → Known → ℕ → Line → List ℕ → Reply
-line_reply m d role party known packet line.Reads payload = read_reply m d role party known (kind payload) (message_in known.shares payload)
-line_reply m d role party known packet line.Drops payload = goes []
-line_reply m d role party known packet line.Deviates payload = fails (fault.Strict (kind payload))
-line_reply m d role party known packet line.Unknown payload = goes (written_message (Unimplemented packet) ∷ [])
-line_reply m d role party known packet line.Unexpected payload = fails (fault.Unexpected (kind payload))
+unfoldable pub line_reply : Setup → Known → ℕ → Line → List ℕ → Reply
+line_reply setup known packet line.Reads payload = read_reply setup known (kind payload) (message_in known.shares payload)
+line_reply setup known packet line.Drops payload = goes []
+line_reply setup known packet line.Deviates payload = fails (fault.Strict (kind payload))
+line_reply setup known packet line.Unknown payload = goes (written_message (Unimplemented packet) ∷ [])
+line_reply setup known packet line.Unexpected payload = fails (fault.Unexpected (kind payload))
 
 -- the line that decides at a place
 abbrev pub line_at : Side → ConfigData → Units → List ℕ → Line
@@ -46,20 +45,20 @@ line_at role party before payload =
     (kind payload)
 
 -- what a payload brings after those before it
-abbrev pub reply_at : SuiteData → DecisionsData → Side → ConfigData → List ℕ → Units → List ℕ → Reply
-reply_at m d role party version before payload =
-    line_reply m d role party (known_at m d role party version before) (number_in role party before) (line_at role party before payload) payload
+abbrev pub reply_at : Setup → List ℕ → Units → List ℕ → Reply
+reply_at setup version before payload =
+    line_reply setup (known_at setup version before) (number_in setup.role setup.config before) (line_at setup.role setup.config before payload) payload
 
 -- the same of a unit: the version line is answered by nothing
-abbrev pub unit_reply : SuiteData → DecisionsData → Side → ConfigData → Units → List ℕ → Reply
-unit_reply m d role party [] version = goes []
-unit_reply m d role party (version ∷ before) payload = reply_at m d role party version before payload
+abbrev pub unit_reply : Setup → Units → List ℕ → Reply
+unit_reply setup [] version = goes []
+unit_reply setup (version ∷ before) payload = reply_at setup version before payload
 
-abbrev pub answers_at : SuiteData → DecisionsData → Side → ConfigData → Units → List ℕ → Units
-answers_at m d role party before unit = (unit_reply m d role party before unit).answers
+abbrev pub answers_at : Setup → Units → List ℕ → Units
+answers_at setup before unit = (unit_reply setup before unit).answers
 
-abbrev pub end_at : SuiteData → DecisionsData → Side → ConfigData → Units → List ℕ → EndData
-end_at m d role party before unit = (unit_reply m d role party before unit).end
+abbrev pub end_at : Setup → Units → List ℕ → EndData
+end_at setup before unit = (unit_reply setup before unit).end
 
 -- the failure at bytes that are refused (lines are refused for what they are, never because memory ran out)
 abbrev pub fault_of : Refusal → Fault
@@ -75,16 +74,16 @@ refusal_reply None = goes []
 refusal_reply (Some r) = fails (fault_of r)
 
 -- the endpoint stays open at each of these units
-abbrev pub StaysOpen : SuiteData → DecisionsData → Side → ConfigData → Units → Type 0
-StaysOpen m d role party units = EachPlace (λ before unit. end_at m d role party before unit ≡ Open) [] units
+abbrev pub StaysOpen : Setup → Units → Type 0
+StaysOpen setup units = EachPlace (λ before unit. end_at setup before unit ≡ Open) [] units
 
 -- how it stands: open or refused after all units; or the last unit ended it, and nothing follows
-pub data Ends (m : SuiteData) (d : DecisionsData) (role : Side) (party : ConfigData) (units : Units) (refusal : Option Refusal) (end : EndData) : Type 0 where
-  goes_on : StaysOpen m d role party units → end ≡ (refusal_reply refusal).end → Ends m d role party units refusal end
-  ended : (before : Units) (last : List ℕ) → units ≡ before ++ last ∷ [] → StaysOpen m d role party before
-      → end ≡ end_at m d role party before last → end ≢ Open → refusal ≡ None → Ends m d role party units refusal end
+pub data Ends (setup : Setup) (units : Units) (refusal : Option Refusal) (end : EndData) : Type 0 where
+  goes_on : StaysOpen setup units → end ≡ (refusal_reply refusal).end → Ends setup units refusal end
+  ended : (before : Units) (last : List ℕ) → units ≡ before ++ last ∷ [] → StaysOpen setup before
+      → end ≡ end_at setup before last → end ≢ Open → refusal ≡ None → Ends setup units refusal end
 
 -- What an endpoint sends: its first payloads, then the answers to each unit received, in order, and to a refusal.
-pub record Replies (m : SuiteData) (d : DecisionsData) (role : Side) (party : ConfigData) (units : Units) (refusal : Option Refusal) (answers : Units) (end : EndData) : Type 0 where
-  pub in_order : answers ≡ making m role party ++ (flat_places (answers_at m d role party) [] units ++ (refusal_reply refusal).answers)
-  pub ends : Ends m d role party units refusal end
+pub record Replies (setup : Setup) (units : Units) (refusal : Option Refusal) (answers : Units) (end : EndData) : Type 0 where
+  pub in_order : answers ≡ making setup.suite setup.role setup.config ++ (flat_places (answers_at setup) [] units ++ (refusal_reply refusal).answers)
+  pub ends : Ends setup units refusal end

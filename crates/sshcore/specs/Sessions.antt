@@ -14,7 +14,7 @@ use Rattle.sshcore.specs.Directions.{keys_in, keys_out, payloads_in, version_in}
 use Rattle.sshcore.specs.EndData.{AgreedData, agreed_data}
 use Rattle.sshcore.specs.Exchange.{exchange_at}
 use Rattle.sshcore.specs.StateData.{user_key_data}
-use Rattle.sshcore.specs.EndpointParts.{ConfigData, DecisionsData, UserKeyData}
+use Rattle.sshcore.specs.EndpointParts.{ConfigData, DecisionsData, Setup, UserKeyData, setup_with}
 use Rattle.sshcore.specs.Reached.{Tried, is_successful_for, run_of}
 use Rattle.sshcore.specs.Tries.{last_key, successful_keys_at, tried_at}
 
@@ -30,18 +30,18 @@ abbrev pub HasAccepted : SuiteData → DecisionsData → Side → ConfigData →
 HasAccepted m d Client party version before a accepted = accepted ≡ None
 HasAccepted m d Server party version before a None = ⊥
 HasAccepted m d Server party version before a (Some accepted) =
-    AcceptedBy (tried_at m d Server party version before) (successful_keys_at m d Server party version before) a.user a.service accepted
+    AcceptedBy (tried_at (setup_with m d Server party) version before) (successful_keys_at (setup_with m d Server party) version before) a.user a.service accepted
 
 -- The session of an endpoint that has received these units and sent these payloads: what was agreed; both version lines; the
 -- server's public host key, which is the exchange's; how the user was accepted; and of each direction the keys that are in use,
 -- which are the exchange's, and the number of the next packet.
-pub record IsSession (m : SuiteData) (d : DecisionsData) (role : Side) (party : ConfigData) (units sent : Units) (agreed : AgreedData) (session : Session) : Type 0 where
+pub record IsSession (setup : Setup) (units sent : Units) (agreed : AgreedData) (session : Session) : Type 0 where
   pub agreed_is : agreed_data session.agreed ≡ agreed
-  pub own_version : session.own_version.items ≡ party.version
+  pub own_version : session.own_version.items ≡ setup.config.version
   pub peer_version : session.peer_version.items ≡ version_in units
-  pub host_key : session.host_key.items ≡ (exchange_at m role party (version_in units) (payloads_in units)).host_key
-  pub accepted : HasAccepted m d role party (version_in units) (payloads_in units) agreed session.accepted
-  pub incoming_keys : keys_in m role party (version_in units) (payloads_in units) ≡ Some session.incoming.keys
-  pub incoming_number : session.incoming.sequence_number ≡ number_in role party (payloads_in units)
-  pub outgoing_keys : keys_out m role party units sent ≡ Some session.outgoing.keys
-  pub outgoing_number : session.outgoing.sequence_number ≡ number_out (strict_at role party (payloads_in units)) sent
+  pub host_key : session.host_key.items ≡ (exchange_at setup.suite setup.role setup.config (version_in units) (payloads_in units)).host_key
+  pub accepted : HasAccepted setup.suite setup.decisions setup.role setup.config (version_in units) (payloads_in units) agreed session.accepted
+  pub incoming_keys : keys_in setup.suite setup.role setup.config (version_in units) (payloads_in units) ≡ Some session.incoming.keys
+  pub incoming_number : session.incoming.sequence_number ≡ number_in setup.role setup.config (payloads_in units)
+  pub outgoing_keys : keys_out setup.suite setup.role setup.config units sent ≡ Some session.outgoing.keys
+  pub outgoing_number : session.outgoing.sequence_number ≡ number_out (strict_at setup.role setup.config (payloads_in units)) sent

@@ -16,7 +16,7 @@ use Rattle.sshcore.specs.declared.table.Phase.TheVariants as phase
 use Rattle.sshcore.specs.Before.{expects_guess, offered, stood, strict_towards}
 use Rattle.sshcore.specs.Exchange.{choice_with, chosen_or, exchange_with, no_algorithms, shares_by}
 use Rattle.sshcore.specs.Known.{Known, known_at}
-use Rattle.sshcore.specs.EndpointParts.{ConfigData, DecisionsData}
+use Rattle.sshcore.specs.EndpointParts.{ConfigData, DecisionsData, Setup}
 use Rattle.sshcore.specs.Phases.{leaving, past_exchange, past_kexinit, past_newkeys, past_service}
 use Rattle.sshcore.specs.Plan.{is_answer, left_after_one}
 use Rattle.sshcore.specs.Reached.{nothing_reached, reached_after}
@@ -89,7 +89,7 @@ after_exchange m role party known payload =
     record known { session = exchange_hash m known.algorithms.kex (exchange_received m role party known payload) }
 
 -- An endpoint that has received this version and these payloads stands so.
-pub record Sits (m : SuiteData) (d : DecisionsData) (role : Side) (party : ConfigData) (version : List ℕ) (before : Units) (p : Phase) (guess : Bool) (known : Known) : Type 0 where
-  pub tied : Tied role party.offer before p
-  pub due : expects_guess role party.offer before ≡ guess
-  pub knows : known_at m d role party version before ≡ known
+pub record Sits (setup : Setup) (version : List ℕ) (before : Units) (p : Phase) (guess : Bool) (known : Known) : Type 0 where
+  pub tied : Tied setup.role setup.config.offer before p
+  pub due : expects_guess setup.role setup.config.offer before ≡ guess
+  pub knows : known_at setup version before ≡ known

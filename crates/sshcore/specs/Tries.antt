@@ -16,7 +16,7 @@ use Rattle.sshpacket.specs.Suite.{SuiteData}
 use Rattle.sshcore.specs.declared.table.Phase.TheVariants as phase
 use Rattle.sshcore.specs.Before.{count_kept, kept, stood}
 use Rattle.sshcore.specs.Exchange.{session_at}
-use Rattle.sshcore.specs.EndpointParts.{ConfigData, DecisionsData, KeyProof, NoProof, PasswordProof, ProofData, UserKeyData}
+use Rattle.sshcore.specs.EndpointParts.{ConfigData, DecisionsData, KeyProof, NoProof, PasswordProof, ProofData, Setup, UserKeyData}
 use Rattle.sshcore.specs.Phases.{leaving}
 use Rattle.sshcore.specs.Reached.{Tried}
 
@@ -63,14 +63,14 @@ abbrev pub session_known : SuiteData → Side → ConfigData → List ℕ → Un
 session_known m role party version before = if stood role party.offer (leaving role phase.Exchange) before then session_at m role party version before else []
 
 -- What the requests of these payloads came to, in order: each with its number from 1.
-abbrev pub tried_place : SuiteData → DecisionsData → Side → ConfigData → List ℕ → Units → List ℕ → List Tried
-tried_place m d role party version before payload =
-    if kept role party.offer SSH_MSG_USERAUTH_REQUEST before payload
-    then tried_in m d party (session_known m role party version before) (count_kept role party.offer SSH_MSG_USERAUTH_REQUEST before + 1) payload
+abbrev pub tried_place : Setup → List ℕ → Units → List ℕ → List Tried
+tried_place setup version before payload =
+    if kept setup.role setup.config.offer SSH_MSG_USERAUTH_REQUEST before payload
+    then tried_in setup.suite setup.decisions setup.config (session_known setup.suite setup.role setup.config version before) (count_kept setup.role setup.config.offer SSH_MSG_USERAUTH_REQUEST before + 1) payload
     else []
 
-unfoldable pub tried_at : SuiteData → DecisionsData → Side → ConfigData → List ℕ → Units → List Tried
-tried_at m d role party version before = flat_places (tried_place m d role party version) [] before
+unfoldable pub tried_at : Setup → List ℕ → Units → List Tried
+tried_at setup version before = flat_places (tried_place setup version) [] before
 
 -- The key of a signed request, whose algorithm is a name.
 abbrev pub key_of : MethodData → List UserKeyData
@@ -87,14 +87,14 @@ unfoldable pub successful_key_in : SuiteData → DecisionsData → ConfigData �
 successful_key_in m d party session request payload = successful_key_by m d party session request (message_in Mpint payload)
 
 -- The keys by which the requests of these payloads were successful, in order.
-abbrev pub successful_key_place : SuiteData → DecisionsData → Side → ConfigData → List ℕ → Units → List ℕ → List UserKeyData
-successful_key_place m d role party version before payload =
-    if kept role party.offer SSH_MSG_USERAUTH_REQUEST before payload
-    then successful_key_in m d party (session_known m role party version before) (count_kept role party.offer SSH_MSG_USERAUTH_REQUEST before + 1) payload
+abbrev pub successful_key_place : Setup → List ℕ → Units → List ℕ → List UserKeyData
+successful_key_place setup version before payload =
+    if kept setup.role setup.config.offer SSH_MSG_USERAUTH_REQUEST before payload
+    then successful_key_in setup.suite setup.decisions setup.config (session_known setup.suite setup.role setup.config version before) (count_kept setup.role setup.config.offer SSH_MSG_USERAUTH_REQUEST before + 1) payload
     else []
 
-unfoldable pub successful_keys_at : SuiteData → DecisionsData → Side → ConfigData → List ℕ → Units → List UserKeyData
-successful_keys_at m d role party version before = flat_places (successful_key_place m d role party version) [] before
+unfoldable pub successful_keys_at : Setup → List ℕ → Units → List UserKeyData
+successful_keys_at setup version before = flat_places (successful_key_place setup version) [] before
 
 -- the last of these, or this one where there are none
 abbrev pub last_key : Option UserKeyData → List UserKeyData → Option UserKeyData

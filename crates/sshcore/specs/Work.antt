@@ -24,7 +24,7 @@ use Rattle.sshcore.specs.Before.{strict_towards}
 use Rattle.sshcore.specs.EndData.{Closed, Reply, fails, goes}
 use Rattle.sshcore.specs.Exchange.{answer_with, choice_with, exchange_with, own_kexinit, secret_of}
 use Rattle.sshcore.specs.Known.{Known}
-use Rattle.sshcore.specs.EndpointParts.{ConfigData, DecisionsData}
+use Rattle.sshcore.specs.EndpointParts.{ConfigData, DecisionsData, Setup}
 use Rattle.sshcore.specs.Requests.{request_reply}
 
 -- the messages of an exchange in a form of shares: RFC 4253 section 8, RFC 5656 section 4
@@ -106,10 +106,10 @@ abbrev pub trusted_by : SuiteData → DecisionsData → Known → ExchangeData �
 trusted_by m d known x signature answer =
     if d.host_key known.algorithms.host_key x.host_key then signed_by m known x signature answer else fails fault.HostKey
 
-unfoldable pub reply_reply : SuiteData → DecisionsData → Side → ConfigData → Known → MessageData → List ℕ → Reply
-reply_reply m d role party known message signature =
-    trusted_by m d known (exchange_with m role party known.algorithms known.version known.kexinit (Ok message)) signature
-    (answer_with m role party known.algorithms (Ok message))
+unfoldable pub reply_reply : Setup → Known → MessageData → List ℕ → Reply
+reply_reply setup known message signature =
+    trusted_by setup.suite setup.decisions known (exchange_with setup.suite setup.role setup.config known.algorithms known.version known.kexinit (Ok message)) signature
+    (answer_with setup.suite setup.role setup.config known.algorithms (Ok message))
 
 -- SERVICE_REQUEST at a server (RFC 4253 section 10), with the banner after the answer (RFC 4252 section 5.4)
 abbrev pub banner_by : Option (List ℕ) → Units
@@ -127,18 +127,18 @@ accept_reply m known service =
     if bytes_eq service userauth then attempt_reply m known.session known.left else fails (fault.Unexpected SSH_MSG_SERVICE_ACCEPT)
 
 -- what a message is answered; every other is read and ignored
-unfoldable pub work : SuiteData → DecisionsData → Side → ConfigData → Known → MessageData → Reply
-work m d role party known (Disconnect reason description language) = record { answers = []; end = Closed reason }
-work m d role party known (KexInit peer) = kexinit_reply m role party known peer
-work m d role party known (KexdhInit e) = init_reply m role party known (KexdhInit e)
-work m d role party known (KexEcdhInit client_share) = init_reply m role party known (KexEcdhInit client_share)
-work m d role party known (KexdhReply host_key f signature) = reply_reply m d role party known (KexdhReply host_key f signature) signature
-work m d role party known (KexEcdhReply host_key server_share signature) =
-    reply_reply m d role party known (KexEcdhReply host_key server_share signature) signature
-work m d role party known (ServiceRequest service) = service_reply party service
-work m d role party known (ServiceAccept service) = accept_reply m known service
-work m d role party known (UserauthRequest user service method) = request_reply m d party known user service method
-work m d role party known (UserauthFailure listed partial) = failure_reply m known listed
-work m d role party known UserauthSuccess = success_reply known
-work m d role party known (UserauthPkOk algorithm key) = pk_ok_reply m known algorithm key
-work m d role party known _ = goes []
+unfoldable pub work : Setup → Known → MessageData → Reply
+work setup known (Disconnect reason description language) = record { answers = []; end = Closed reason }
+work setup known (KexInit peer) = kexinit_reply setup.suite setup.role setup.config known peer
+work setup known (KexdhInit e) = init_reply setup.suite setup.role setup.config known (KexdhInit e)
+work setup known (KexEcdhInit client_share) = init_reply setup.suite setup.role setup.config known (KexEcdhInit client_share)
+work setup known (KexdhReply host_key f signature) = reply_reply setup known (KexdhReply host_key f signature) signature
+work setup known (KexEcdhReply host_key server_share signature) =
+    reply_reply setup known (KexEcdhReply host_key server_share signature) signature
+work setup known (ServiceRequest service) = service_reply setup.config service
+work setup known (ServiceAccept service) = accept_reply setup.suite known service
+work setup known (UserauthRequest user service method) = request_reply setup.suite setup.decisions setup.config known user service method
+work setup known (UserauthFailure listed partial) = failure_reply setup.suite known listed
+work setup known UserauthSuccess = success_reply known
+work setup known (UserauthPkOk algorithm key) = pk_ok_reply setup.suite known algorithm key
+work setup known _ = goes []

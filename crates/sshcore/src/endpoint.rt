@@ -8,7 +8,7 @@ ghost use Rattle.sshcore.specs.EndData.{AgreedData, Authenticated, Failed, Open,
 ghost use Rattle.sshcore.specs.EndpointParts.{config_of_client, config_of_server};
 ghost use Rattle.sshcore.specs.Before.{strict_at};
 ghost use Rattle.sshcore.specs.Brings.{IsOngoing};
-ghost use Rattle.sshcore.specs.EndpointConfig.{config_data, role_of};
+ghost use Rattle.sshcore.specs.EndpointConfig.{config_data, role_of, setup_of};
 ghost use Rattle.sshcore.specs.Endpoints.{Breaks, Cuts, EndpointAfter, EndpointMade, Fed, HasUnfinished, Leaves, buffered_of, endpoint_end, turns_of};
 ghost use Rattle.sshcore.specs.Inputs.{CanRead, Steps, turns_left};
 ghost use Rattle.sshcore.specs.Directions.{payloads_in};
@@ -18,6 +18,7 @@ ghost use Rattle.sshcore.specs.NamesView.{names_of};
 ghost use Rattle.sshcore.specs.Phases.{past_kexinit, phase_at};
 ghost use Rattle.sshcore.specs.Redrawn.{redrawn_client, redrawn_server};
 ghost use Rattle.sshcore.specs.Sessions.{IsSession};
+ghost use Rattle.sshcore.specs.EndpointData.{endpoint_setup};
 
 use crate::chosen_names::ChosenNames;
 use crate::client_config::ClientConfig;
@@ -342,7 +343,7 @@ impl<'a, S: Suite, D: Decisions> Endpoint<'a, S, D> {
     /// used. Takes no memory.
     pub fn into_session(self) -> Option<Session>
         ensures session { (h s : List ℕ) (p : EndpointAfter S.meaning D.policy self.entry h s) (a : AgreedData) → endpoint_end self.entry ≡ Authenticated a
-            → (session : Session) × (result ≡ Some session) × IsSession (S.meaning self.entry.suite) (D.policy self.entry.decisions) self.entry.role self.entry.party p.units p.answers a session × (p.rest ≡ []) }
+            → (session : Session) × (result ≡ Some session) × IsSession (endpoint_setup S.meaning D.policy self.entry) p.units p.answers a session × (p.rest ≡ []) }
         ensures none { ((a : AgreedData) → endpoint_end self.entry ≢ Authenticated a) → result ≡ None }
     {
         sshmsg::numbers_law();
@@ -388,7 +389,7 @@ fn receive<S: Suite, D: Decisions>(
     requires some { 0 < length piece.now }
     requires reads { CanRead (S.meaning suite.now) input.old }
     ensures steps { IfOk result (λ used. (added : List ℕ) × (out.new.items ≡ out.old.items ++ added)
-        × Steps (S.meaning suite.now) (D.policy decisions.now) (role_of config.now) (config_data config.now) input.old (state_data state.old) input.new (state_data state.new) (take used piece.now) [] added) }
+        × Steps (setup_of (S.meaning suite.now) (D.policy decisions.now) config.now) input.old (state_data state.old) input.new (state_data state.new) (take used piece.now) [] added) }
     ensures used { IfOk result (λ used. used ≤ length piece.now) }
     ensures turns { IfOk result (λ used. turns_left (end_data state.new.end) input.new < turns_left (end_data state.old.end) input.old + 3 * used) }
     ensures reads { OnOk result (IsOngoing (end_data state.new.end) → CanRead (S.meaning suite.now) input.new) }

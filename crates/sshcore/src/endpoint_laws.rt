@@ -9,6 +9,7 @@ ghost use Rattle.sshcore.specs.EndData.{AgreedData, Authenticated, Disconnected,
 ghost use Rattle.sshcore.specs.Endpoints.{EndpointAfter, IsSameEndpoint, endpoint_end};
 ghost use Rattle.sshcore.specs.StrictClause.{KeepsStrict};
 ghost use Rattle.sshcore.specs.StrictSequence.{BeginsStrictly};
+ghost use Rattle.sshcore.specs.EndpointData.{endpoint_setup};
 
 use crate::decisions::Decisions;
 use crate::endpoint::Endpoint;
@@ -39,7 +40,7 @@ pub fn endpoint_law<S: Suite, D: Decisions>(one: &Endpoint<'_, S, D>, other: &En
     // By what was received the user was accepted, where an endpoint ended authenticated; and one that is strict was
     // given a strict sequence first.
     ensures authenticated { (h s : List ℕ) (a : EndpointAfter S.meaning D.policy one.now h s) (g : AgreedData) → endpoint_end one.now ≡ Authenticated g
-        → IsAuthenticated (S.meaning one.now.suite) (D.policy one.now.decisions) one.now.role one.now.party a.units g
+        → IsAuthenticated (endpoint_setup S.meaning D.policy one.now) a.units g
         × (strict_at one.now.role one.now.party (payloads_in a.units) ≡ true → BeginsStrictly one.now.role one.now.party.offer (payloads_in a.units)) }
 {
     history_law();

@@ -21,6 +21,7 @@ ghost use Rattle.sshcore.specs.StateData.{state_data, with_exchange};
 ghost use Rattle.sshcore.specs.History.{FitsPacket};
 ghost use Rattle.sshcore.specs.Output.{with_packet, with_newkeys};
 ghost use Rattle.sshcore.specs.Work.{init_reply, reply_in, reply_reply, userauth};
+ghost use Rattle.sshcore.specs.EndpointParts.{setup_with};
 
 use crate::algorithms::Algorithms;
 use crate::config::Config;
@@ -190,7 +191,7 @@ impl State<'_> {
         requires signature { length reply.now.signature.now ≤ PACKET_LIMIT }
         ensures receives { OnOk result ((message : MessageData) → share_read (Ok message) ≡ reply.now.share.now → host_key_read (Ok message) ≡ reply.now.host_key.now → HasForm (S.meaning suite.now) (state_data self.old)
             → ReceivesExchange (S.meaning suite.now) Client (config_data config.now) (state_data self.old) (state_data self.new) sent.old.items sent.new.items message
-            (reply_reply (S.meaning suite.now) (D.policy decisions.now) Client (config_data config.now) (state_data self.old).known message reply.now.signature.now)) }
+            (reply_reply (setup_with (S.meaning suite.now) (D.policy decisions.now) Client (config_data config.now)) (state_data self.old).known message reply.now.signature.now)) }
         ensures kept { OnOk result (end_data self.new.end ≢ Failed fault.Memory) }
     {
         let algorithms = self.algorithms.as_ref().unwrap();

@@ -13,7 +13,7 @@ ghost use Rattle.sshpacket.specs.declared.limits.TheConstants.{PACKET_LIMIT};
 ghost use Rattle.sshcore.specs.declared.end.Fault.TheVariants as failed;
 ghost use Rattle.sshcore.specs.declared.input.Input.TheVariants as input;
 ghost use Rattle.sshcore.specs.Brings.{Gives, IsOngoing};
-ghost use Rattle.sshcore.specs.EndpointConfig.{config_data, role_of};
+ghost use Rattle.sshcore.specs.EndpointConfig.{config_data, setup_of};
 ghost use Rattle.sshcore.specs.EndData.{Failed, Open, end_data, fails};
 ghost use Rattle.sshcore.specs.Inputs.{Begins, CanRead, Steps, held_by, turns_left};
 ghost use Rattle.sshcore.specs.ReceivesLines.{EndsBy, MayReadOn, ReceivesLines, used_by};
@@ -88,7 +88,7 @@ impl Input {
         requires open { end_data state.old.end ≡ Open }
         requires some { 0 < length piece.now }
         requires reads { CanRead (S.meaning suite.now) self.old }
-        ensures steps { IfOk result (λ used. Steps (S.meaning suite.now) (D.policy decisions.now) (role_of config.now) (config_data config.now)
+        ensures steps { IfOk result (λ used. Steps (setup_of (S.meaning suite.now) (D.policy decisions.now) config.now)
             self.old (state_data state.old) self.new (state_data state.new) (take used piece.now) sent.old.items sent.new.items) }
         ensures used { IfOk result (λ used. used ≤ length piece.now) }
         ensures turns { IfOk result (λ used. turns_left (end_data state.new.end) self.new < turns_left (end_data state.old.end) self.old + 3 * used) }
@@ -200,7 +200,7 @@ fn receive_packets<S: Suite, D: Decisions>(
     requires open { end_data state.old.end ≡ Open }
     requires some { 0 < length piece.now }
     requires reads { ReaderWaits (S.meaning suite.now) reader.old }
-    ensures steps { IfOk result (λ used. Steps (S.meaning suite.now) (D.policy decisions.now) (role_of config.now) (config_data config.now)
+    ensures steps { IfOk result (λ used. Steps (setup_of (S.meaning suite.now) (D.policy decisions.now) config.now)
         (input.Packets reader.old) (state_data state.old) (input.Packets reader.new) (state_data state.new) (take used piece.now) sent.old.items sent.new.items) }
     ensures used { IfOk result (λ used. (0 < used) × (used ≤ length piece.now)) }
     ensures reads { OnOk result (IsOngoing (end_data state.new.end) → ReaderWaits (S.meaning suite.now) reader.new) }

@@ -24,7 +24,7 @@ ghost use Rattle.sshcore.specs.EndData.{AgreedData, Authenticated, EndData, Fail
 ghost use Rattle.sshcore.specs.Exchange.{keys_at, keys_by};
 ghost use Rattle.sshcore.specs.History.{AllFit, BrokenOff, History, IsOneHistory, IsReady};
 ghost use Rattle.sshcore.specs.Known.{Known};
-ghost use Rattle.sshcore.specs.EndpointParts.{ConfigData, DecisionsData};
+ghost use Rattle.sshcore.specs.EndpointParts.{ConfigData, DecisionsData, Setup, setup_with};
 ghost use Rattle.sshcore.specs.Phases.{leaving, next_phase, past_exchange, past_newkeys};
 ghost use Rattle.sshcore.specs.Plan.{is_waiting};
 ghost use Rattle.sshcore.specs.ConfigRules.{IsListed};
@@ -38,8 +38,8 @@ ghost use Rattle.sshcore.specs.Work.{making};
 /// The law of strictness (OpenSSH PROTOCOL section 1.10): an endpoint that received these units and
 /// ended so, or stands open, keeps it, whoever sent them.
 pub fn strict_law()
-    ensures keeps { (m : SuiteData) (d : DecisionsData) (role : Side) (party : ConfigData) (units : Units) (refusal : Option Refusal) (end : EndData)
-        → Ends m d role party units refusal end → KeepsStrict role party units end }
+    ensures keeps { (setup : Setup) (units : Units) (refusal : Option Refusal) (end : EndData)
+        → Ends setup units refusal end → KeepsStrict setup.role setup.config units end }
 {
     sshmsg::numbers_law();
     sshneg::markers_law();
@@ -49,11 +49,11 @@ pub fn strict_law()
 /// auth, and agreed on what the payloads before have given. At a server that was a request for a
 /// service that it has, and successful; at a client the answer to the attempt that it made last.
 pub fn authentication_law()
-    ensures authenticated { (m : SuiteData) (d : DecisionsData) (role : Side) (party : ConfigData) (units : Units) (refusal : Option Refusal) (a : AgreedData)
-        → Ends m d role party units refusal (Authenticated a) → IsAuthenticated m d role party units a }
+    ensures authenticated { (setup : Setup) (units : Units) (refusal : Option Refusal) (a : AgreedData)
+        → Ends setup units refusal (Authenticated a) → IsAuthenticated setup units a }
     // While a server stays open, fewer requests stood than it grants, so the number of the next one is among those that it grants.
     ensures granted { (m : SuiteData) (d : DecisionsData) (party : ConfigData) (version : List ℕ) (before : Units) → 1 ≤ party.tries
-        → StaysOpen m d Server party (version ∷ before) → count_kept Server party.offer SSH_MSG_USERAUTH_REQUEST before < party.tries }
+        → StaysOpen (setup_with m d Server party) (version ∷ before) → count_kept Server party.offer SSH_MSG_USERAUTH_REQUEST before < party.tries }
 {
     sshmsg::numbers_law();
     sshneg::markers_law();
@@ -75,54 +75,54 @@ pub fn reached_law()
 /// and where it stands after it.
 pub fn standing_law()
     // Before anything but the peer's version line was received.
-    ensures begins { (m : SuiteData) (d : DecisionsData) (role : Side) (party : ConfigData) (version : List ℕ) → Sits m d role party version [] phase.KexInit false (nothing_known party version) }
+    ensures begins { (setup : Setup) (version : List ℕ) → Sits setup version [] phase.KexInit false (nothing_known setup.config version) }
     // What a payload brings is what its line of the phase table says.
-    ensures replies { (m : SuiteData) (d : DecisionsData) (role : Side) (party : ConfigData) (version : List ℕ) (before : Units) (payload : List ℕ) (p : Phase) (guess : Bool) (known : Known)
-        → Sits m d role party version before p guess known → reply_at m d role party version before payload
-        ≡ line_reply m d role party known (number_in role party before) (line_by role p known.strict guess (is_waiting known.left) (kind payload)) payload }
+    ensures replies { (setup : Setup) (version : List ℕ) (before : Units) (payload : List ℕ) (p : Phase) (guess : Bool) (known : Known)
+        → Sits setup version before p guess known → reply_at setup version before payload
+        ≡ line_reply setup known (number_in setup.role setup.config before) (line_by setup.role p known.strict guess (is_waiting known.left) (kind payload)) payload }
 
     // After the peer's KEXINIT; after the packet of a wrong guess; after the exchange message; after every other message that
     // leaves a phase; and after one that leaves none.
-    ensures offers { (m : SuiteData) (d : DecisionsData) (role : Side) (party : ConfigData) (version : List ℕ) (before : Units) (payload : List ℕ) (peer : KexInitData) (known : Known)
-        → Sits m d role party version before phase.KexInit false known → offer_in payload ≡ Some peer
-        → Sits m d role party version (before ++ payload ∷ []) phase.Exchange (wrong_guess role party.offer (Some peer)) (after_offer m role party known payload peer) }
-    ensures drops { (m : SuiteData) (d : DecisionsData) (role : Side) (party : ConfigData) (version : List ℕ) (before : Units) (payload : List ℕ) (p : Phase) (known : Known)
-        → Sits m d role party version before p true known → (kind payload == SSH_MSG_DISCONNECT) ≡ false
-        → Sits m d role party version (before ++ payload ∷ []) p false (record known { first = false }) }
-    ensures exchanges { (m : SuiteData) (d : DecisionsData) (role : Side) (party : ConfigData) (version : List ℕ) (before : Units) (payload : List ℕ) (known : Known)
-        → Sits m d role party version before phase.Exchange false known → kind payload ≡ leaving role phase.Exchange
-        → Sits m d role party version (before ++ payload ∷ []) phase.NewKeys false (after_exchange m role party known payload) }
-    ensures leaves { (m : SuiteData) (d : DecisionsData) (role : Side) (party : ConfigData) (version : List ℕ) (before : Units) (payload : List ℕ) (p : Phase) (known : Known)
-        → Sits m d role party version before p false known → past_exchange p ≡ true → kind payload ≡ leaving role p
-        → Sits m d role party version (before ++ payload ∷ []) (next_phase p) false (after_payload m d party known payload) }
-    ensures stays { (m : SuiteData) (d : DecisionsData) (role : Side) (party : ConfigData) (version : List ℕ) (before : Units) (payload : List ℕ) (p : Phase) (known : Known)
-        → Sits m d role party version before p false known → LeavesNone role (kind payload)
-        → Sits m d role party version (before ++ payload ∷ []) p false (after_payload m d party known payload) }
+    ensures offers { (setup : Setup) (version : List ℕ) (before : Units) (payload : List ℕ) (peer : KexInitData) (known : Known)
+        → Sits setup version before phase.KexInit false known → offer_in payload ≡ Some peer
+        → Sits setup version (before ++ payload ∷ []) phase.Exchange (wrong_guess setup.role setup.config.offer (Some peer)) (after_offer setup.suite setup.role setup.config known payload peer) }
+    ensures drops { (setup : Setup) (version : List ℕ) (before : Units) (payload : List ℕ) (p : Phase) (known : Known)
+        → Sits setup version before p true known → (kind payload == SSH_MSG_DISCONNECT) ≡ false
+        → Sits setup version (before ++ payload ∷ []) p false (record known { first = false }) }
+    ensures exchanges { (setup : Setup) (version : List ℕ) (before : Units) (payload : List ℕ) (known : Known)
+        → Sits setup version before phase.Exchange false known → kind payload ≡ leaving setup.role phase.Exchange
+        → Sits setup version (before ++ payload ∷ []) phase.NewKeys false (after_exchange setup.suite setup.role setup.config known payload) }
+    ensures leaves { (setup : Setup) (version : List ℕ) (before : Units) (payload : List ℕ) (p : Phase) (known : Known)
+        → Sits setup version before p false known → past_exchange p ≡ true → kind payload ≡ leaving setup.role p
+        → Sits setup version (before ++ payload ∷ []) (next_phase p) false (after_payload setup.suite setup.decisions setup.config known payload) }
+    ensures stays { (setup : Setup) (version : List ℕ) (before : Units) (payload : List ℕ) (p : Phase) (known : Known)
+        → Sits setup version before p false known → LeavesNone setup.role (kind payload)
+        → Sits setup version (before ++ payload ∷ []) p false (after_payload setup.suite setup.decisions setup.config known payload) }
 
     // A number that is read or unknown where no guess is due, and neither closes nor leaves the phase, leaves none.
     ensures quiet { (role : Side) (p : Phase) (strict waits : Bool) (n : ℕ) → (n == SSH_MSG_DISCONNECT) ≡ false → (n == leaving role p) ≡ false
         → (line_by role p strict false waits n ≡ line.Reads) ⊎ (line_by role p strict false waits n ≡ line.Unknown) → LeavesNone role n }
 
     // Before a choice nothing depends on the form of shares.
-    ensures formless { (m : SuiteData) (d : DecisionsData) (role : Side) (party : ConfigData) (known : Known) (packet : ℕ) (payload : List ℕ) (form : ShareForm)
-        → line_reply m d role party (record known { shares = form }) packet (line_by role phase.KexInit known.strict false (is_waiting known.left) (kind payload)) payload
-        ≡ line_reply m d role party known packet (line_by role phase.KexInit known.strict false (is_waiting known.left) (kind payload)) payload }
+    ensures formless { (setup : Setup) (known : Known) (packet : ℕ) (payload : List ℕ) (form : ShareForm)
+        → line_reply setup (record known { shares = form }) packet (line_by setup.role phase.KexInit known.strict false (is_waiting known.left) (kind payload)) payload
+        ≡ line_reply setup known packet (line_by setup.role phase.KexInit known.strict false (is_waiting known.left) (kind payload)) payload }
 
     // The keys of both directions come of the exchange message, and stay.
-    ensures makes_keys { (m : SuiteData) (d : DecisionsData) (role : Side) (party : ConfigData) (version : List ℕ) (before : Units) (payload : List ℕ) (known : Known)
-        → Sits m d role party version before phase.Exchange false known → kind payload ≡ leaving role phase.Exchange → (sender : Side)
-        → keys_at m role party version (before ++ payload ∷ []) sender ≡ keys_by m known.algorithms (exchange_received m role party known payload) sender }
-    ensures keeps_keys { (m : SuiteData) (d : DecisionsData) (role : Side) (party : ConfigData) (version : List ℕ) (before : Units) (payload : List ℕ) (p : Phase) (guess : Bool) (known : Known)
-        → Sits m d role party version before p guess known → past_exchange p ≡ true → (sender : Side)
-        → keys_at m role party version (before ++ payload ∷ []) sender ≡ keys_at m role party version before sender }
+    ensures makes_keys { (setup : Setup) (version : List ℕ) (before : Units) (payload : List ℕ) (known : Known)
+        → Sits setup version before phase.Exchange false known → kind payload ≡ leaving setup.role phase.Exchange → (sender : Side)
+        → keys_at setup.suite setup.role setup.config version (before ++ payload ∷ []) sender ≡ keys_by setup.suite known.algorithms (exchange_received setup.suite setup.role setup.config known payload) sender }
+    ensures keeps_keys { (setup : Setup) (version : List ℕ) (before : Units) (payload : List ℕ) (p : Phase) (guess : Bool) (known : Known)
+        → Sits setup version before p guess known → past_exchange p ≡ true → (sender : Side)
+        → keys_at setup.suite setup.role setup.config version (before ++ payload ∷ []) sender ≡ keys_at setup.suite setup.role setup.config version before sender }
 
     // After the key switch a strict endpoint counts packets anew; after every other packet it counts one more.
-    ensures counts_anew { (m : SuiteData) (d : DecisionsData) (role : Side) (party : ConfigData) (version : List ℕ) (before : Units) (payload : List ℕ) (known : Known)
-        → Sits m d role party version before phase.NewKeys false known → kind payload ≡ SSH_MSG_NEWKEYS
-        → number_in role party (before ++ payload ∷ []) ≡ (if known.strict then 0 else (number_in role party before + 1) % 2 ^ 32) }
-    ensures counts_on { (m : SuiteData) (d : DecisionsData) (role : Side) (party : ConfigData) (version : List ℕ) (before : Units) (payload : List ℕ) (p : Phase) (guess : Bool) (known : Known)
-        → Sits m d role party version before p guess known → (past_newkeys p ≡ true) ⊎ (kept role party.offer SSH_MSG_NEWKEYS before payload ≡ false)
-        → number_in role party (before ++ payload ∷ []) ≡ (number_in role party before + 1) % 2 ^ 32 }
+    ensures counts_anew { (setup : Setup) (version : List ℕ) (before : Units) (payload : List ℕ) (known : Known)
+        → Sits setup version before phase.NewKeys false known → kind payload ≡ SSH_MSG_NEWKEYS
+        → number_in setup.role setup.config (before ++ payload ∷ []) ≡ (if known.strict then 0 else (number_in setup.role setup.config before + 1) % 2 ^ 32) }
+    ensures counts_on { (setup : Setup) (version : List ℕ) (before : Units) (payload : List ℕ) (p : Phase) (guess : Bool) (known : Known)
+        → Sits setup version before p guess known → (past_newkeys p ≡ true) ⊎ (kept setup.role setup.config.offer SSH_MSG_NEWKEYS before payload ≡ false)
+        → number_in setup.role setup.config (before ++ payload ∷ []) ≡ (number_in setup.role setup.config before + 1) % 2 ^ 32 }
 {
     sshmsg::numbers_law();
     sshneg::markers_law();
@@ -156,39 +156,39 @@ pub fn sending_law()
 /// the definitions; that the answers fit packets is for the code to see to.
 pub fn history_law()
     ensures parsers { (m : SuiteData) (role : Side) (party : ConfigData) (units : Units) → IsIncremental (parsers m role party units) }
-    ensures begins { (m : SuiteData) (d : DecisionsData) (role : Side) (party : ConfigData) → AllFit (making m role party)
-        → History m d role party [] [] None (making m role party) Open [] (flat_places (spells m role party []) [] (party.version ∷ making m role party)) }
-    ensures part { (m : SuiteData) (d : DecisionsData) (role : Side) (party : ConfigData) (units : Units) (rest : List ℕ) (answers : Units) (h s : List ℕ)
-        → History m d role party units rest None answers Open h s → (piece : List ℕ) → parsers m role party units (rest ++ piece) ≡ unfinished
-        → History m d role party units (rest ++ piece) None answers Open (h ++ piece) s }
-    ensures refusal { (m : SuiteData) (d : DecisionsData) (role : Side) (party : ConfigData) (units : Units) (rest : List ℕ) (answers : Units) (h s : List ℕ)
-        → History m d role party units rest None answers Open h s → (piece : List ℕ) (used : ℕ) (r : Refusal) → used ≤ length piece
-        → parsers m role party units (rest ++ piece) ≡ refused r (length rest + used) → AllFit (disconnect (fault_of r))
-        → History m d role party units (rest ++ take used piece) (Some r) (answers ++ disconnect (fault_of r)) (Failed (fault_of r)) (h ++ take used piece)
-        (s ++ flat_places (spells m role party units) (party.version ∷ answers) (disconnect (fault_of r))) }
-    ensures unit { (m : SuiteData) (d : DecisionsData) (role : Side) (party : ConfigData) (units : Units) (rest : List ℕ) (answers : Units) (h s : List ℕ)
-        → History m d role party units rest None answers Open h s → (piece u : List ℕ) (used : ℕ) → used ≤ length piece
-        → parsers m role party units (rest ++ piece) ≡ whole u (length rest + used) → AllFit (answers_at m d role party units u)
-        → History m d role party (units ++ u ∷ []) [] None (answers ++ answers_at m d role party units u) (end_at m d role party units u) (h ++ take used piece)
-        (s ++ flat_places (spells m role party (units ++ u ∷ [])) (party.version ∷ answers) (answers_at m d role party units u)) }
+    ensures begins { (setup : Setup) → AllFit (making setup.suite setup.role setup.config)
+        → History setup [] [] None (making setup.suite setup.role setup.config) Open [] (flat_places (spells setup.suite setup.role setup.config []) [] (setup.config.version ∷ making setup.suite setup.role setup.config)) }
+    ensures part { (setup : Setup) (units : Units) (rest : List ℕ) (answers : Units) (h s : List ℕ)
+        → History setup units rest None answers Open h s → (piece : List ℕ) → parsers setup.suite setup.role setup.config units (rest ++ piece) ≡ unfinished
+        → History setup units (rest ++ piece) None answers Open (h ++ piece) s }
+    ensures refusal { (setup : Setup) (units : Units) (rest : List ℕ) (answers : Units) (h s : List ℕ)
+        → History setup units rest None answers Open h s → (piece : List ℕ) (used : ℕ) (r : Refusal) → used ≤ length piece
+        → parsers setup.suite setup.role setup.config units (rest ++ piece) ≡ refused r (length rest + used) → AllFit (disconnect (fault_of r))
+        → History setup units (rest ++ take used piece) (Some r) (answers ++ disconnect (fault_of r)) (Failed (fault_of r)) (h ++ take used piece)
+        (s ++ flat_places (spells setup.suite setup.role setup.config units) (setup.config.version ∷ answers) (disconnect (fault_of r))) }
+    ensures unit { (setup : Setup) (units : Units) (rest : List ℕ) (answers : Units) (h s : List ℕ)
+        → History setup units rest None answers Open h s → (piece u : List ℕ) (used : ℕ) → used ≤ length piece
+        → parsers setup.suite setup.role setup.config units (rest ++ piece) ≡ whole u (length rest + used) → AllFit (answers_at setup units u)
+        → History setup (units ++ u ∷ []) [] None (answers ++ answers_at setup units u) (end_at setup units u) (h ++ take used piece)
+        (s ++ flat_places (spells setup.suite setup.role setup.config (units ++ u ∷ [])) (setup.config.version ∷ answers) (answers_at setup units u)) }
 
     // Where memory runs out: before anything was sent, or after some of the answers to a unit.
-    ensures broken { (m : SuiteData) (d : DecisionsData) (role : Side) (party : ConfigData) (units : Units) (rest : List ℕ) (r : Option Refusal) (answers : Units) (end : EndData) (h s : List ℕ)
-        → History m d role party units rest r answers end h s → BrokenOff m d role party h s }
-    ensures breaks { (m : SuiteData) (d : DecisionsData) (role : Side) (party : ConfigData) (units : Units) (rest : List ℕ) (answers : Units) (h s : List ℕ)
-        → History m d role party units rest None answers Open h s → (piece u : List ℕ) (used : ℕ) (some : Units) → used ≤ length piece
-        → parsers m role party units (rest ++ piece) ≡ whole u (length rest + used) → IsPrefix some (answers_at m d role party units u)
-        → BrokenOff m d role party (h ++ take used piece) (s ++ flat_places (spells m role party (units ++ u ∷ [])) (party.version ∷ answers) some) }
+    ensures broken { (setup : Setup) (units : Units) (rest : List ℕ) (r : Option Refusal) (answers : Units) (end : EndData) (h s : List ℕ)
+        → History setup units rest r answers end h s → BrokenOff setup h s }
+    ensures breaks { (setup : Setup) (units : Units) (rest : List ℕ) (answers : Units) (h s : List ℕ)
+        → History setup units rest None answers Open h s → (piece u : List ℕ) (used : ℕ) (some : Units) → used ≤ length piece
+        → parsers setup.suite setup.role setup.config units (rest ++ piece) ≡ whole u (length rest + used) → IsPrefix some (answers_at setup units u)
+        → BrokenOff setup (h ++ take used piece) (s ++ flat_places (spells setup.suite setup.role setup.config (units ++ u ∷ [])) (setup.config.version ∷ answers) some) }
 
     // The bytes used decide the units, the rest, the answers, the end and the bytes sent. And one input decides the bytes used: an
     // endpoint uses some bytes at the front of its input, and all of them while it stands open.
-    ensures one { (m : SuiteData) (d : DecisionsData) (role : Side) (party : ConfigData) (units other_units : Units) (rest other_rest : List ℕ) (r other_r : Option Refusal)
+    ensures one { (setup : Setup) (units other_units : Units) (rest other_rest : List ℕ) (r other_r : Option Refusal)
         (answers other_answers : Units) (end other_end : EndData) (h s t : List ℕ)
-        → History m d role party units rest r answers end h s → History m d role party other_units other_rest other_r other_answers other_end h t
+        → History setup units rest r answers end h s → History setup other_units other_rest other_r other_answers other_end h t
         → IsOneHistory units other_units rest other_rest r other_r answers other_answers end other_end s t }
-    ensures joined { (m : SuiteData) (d : DecisionsData) (role : Side) (party : ConfigData) (units other_units : Units) (rest other_rest : List ℕ) (r other_r : Option Refusal)
+    ensures joined { (setup : Setup) (units other_units : Units) (rest other_rest : List ℕ) (r other_r : Option Refusal)
         (answers other_answers : Units) (end other_end : EndData) (h g s t x y : List ℕ)
-        → History m d role party units rest r answers end h s → History m d role party other_units other_rest other_r other_answers other_end g t
+        → History setup units rest r answers end h s → History setup other_units other_rest other_r other_answers other_end g t
         → h ++ x ≡ g ++ y → (end ≡ Open → x ≡ []) → (other_end ≡ Open → y ≡ [])
         → (h ≡ g) × IsOneHistory units other_units rest other_rest r other_r answers other_answers end other_end s t }
 {

@@ -9,7 +9,7 @@ ghost use Rattle.sshpacket.specs.declared.limits.TheConstants.{PACKET_LIMIT};
 ghost use Rattle.sshcore.specs.declared.end.Fault.TheVariants as fault;
 ghost use Rattle.sshcore.specs.declared.table.Line.TheVariants as line;
 ghost use Rattle.sshcore.specs.Brings.{Brings, Works, received_one};
-ghost use Rattle.sshcore.specs.EndpointConfig.{config_data, role_of};
+ghost use Rattle.sshcore.specs.EndpointConfig.{role_of, setup_of};
 ghost use Rattle.sshcore.specs.EndData.{Failed, Open, end_data};
 ghost use Rattle.sshcore.specs.Exchanged.{HasForm};
 ghost use Rattle.sshcore.specs.StateData.{state_data};
@@ -52,7 +52,7 @@ impl State<'_> {
         requires open { end_data self.old.end ≡ Open }
         requires short { length payload.now ≤ PACKET_LIMIT }
         ensures brings { OnOk result (HasForm (S.meaning suite.now) (state_data self.old)
-            → Brings (S.meaning suite.now) (D.policy decisions.now) (role_of config.now) (config_data config.now) (state_data self.old) (state_data self.new) packet payload.now sent.old.items sent.new.items) }
+            → Brings (setup_of (S.meaning suite.now) (D.policy decisions.now) config.now) (state_data self.old) (state_data self.new) packet payload.now sent.old.items sent.new.items) }
         ensures kept { OnOk result (end_data self.new.end ≢ Failed fault.Memory) }
     {
         let number = kind(payload);
@@ -97,8 +97,8 @@ impl State<'_> {
         requires short { length payload.now ≤ PACKET_LIMIT }
         requires reads { line_by (role_of config.now) self.old.phase self.old.strict self.old.guess (is_waiting (state_data self.old).known.left) (kind payload.now) ≡ line.Reads }
         ensures works { OnOk result (HasForm (S.meaning suite.now) (state_data self.old)
-            → Works (S.meaning suite.now) (D.policy decisions.now) (role_of config.now) (config_data config.now) (state_data self.old) (state_data self.new) payload.now sent.old.items sent.new.items
-            (read_reply (S.meaning suite.now) (D.policy decisions.now) (role_of config.now) (config_data config.now) (state_data self.old).known (kind payload.now) (message_in self.old.shares payload.now))) }
+            → Works (setup_of (S.meaning suite.now) (D.policy decisions.now) config.now) (state_data self.old) (state_data self.new) payload.now sent.old.items sent.new.items
+            (read_reply (setup_of (S.meaning suite.now) (D.policy decisions.now) config.now) (state_data self.old).known (kind payload.now) (message_in self.old.shares payload.now))) }
         ensures kept { OnOk result (end_data self.new.end ≢ Failed fault.Memory) }
     {
         match read_exchange(self.alloc, payload, self.shares) {
@@ -123,8 +123,8 @@ impl State<'_> {
         requires reads { line_by (role_of config.now) self.old.phase self.old.strict self.old.guess (is_waiting (state_data self.old).known.left) (kind payload.now) ≡ line.Reads }
         requires spelled { Spells self.old.shares (message_data message.now) payload.now }
         ensures works { OnOk result (HasForm (S.meaning suite.now) (state_data self.old)
-            → Works (S.meaning suite.now) (D.policy decisions.now) (role_of config.now) (config_data config.now) (state_data self.old) (state_data self.new) payload.now sent.old.items sent.new.items
-            (work (S.meaning suite.now) (D.policy decisions.now) (role_of config.now) (config_data config.now) (state_data self.old).known (message_data message.now))) }
+            → Works (setup_of (S.meaning suite.now) (D.policy decisions.now) config.now) (state_data self.old) (state_data self.new) payload.now sent.old.items sent.new.items
+            (work (setup_of (S.meaning suite.now) (D.policy decisions.now) config.now) (state_data self.old).known (message_data message.now))) }
         ensures kept { OnOk result (end_data self.new.end ≢ Failed fault.Memory) }
     {
         sshmsg::messages_law();
@@ -181,8 +181,8 @@ impl State<'_> {
         requires spelled { Spells self.old.shares (message_data message.now) payload.now }
         requires exchange { is_of_method (number_of (message_data message.now)) ≡ true }
         ensures works { OnOk result (HasForm (S.meaning suite.now) (state_data self.old)
-            → Works (S.meaning suite.now) (D.policy decisions.now) (role_of config.now) (config_data config.now) (state_data self.old) (state_data self.new) payload.now sent.old.items sent.new.items
-            (work (S.meaning suite.now) (D.policy decisions.now) (role_of config.now) (config_data config.now) (state_data self.old).known (message_data message.now))) }
+            → Works (setup_of (S.meaning suite.now) (D.policy decisions.now) config.now) (state_data self.old) (state_data self.new) payload.now sent.old.items sent.new.items
+            (work (setup_of (S.meaning suite.now) (D.policy decisions.now) config.now) (state_data self.old).known (message_data message.now))) }
         ensures kept { OnOk result (end_data self.new.end ≢ Failed fault.Memory) }
     {
         sshmsg::messages_law();
@@ -237,8 +237,8 @@ impl State<'_> {
         requires spelled { Spells self.old.shares (message_data message.now) payload.now }
         requires auth { IsOfRequests (number_of (message_data message.now)) }
         ensures works { OnOk result (HasForm (S.meaning suite.now) (state_data self.old)
-            → Works (S.meaning suite.now) (D.policy decisions.now) (role_of config.now) (config_data config.now) (state_data self.old) (state_data self.new) payload.now sent.old.items sent.new.items
-            (work (S.meaning suite.now) (D.policy decisions.now) (role_of config.now) (config_data config.now) (state_data self.old).known (message_data message.now))) }
+            → Works (setup_of (S.meaning suite.now) (D.policy decisions.now) config.now) (state_data self.old) (state_data self.new) payload.now sent.old.items sent.new.items
+            (work (setup_of (S.meaning suite.now) (D.policy decisions.now) config.now) (state_data self.old).known (message_data message.now))) }
         ensures kept { OnOk result (end_data self.new.end ≢ Failed fault.Memory) }
     {
         sshmsg::messages_law();

@@ -8,9 +8,8 @@ use Rattle.sshcore.specs.ConfigParts.{ClientData}
 use Rattle.sshcore.specs.EndpointParts.{DecisionsData}
 use Rattle.sshworld.specs.Offered.{most_requests}
 use Rattle.sshworld.specs.declared.side.Delivery.{Delivery}
-use Rattle.sshworld.specs.Conversed.{EachReplies}
 use Rattle.sshworld.specs.Deliveries.{Delivered}
-use Rattle.sshworld.specs.WorldCourse.{AreUnderstoodIn, KeepsHeadline}
+use Rattle.sshworld.specs.WorldCourse.{AreUnderstoodIn, WorldHolds}
 use Rattle.sshworld.specs.Worlds.{Complete, HadMemory, IsSameSetup, WorldData, waiting_for}
 use Rattle.sshlab.specs.declared.scenario_line.Step.{Step}
 use Rattle.sshlab.specs.declared.scenario_line.Step.TheVariants.{Deliver}
@@ -33,13 +32,13 @@ settles_at steps i default least lt e =
 module _ {S D : Type 0} (meaning : S → SuiteData) (policy : D → DecisionsData) where
   -- a delivery that answered how many bytes it moved
   pub delivery_done : (step : Step) (delivery : Delivery) (n : ℕ) (old new : WorldData S D) → step ≡ Deliver delivery → n ≡ min delivery.count (waiting_for delivery.to old)
-      → Delivered delivery.to n old new → IsSameSetup old new → EachReplies meaning policy new → KeepsHeadline meaning policy new → StepDone meaning policy step old new
-  delivery_done step delivery n old new is count d setup replies headline =
+      → Delivered delivery.to n old new → IsSameSetup old new → WorldHolds meaning policy new → StepDone meaning policy step old new
+  delivery_done step delivery n old new is count d setup holds =
       subst (λ (s : Step). StepDone meaning policy s old new) (sym is)
       (record {
-        moves = record { delivered = subst (λ (k : ℕ). Delivered delivery.to k old new) count d; setup = setup; replies = replies; headline = headline };
+        moves = record { delivered = subst (λ (k : ℕ). Delivered delivery.to k old new) count d; setup = setup; holds = holds };
         setup = setup;
-        replies = replies;
+        replies = holds.replies;
       })
 
   steps_push : (steps : List Step) (step : Step) (old mid new : WorldData S D) → StepsDone meaning policy steps old mid → StepDone meaning policy step mid new

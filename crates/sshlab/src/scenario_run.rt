@@ -6,7 +6,7 @@ ghost use Rattle.sshworld.specs.Conversed.{EachReplies};
 ghost use Rattle.sshworld.specs.CourseReceived.{IsCourseReceived};
 ghost use Rattle.sshworld.specs.Headline.{Headline};
 ghost use Rattle.sshworld.specs.Outcome.{outcome};
-ghost use Rattle.sshworld.specs.WorldCourse.{AreUnderstoodIn, KeepsCourse, KeepsHeadline};
+ghost use Rattle.sshworld.specs.WorldCourse.{AreUnderstoodIn, WorldHolds};
 ghost use Rattle.sshworld.specs.Wordings.{wording_of};
 ghost use Rattle.sshworld.specs.Worlds.{Complete, HadMemory, IsSameSetup};
 ghost use Rattle.sshsuites.specs.Lab.{lab};
@@ -69,9 +69,7 @@ fn do_steps<S: Suite, D: Decisions>(
     ensures stopped { OnErr result (StopsInSteps S.meaning D.policy steps.now world.old world.new) }
     ensures still { OnOk result (HadMemory world.old → HadMemory world.new) }
     ensures setup { OnOk result (IsSameSetup world.old world.new) }
-    ensures replies { OnOk result (EachReplies S.meaning D.policy world.old → EachReplies S.meaning D.policy world.new) }
-    ensures course { OnOk result (KeepsCourse S.meaning D.policy world.old → KeepsCourse S.meaning D.policy world.new) }
-    ensures headline { OnOk result (KeepsHeadline S.meaning D.policy world.old → KeepsHeadline S.meaning D.policy world.new) }
+    ensures holds { OnOk result (WorldHolds S.meaning D.policy world.old → WorldHolds S.meaning D.policy world.new) }
     ensures settled { OnOk result (AreUnderstoodIn S.meaning D.policy world.old → HadMemory world.old
         → EndsSettling (most_requests world.old.client_config.plan + 4) steps.now → Complete world.new) }
 {
@@ -86,8 +84,7 @@ fn do_step<S: Suite, D: Decisions>(world: &mut World<'_, S, D>, step: Step) -> R
     ensures done { OnOk result (StepDone S.meaning D.policy step world.old world.new) }
     ensures stopped { OnErr result (StopsInStep S.meaning D.policy step world.old world.new) }
     ensures still { OnOk result (HadMemory world.old → HadMemory world.new) }
-    ensures course { KeepsCourse S.meaning D.policy world.new }
-    ensures headline { KeepsHeadline S.meaning D.policy world.new }
+    ensures holds { WorldHolds S.meaning D.policy world.new }
     ensures settled { OnOk result (AreUnderstoodIn S.meaning D.policy world.old → HadMemory world.old
         → SettlesFor (most_requests world.old.client_config.plan + 4) step → Complete world.new) }
 {

@@ -2,7 +2,6 @@
 
 use Rattle.std.proofs.Common.{◌≡◌, Bool, true, false, if◌then◌else◌, Result, Ok, Err, refl, sym, ap}
 use Rattle.sshneg.specs.declared.choice.NoCommon.{NoCommon}
-use Rattle.sshneg.specs.declared.side.Side.TheVariants.{Client, Server}
 use Rattle.sshneg.specs.ChoiceReadings.{choice}
 use Rattle.sshneg.specs.Fields.{AlgorithmsData}
 use Rattle.sshneg.specs.Strictness.{is_right_guess}
@@ -11,7 +10,7 @@ use Rattle.sshneg.proofs.ChoiceLaws as laws
 use Rattle.sshpacket.specs.Suite.{SuiteData}
 use Rattle.sshcore.specs.ConfigParts.{ClientData, ServerData, client_offer, server_offer}
 use Rattle.sshcore.specs.Exchange.{chosen_or}
-use Rattle.sshcore.specs.EndpointParts.{DecisionsData, config_of_client, config_of_server}
+use Rattle.sshcore.specs.EndpointParts.{DecisionsData, client_setup, config_of_client, config_of_server, server_setup}
 use Rattle.sshcore.specs.Work.{guessed_method, name_or}
 use Rattle.sshworld.specs.Agreement.{host_key_of_server}
 use Rattle.sshworld.specs.Course.{NoTrust, Requests, Way, client_part, server_part, way_by}
@@ -30,9 +29,9 @@ module _ (m : SuiteData) (d : DecisionsData) (c : ClientData) (s : ServerData) (
     (readable : (a : AlgorithmsData) → choice m (client_offer c) (server_offer s) ≡ Ok a → IsRead m d c s a) where
   -- with this choice
   record With (r : Result AlgorithmsData NoCommon) : Type 0 where
-    client : FollowsPart m d Client (config_of_client c) (client_part (wording_with m d c s (method_used c r) (chosen_or r)) (guess_of c s) (way_by m d c s r) (ends_of_case (case_of_choice m d c s r)))
+    client : FollowsPart (client_setup m d c) (client_part (wording_with m d c s (method_used c r) (chosen_or r)) (guess_of c s) (way_by m d c s r) (ends_of_case (case_of_choice m d c s r)))
         (units_of (config_of_server s) (server_part (wording_with m d c s (method_used c r) (chosen_or r)) (guess_of c s) (way_by m d c s r) (ends_of_case (case_of_choice m d c s r))))
-    server : FollowsPart m d Server (config_of_server s) (server_part (wording_with m d c s (method_used c r) (chosen_or r)) (guess_of c s) (way_by m d c s r) (ends_of_case (case_of_choice m d c s r)))
+    server : FollowsPart (server_setup m d s) (server_part (wording_with m d c s (method_used c r) (chosen_or r)) (guess_of c s) (way_by m d c s r) (ends_of_case (case_of_choice m d c s r)))
         (units_of (config_of_client c) (client_part (wording_with m d c s (method_used c r) (chosen_or r)) (guess_of c s) (way_by m d c s r) (ends_of_case (case_of_choice m d c s r))))
 
   -- a right guess guesses the method that is used
@@ -46,9 +45,9 @@ module _ (m : SuiteData) (d : DecisionsData) (c : ClientData) (s : ServerData) (
   case_trusted a b = if b then case_of_how m c s a (verdict m d c s).how else HostKeyRefused
 
   record Trusted (a : AlgorithmsData) (b : Bool) : Type 0 where
-    client : FollowsPart m d Client (config_of_client c) (client_part (wording_with m d c s a.kex a) (guess_of c s) (way_trusted b) (ends_of_case (case_trusted a b)))
+    client : FollowsPart (client_setup m d c) (client_part (wording_with m d c s a.kex a) (guess_of c s) (way_trusted b) (ends_of_case (case_trusted a b)))
         (units_of (config_of_server s) (server_part (wording_with m d c s a.kex a) (guess_of c s) (way_trusted b) (ends_of_case (case_trusted a b))))
-    server : FollowsPart m d Server (config_of_server s) (server_part (wording_with m d c s a.kex a) (guess_of c s) (way_trusted b) (ends_of_case (case_trusted a b)))
+    server : FollowsPart (server_setup m d s) (server_part (wording_with m d c s a.kex a) (guess_of c s) (way_trusted b) (ends_of_case (case_trusted a b)))
         (units_of (config_of_client c) (client_part (wording_with m d c s a.kex a) (guess_of c s) (way_trusted b) (ends_of_case (case_trusted a b))))
 
   trusted_by : (a : AlgorithmsData) → choice m (client_offer c) (server_offer s) ≡ Ok a → (b : Bool) → d.host_key a.host_key (host_key_of_server m s a.host_key) ≡ b → Trusted a b

@@ -16,7 +16,7 @@ use Rattle.sshcore.specs.declared.table.Phase.TheVariants as phase
 use Rattle.sshcore.specs.Attempts.{attempt_reply, request_of}
 use Rattle.sshcore.specs.ConfigParts.{AttemptData, ClientData, ServerData, client_offer, server_offer, version_of}
 use Rattle.sshcore.specs.EndData.{EndData, Failed, goes}
-use Rattle.sshcore.specs.EndpointParts.{DecisionsData, config_of_client, config_of_server}
+use Rattle.sshcore.specs.EndpointParts.{DecisionsData, client_setup, config_of_client, config_of_server}
 use Rattle.sshcore.specs.Standing.{Sits}
 use Rattle.sshcore.specs.Work.{banner_by, chosen_reply, guessed_method, init_for, making}
 use Rattle.sshworld.specs.Agreement.{host_key_of_server, session_between}
@@ -63,18 +63,18 @@ module _ (m : SuiteData) (d : DecisionsData) (c : ClientData) (s : ServerData) (
   -- where nothing is common
   pub client_without_follows : (kex : List ℕ) (b : AlgorithmsData) (f : NoCommon) (end server_end : EndData) → (is_right_guess (client_offer c) (server_offer s) ≡ true → kex ≡ guessed_method (config_of_client c))
       → choice m (client_offer c) (server_offer s) ≡ Err f → end ≡ Failed (fault.NoCommon f)
-      → FollowsPart m d Client (config_of_client c) (client_no_choice (wording_with m d c s kex b) (guess_by c.guess (is_right_guess (client_offer c) (server_offer s))) end)
+      → FollowsPart (client_setup m d c) (client_no_choice (wording_with m d c s kex b) (guess_by c.guess (is_right_guess (client_offer c) (server_offer s))) end)
       (units_of (config_of_server s) (server_no_choice (wording_with m d c s kex b) server_end))
   client_without_follows kex b f end server_end right chosen final =
       let u : Wording = wording_with m d c s kex b in
       let guess : Guess = guess_by c.guess (is_right_guess (client_offer c) (server_offer s)) in
       record {
         making_is = making_is kex b right;
-        places = at_each (IsAsPart m d Client (config_of_client c) (client_no_choice u guess end)) (version_of s.side ∷ u.server_offer ∷ []) (units_of (config_of_server s) (server_no_choice u server_end)) 2
+        places = at_each (IsAsPart (client_setup m d c) (client_no_choice u guess end)) (version_of s.side ∷ u.server_offer ∷ []) (units_of (config_of_server s) (server_no_choice u server_end)) 2
             refl (record { rest = u.disconnect 3 ∷ []; whole_is = refl }) (
-              as_open m d Client (config_of_client c) (client_no_choice u guess end) [] (version_of s.side) [] refl refl (omega arith),
+              as_open (client_setup m d c) (client_no_choice u guess end) [] (version_of s.side) [] refl refl (omega arith),
               (
-                as_last m d Client (config_of_client c) (client_no_choice u guess end) (version_of s.side ∷ []) u.server_offer (u.disconnect 3 ∷ []) (Failed (fault.NoCommon f))
+                as_last (client_setup m d c) (client_no_choice u guess end) (version_of s.side ∷ []) u.server_offer (u.disconnect 3 ∷ []) (Failed (fault.NoCommon f))
                     (client_first m d c s understood sound offers ∙ ap (λ r. chosen_reply m Client (config_of_client c) (server_offer s) r) chosen) refl refl final,
                 tt,
               ),
@@ -96,16 +96,16 @@ module _ (m : SuiteData) (d : DecisionsData) (c : ClientData) (s : ServerData) (
 
     -- where the host key is refused
     pub client_refused_follows : (end server_end : EndData) → d.host_key a.host_key (host_key_of_server m s a.host_key) ≡ false → end ≡ Failed fault.HostKey
-        → FollowsPart m d Client (config_of_client c) (client_no_trust w guess end) (units_of (config_of_server s) (server_no_trust w guess server_end))
+        → FollowsPart (client_setup m d c) (client_no_trust w guess end) (units_of (config_of_server s) (server_no_trust w guess server_end))
     client_refused_follows end server_end refused final = record {
       making_is = making_is a.kex a right;
-      places = at_each (IsAsPart m d Client (config_of_client c) (client_no_trust w guess end)) (version_of s.side ∷ w.server_offer ∷ w.reply ∷ []) (units_of (config_of_server s) (server_no_trust w guess server_end)) 3
+      places = at_each (IsAsPart (client_setup m d c) (client_no_trust w guess end)) (version_of s.side ∷ w.server_offer ∷ w.reply ∷ []) (units_of (config_of_server s) (server_no_trust w guess server_end)) 3
           refl (front guess) (
-            as_open m d Client (config_of_client c) (client_no_trust w guess end) [] (version_of s.side) [] refl refl (omega arith),
+            as_open (client_setup m d c) (client_no_trust w guess end) [] (version_of s.side) [] refl refl (omega arith),
             (
-              as_open m d Client (config_of_client c) (client_no_trust w guess end) (version_of s.side ∷ []) w.server_offer (init_anew w guess) (client_first m d c s understood sound offers ∙ opens) refl (omega arith),
+              as_open (client_setup m d c) (client_no_trust w guess end) (version_of s.side ∷ []) w.server_offer (init_anew w guess) (client_first m d c s understood sound offers ∙ opens) refl (omega arith),
               (
-                as_last m d Client (config_of_client c) (client_no_trust w guess end) (version_of s.side ∷ w.server_offer ∷ []) w.reply (w.disconnect 9 ∷ []) (Failed fault.HostKey)
+                as_last (client_setup m d c) (client_no_trust w guess end) (version_of s.side ∷ w.server_offer ∷ []) w.reply (w.disconnect 9 ∷ []) (Failed fault.HostKey)
                     (client_refuses m d c s understood sound offers a chosen readable refused) refl refl final,
                 tt,
               ),
@@ -124,26 +124,26 @@ module _ (m : SuiteData) (d : DecisionsData) (c : ClientData) (s : ServerData) (
       p = client_requests w guess v end
 
       abbrev Q : Units → List ℕ → Type 0
-      Q = IsAsPart m d Client (config_of_client c) p
+      Q = IsAsPart (client_setup m d c) p
 
       abbrev pre : Units
       pre = w.server_offer ∷ w.reply ∷ w.new_keys ∷ []
 
-      switched_view : Sits m d Client (config_of_client c) (version_of s.side) pre phase.Service false (client_view m d c s understood sound offers a chosen readable (session_between m c s a) c.plan)
-      switched_view = switches m d Client (config_of_client c) (version_of s.side) (w.server_offer ∷ w.reply ∷ []) _ (client_exchanges m d c s understood sound offers a chosen readable)
+      switched_view : Sits (client_setup m d c) (version_of s.side) pre phase.Service false (client_view m d c s understood sound offers a chosen readable (session_between m c s a) c.plan)
+      switched_view = switches (client_setup m d c) (version_of s.side) (w.server_offer ∷ w.reply ∷ []) _ (client_exchanges m d c s understood sound offers a chosen readable)
 
       -- up to NEWKEYS
       early : (rest : Units) → EachPlace Q (version_of s.side ∷ pre) rest → EachPlace Q [] (version_of s.side ∷ w.server_offer ∷ w.reply ∷ w.new_keys ∷ rest)
       early rest later =
           let five = receives_some w v.requests in (
-            as_open m d Client (config_of_client c) p [] (version_of s.side) [] refl refl (omega (arith, five)),
+            as_open (client_setup m d c) p [] (version_of s.side) [] refl refl (omega (arith, five)),
             (
-              as_open m d Client (config_of_client c) p (version_of s.side ∷ []) w.server_offer (init_anew w guess) (client_first m d c s understood sound offers ∙ opens) refl (omega (arith, five)),
+              as_open (client_setup m d c) p (version_of s.side ∷ []) w.server_offer (init_anew w guess) (client_first m d c s understood sound offers ∙ opens) refl (omega (arith, five)),
               (
-                as_open m d Client (config_of_client c) p (version_of s.side ∷ w.server_offer ∷ []) w.reply (w.new_keys ∷ w.service_request ∷ []) (client_trusts m d c s understood sound offers a chosen readable trusted) refl (omega (arith, five)),
+                as_open (client_setup m d c) p (version_of s.side ∷ w.server_offer ∷ []) w.reply (w.new_keys ∷ w.service_request ∷ []) (client_trusts m d c s understood sound offers a chosen readable trusted) refl (omega (arith, five)),
                 (
-                  as_open m d Client (config_of_client c) p (version_of s.side ∷ w.server_offer ∷ w.reply ∷ []) w.new_keys []
-                      (switched m d Client (config_of_client c) (version_of s.side) (w.server_offer ∷ w.reply ∷ []) _ (client_exchanges m d c s understood sound offers a chosen readable)) refl (omega (arith, five)),
+                  as_open (client_setup m d c) p (version_of s.side ∷ w.server_offer ∷ w.reply ∷ []) w.new_keys []
+                      (switched (client_setup m d c) (version_of s.side) (w.server_offer ∷ w.reply ∷ []) _ (client_exchanges m d c s understood sound offers a chosen readable)) refl (omega (arith, five)),
                   later,
                 ),
               ),
@@ -158,7 +158,7 @@ module _ (m : SuiteData) (d : DecisionsData) (c : ClientData) (s : ServerData) (
       none_places none =
           let made = counted_offered m d c s in
           let empty : c.plan ≡ [] = left_none m d s (offered m d s c.plan) c.plan 0 rest_is (omega (arith, made.none_offered none)) in (
-            as_last m d Client (config_of_client c) p (version_of s.side ∷ pre) w.service_accept (w.disconnect 14 ∷ []) (Failed fault.NoMoreMethods)
+            as_last (client_setup m d c) p (version_of s.side ∷ pre) w.service_accept (w.disconnect 14 ∷ []) (Failed fault.NoMoreMethods)
                 ((client_accepted m d c s understood sound offers a chosen readable pre (session_between m c s a) c.plan switched_view).0 ∙ ap (λ (l : List AttemptData). attempt_reply m (session_between m c s a) l) empty)
                 (next_last w v 0 (sym none) ∙ ap (λ h. client_last w h) (made.none_left none)) (ap (λ (n : ℕ). client_receives w n) (sym none)) (final Exhausted (made.none_left none)),
             tt,
@@ -173,13 +173,13 @@ module _ (m : SuiteData) (d : DecisionsData) (c : ClientData) (s : ServerData) (
           let one : client_next w v 0 ≡ request_of m (session_between m c s a) x.0 ∷ [] = next_in w v 0 more ∙ ap (λ (o : Option AttemptData). request_or m (session_between m c s a) o ∷ []) x.1 in
           let n = receives_many w v.requests more in
           let accepted = client_accepted m d c s understood sound offers a chosen readable pre (session_between m c s a) c.plan switched_view in (
-            as_open m d Client (config_of_client c) p (version_of s.side ∷ pre) w.service_accept (request_of m (session_between m c s a) x.0 ∷ [])
+            as_open (client_setup m d c) p (version_of s.side ∷ pre) w.service_accept (request_of m (session_between m c s a) x.0 ∷ [])
                 (accepted.0 ∙ ap (λ (l : List AttemptData). attempt_reply m (session_between m c s a) l) l.1) one (omega (arith, more, n)),
             greeted s.banner refl made.most more accepted.1,
           )
         where
           greeted : (b : Option (List ℕ)) → s.banner ≡ b → v.requests ≤ length (offered m d s c.plan) → 0 < v.requests
-              → Sits m d Client (config_of_client c) (version_of s.side) (pre ++ w.service_accept ∷ []) phase.Auth false (client_view m d c s understood sound offers a chosen readable (session_between m c s a) c.plan)
+              → Sits (client_setup m d c) (version_of s.side) (pre ++ w.service_accept ∷ []) phase.Auth false (client_view m d c s understood sound offers a chosen readable (session_between m c s a) c.plan)
               → EachPlace Q (version_of s.side ∷ (pre ++ w.service_accept ∷ [])) (banner_by b ++ from (server_next w v) 0 v.requests)
           greeted None has most more here =
               let none : length w.banner ≡ 0 = ap (λ t. length (banner_by t)) has in
@@ -188,12 +188,12 @@ module _ (m : SuiteData) (d : DecisionsData) (c : ClientData) (s : ServerData) (
               let one : length w.banner ≡ 1 = ap (λ t. length (banner_by t)) has in
               let n = receives_many w v.requests more in
               let sent = client_greeted m d c s understood sound offers a chosen readable (pre ++ w.service_accept ∷ []) (session_between m c s a) text c.plan has here in (
-                as_open m d Client (config_of_client c) p (version_of s.side ∷ (pre ++ w.service_accept ∷ [])) (written_message (UserauthBanner text [])) [] sent.0
+                as_open (client_setup m d c) p (version_of s.side ∷ (pre ++ w.service_accept ∷ [])) (written_message (UserauthBanner text [])) [] sent.0
                     (ap (λ t. group_at (client_early (record w { banner = banner_by t }) guess v) (λ i. client_next w v (i + 1)) 5) has) (omega (arith, more, n, one)),
                 client_loop m d c s understood sound offers a chosen readable guess end final v.requests 0 (omega arith) most ((pre ++ w.service_accept ∷ []) ++ written_message (UserauthBanner text []) ∷ []) c.plan sent.1 rest_is (omega (arith, one)),
               )
 
-      pub client_asked_follows : (server_end : EndData) → FollowsPart m d Client (config_of_client c) p (units_of (config_of_server s) (server_requests w guess v server_end))
+      pub client_asked_follows : (server_end : EndData) → FollowsPart (client_setup m d c) p (units_of (config_of_server s) (server_requests w guess v server_end))
       client_asked_follows server_end = record { making_is = making_is a.kex a right; places = by v.requests refl }
         where
           by : (n : ℕ) → n ≡ v.requests → (before : Units) (unit : List ℕ) → IsPrefix (before ++ unit ∷ []) (units_of (config_of_server s) (server_requests w guess v server_end)) → length before < p.receives → Q before unit

@@ -3,7 +3,6 @@
 use Rattle.std.proofs.Common.{◌≡◌, ◌⊎◌, inl, inr, ℕ, zero, suc, ◌+◌, ◌<◌, ◌≤◌, Bool, true, false, if◌then◌else◌, List, [], ◌∷◌, ◌++◌, take, length, length-append, slice_get, Option, None, Some, Ok, refl, sym, ap, ◌∙◌, subst, arith}
 use Rattle.sshmsg.specs.MessageData.{MessageData, UserauthFailure, UserauthPkOk}
 use Rattle.sshmsg.specs.Written.{written_message}
-use Rattle.sshneg.specs.declared.side.Side.TheVariants.{Client}
 use Rattle.sshneg.specs.ChoiceReadings.{choice}
 use Rattle.sshneg.specs.Fields.{AlgorithmsData}
 use Rattle.sshpacket.specs.Places.{EachPlace}
@@ -13,7 +12,7 @@ use Rattle.sshcore.specs.declared.table.Phase.TheVariants as phase
 use Rattle.sshcore.specs.Attempts.{attempt_reply, request_of}
 use Rattle.sshcore.specs.ConfigParts.{AttemptData, ByKey, ByNothing, ByPassword, ClientData, CredentialData, ServerData, client_offer, server_offer, version_of}
 use Rattle.sshcore.specs.EndData.{Authenticated, EndData}
-use Rattle.sshcore.specs.EndpointParts.{DecisionsData, config_of_client}
+use Rattle.sshcore.specs.EndpointParts.{DecisionsData, client_setup}
 use Rattle.sshcore.specs.Plan.{confirmed, next_after}
 use Rattle.sshcore.specs.Replies.{reply_at}
 use Rattle.sshcore.specs.Standing.{Sits}
@@ -53,10 +52,10 @@ module _ (m : SuiteData) (d : DecisionsData) (c : ClientData) (s : ServerData) (
   p = client_requests w guess v end
 
   abbrev Q : Units → List ℕ → Type 0
-  Q = IsAsPart m d Client (config_of_client c) p
+  Q = IsAsPart (client_setup m d c) p
 
   abbrev sits : Units → List AttemptData → Type 0
-  sits before left = Sits m d Client (config_of_client c) (version_of s.side) before phase.Auth false (client_view m d c s understood sound offers a chosen readable (session_between m c s a) left)
+  sits before left = Sits (client_setup m d c) (version_of s.side) before phase.Auth false (client_view m d c s understood sound offers a chosen readable (session_between m c s a) left)
 
   abbrev is_left : List AttemptData → ℕ → Type 0
   is_left left j = IsLeft m d s (offered m d s c.plan) left j
@@ -67,7 +66,7 @@ module _ (m : SuiteData) (d : DecisionsData) (c : ClientData) (s : ServerData) (
   -- What the client does at the answer to request j, which ends nothing: it makes the first attempt of what is left then.
   record Answered (before : Units) (j : ℕ) (payload : List ℕ) : Type 0 where
     left : List AttemptData
-    reply : reply_at m d Client (config_of_client c) (version_of s.side) before payload ≡ attempt_reply m (session_between m c s a) left
+    reply : reply_at (client_setup m d c) (version_of s.side) before payload ≡ attempt_reply m (session_between m c s a) left
     here : sits (before ++ payload ∷ []) left
     rest : is_left left (j + 1)
 
@@ -127,8 +126,8 @@ module _ (m : SuiteData) (d : DecisionsData) (c : ClientData) (s : ServerData) (
   last_here : (before : Units) (j : ℕ) (left : List AttemptData) → j + 1 ≡ v.requests → sits before left → is_left left j → length before ≡ 4 + length w.banner + j → (how : How) → v.how ≡ how
       → EachPlace Q (version_of s.side ∷ before) (server_last w j how ++ [])
   last_here before j left all here rest at Unknown is = (
-    as_last m d Client (config_of_client c) p (version_of s.side ∷ before) (w.disconnect 7) [] _
-        (closed m d Client (config_of_client c) (version_of s.side) before phase.Auth false _ 7 seven_read here)
+    as_last (client_setup m d c) p (version_of s.side ∷ before) (w.disconnect 7) [] _
+        (closed (client_setup m d c) (version_of s.side) before phase.Auth false _ 7 seven_read here)
         (group_is before j at ∙ next_last w v (j + 1) all ∙ ap (λ h. client_last w h) is)
         (let n = receives_many w v.requests (omega (arith, all)) in omega (arith, at, all, n)) (final Unknown is),
     tt,
@@ -140,7 +139,7 @@ module _ (m : SuiteData) (d : DecisionsData) (c : ClientData) (s : ServerData) (
       let b = brings_at m d c s j x.0 x.1 in
       let same : q ≡ x.0 = success_is j q x.0 is (b.last (omega (arith, all))) in
       let strict = client_strict c s sound in (
-        as_last m d Client (config_of_client c) p (version_of s.side ∷ before) w.success [] (Authenticated (agreed m c s a q))
+        as_last (client_setup m d c) p (version_of s.side ∷ before) w.success [] (Authenticated (agreed m c s a q))
             (client_succeeds m d c s understood sound offers a chosen readable before (session_between m c s a) x.0 l.0 (subst (λ (y : List AttemptData). sits before y) l.1 here)
             ∙ ap (λ (b : Bool). record { answers = []; end = Authenticated (record { algorithms = a; strict = b; session = session_between m c s a; user = x.0.user; service = x.0.service }) }) strict
             ∙ ap (λ (y : AttemptData). record { answers = []; end = Authenticated (agreed m c s a y) }) (sym same))
@@ -149,8 +148,8 @@ module _ (m : SuiteData) (d : DecisionsData) (c : ClientData) (s : ServerData) (
         tt,
       )
   last_here before j left all here rest at Limit is = (
-    as_last m d Client (config_of_client c) p (version_of s.side ∷ before) (w.disconnect 14) [] _
-        (closed m d Client (config_of_client c) (version_of s.side) before phase.Auth false _ 14 fourteen_read here)
+    as_last (client_setup m d c) p (version_of s.side ∷ before) (w.disconnect 14) [] _
+        (closed (client_setup m d c) (version_of s.side) before phase.Auth false _ 14 fourteen_read here)
         (group_is before j at ∙ next_last w v (j + 1) all ∙ ap (λ h. client_last w h) is)
         (let n = receives_many w v.requests (omega (arith, all)) in omega (arith, at, all, n)) (final Limit is),
     tt,
@@ -160,7 +159,7 @@ module _ (m : SuiteData) (d : DecisionsData) (c : ClientData) (s : ServerData) (
       let x = get_in (offered m d s c.plan) j (omega (arith, all, made.most)) in
       let f = answered before j left x.0 here rest x.1 in
       let none : f.left ≡ [] = left_none m d s (offered m d s c.plan) f.left (j + 1) f.rest (omega (arith, all, made.all_made is)) in (
-        as_last m d Client (config_of_client c) p (version_of s.side ∷ before) (w.refusal j) (w.disconnect 14 ∷ []) _
+        as_last (client_setup m d c) p (version_of s.side ∷ before) (w.refusal j) (w.disconnect 14 ∷ []) _
             (f.reply ∙ ap (λ (l : List AttemptData). attempt_reply m (session_between m c s a) l) none)
             (group_is before j at ∙ next_last w v (j + 1) all ∙ ap (λ h. client_last w h) is)
             (let n = receives_many w v.requests (omega (arith, all)) in omega (arith, at, all, n)) (final Exhausted is),
@@ -181,7 +180,7 @@ module _ (m : SuiteData) (d : DecisionsData) (c : ClientData) (s : ServerData) (
       let l = left_some m d s (offered m d s c.plan) f.left (j + 1) x.0 f.rest x.1 in
       let one : client_next w v (j + 1) ≡ request_of m (session_between m c s a) x.0 ∷ [] = next_in w v (j + 1) more ∙ ap (λ (o : Option AttemptData). request_or m (session_between m c s a) o ∷ []) x.1 in
       subst (λ (g : Units). EachPlace Q (version_of s.side ∷ before) (g ++ from (server_next w v) (suc j) (suc r))) (sym (answer_in w v j more)) (
-        as_open m d Client (config_of_client c) p (version_of s.side ∷ before) (w.refusal j) (request_of m (session_between m c s a) x.0 ∷ [])
+        as_open (client_setup m d c) p (version_of s.side ∷ before) (w.refusal j) (request_of m (session_between m c s a) x.0 ∷ [])
             (f.reply ∙ ap (λ (l : List AttemptData). attempt_reply m (session_between m c s a) l) l.1) (group_is before j at ∙ one)
             (let n = receives_many w v.requests (omega (arith, more)) in omega (arith, at, more, n)),
         client_loop (suc r) (suc j) (omega (arith, sum)) most (before ++ w.refusal j ∷ []) f.left f.here

@@ -1,12 +1,11 @@
 -- Two sides of a world in the course of their configs.
 
 use Rattle.std.proofs.Common.{◌≡◌, ◌≢◌, take}
-use Rattle.sshneg.specs.declared.side.Side.TheVariants.{Client, Server}
 use Rattle.sshpacket.specs.Suite.{IsLawful, SuiteData}
 use Rattle.sshcore.specs.declared.end.Fault.TheVariants as fault
 use Rattle.sshcore.specs.ConfigParts.{ClientData, ServerData}
 use Rattle.sshcore.specs.EndData.{Failed}
-use Rattle.sshcore.specs.EndpointParts.{DecisionsData, config_of_client, config_of_server}
+use Rattle.sshcore.specs.EndpointParts.{DecisionsData, client_setup, server_setup}
 use Rattle.sshworld.specs.CourseReceived.{BothReceive, IsCourseReceived, client_partner, server_partner}
 use Rattle.sshworld.specs.Partners.{BothOnCourse, HasHistory, Partner, told}
 use Rattle.sshworld.specs.Headline.{Headline}
@@ -24,8 +23,8 @@ module _ (laws : Laws) (m : SuiteData) (d : DecisionsData) (lawful : IsLawful m)
 
   pub course_received : IsCourseReceived m d c s w of_client of_server
   course_received =
-      let a : HasHistory m d Client (config_of_client c) of_client.end (take of_client.used of_server.sent) of_client.sent = on.own_side.replies.replies had in
-      let b : HasHistory m d Server (config_of_server s) of_server.end (take of_server.used of_client.sent) of_server.sent = on.their_side.replies.replies other_had in
+      let a : HasHistory (client_setup m d c) of_client.end (take of_client.used of_server.sent) of_client.sent = on.own_side.replies.replies had in
+      let b : HasHistory (server_setup m d s) of_server.end (take of_server.used of_client.sent) of_server.sent = on.their_side.replies.replies other_had in
       let cp : Partner = client_partner m d c s w in
       let sp : Partner = server_partner m d c s w in
       record {

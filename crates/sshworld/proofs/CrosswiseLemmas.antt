@@ -20,14 +20,14 @@ use Rattle.sshcore.specs.Directions.{keys_in, parsers, payloads_in, spells, vers
 use Rattle.sshcore.specs.EndData.{AgreedData, Authenticated, EndData, Open}
 use Rattle.sshcore.specs.Exchange.{exchange_at, keys_at}
 use Rattle.sshcore.specs.History.{History, IsReady}
-use Rattle.sshcore.specs.EndpointParts.{DecisionsData, config_of_client, config_of_server}
+use Rattle.sshcore.specs.EndpointParts.{DecisionsData, client_setup, config_of_client, config_of_server, server_setup}
 use Rattle.sshcore.specs.Sessions.{IsSession}
 use Rattle.sshcore.proofs.Below.{Below}
 use Rattle.sshworld.specs.CourseReceived.{BothReceive, client_partner, server_partner}
 use Rattle.sshworld.specs.Course.{way_of}
 use Rattle.sshworld.specs.Follows.{IsInPart}
 use Rattle.sshworld.specs.Guesses.{guess_of}
-use Rattle.sshworld.specs.Partners.{Partner, ReceivesCourse, payloads_of, stream_of}
+use Rattle.sshworld.specs.Partners.{Partner, ReceivesCourse, partner_setup, payloads_of, stream_of}
 use Rattle.sshworld.specs.Headline.{AreInCourse, EndAs}
 use Rattle.sshworld.specs.Joined.{AreCrosswise}
 use Rattle.sshworld.specs.Laws.{Laws}
@@ -61,7 +61,7 @@ same_direction x y keys number =
 
 -- One direction: their endpoint has sent these bytes, and the own one has received all their units.
 module _ (laws : Laws) (m : SuiteData) (d : DecisionsData) (lawful : IsLawful m) (own their : Partner) (receives : ReceivesCourse m d own their)
-    (units answers : Units) (rest h s : List ℕ) (end : EndData) (b : History m d their.role their.party units rest None answers end h s)
+    (units answers : Units) (rest h s : List ℕ) (end : EndData) (b : History (partner_setup m d their) units rest None answers end h s)
     (f : IsPrefix units (stream_of own)) (is : IsInPart their.part units answers end) where
   speaks : SpeaksInCourse their.role own.party their.party (payloads_of own) (payloads_of their) units answers
   speaks = speaks_by m d their.role own.party their.party (payloads_of own) (payloads_of their) units answers rest h s None end b f (sent_within their units answers end is)
@@ -94,7 +94,7 @@ module _ (laws : Laws) (m : SuiteData) (d : DecisionsData) (lawful : IsLawful m)
 
   -- what the one sends next, the other receives
   pub direction : (us sent : Units) → us ≡ their.party.version ∷ answers → IsReady own.role own.party (payloads_in us) → (agreed other_agreed : AgreedData) (speaker receiver : Session)
-      → IsSession m d their.role their.party units answers agreed speaker → IsSession m d own.role own.party us sent other_agreed receiver → speaker.outgoing ≡ receiver.incoming
+      → IsSession (partner_setup m d their) units answers agreed speaker → IsSession (partner_setup m d own) us sent other_agreed receiver → speaker.outgoing ≡ receiver.incoming
   direction us sent all ready agreed other_agreed speaker receiver t u =
       let out = keyed_by (switched_out answers) (keys_at m their.role their.party (version_in units) (payloads_in units) their.role) speaker.outgoing.keys t.outgoing_keys in
       let received_keys : keys_in m own.role own.party their.party.version answers ≡ Some receiver.incoming.keys = ap (λ (l : Units). keys_in m own.role own.party (version_in l) (payloads_in l)) (sym all) ∙ u.incoming_keys in
@@ -112,9 +112,9 @@ module _ (laws : Laws) (m : SuiteData) (d : DecisionsData) (lawful : IsLawful m)
 -- Both, where each ended authenticated.
 module _ (laws : Laws) (below : Below) (m : SuiteData) (d : DecisionsData) (lawful : IsLawful m) (c : ClientData) (s : ServerData) (w : Wording) (receive : BothReceive m d c s w)
     (client_units client_answers : Units) (client_rest client_received client_sent : List ℕ) (client_agreed : AgreedData)
-    (a : History m d Client (config_of_client c) client_units client_rest None client_answers (Authenticated client_agreed) client_received client_sent)
+    (a : History (client_setup m d c) client_units client_rest None client_answers (Authenticated client_agreed) client_received client_sent)
     (server_units server_answers : Units) (server_rest server_received server_sent : List ℕ) (server_agreed : AgreedData)
-    (b : History m d Server (config_of_server s) server_units server_rest None server_answers (Authenticated server_agreed) server_received server_sent)
+    (b : History (server_setup m d s) server_units server_rest None server_answers (Authenticated server_agreed) server_received server_sent)
     (to_client : IsPrefix client_received server_sent) (to_server : IsPrefix server_received client_sent) where
   abbrev cp : Partner
   cp = client_partner m d c s w
@@ -176,8 +176,8 @@ module _ (laws : Laws) (below : Below) (m : SuiteData) (d : DecisionsData) (lawf
     same_agreed,
   )
 
-  pub crosswise : (one_session other_session : Session) → IsSession m d Client (config_of_client c) client_units client_answers client_agreed one_session
-      → IsSession m d Server (config_of_server s) server_units server_answers server_agreed other_session → AreCrosswise one_session other_session
+  pub crosswise : (one_session other_session : Session) → IsSession (client_setup m d c) client_units client_answers client_agreed one_session
+      → IsSession (server_setup m d s) server_units server_answers server_agreed other_session → AreCrosswise one_session other_session
   crosswise one_session other_session t u =
       let client_keyed = keyed_by (switched_out client_answers) (keys_at m Client (config_of_client c) (version_in client_units) (payloads_in client_units) Client) one_session.outgoing.keys t.outgoing_keys in
       let server_keyed = keyed_by (switched_out server_answers) (keys_at m Server (config_of_server s) (version_in server_units) (payloads_in server_units) Server) other_session.outgoing.keys u.outgoing_keys in

@@ -17,7 +17,7 @@ use Rattle.sshneg.specs.declared.side.Side.TheVariants.{Client, Server}
 use Rattle.sshworld.specs.Conversed.{EachReplies}
 use Rattle.sshworld.specs.Deliveries.{Delivered, Done, DoneBy, Refused, Round, RoundInto, Rounds, RoundsInto, Runs, RunsInto, TakesIn}
 use Rattle.sshworld.specs.Nodes.{BrokenWith, NodeStands, NodesStand, Receives, ReceivesInto, ReceivesNone, ReceivesSome, Takes, TakesNone, TakesSome, node_data, seen}
-use Rattle.sshworld.specs.WorldCourse.{KeepsHeadline}
+use Rattle.sshworld.specs.WorldCourse.{WorldHolds}
 use Rattle.sshworld.specs.Worlds.{HadMemory, IsSameSetup, WorldData, waiting_at, waiting_for}
 use Rattle.sshworld.proofs.StandsLemmas.{breaks_off, receiver_stands, sender_stands, sent_on, side_replies}
 
@@ -45,13 +45,12 @@ module _ {S D : Type 0} where
 
 module _ {S D : Type 0} (meaning : S → SuiteData) (policy : D → DecisionsData) where
   -- a delivery that answered how many bytes it moved
-  pub done : (to : Side) (n k : ℕ) (old new : WorldData S D) → n ≡ k → Delivered to n old new → IsSameSetup old new → EachReplies meaning policy new
-      → KeepsHeadline meaning policy new → Done meaning policy to k old new
-  done to n k old new count d setup replies headline = record {
+  pub done : (to : Side) (n k : ℕ) (old new : WorldData S D) → n ≡ k → Delivered to n old new → IsSameSetup old new → WorldHolds meaning policy new
+      → Done meaning policy to k old new
+  done to n k old new count d same holds = record {
     delivered = subst (λ (j : ℕ). Delivered to j old new) count d;
-    setup = setup;
-    replies = replies;
-    headline = headline;
+    setup = same;
+    holds = holds;
   }
 
   rounds_push : (n : ℕ) (old mid new : WorldData S D) → Rounds meaning policy n old mid → Round meaning policy mid new → Rounds meaning policy (suc n) old new

@@ -3,7 +3,6 @@
 use Rattle.std.proofs.Common.{◌≡◌, ◌≢◌, ℕ, List, Option, None, take, drop, sym, subst, ◌∙◌}
 use Rattle.std.proofs.lemmas.List.{take-append-drop}
 use Rattle.sshneg.specs.declared.side.Side.{Side}
-use Rattle.sshneg.specs.declared.side.Side.TheVariants.{Client, Server}
 use Rattle.sshpacket.specs.Parse.{Refusal}
 use Rattle.sshpacket.specs.Places.{IsPrefix}
 use Rattle.sshpacket.specs.Stream.{Units}
@@ -13,12 +12,12 @@ use Rattle.sshcore.specs.declared.input.Input.{Input}
 use Rattle.sshcore.specs.declared.session.Session.{Session}
 use Rattle.sshcore.specs.ConfigParts.{ClientData, ServerData}
 use Rattle.sshcore.specs.EndData.{AgreedData, Authenticated, EndData, Failed}
-use Rattle.sshcore.specs.EndpointData.{EndpointData}
+use Rattle.sshcore.specs.EndpointData.{EndpointData, endpoint_setup}
 use Rattle.sshcore.specs.Endpoints.{endpoint_end}
 use Rattle.sshcore.specs.History.{History}
 use Rattle.sshcore.specs.Inputs.{EndpointStands}
 use Rattle.sshcore.specs.StateData.{StateData}
-use Rattle.sshcore.specs.EndpointParts.{ConfigData, DecisionsData, config_of_client, config_of_server}
+use Rattle.sshcore.specs.EndpointParts.{ConfigData, DecisionsData, Setup, client_setup, config_of_client, config_of_server, server_setup, setup_with}
 use Rattle.sshcore.specs.Replies.{Ends, ended, goes_on}
 use Rattle.sshcore.specs.Sessions.{IsSession}
 use Rattle.sshcore.proofs.AuthenticatedLemmas.{none_refused}
@@ -32,39 +31,39 @@ use Rattle.sshworld.specs.Wordings.{wording_of}
 use Rattle.sshworld.specs.Worlds.{WorldData}
 use Rattle.sshworld.proofs.CrosswiseLemmas.{all_received, crosswise}
 
-module _ (m : SuiteData) (d : DecisionsData) (role : Side) (party : ConfigData) where
-  unrefused : (units : Units) (refusal : Option Refusal) (agreed : AgreedData) → Ends m d role party units refusal (Authenticated agreed) → refusal ≡ None
+module _ (setup : Setup) where
+  unrefused : (units : Units) (refusal : Option Refusal) (agreed : AgreedData) → Ends setup units refusal (Authenticated agreed) → refusal ≡ None
   unrefused units refusal agreed (goes_on stays is) = absurd (none_refused refusal agreed is)
   unrefused units refusal agreed (ended before last units_are stays is shut none) = none
 
   -- an endpoint that ended authenticated was refused nothing
-  pub history_so : (kept : StateData) (i : Input) (h s : List ℕ) (p : EndpointStands m d role party kept i h s) (agreed : AgreedData) → kept.end ≡ Authenticated agreed
-      → History m d role party p.units p.rest None p.answers (Authenticated agreed) h s
+  pub history_so : (kept : StateData) (i : Input) (h s : List ℕ) (p : EndpointStands setup kept i h s) (agreed : AgreedData) → kept.end ≡ Authenticated agreed
+      → History setup p.units p.rest None p.answers (Authenticated agreed) h s
   history_so kept i h s p agreed is =
-      let now : History m d role party p.units p.rest p.refusal p.answers (Authenticated agreed) h s =
-      subst (λ (e : EndData). History m d role party p.units p.rest p.refusal p.answers e h s) (uncut_end p.received_end kept.end agreed p.ends is) p.history in
-      subst (λ (r : Option Refusal). History m d role party p.units p.rest r p.answers (Authenticated agreed) h s) (unrefused p.units p.refusal agreed now.replies.ends) now
+      let now : History setup p.units p.rest p.refusal p.answers (Authenticated agreed) h s =
+      subst (λ (e : EndData). History setup p.units p.rest p.refusal p.answers e h s) (uncut_end p.received_end kept.end agreed p.ends is) p.history in
+      subst (λ (r : Option Refusal). History setup p.units p.rest r p.answers (Authenticated agreed) h s) (unrefused p.units p.refusal agreed now.replies.ends) now
 
 module _ {S D : Type 0} (meaning : S → SuiteData) (policy : D → DecisionsData) where
   module _ (laws : Laws) (below : Below) (c : ClientData) (s : ServerData) (client server : EndpointData S D) (client_received client_sent server_received server_sent : List ℕ)
       (lawful : IsLawful (meaning client.suite)) (receive : BothReceive (meaning client.suite) (policy client.decisions) c s (wording_of (meaning client.suite) (policy client.decisions) c s))
       (j : AreJoined meaning policy c s client server client_received client_sent server_received server_sent) (a b : AgreedData)
       (is : endpoint_end client ≡ Authenticated a) (other_is : endpoint_end server ≡ Authenticated b) where
-    client_history : History (meaning client.suite) (policy client.decisions) Client (config_of_client c) j.client_after.units j.client_after.rest None j.client_after.answers (Authenticated a) client_received client_sent
+    client_history : History (client_setup (meaning client.suite) (policy client.decisions) c) j.client_after.units j.client_after.rest None j.client_after.answers (Authenticated a) client_received client_sent
     client_history =
         let p = j.client_after in
-        subst (λ (r : Side). History (meaning client.suite) (policy client.decisions) r (config_of_client c) p.units p.rest None p.answers (Authenticated a) client_received client_sent) j.is_client
-        (subst (λ (q : ConfigData). History (meaning client.suite) (policy client.decisions) client.role q p.units p.rest None p.answers (Authenticated a) client_received client_sent) j.of_client
-        (history_so (meaning client.suite) (policy client.decisions) client.role client.party _ client.input client_received client_sent p a is))
+        subst (λ (r : Side). History (setup_with (meaning client.suite) (policy client.decisions) r (config_of_client c)) p.units p.rest None p.answers (Authenticated a) client_received client_sent) j.is_client
+        (subst (λ (q : ConfigData). History (setup_with (meaning client.suite) (policy client.decisions) client.role q) p.units p.rest None p.answers (Authenticated a) client_received client_sent) j.of_client
+        (history_so (endpoint_setup meaning policy client) _ client.input client_received client_sent p a is))
 
-    server_history : History (meaning client.suite) (policy client.decisions) Server (config_of_server s) j.server_after.units j.server_after.rest None j.server_after.answers (Authenticated b) server_received server_sent
+    server_history : History (server_setup (meaning client.suite) (policy client.decisions) s) j.server_after.units j.server_after.rest None j.server_after.answers (Authenticated b) server_received server_sent
     server_history =
         let p = j.server_after in
-        subst (λ (r : Side). History (meaning client.suite) (policy client.decisions) r (config_of_server s) p.units p.rest None p.answers (Authenticated b) server_received server_sent) j.is_server
-        (subst (λ (q : ConfigData). History (meaning client.suite) (policy client.decisions) server.role q p.units p.rest None p.answers (Authenticated b) server_received server_sent) j.of_server
-        (subst (λ (k : S). History (meaning k) (policy client.decisions) server.role server.party p.units p.rest None p.answers (Authenticated b) server_received server_sent) j.one_suite
-        (subst (λ (k : D). History (meaning server.suite) (policy k) server.role server.party p.units p.rest None p.answers (Authenticated b) server_received server_sent) j.same_decisions
-        (history_so (meaning server.suite) (policy server.decisions) server.role server.party _ server.input server_received server_sent p b other_is))))
+        subst (λ (r : Side). History (setup_with (meaning client.suite) (policy client.decisions) r (config_of_server s)) p.units p.rest None p.answers (Authenticated b) server_received server_sent) j.is_server
+        (subst (λ (q : ConfigData). History (setup_with (meaning client.suite) (policy client.decisions) server.role q) p.units p.rest None p.answers (Authenticated b) server_received server_sent) j.of_server
+        (subst (λ (k : S). History (setup_with (meaning k) (policy client.decisions) server.role server.party) p.units p.rest None p.answers (Authenticated b) server_received server_sent) j.one_suite
+        (subst (λ (k : D). History (setup_with (meaning server.suite) (policy k) server.role server.party) p.units p.rest None p.answers (Authenticated b) server_received server_sent) j.same_decisions
+        (history_so (endpoint_setup meaning policy server) _ server.input server_received server_sent p b other_is))))
 
     pub joined_received : (client_received ≡ server_sent) × (server_received ≡ client_sent) × (a ≡ b)
     joined_received =
@@ -73,19 +72,19 @@ module _ {S D : Type 0} (meaning : S → SuiteData) (policy : D → DecisionsDat
         all_received laws below (meaning client.suite) (policy client.decisions) lawful c s (wording_of (meaning client.suite) (policy client.decisions) c s) receive p.units p.answers p.rest client_received client_sent a client_history
         q.units q.answers q.rest server_received server_sent b server_history j.to_client j.to_server
 
-    pub joined_crosswise : (one other : Session) → IsSession (meaning client.suite) (policy client.decisions) client.role client.party j.client_after.units j.client_after.answers a one
-        → IsSession (meaning server.suite) (policy server.decisions) server.role server.party j.server_after.units j.server_after.answers b other → AreCrosswise one other
+    pub joined_crosswise : (one other : Session) → IsSession (endpoint_setup meaning policy client) j.client_after.units j.client_after.answers a one
+        → IsSession (endpoint_setup meaning policy server) j.server_after.units j.server_after.answers b other → AreCrosswise one other
     joined_crosswise one other t u =
         let p = j.client_after in
         let q = j.server_after in
         crosswise laws below (meaning client.suite) (policy client.decisions) lawful c s (wording_of (meaning client.suite) (policy client.decisions) c s) receive p.units p.answers p.rest client_received client_sent a client_history
         q.units q.answers q.rest server_received server_sent b server_history j.to_client j.to_server one other
-        (subst (λ (r : Side). IsSession (meaning client.suite) (policy client.decisions) r (config_of_client c) p.units p.answers a one) j.is_client
-        (subst (λ (x : ConfigData). IsSession (meaning client.suite) (policy client.decisions) client.role x p.units p.answers a one) j.of_client t))
-        (subst (λ (r : Side). IsSession (meaning client.suite) (policy client.decisions) r (config_of_server s) q.units q.answers b other) j.is_server
-        (subst (λ (x : ConfigData). IsSession (meaning client.suite) (policy client.decisions) server.role x q.units q.answers b other) j.of_server
-        (subst (λ (k : S). IsSession (meaning k) (policy client.decisions) server.role server.party q.units q.answers b other) j.one_suite
-        (subst (λ (k : D). IsSession (meaning server.suite) (policy k) server.role server.party q.units q.answers b other) j.same_decisions u))))
+        (subst (λ (r : Side). IsSession (setup_with (meaning client.suite) (policy client.decisions) r (config_of_client c)) p.units p.answers a one) j.is_client
+        (subst (λ (x : ConfigData). IsSession (setup_with (meaning client.suite) (policy client.decisions) client.role x) p.units p.answers a one) j.of_client t))
+        (subst (λ (r : Side). IsSession (setup_with (meaning client.suite) (policy client.decisions) r (config_of_server s)) q.units q.answers b other) j.is_server
+        (subst (λ (x : ConfigData). IsSession (setup_with (meaning client.suite) (policy client.decisions) server.role x) q.units q.answers b other) j.of_server
+        (subst (λ (k : S). IsSession (setup_with (meaning k) (policy client.decisions) server.role server.party) q.units q.answers b other) j.one_suite
+        (subst (λ (k : D). IsSession (setup_with (meaning server.suite) (policy k) server.role server.party) q.units q.answers b other) j.same_decisions u))))
 
   had : (end : EndData) (a : AgreedData) → end ≡ Authenticated a → end ≢ Failed fault.Memory
   had end a is failed = cc (is, failed)

@@ -3,15 +3,13 @@
 use Rattle.std.proofs.Common.{◌≡◌, ◌≢◌, ℕ, zero, suc, ◌<◌, ◌≤◌, ◌==◌, true, false, List, [], ◌∷◌, ◌++◌, append_assoc, append-nil, length, length-append, None, refl, sym, ap, ◌∙◌, subst, arith, eq-eqb}
 use native.Mathlib.Decide.{dec_lt}
 use Rattle.std.proofs.lemmas.Bool.{ne_eqb}
-use Rattle.sshneg.specs.declared.side.Side.{Side}
-use Rattle.sshneg.specs.declared.side.Side.TheVariants.{Client, Server}
 use Rattle.sshpacket.specs.Places.{EachPlace, IsPrefix, flat_places}
 use Rattle.sshpacket.specs.Stream.{Units}
 use Rattle.sshpacket.specs.Suite.{SuiteData}
 use Rattle.sshpacket.proofs.Places.{each-prefix, each-last, prefix-through}
 use Rattle.sshcore.specs.ConfigParts.{ClientData, ServerData}
 use Rattle.sshcore.specs.EndData.{Open}
-use Rattle.sshcore.specs.EndpointParts.{ConfigData, DecisionsData, config_of_client, config_of_server}
+use Rattle.sshcore.specs.EndpointParts.{DecisionsData, Setup, client_setup, config_of_client, config_of_server, server_setup}
 use Rattle.sshcore.specs.Replies.{Ends, StaysOpen, answers_at, end_at, ended, goes_on}
 use Rattle.sshcore.specs.Work.{making}
 use Rattle.sshworld.specs.Course.{Part, sent_after}
@@ -49,9 +47,9 @@ sent_from f group before (x ∷ xs) e =
     ap (λ (g : Units). g ++ flat_places f (before ++ x ∷ []) xs) e.0
     ∙ ap (λ (g : Units). group (length before) ++ g) (sent_from f group (before ++ x ∷ []) xs e.1 ∙ ap (λ (n : ℕ). from group n (length xs)) (let n : length (before ++ x ∷ []) ≡ suc (length before) = omega (arith, length-append before (x ∷ [])) in n))
 
-module _ (m : SuiteData) (d : DecisionsData) (role : Side) (own : ConfigData) (p : Part) (stream : Units) (follows : FollowsPart m d role own p stream) (some : 0 < p.receives) (ends : p.final ≢ Open) where
+module _ (setup : Setup) (p : Part) (stream : Units) (follows : FollowsPart setup p stream) (some : 0 < p.receives) (ends : p.final ≢ Open) where
   -- it stays open at fewer units than it receives
-  few : (units : Units) → IsPrefix units stream → StaysOpen m d role own units → length units < p.receives
+  few : (units : Units) → IsPrefix units stream → StaysOpen setup units → length units < p.receives
   few units front open_at = elim (dec_lt (length units) p.receives) [
     | yes less ↦ less
     | no ge ↦ many ge p.receives refl
@@ -62,29 +60,29 @@ module _ (m : SuiteData) (d : DecisionsData) (role : Side) (own : ConfigData) (p
       many ge (suc n) e =
           let s = split units n (omega (arith, ge, e)) in
           let near : units ≡ (s.before ++ s.here ∷ []) ++ s.rest = s.whole ∙ sym (append_assoc s.before (s.here ∷ []) s.rest) in
-          let stays : EachPlace (λ b u. end_at m d role own b u ≡ Open) [] (s.before ++ s.here ∷ []) =
-          each-prefix (λ b u. end_at m d role own b u ≡ Open) [] (s.before ++ s.here ∷ []) s.rest (subst (λ (l : Units). EachPlace (λ b u. end_at m d role own b u ≡ Open) [] l) near open_at) in
-          let here : end_at m d role own s.before s.here ≡ Open = each-last (λ b u. end_at m d role own b u ≡ Open) [] s.before s.here stays in
+          let stays : EachPlace (λ b u. end_at setup b u ≡ Open) [] (s.before ++ s.here ∷ []) =
+          each-prefix (λ b u. end_at setup b u ≡ Open) [] (s.before ++ s.here ∷ []) s.rest (subst (λ (l : Units). EachPlace (λ b u. end_at setup b u ≡ Open) [] l) near open_at) in
+          let here : end_at setup s.before s.here ≡ Open = each-last (λ b u. end_at setup b u ≡ Open) [] s.before s.here stays in
           let place = follows.places s.before s.here (prefix-through (s.before ++ s.here ∷ []) units stream (record { rest = s.rest; whole_is = near }) front) (omega (arith, s.at, e)) in
           let last : (suc (length s.before) == p.receives) ≡ true = eq-eqb (suc (length s.before)) p.receives (omega (arith, s.at, e)) in
           let final_is : end_after p (suc (length s.before)) ≡ p.final = rw last refl in
           absurd (ends (sym final_is ∙ sym place.end ∙ here))
 
-  sent_is : (units answers : Units) → IsPrefix units stream → length units ≤ p.receives → answers ≡ making m role own ++ (flat_places (answers_at m d role own) [] units ++ []) → answers ≡ sent_after p (length units)
+  sent_is : (units answers : Units) → IsPrefix units stream → length units ≤ p.receives → answers ≡ making setup.suite setup.role setup.config ++ (flat_places (answers_at setup) [] units ++ []) → answers ≡ sent_after p (length units)
   sent_is units answers front h e =
-      let each : EachPlace (λ b x. answers_at m d role own b x ≡ p.group (length b)) [] units =
-      each_all (λ b x. answers_at m d role own b x ≡ p.group (length b)) [] units (λ b u g. (follows.places b u (prefix-through (b ++ u ∷ []) units stream g front) (short b u g h)).answer) in
-      e ∙ ap (λ (l : Units). making m role own ++ l) (append-nil (flat_places (answers_at m d role own) [] units))
-      ∙ ap (λ (l : Units). l ++ flat_places (answers_at m d role own) [] units) follows.making_is
-      ∙ ap (λ (l : Units). p.first ++ l) (sent_from (answers_at m d role own) p.group [] units each ∙ sym (answers_from p.group (length units)))
+      let each : EachPlace (λ b x. answers_at setup b x ≡ p.group (length b)) [] units =
+      each_all (λ b x. answers_at setup b x ≡ p.group (length b)) [] units (λ b u g. (follows.places b u (prefix-through (b ++ u ∷ []) units stream g front) (short b u g h)).answer) in
+      e ∙ ap (λ (l : Units). making setup.suite setup.role setup.config ++ l) (append-nil (flat_places (answers_at setup) [] units))
+      ∙ ap (λ (l : Units). l ++ flat_places (answers_at setup) [] units) follows.making_is
+      ∙ ap (λ (l : Units). p.first ++ l) (sent_from (answers_at setup) p.group [] units each ∙ sym (answers_from p.group (length units)))
     where
       short : (b : Units) (u : List ℕ) → IsPrefix (b ++ u ∷ []) units → length units ≤ p.receives → length b < p.receives
       short b u g h = let n = ap length g.whole_is in omega (arith, n, length-append (b ++ u ∷ []) g.rest, length-append b (u ∷ []), h)
 
-  pub keeps : KeepsPart m d role own p stream
+  pub keeps : KeepsPart setup p stream
   keeps units answers end front replies = by replies.ends
     where
-      by : Ends m d role own units None end → IsInPart p units answers end
+      by : Ends setup units None end → IsInPart p units answers end
       by (goes_on open_at e) =
           let less = few units front open_at in
           record {
@@ -107,6 +105,6 @@ pub both_keep : (m : SuiteData) (d : DecisionsData) (c : ClientData) (s : Server
 both_keep m d c s w both =
     let is : IsCourse (part_of_client m d c s w) (part_of_server m d c s w) = of_outcome m d c s w in
     record {
-      client_keeps = keeps m d Client (config_of_client c) (part_of_client m d c s w) (units_of (config_of_server s) (part_of_server m d c s w)) both.client_follows is.fit.client_receives_some is.client_ends;
-      server_keeps = keeps m d Server (config_of_server s) (part_of_server m d c s w) (units_of (config_of_client c) (part_of_client m d c s w)) both.server_follows is.fit.server_receives_some is.server_ends;
+      client_keeps = keeps (client_setup m d c) (part_of_client m d c s w) (units_of (config_of_server s) (part_of_server m d c s w)) both.client_follows is.fit.client_receives_some is.client_ends;
+      server_keeps = keeps (server_setup m d s) (part_of_server m d c s w) (units_of (config_of_client c) (part_of_client m d c s w)) both.server_follows is.fit.server_receives_some is.server_ends;
     }

@@ -12,6 +12,7 @@ use Rattle.sshcore.specs.EndData.{AgreedData, Authenticated, Closed, Disconnecte
 use Rattle.sshcore.specs.Endpoints.{EndpointAfter, endpoint_end}
 use Rattle.sshcore.specs.EndpointParts.{ConfigData, DecisionsData}
 use Rattle.sshcore.specs.Sessions.{IsSession}
+use Rattle.sshcore.specs.EndpointData.{endpoint_setup}
 use Rattle.sshworld.specs.declared.node.Node.{Node}
 use Rattle.sshworld.specs.Joined.{AreCrosswise, AreJoined, HandOver}
 use Rattle.sshworld.specs.Nodes.{NodesStand}
@@ -76,11 +77,11 @@ module _ {S D : Type 0} (meaning : S → SuiteData) (policy : D → DecisionsDat
 
   -- what is handed over by both, of which the law of sessions says that it matches
   pub handed : (r q : Option Session)
-      → (x : Session) × (r ≡ Some x) × IsSession (meaning client.endpoint.suite) (policy client.endpoint.decisions) client.endpoint.role client.endpoint.party client_after.units client_after.answers a x × (client_after.rest ≡ [])
-      → (y : Session) × (q ≡ Some y) × IsSession (meaning server.endpoint.suite) (policy server.endpoint.decisions) server.endpoint.role server.endpoint.party server_after.units server_after.answers b y × (server_after.rest ≡ [])
+      → (x : Session) × (r ≡ Some x) × IsSession (endpoint_setup meaning policy client.endpoint) client_after.units client_after.answers a x × (client_after.rest ≡ [])
+      → (y : Session) × (q ≡ Some y) × IsSession (endpoint_setup meaning policy server.endpoint) server_after.units server_after.answers b y × (server_after.rest ≡ [])
       → ((x y : Session) → AreUnderstood (meaning client.endpoint.suite) (policy client.endpoint.decisions) c s
-      → IsSession (meaning client.endpoint.suite) (policy client.endpoint.decisions) client.endpoint.role client.endpoint.party nodes_joined.client_after.units nodes_joined.client_after.answers a x
-      → IsSession (meaning server.endpoint.suite) (policy server.endpoint.decisions) server.endpoint.role server.endpoint.party nodes_joined.server_after.units nodes_joined.server_after.answers b y → AreCrosswise x y)
+      → IsSession (endpoint_setup meaning policy client.endpoint) nodes_joined.client_after.units nodes_joined.client_after.answers a x
+      → IsSession (endpoint_setup meaning policy server.endpoint) nodes_joined.server_after.units nodes_joined.server_after.answers b y → AreCrosswise x y)
       → HandOver (AreUnderstood (meaning suite) (policy decisions) c s) c s a b (option_zip r q)
   unfolding client_after server_after nodes_joined
   handed r q (x, rx, sx, _) (y, qy, sy, _) law =

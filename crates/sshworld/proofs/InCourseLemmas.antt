@@ -2,14 +2,13 @@
 
 use Rattle.std.proofs.Common.{◌≡◌, ◌≢◌, ◌≤◌, [], ◌∷◌, length, length-append, append-nil, None, refl, sym, ap, subst, arith}
 use Rattle.sshneg.specs.declared.side.Side.TheVariants.{Client, Server}
-use Rattle.sshneg.specs.declared.side.Side.{Side}
 use Rattle.sshpacket.specs.Places.{IsPrefix}
 use Rattle.sshpacket.specs.Stream.{Units}
 use Rattle.sshpacket.specs.Suite.{SuiteData}
 use Rattle.sshpacket.proofs.Places.{prefix-append, prefix-cons, prefix-through}
 use Rattle.sshcore.specs.ConfigParts.{ClientData, ServerData, version_of}
 use Rattle.sshcore.specs.EndData.{Open}
-use Rattle.sshcore.specs.EndpointParts.{ConfigData, DecisionsData, config_of_client, config_of_server}
+use Rattle.sshcore.specs.EndpointParts.{DecisionsData, Setup, client_setup, config_of_client, config_of_server, server_setup}
 use Rattle.sshcore.specs.Replies.{Replies, goes_on}
 use Rattle.sshcore.specs.Work.{making}
 use Rattle.sshworld.specs.Course.{Part, sent_after}
@@ -30,20 +29,20 @@ sent_more part old new a b received =
     (subst (λ (l : Units). IsPrefix (sent_after part (length old.units)) l) (sym b.sent) (grows_to part (length old.units) (length new.units) (prefix_short old.units new.units received)))
 
 -- what is sent at the making
-begins_with : (m : SuiteData) (d : DecisionsData) (role : Side) (own : ConfigData) → Replies m d role own [] None (making m role own) Open
-begins_with m d role own = record { in_order = sym (append-nil (making m role own)); ends = goes_on tt refl }
+begins_with : (setup : Setup) → Replies setup [] None (making setup.suite setup.role setup.config) Open
+begins_with setup = record { in_order = sym (append-nil (making setup.suite setup.role setup.config)); ends = goes_on tt refl }
 
 module _ (m : SuiteData) (d : DecisionsData) (c : ClientData) (s : ServerData) (w : Wording) (both : BothKeep m d c s w) where
   pub begins : AreInCourse m d c s w (record { units = []; answers = making m Client (config_of_client c); end = Open }) (record { units = []; answers = making m Server (config_of_server s); end = Open })
   begins = record {
-    client_in_part = both.client_keeps [] (making m Client (config_of_client c)) Open (prefix-append [] _) (begins_with m d Client (config_of_client c));
-    server_in_part = both.server_keeps [] (making m Server (config_of_server s)) Open (prefix-append [] _) (begins_with m d Server (config_of_server s));
+    client_in_part = both.client_keeps [] (making m Client (config_of_client c)) Open (prefix-append [] _) (begins_with (client_setup m d c));
+    server_in_part = both.server_keeps [] (making m Server (config_of_server s)) Open (prefix-append [] _) (begins_with (server_setup m d s));
     client_received = prefix-append [] (version_of s.side ∷ making m Server (config_of_server s));
     server_received = prefix-append [] (version_of c.side ∷ making m Client (config_of_client c));
   }
 
   module _ (of_client of_server : Told) (are : AreInCourse m d c s w of_client of_server) (new : Told) where
-    pub client_receives_more : IsPrefix of_client.units new.units → IsPrefix new.units (version_of s.side ∷ of_server.answers) → Replies m d Client (config_of_client c) new.units None new.answers new.end
+    pub client_receives_more : IsPrefix of_client.units new.units → IsPrefix new.units (version_of s.side ∷ of_server.answers) → Replies (client_setup m d c) new.units None new.answers new.end
         → AreInCourse m d c s w new of_server
     client_receives_more more received replies =
         let all = version_of s.side ∷ sent_after (part_of_server m d c s w) (part_of_server m d c s w).receives in
@@ -57,7 +56,7 @@ module _ (m : SuiteData) (d : DecisionsData) (c : ClientData) (s : ServerData) (
               (prefix-cons (version_of c.side) of_client.answers new.answers (sent_more (part_of_client m d c s w) of_client new are.client_in_part is more));
         }
 
-    pub server_receives_more : IsPrefix of_server.units new.units → IsPrefix new.units (version_of c.side ∷ of_client.answers) → Replies m d Server (config_of_server s) new.units None new.answers new.end
+    pub server_receives_more : IsPrefix of_server.units new.units → IsPrefix new.units (version_of c.side ∷ of_client.answers) → Replies (server_setup m d s) new.units None new.answers new.end
         → AreInCourse m d c s w of_client new
     server_receives_more more received replies =
         let all = version_of c.side ∷ sent_after (part_of_client m d c s w) (part_of_client m d c s w).receives in

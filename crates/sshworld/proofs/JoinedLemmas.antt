@@ -4,7 +4,6 @@ use Rattle.std.proofs.Common.{◌≡◌, ◌≢◌, inl, inr, ℕ, zero, suc, �
 use native.Mathlib.Decide.{dec_lt}
 use Rattle.std.proofs.Math.Nat.{min-le_right}
 use Rattle.std.proofs.lemmas.List.{length-take-le, take-append-drop, take-append-le, take_all}
-use Rattle.sshneg.specs.declared.side.Side.TheVariants.{Client, Server}
 use Rattle.sshpacket.specs.Parse.{Refusal}
 use Rattle.sshpacket.specs.Places.{EachPlace, IsPrefix, flat_places}
 use Rattle.sshpacket.specs.Stream.{Read, Received, Spelled, Units}
@@ -16,14 +15,14 @@ use Rattle.sshcore.specs.Counting.{switched_out}
 use Rattle.sshcore.specs.Directions.{parsers, payloads_in, spells}
 use Rattle.sshcore.specs.EndData.{EndData, Open}
 use Rattle.sshcore.specs.History.{FitsPacket, History, IsReady}
-use Rattle.sshcore.specs.EndpointParts.{DecisionsData, config_of_client, config_of_server}
+use Rattle.sshcore.specs.EndpointParts.{DecisionsData, client_setup, server_setup}
 use Rattle.sshcore.specs.Replies.{StaysOpen}
 use Rattle.sshcore.proofs.Below.{Below}
 use Rattle.sshworld.specs.Offered.{most_requests}
 use Rattle.sshworld.specs.CourseReceived.{BothReceive, client_partner, server_partner}
 use Rattle.sshworld.specs.Follows.{IsInPart}
 use Rattle.sshworld.specs.Guesses.{guess_of}
-use Rattle.sshworld.specs.Partners.{Partner, ReceivesCourse, payloads_of, stream_of}
+use Rattle.sshworld.specs.Partners.{Partner, ReceivesCourse, partner_setup, payloads_of, stream_of}
 use Rattle.sshworld.specs.Headline.{AreInCourse}
 use Rattle.sshworld.specs.Laws.{Laws}
 use Rattle.sshworld.specs.Outcome.{outcome}
@@ -52,7 +51,7 @@ sent_within p units answers end is = subst (λ (q : Units). IsPrefix q (payloads
 
 -- Their endpoint has sent these bytes, of which the own one has read these units.
 module _ (laws : Laws) (below : Below) (m : SuiteData) (d : DecisionsData) (lawful : IsLawful m) (own their : Partner) (receives : ReceivesCourse m d own their)
-    (units answers : Units) (rest h s : List ℕ) (end : EndData) (b : History m d their.role their.party units rest None answers end h s)
+    (units answers : Units) (rest h s : List ℕ) (end : EndData) (b : History (partner_setup m d their) units rest None answers end h s)
     (us : Units) (left received : List ℕ) (refusal : Option Refusal) (a : Received (parsers m own.role own.party) received us left refusal) (to_own : IsPrefix received s) where
   in_part_of : IsPrefix units (stream_of own) → IsInPart their.part units answers end
   in_part_of f = receives.keeps units answers end f b.replies
@@ -68,17 +67,17 @@ module _ (laws : Laws) (below : Below) (m : SuiteData) (d : DecisionsData) (lawf
 
   -- the same up to a place
   module _ (so more : Units) (e : units ≡ so ++ more) (less : length so < length units) (f : IsPrefix so (stream_of own)) where
-    stays : StaysOpen m d their.role their.party so
-    stays = stays_so m d their.role their.party units so more None end e less b.replies.ends
+    stays : StaysOpen (partner_setup m d their) so
+    stays = stays_so (partner_setup m d their) units so more None end e less b.replies.ends
 
-    in_part_so : IsInPart their.part so (sent_so m d their.role their.party so) Open
-    in_part_so = receives.keeps so (sent_so m d their.role their.party so) Open f (replies_so m d their.role their.party so stays)
+    in_part_so : IsInPart their.part so (sent_so (partner_setup m d their) so) Open
+    in_part_so = receives.keeps so (sent_so (partner_setup m d their) so) Open f (replies_so (partner_setup m d their) so stays)
 
-    one_way_so : OneWay us (their.party.version ∷ sent_so m d their.role their.party so)
+    one_way_so : OneWay us (their.party.version ∷ sent_so (partner_setup m d their) so)
     one_way_so =
-        let sent : Units = sent_so m d their.role their.party so in
-        let more_units_sent : IsPrefix sent answers = sent_more m d their.role their.party units so more answers None end e b.replies in
-        let ready : switched_out sent ≡ true → IsReady their.role their.party (payloads_in so) = ready_so m d their.role their.party below so stays in
+        let sent : Units = sent_so (partner_setup m d their) so in
+        let more_units_sent : IsPrefix sent answers = sent_more (partner_setup m d their) units so more answers None end e b.replies in
+        let ready : switched_out sent ≡ true → IsReady their.role their.party (payloads_in so) = ready_so (partner_setup m d their) below so stays in
         let speaks : SpeaksInCourse their.role own.party their.party (payloads_of own) (payloads_of their) so sent = record {
           received = f;
           sent = sent_within their so sent Open in_part_so;
@@ -87,16 +86,16 @@ module _ (laws : Laws) (below : Below) (m : SuiteData) (d : DecisionsData) (lawf
         } in
         let spelled : EachPlace (Spelled (parsers m own.role own.party) (spells m their.role their.party so)) [] (their.party.version ∷ sent) =
         all_spelled m own.role their.role own.party their.party (payloads_of own) (payloads_of their) receives.received so sent speaks laws lawful in
-        let bytes : IsPrefix (flat_places (spells m their.role their.party so) [] (their.party.version ∷ sent)) s = bytes_so m d their.role their.party units so more answers s e more_units_sent ready b.sent in
+        let bytes : IsPrefix (flat_places (spells m their.role their.party so) [] (their.party.version ∷ sent)) s = bytes_so (partner_setup m d their) units so more answers s e more_units_sent ready b.sent in
         one_way (parsers m own.role own.party) (spells m their.role their.party so) [] (their.party.version ∷ sent) us s bytes.rest (left ++ to_own.rest) bytes.whole_is spelled
         (subst (λ (t : List ℕ). Read (parsers m own.role own.party) [] t us (left ++ to_own.rest)) (sym to_own.whole_is)
         (read_more (parsers m own.role own.party) (laws.parsers m own.role own.party) [] received to_own.rest us left a.read))
 
-    so_in_stream : IsPrefix (their.party.version ∷ sent_so m d their.role their.party so) (stream_of their)
-    so_in_stream = sent_prefix their.part so (sent_so m d their.role their.party so) Open in_part_so their.party.version
+    so_in_stream : IsPrefix (their.party.version ∷ sent_so (partner_setup m d their) so) (stream_of their)
+    so_in_stream = sent_prefix their.part so (sent_so (partner_setup m d their) so) Open in_part_so their.party.version
 
-    so_count : length (their.party.version ∷ sent_so m d their.role their.party so) ≡ units_sent their.part (length so)
-    so_count = sent_count their.part so (sent_so m d their.role their.party so) Open in_part_so their.party.version
+    so_count : length (their.party.version ∷ sent_so (partner_setup m d their) so) ≡ units_sent their.part (length so)
+    so_count = sent_count their.part so (sent_so (partner_setup m d their) so) Open in_part_so their.party.version
 
   -- So many units as they have sent when they have received k of the course are of the course.
   pub step : (k n : ℕ) → n ≤ units_sent their.part k → IsPrefix (take k units) (stream_of own) → IsPrefix (take n us) (stream_of their)
@@ -107,7 +106,7 @@ module _ (laws : Laws) (below : Below) (m : SuiteData) (d : DecisionsData) (lawf
         let e : units ≡ so ++ drop k units = sym (take-append-drop k units) in
         let size : length so ≡ k = length-take-le k units (omega (arith, less)) in
         let fewer_so : length so < length units = omega (arith, size, less) in
-        let sent : Units = their.party.version ∷ sent_so m d their.role their.party so in
+        let sent : Units = their.party.version ∷ sent_so (partner_setup m d their) so in
         let count : length sent ≡ units_sent their.part k = so_count so (drop k units) e fewer_so f ∙ ap (λ (i : ℕ). units_sent their.part i) size in
         by n sent (omega (arith, low, count)) (so_in_stream so (drop k units) e fewer_so f) (one_way_so so (drop k units) e fewer_so f)
   ]
@@ -118,7 +117,7 @@ module _ (laws : Laws) (below : Below) (m : SuiteData) (d : DecisionsData) (lawf
 
 -- An endpoint has received no more units of the course than its part receives.
 module _ (m : SuiteData) (d : DecisionsData) (own their : Partner) (receives : ReceivesCourse m d their own) (final : own.part.final ≢ Open)
-    (units answers : Units) (rest h s : List ℕ) (end : EndData) (a : History m d own.role own.party units rest None answers end h s) where
+    (units answers : Units) (rest h s : List ℕ) (end : EndData) (a : History (partner_setup m d own) units rest None answers end h s) where
   pub no_more : IsPrefix (take own.part.receives units) (stream_of their) → length units ≤ own.part.receives
   no_more f = elim (dec_lt own.part.receives (length units)) [
     | no ge ↦ omega (arith, ge)
@@ -126,9 +125,9 @@ module _ (m : SuiteData) (d : DecisionsData) (own their : Partner) (receives : R
         let so : Units = take own.part.receives units in
         let e : units ≡ so ++ drop own.part.receives units = sym (take-append-drop own.part.receives units) in
         let size : length so ≡ own.part.receives = length-take-le own.part.receives units (omega (arith, less)) in
-        let stays_open : StaysOpen m d own.role own.party so = stays_so m d own.role own.party units so (drop own.part.receives units) None end e (omega (arith, size, less)) a.replies.ends in
-        let is : IsInPart own.part so (sent_so m d own.role own.party so) Open = receives.keeps so (sent_so m d own.role own.party so) Open f (replies_so m d own.role own.party so stays_open) in
-        let short : length so < own.part.receives = fewer own.part so (sent_so m d own.role own.party so) Open is refl final in
+        let stays_open : StaysOpen (partner_setup m d own) so = stays_so (partner_setup m d own) units so (drop own.part.receives units) None end e (omega (arith, size, less)) a.replies.ends in
+        let is : IsInPart own.part so (sent_so (partner_setup m d own) so) Open = receives.keeps so (sent_so (partner_setup m d own) so) Open f (replies_so (partner_setup m d own) so stays_open) in
+        let short : length so < own.part.receives = fewer own.part so (sent_so (partner_setup m d own) so) Open is refl final in
         absurd (omega (arith, short, size))
   ]
 
@@ -138,9 +137,9 @@ module _ (m : SuiteData) (d : DecisionsData) (own their : Partner) (receives : R
 -- Both.
 module _ (laws : Laws) (below : Below) (m : SuiteData) (d : DecisionsData) (lawful : IsLawful m) (c : ClientData) (s : ServerData) (w : Wording) (receive : BothReceive m d c s w)
     (client_units client_answers : Units) (client_rest client_received client_sent : List ℕ) (client_end : EndData)
-    (a : History m d Client (config_of_client c) client_units client_rest None client_answers client_end client_received client_sent)
+    (a : History (client_setup m d c) client_units client_rest None client_answers client_end client_received client_sent)
     (server_units server_answers : Units) (server_rest server_received server_sent : List ℕ) (server_end : EndData)
-    (b : History m d Server (config_of_server s) server_units server_rest None server_answers server_end server_received server_sent)
+    (b : History (server_setup m d s) server_units server_rest None server_answers server_end server_received server_sent)
     (to_client : IsPrefix client_received server_sent) (to_server : IsPrefix server_received client_sent) where
   abbrev cp : Partner
   cp = client_partner m d c s w

@@ -19,7 +19,7 @@ use Rattle.sshcore.specs.Directions.{keys_in, keys_out, others_of, parsers, payl
 use Rattle.sshcore.specs.EndData.{EndData}
 use Rattle.sshcore.specs.Exchange.{exchange_at, keys_at}
 use Rattle.sshcore.specs.History.{AllFit, FitsPacket, History, IsReady}
-use Rattle.sshcore.specs.EndpointParts.{ConfigData, DecisionsData}
+use Rattle.sshcore.specs.EndpointParts.{ConfigData, DecisionsData, setup_with}
 use Rattle.sshcore.proofs.StreamLemmas.{exchange_stays, keys_stay, strict_stays}
 use Rattle.sshworld.specs.Laws.{Laws}
 use Rattle.sshworld.specs.Links.{CanBeReceived}
@@ -179,11 +179,11 @@ module _ (m : SuiteData) (role peer : Side) (own their : ConfigData) (ours their
 
 -- a speaker with a history stands in its course
 pub speaks_by : (m : SuiteData) (d : DecisionsData) (peer : Side) (own their : ConfigData) (ours theirs units answers : Units) (rest h s : List ℕ) (refusal : Option Refusal) (end : EndData)
-    → History m d peer their units rest refusal answers end h s → IsPrefix units (own.version ∷ ours) → IsPrefix answers theirs → SpeaksInCourse peer own their ours theirs units answers
+    → History (setup_with m d peer their) units rest refusal answers end h s → IsPrefix units (own.version ∷ ours) → IsPrefix answers theirs → SpeaksInCourse peer own their ours theirs units answers
 speaks_by m d peer own their ours theirs units answers rest h s refusal end a f g = record { received = f; sent = g; fits = a.fits; keyed = a.keyed }
 
 module _ (laws : Laws) (m : SuiteData) (d : DecisionsData) (lawful : IsLawful m) (role peer : Side) (own their : ConfigData) (ours theirs : Units) (can : CanBeReceived m role peer own their ours theirs)
-    (units answers : Units) (rest h s : List ℕ) (refusal : Option Refusal) (end : EndData) (a : History m d peer their units rest refusal answers end h s)
+    (units answers : Units) (rest h s : List ℕ) (refusal : Option Refusal) (end : EndData) (a : History (setup_with m d peer their) units rest refusal answers end h s)
     (f : IsPrefix units (own.version ∷ ours)) (g : IsPrefix answers theirs) where
   spelled_so : EachPlace (Spelled (parsers m role own) (spells m peer their units)) [] (their.version ∷ answers)
   spelled_so = all_spelled m role peer own their ours theirs can units answers (speaks_by m d peer own their ours theirs units answers rest h s refusal end a f g) laws lawful

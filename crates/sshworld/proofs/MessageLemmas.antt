@@ -32,7 +32,7 @@ use Rattle.sshcore.specs.ConfigParts.{AttemptData, ByKey, ClientData, ServerData
 use Rattle.sshcore.specs.EndData.{Authenticated, Closed, fails, goes}
 use Rattle.sshcore.specs.Exchange.{answer_or, answer_with, chosen_or, exchange_with, shares_by}
 use Rattle.sshcore.specs.Known.{Known}
-use Rattle.sshcore.specs.EndpointParts.{ConfigData, DecisionsData, config_of_client, config_of_server}
+use Rattle.sshcore.specs.EndpointParts.{ConfigData, DecisionsData, Setup, client_setup, config_of_client, config_of_server, server_setup}
 use Rattle.sshcore.specs.Phases.{leaving}
 use Rattle.sshcore.specs.Plan.{is_waiting, next_after}
 use Rattle.sshcore.specs.Reached.{ReachedData, nothing_reached, reached_after_one}
@@ -107,18 +107,18 @@ init_begins Hybrid e = refl
 pub init_kind : (m : SuiteData) (own : ConfigData) (kex : List ℕ) → kind (init_for m own kex) ≡ 30
 init_kind m own kex = init_begins (m.share_form kex) (m.share kex own.random)
 
-work_init : (m : SuiteData) (d : DecisionsData) (role : Side) (party : ConfigData) (x : Known) (f : ShareForm) (e : List ℕ) → work m d role party x (init_in f e) ≡ init_reply m role party x (init_in f e)
+work_init : (setup : Setup) (x : Known) (f : ShareForm) (e : List ℕ) → work setup x (init_in f e) ≡ init_reply setup.suite setup.role setup.config x (init_in f e)
 unfolding work
-work_init m d role party x Mpint e = refl
-work_init m d role party x OctetString e = refl
-work_init m d role party x Hybrid e = refl
+work_init setup x Mpint e = refl
+work_init setup x OctetString e = refl
+work_init setup x Hybrid e = refl
 
-work_reply : (m : SuiteData) (d : DecisionsData) (role : Side) (party : ConfigData) (x : Known) (f : ShareForm) (k e sign : List ℕ)
-    → work m d role party x (reply_in f k e sign) ≡ reply_reply m d role party x (reply_in f k e sign) sign
+work_reply : (setup : Setup) (x : Known) (f : ShareForm) (k e sign : List ℕ)
+    → work setup x (reply_in f k e sign) ≡ reply_reply setup x (reply_in f k e sign) sign
 unfolding work
-work_reply m d role party x Mpint k e sign = refl
-work_reply m d role party x OctetString k e sign = refl
-work_reply m d role party x Hybrid k e sign = refl
+work_reply setup x Mpint k e sign = refl
+work_reply setup x OctetString k e sign = refl
+work_reply setup x Hybrid k e sign = refl
 
 init_answer : (m : SuiteData) (role : Side) (party : ConfigData) (a : AlgorithmsData) (f : ShareForm) (e : List ℕ) → answer_with m role party a (Ok (init_in f e)) ≡ answer_by role m a.kex party.random e
 init_answer m role party a Mpint e = refl
@@ -172,30 +172,30 @@ stays_51 : LeavesNone Client 51
 stays_51 = record { kexinit = refl; exchange = refl; newkeys = refl; service = refl }
 
 -- any role
-module _ (m : SuiteData) (d : DecisionsData) (role : Side) (own : ConfigData) (version : List ℕ) where
-  pub closed : (before : Units) (p : Phase) (guess : Bool) (x : Known) (reason : ℕ) → IsClosing reason → Sits m d role own version before p guess x
-      → reply_at m d role own version before (written_message (Disconnect reason [] [])) ≡ record { answers = []; end = Closed reason }
+module _ (setup : Setup) (version : List ℕ) where
+  pub closed : (before : Units) (p : Phase) (guess : Bool) (x : Known) (reason : ℕ) → IsClosing reason → Sits setup version before p guess x
+      → reply_at setup version before (written_message (Disconnect reason [] [])) ≡ record { answers = []; end = Closed reason }
   unfolding work
   closed before p guess x reason h s =
-      reads m d role own version before (written_message (Disconnect reason [] [])) p guess x (Disconnect reason [] []) s (h x.shares) (closing_line _ role p x.strict guess)
+      reads setup version before (written_message (Disconnect reason [] [])) p guess x (Disconnect reason [] []) s (h x.shares) (closing_line _ setup.role p x.strict guess)
 
-  pub switched : (before : Units) (x : Known) → Sits m d role own version before phase.NewKeys false x → reply_at m d role own version before (written_message NewKeys) ≡ goes []
+  pub switched : (before : Units) (x : Known) → Sits setup version before phase.NewKeys false x → reply_at setup version before (written_message NewKeys) ≡ goes []
   unfolding work
-  switched before x s = reads m d role own version before (written_message NewKeys) phase.NewKeys false x NewKeys s (new_keys_read x.shares) (leaving_line _ role phase.NewKeys x.strict)
+  switched before x s = reads setup version before (written_message NewKeys) phase.NewKeys false x NewKeys s (new_keys_read x.shares) (leaving_line _ setup.role phase.NewKeys x.strict)
 
-  pub switches : (before : Units) (x : Known) → Sits m d role own version before phase.NewKeys false x → Sits m d role own version (before ++ written_message NewKeys ∷ []) phase.Service false (record x { first = false })
-  switches before x s = goes_leaving m d role own version before (written_message NewKeys) phase.NewKeys x NewKeys s refl (new_keys_read Mpint) refl
+  pub switches : (before : Units) (x : Known) → Sits setup version before phase.NewKeys false x → Sits setup version (before ++ written_message NewKeys ∷ []) phase.Service false (record x { first = false })
+  switches before x s = goes_leaving setup version before (written_message NewKeys) phase.NewKeys x NewKeys s refl (new_keys_read Mpint) refl
 
 -- the client
 module _ (m : SuiteData) (d : DecisionsData) (c : ClientData) (s : ServerData) (understood : AreUnderstood m d c s) (sound : AreSound c s) (offers : AreOffersRead c s) where
   -- the first message: the choice
-  pub client_first : reply_at m d Client (config_of_client c) (version_of s.side) [] (written_message (KexInit (server_offer s)))
+  pub client_first : reply_at (client_setup m d c) (version_of s.side) [] (written_message (KexInit (server_offer s)))
       ≡ chosen_reply m Client (config_of_client c) (server_offer s) (choice m (client_offer c) (server_offer s))
-  client_first = replies_first m d Client (config_of_client c) (version_of s.side) (written_message (KexInit (server_offer s))) (server_offer s) (offers.server Mpint)
+  client_first = replies_first (client_setup m d c) (version_of s.side) (written_message (KexInit (server_offer s))) (server_offer s) (offers.server Mpint)
 
-  pub server_first : reply_at m d Server (config_of_server s) (version_of c.side) [] (written_message (KexInit (client_offer c)))
+  pub server_first : reply_at (server_setup m d s) (version_of c.side) [] (written_message (KexInit (client_offer c)))
       ≡ chosen_reply m Server (config_of_server s) (client_offer c) (choice m (client_offer c) (server_offer s))
-  server_first = replies_first m d Server (config_of_server s) (version_of c.side) (written_message (KexInit (client_offer c))) (client_offer c) (offers.client Mpint)
+  server_first = replies_first (server_setup m d s) (version_of c.side) (written_message (KexInit (client_offer c))) (client_offer c) (offers.client Mpint)
 
   module _ (a : AlgorithmsData) (chosen : choice m (client_offer c) (server_offer s) ≡ Ok a) (readable : IsRead m d c s a) where
     -- the client
@@ -216,10 +216,10 @@ module _ (m : SuiteData) (d : DecisionsData) (c : ClientData) (s : ServerData) (
     abbrev pub client_view : List ℕ → List AttemptData → Known
     client_view session left = client_known (Ok a) session left
 
-    pub client_begins : Sits m d Client (config_of_client c) (version_of s.side) (written_message (KexInit (server_offer s)) ∷ []) phase.Exchange false (client_view [] c.plan)
+    pub client_begins : Sits (client_setup m d c) (version_of s.side) (written_message (KexInit (server_offer s)) ∷ []) phase.Exchange false (client_view [] c.plan)
     client_begins =
-        subst (λ (r : Result AlgorithmsData NoCommon). Sits m d Client (config_of_client c) (version_of s.side) (written_message (KexInit (server_offer s)) ∷ []) phase.Exchange false (client_known r [] c.plan))
-        chosen (begins m d Client (config_of_client c) (version_of s.side) (written_message (KexInit (server_offer s))) (server_offer s) (offers.server Mpint))
+        subst (λ (r : Result AlgorithmsData NoCommon). Sits (client_setup m d c) (version_of s.side) (written_message (KexInit (server_offer s)) ∷ []) phase.Exchange false (client_known r [] c.plan))
+        chosen (begins (client_setup m d c) (version_of s.side) (written_message (KexInit (server_offer s))) (server_offer s) (offers.server Mpint))
 
     abbrev pub reply_payload : List ℕ
     reply_payload = reply_of_server m c s a
@@ -245,11 +245,11 @@ module _ (m : SuiteData) (d : DecisionsData) (c : ClientData) (s : ServerData) (
     client_same OctetString = ap (λ (o : Option ResponseData). record (exchange_between m c s a) { server_share = (answer_or o).share; shared = (answer_or o).shared }) client_answer
     client_same Hybrid = ap (λ (o : Option ResponseData). record (exchange_between m c s a) { server_share = (answer_or o).share; shared = (answer_or o).shared }) client_answer
 
-    pub client_exchanges : Sits m d Client (config_of_client c) (version_of s.side) (written_message (KexInit (server_offer s)) ∷ reply_payload ∷ []) phase.NewKeys false (client_view (session_between m c s a) c.plan)
+    pub client_exchanges : Sits (client_setup m d c) (version_of s.side) (written_message (KexInit (server_offer s)) ∷ reply_payload ∷ []) phase.NewKeys false (client_view (session_between m c s a) c.plan)
     unfolding session_between
     client_exchanges =
-        subst (λ (x : ExchangeData). Sits m d Client (config_of_client c) (version_of s.side) (written_message (KexInit (server_offer s)) ∷ reply_payload ∷ []) phase.NewKeys false (client_view (exchange_hash m a.kex x) c.plan))
-        (client_same (m.share_form a.kex)) (goes_exchanged m d Client (config_of_client c) (version_of s.side) (written_message (KexInit (server_offer s)) ∷ []) reply_payload (client_view [] c.plan) reply_content
+        subst (λ (x : ExchangeData). Sits (client_setup m d c) (version_of s.side) (written_message (KexInit (server_offer s)) ∷ reply_payload ∷ []) phase.NewKeys false (client_view (exchange_hash m a.kex x) c.plan))
+        (client_same (m.share_form a.kex)) (goes_exchanged (client_setup m d c) (version_of s.side) (written_message (KexInit (server_offer s)) ∷ []) reply_payload (client_view [] c.plan) reply_content
         client_begins readable.reply (reply_number (m.share_form a.kex) (host_key_of_server m s a.host_key) (answer_of_server m c s a.kex).share (signature_of_server m c s a)))
 
     pub reply_begun : kind reply_payload ≡ 31
@@ -259,21 +259,21 @@ module _ (m : SuiteData) (d : DecisionsData) (c : ClientData) (s : ServerData) (
     client_hashed = ap (λ r. exchange_with m Client (config_of_client c) a (version_of s.side) (written_message (KexInit (server_offer s))) r) readable.reply ∙ client_same (m.share_form a.kex)
 
     -- what a KEXDH_REPLY is answered
-    client_replied : reply_at m d Client (config_of_client c) (version_of s.side) (written_message (KexInit (server_offer s)) ∷ []) reply_payload
+    client_replied : reply_at (client_setup m d c) (version_of s.side) (written_message (KexInit (server_offer s)) ∷ []) reply_payload
         ≡ trusted_by m d (client_view [] c.plan) (exchange_between m c s a) (signature_of_server m c s a) (Some (answer_of_server m c s a.kex))
     unfolding reply_reply
     client_replied =
-        reads m d Client (config_of_client c) (version_of s.side) (written_message (KexInit (server_offer s)) ∷ []) reply_payload phase.Exchange false (client_view [] c.plan) reply_content
+        reads (client_setup m d c) (version_of s.side) (written_message (KexInit (server_offer s)) ∷ []) reply_payload phase.Exchange false (client_view [] c.plan) reply_content
         client_begins readable.reply
         (ap (λ (n : ℕ). line_by Client phase.Exchange (client_view [] c.plan).strict false (is_waiting (client_view [] c.plan).left) n) (reply_number (m.share_form a.kex) (host_key_of_server m s a.host_key) (answer_of_server m c s a.kex).share (signature_of_server m c s a))
         ∙ leaving_line _ Client phase.Exchange (client_view [] c.plan).strict)
-        ∙ work_reply m d Client (config_of_client c) (client_view [] c.plan) (m.share_form a.kex) (host_key_of_server m s a.host_key) (answer_of_server m c s a.kex).share (signature_of_server m c s a)
+        ∙ work_reply (client_setup m d c) (client_view [] c.plan) (m.share_form a.kex) (host_key_of_server m s a.host_key) (answer_of_server m c s a.kex).share (signature_of_server m c s a)
         ∙ ap (λ (x : ExchangeData). trusted_by m d (client_view [] c.plan) x (signature_of_server m c s a) (answer_with m Client (config_of_client c) a (Ok reply_content))) (client_same (m.share_form a.kex))
         ∙ ap (λ (o : Option ResponseData). trusted_by m d (client_view [] c.plan) (exchange_between m c s a) (signature_of_server m c s a) o)
         (reply_answer m Client (config_of_client c) a (m.share_form a.kex) (host_key_of_server m s a.host_key) (answer_of_server m c s a.kex).share (signature_of_server m c s a) ∙ client_answer)
 
     pub client_trusts : d.host_key a.host_key (host_key_of_server m s a.host_key) ≡ true
-        → reply_at m d Client (config_of_client c) (version_of s.side) (written_message (KexInit (server_offer s)) ∷ []) reply_payload ≡ goes (written_message NewKeys ∷ written_message (ServiceRequest userauth) ∷ [])
+        → reply_at (client_setup m d c) (version_of s.side) (written_message (KexInit (server_offer s)) ∷ []) reply_payload ≡ goes (written_message NewKeys ∷ written_message (ServiceRequest userauth) ∷ [])
     unfolding session_between
     client_trusts decided_yes =
         client_replied
@@ -281,7 +281,7 @@ module _ (m : SuiteData) (d : DecisionsData) (c : ClientData) (s : ServerData) (
         ∙ ap (λ (b : Bool). if b then goes (written_message NewKeys ∷ written_message (ServiceRequest userauth) ∷ []) else fails fault.Signature) (understood.host_key a chosen decided_yes (session_between m c s a))
 
     pub client_refuses : d.host_key a.host_key (host_key_of_server m s a.host_key) ≡ false
-        → reply_at m d Client (config_of_client c) (version_of s.side) (written_message (KexInit (server_offer s)) ∷ []) reply_payload ≡ fails fault.HostKey
+        → reply_at (client_setup m d c) (version_of s.side) (written_message (KexInit (server_offer s)) ∷ []) reply_payload ≡ fails fault.HostKey
     client_refuses decided_no =
         client_replied
         ∙ ap (λ (b : Bool). if b then signed_by m (client_view [] c.plan) (exchange_between m c s a) (signature_of_server m c s a) (Some (answer_of_server m c s a.kex)) else fails fault.HostKey) decided_no
@@ -304,10 +304,10 @@ module _ (m : SuiteData) (d : DecisionsData) (c : ClientData) (s : ServerData) (
     abbrev pub server_view : List ℕ → ℕ → ReachedData → Known
     server_view session request reached = server_known (Ok a) session request reached
 
-    pub server_begins : Sits m d Server (config_of_server s) (version_of c.side) (written_message (KexInit (client_offer c)) ∷ []) phase.Exchange (c.guess && not (is_right_guess (client_offer c) (server_offer s))) (server_view [] 1 nothing_reached)
+    pub server_begins : Sits (server_setup m d s) (version_of c.side) (written_message (KexInit (client_offer c)) ∷ []) phase.Exchange (c.guess && not (is_right_guess (client_offer c) (server_offer s))) (server_view [] 1 nothing_reached)
     server_begins =
-        subst (λ (r : Result AlgorithmsData NoCommon). Sits m d Server (config_of_server s) (version_of c.side) (written_message (KexInit (client_offer c)) ∷ []) phase.Exchange (c.guess && not (is_right_guess (client_offer c) (server_offer s))) (server_known r [] 1 nothing_reached))
-        chosen (begins m d Server (config_of_server s) (version_of c.side) (written_message (KexInit (client_offer c))) (client_offer c) (offers.client Mpint))
+        subst (λ (r : Result AlgorithmsData NoCommon). Sits (server_setup m d s) (version_of c.side) (written_message (KexInit (client_offer c)) ∷ []) phase.Exchange (c.guess && not (is_right_guess (client_offer c) (server_offer s))) (server_known r [] 1 nothing_reached))
+        chosen (begins (server_setup m d s) (version_of c.side) (written_message (KexInit (client_offer c))) (client_offer c) (offers.client Mpint))
 
     abbrev pub init_payload : List ℕ
     init_payload = init_for m (config_of_client c) a.kex
@@ -318,12 +318,12 @@ module _ (m : SuiteData) (d : DecisionsData) (c : ClientData) (s : ServerData) (
     server_same OctetString = refl
     server_same Hybrid = refl
 
-    pub server_exchanges : (before : Units) → Sits m d Server (config_of_server s) (version_of c.side) before phase.Exchange false (server_view [] 1 nothing_reached)
-        → Sits m d Server (config_of_server s) (version_of c.side) (before ++ init_payload ∷ []) phase.NewKeys false (server_view (session_between m c s a) 1 nothing_reached)
+    pub server_exchanges : (before : Units) → Sits (server_setup m d s) (version_of c.side) before phase.Exchange false (server_view [] 1 nothing_reached)
+        → Sits (server_setup m d s) (version_of c.side) (before ++ init_payload ∷ []) phase.NewKeys false (server_view (session_between m c s a) 1 nothing_reached)
     unfolding session_between
     server_exchanges before sits =
-        subst (λ (x : ExchangeData). Sits m d Server (config_of_server s) (version_of c.side) (before ++ init_payload ∷ []) phase.NewKeys false (server_view (exchange_hash m a.kex x) 1 nothing_reached)) (server_same (m.share_form a.kex))
-        (goes_exchanged m d Server (config_of_server s) (version_of c.side) before init_payload (server_view [] 1 nothing_reached) (init_in (m.share_form a.kex) (m.share a.kex c.side.random)) sits readable.init (init_number (m.share_form a.kex) (m.share a.kex c.side.random)))
+        subst (λ (x : ExchangeData). Sits (server_setup m d s) (version_of c.side) (before ++ init_payload ∷ []) phase.NewKeys false (server_view (exchange_hash m a.kex x) 1 nothing_reached)) (server_same (m.share_form a.kex))
+        (goes_exchanged (server_setup m d s) (version_of c.side) before init_payload (server_view [] 1 nothing_reached) (init_in (m.share_form a.kex) (m.share a.kex c.side.random)) sits readable.init (init_number (m.share_form a.kex) (m.share a.kex c.side.random)))
 
     pub init_begun : kind init_payload ≡ 30
     init_begun = init_kind m (config_of_client c) a.kex
@@ -331,103 +331,103 @@ module _ (m : SuiteData) (d : DecisionsData) (c : ClientData) (s : ServerData) (
     pub server_hashed : exchange_received m Server (config_of_server s) (server_view [] 1 nothing_reached) init_payload ≡ exchange_between m c s a
     server_hashed = ap (λ r. exchange_with m Server (config_of_server s) a (version_of c.side) (written_message (KexInit (client_offer c))) r) readable.init ∙ server_same (m.share_form a.kex)
 
-    pub server_answers : (before : Units) → Sits m d Server (config_of_server s) (version_of c.side) before phase.Exchange false (server_view [] 1 nothing_reached)
-        → reply_at m d Server (config_of_server s) (version_of c.side) before init_payload ≡ goes (reply_payload ∷ written_message NewKeys ∷ [])
+    pub server_answers : (before : Units) → Sits (server_setup m d s) (version_of c.side) before phase.Exchange false (server_view [] 1 nothing_reached)
+        → reply_at (server_setup m d s) (version_of c.side) before init_payload ≡ goes (reply_payload ∷ written_message NewKeys ∷ [])
     unfolding init_reply session_between
     server_answers before sits =
-        reads m d Server (config_of_server s) (version_of c.side) before init_payload phase.Exchange false (server_view [] 1 nothing_reached) (init_in (m.share_form a.kex) (m.share a.kex c.side.random)) sits readable.init
+        reads (server_setup m d s) (version_of c.side) before init_payload phase.Exchange false (server_view [] 1 nothing_reached) (init_in (m.share_form a.kex) (m.share a.kex c.side.random)) sits readable.init
         (ap (λ (n : ℕ). line_by Server phase.Exchange (server_view [] 1 nothing_reached).strict false (is_waiting (server_view [] 1 nothing_reached).left) n) (init_number (m.share_form a.kex) (m.share a.kex c.side.random)) ∙ leaving_line _ Server phase.Exchange (server_view [] 1 nothing_reached).strict)
-        ∙ work_init m d Server (config_of_server s) (server_view [] 1 nothing_reached) (m.share_form a.kex) (m.share a.kex c.side.random)
+        ∙ work_init (server_setup m d s) (server_view [] 1 nothing_reached) (m.share_form a.kex) (m.share a.kex c.side.random)
         ∙ ap (λ (x : ExchangeData). answered_by m (config_of_server s) (server_view [] 1 nothing_reached) x (answer_with m Server (config_of_server s) a (Ok (init_in (m.share_form a.kex) (m.share a.kex c.side.random))))) (server_same (m.share_form a.kex))
         ∙ ap (λ (o : Option ResponseData). answered_by m (config_of_server s) (server_view [] 1 nothing_reached) (exchange_between m c s a) o) (init_answer m Server (config_of_server s) a (m.share_form a.kex) (m.share a.kex c.side.random) ∙ responded)
 
     -- a wrong guess
-    pub server_drops : (payload : List ℕ) → kind payload ≡ 30 → (before : Units) → Sits m d Server (config_of_server s) (version_of c.side) before phase.Exchange true (server_view [] 1 nothing_reached)
-        → (reply_at m d Server (config_of_server s) (version_of c.side) before payload ≡ goes []) × Sits m d Server (config_of_server s) (version_of c.side) (before ++ payload ∷ []) phase.Exchange false (server_view [] 1 nothing_reached)
+    pub server_drops : (payload : List ℕ) → kind payload ≡ 30 → (before : Units) → Sits (server_setup m d s) (version_of c.side) before phase.Exchange true (server_view [] 1 nothing_reached)
+        → (reply_at (server_setup m d s) (version_of c.side) before payload ≡ goes []) × Sits (server_setup m d s) (version_of c.side) (before ++ payload ∷ []) phase.Exchange false (server_view [] 1 nothing_reached)
     server_drops payload is before sits = (
-      drops m d Server (config_of_server s) (version_of c.side) before payload phase.Exchange true (server_view [] 1 nothing_reached) sits (ap (λ (n : ℕ). line_by Server phase.Exchange (server_view [] 1 nothing_reached).strict true (is_waiting (server_view [] 1 nothing_reached).left) n) is ∙ drops_line _ (server_view [] 1 nothing_reached).strict),
-      goes_dropped m d Server (config_of_server s) (version_of c.side) before payload phase.Exchange (server_view [] 1 nothing_reached) sits (ap (λ (n : ℕ). n == 1) is),
+      drops (server_setup m d s) (version_of c.side) before payload phase.Exchange true (server_view [] 1 nothing_reached) sits (ap (λ (n : ℕ). line_by Server phase.Exchange (server_view [] 1 nothing_reached).strict true (is_waiting (server_view [] 1 nothing_reached).left) n) is ∙ drops_line _ (server_view [] 1 nothing_reached).strict),
+      goes_dropped (server_setup m d s) (version_of c.side) before payload phase.Exchange (server_view [] 1 nothing_reached) sits (ap (λ (n : ℕ). n == 1) is),
     )
 
     -- AUTHENTICATION: the client
-    pub client_accepted : (before : Units) (session : List ℕ) (plan : List AttemptData) → Sits m d Client (config_of_client c) (version_of s.side) before phase.Service false (client_view session plan)
-        → (reply_at m d Client (config_of_client c) (version_of s.side) before (written_message (ServiceAccept userauth)) ≡ attempt_reply m session plan)
-        × Sits m d Client (config_of_client c) (version_of s.side) (before ++ written_message (ServiceAccept userauth) ∷ []) phase.Auth false (client_view session plan)
+    pub client_accepted : (before : Units) (session : List ℕ) (plan : List AttemptData) → Sits (client_setup m d c) (version_of s.side) before phase.Service false (client_view session plan)
+        → (reply_at (client_setup m d c) (version_of s.side) before (written_message (ServiceAccept userauth)) ≡ attempt_reply m session plan)
+        × Sits (client_setup m d c) (version_of s.side) (before ++ written_message (ServiceAccept userauth) ∷ []) phase.Auth false (client_view session plan)
     unfolding work
     client_accepted before session plan sits = (
-      reads m d Client (config_of_client c) (version_of s.side) before (written_message (ServiceAccept userauth)) phase.Service false (client_view session plan) (ServiceAccept userauth) sits (accept_read (m.share_form a.kex))
+      reads (client_setup m d c) (version_of s.side) before (written_message (ServiceAccept userauth)) phase.Service false (client_view session plan) (ServiceAccept userauth) sits (accept_read (m.share_form a.kex))
           (leaving_line _ Client phase.Service (client_view session plan).strict),
-      goes_leaving m d Client (config_of_client c) (version_of s.side) before (written_message (ServiceAccept userauth)) phase.Service (client_view session plan) (ServiceAccept userauth) sits refl (accept_read Mpint) refl,
+      goes_leaving (client_setup m d c) (version_of s.side) before (written_message (ServiceAccept userauth)) phase.Service (client_view session plan) (ServiceAccept userauth) sits refl (accept_read Mpint) refl,
     )
 
-    pub client_greeted : (before : Units) (session text : List ℕ) (plan : List AttemptData) → s.banner ≡ Some text → Sits m d Client (config_of_client c) (version_of s.side) before phase.Auth false (client_view session plan)
-        → (reply_at m d Client (config_of_client c) (version_of s.side) before (written_message (UserauthBanner text [])) ≡ goes [])
-        × Sits m d Client (config_of_client c) (version_of s.side) (before ++ written_message (UserauthBanner text []) ∷ []) phase.Auth false (client_view session plan)
+    pub client_greeted : (before : Units) (session text : List ℕ) (plan : List AttemptData) → s.banner ≡ Some text → Sits (client_setup m d c) (version_of s.side) before phase.Auth false (client_view session plan)
+        → (reply_at (client_setup m d c) (version_of s.side) before (written_message (UserauthBanner text [])) ≡ goes [])
+        × Sits (client_setup m d c) (version_of s.side) (before ++ written_message (UserauthBanner text []) ∷ []) phase.Auth false (client_view session plan)
     unfolding work
     client_greeted before session text plan has sits = (
-      reads m d Client (config_of_client c) (version_of s.side) before (written_message (UserauthBanner text [])) phase.Auth false (client_view session plan) (UserauthBanner text []) sits (readable.banner text has (m.share_form a.kex))
+      reads (client_setup m d c) (version_of s.side) before (written_message (UserauthBanner text [])) phase.Auth false (client_view session plan) (UserauthBanner text []) sits (readable.banner text has (m.share_form a.kex))
           (auth_line _ (client_view session plan).strict 53 (inr refl)),
-      goes_staying m d Client (config_of_client c) (version_of s.side) before (written_message (UserauthBanner text [])) phase.Auth (client_view session plan) (UserauthBanner text []) sits (readable.banner text has Mpint) stays_53,
+      goes_staying (client_setup m d c) (version_of s.side) before (written_message (UserauthBanner text [])) phase.Auth (client_view session plan) (UserauthBanner text []) sits (readable.banner text has Mpint) stays_53,
     )
 
     pub client_failed : (partial : Bool) → ReadsAgain (UserauthFailure s.methods partial) → (before : Units) (session : List ℕ) (plan : List AttemptData)
-        → Sits m d Client (config_of_client c) (version_of s.side) before phase.Auth false (client_view session plan)
-        → (reply_at m d Client (config_of_client c) (version_of s.side) before (written_message (UserauthFailure s.methods partial)) ≡ attempt_reply m session (next_after s.methods plan))
-        × Sits m d Client (config_of_client c) (version_of s.side) (before ++ written_message (UserauthFailure s.methods partial) ∷ []) phase.Auth false (client_view session (next_after s.methods plan))
+        → Sits (client_setup m d c) (version_of s.side) before phase.Auth false (client_view session plan)
+        → (reply_at (client_setup m d c) (version_of s.side) before (written_message (UserauthFailure s.methods partial)) ≡ attempt_reply m session (next_after s.methods plan))
+        × Sits (client_setup m d c) (version_of s.side) (before ++ written_message (UserauthFailure s.methods partial) ∷ []) phase.Auth false (client_view session (next_after s.methods plan))
     unfolding work
     client_failed partial read before session plan sits = (
-      reads m d Client (config_of_client c) (version_of s.side) before (written_message (UserauthFailure s.methods partial)) phase.Auth false (client_view session plan) (UserauthFailure s.methods partial) sits (read (m.share_form a.kex))
+      reads (client_setup m d c) (version_of s.side) before (written_message (UserauthFailure s.methods partial)) phase.Auth false (client_view session plan) (UserauthFailure s.methods partial) sits (read (m.share_form a.kex))
           (auth_line _ (client_view session plan).strict 51 (inl refl)),
-      goes_staying m d Client (config_of_client c) (version_of s.side) before (written_message (UserauthFailure s.methods partial)) phase.Auth (client_view session plan) (UserauthFailure s.methods partial) sits (read Mpint) stays_51,
+      goes_staying (client_setup m d c) (version_of s.side) before (written_message (UserauthFailure s.methods partial)) phase.Auth (client_view session plan) (UserauthFailure s.methods partial) sits (read Mpint) stays_51,
     )
 
     -- PK_OK to a query
     pub client_confirmed : (user service algorithm secret : List ℕ) (later : List AttemptData) → ReadsAgain (UserauthPkOk algorithm (m.blob algorithm secret)) → (before : Units) (session : List ℕ)
-        → Sits m d Client (config_of_client c) (version_of s.side) before phase.Auth false (client_view session (record { user = user; service = service; proving = ByKey algorithm secret true } ∷ later))
-        → (reply_at m d Client (config_of_client c) (version_of s.side) before (written_message (UserauthPkOk algorithm (m.blob algorithm secret)))
+        → Sits (client_setup m d c) (version_of s.side) before phase.Auth false (client_view session (record { user = user; service = service; proving = ByKey algorithm secret true } ∷ later))
+        → (reply_at (client_setup m d c) (version_of s.side) before (written_message (UserauthPkOk algorithm (m.blob algorithm secret)))
         ≡ attempt_reply m session (record { user = user; service = service; proving = ByKey algorithm secret false } ∷ later))
-        × Sits m d Client (config_of_client c) (version_of s.side) (before ++ written_message (UserauthPkOk algorithm (m.blob algorithm secret)) ∷ []) phase.Auth false
+        × Sits (client_setup m d c) (version_of s.side) (before ++ written_message (UserauthPkOk algorithm (m.blob algorithm secret)) ∷ []) phase.Auth false
         (client_view session (record { user = user; service = service; proving = ByKey algorithm secret false } ∷ later))
     unfolding work
     client_confirmed user service algorithm secret later read before session sits =
         let x : AttemptData = record { user = user; service = service; proving = ByKey algorithm secret true } in
         let y : AttemptData = record { user = user; service = service; proving = ByKey algorithm secret false } in (
-          reads m d Client (config_of_client c) (version_of s.side) before (written_message (UserauthPkOk algorithm (m.blob algorithm secret))) phase.Auth false (client_view session (x ∷ later)) (UserauthPkOk algorithm (m.blob algorithm secret)) sits (read (m.share_form a.kex))
+          reads (client_setup m d c) (version_of s.side) before (written_message (UserauthPkOk algorithm (m.blob algorithm secret))) phase.Auth false (client_view session (x ∷ later)) (UserauthPkOk algorithm (m.blob algorithm secret)) sits (read (m.share_form a.kex))
               (confirms_line (client_view session (x ∷ later)).strict)
               ∙ ap (λ (b : Bool). if b then goes (request_of m session y ∷ []) else fails (fault.Unexpected 60)) (and_from (bytes_eq algorithm algorithm) (bytes_eq (m.blob algorithm secret) (m.blob algorithm secret)) (bytes_self algorithm) (bytes_self (m.blob algorithm secret))),
-          goes_staying m d Client (config_of_client c) (version_of s.side) before (written_message (UserauthPkOk algorithm (m.blob algorithm secret))) phase.Auth (client_view session (x ∷ later)) (UserauthPkOk algorithm (m.blob algorithm secret)) sits (read Mpint) stays_60,
+          goes_staying (client_setup m d c) (version_of s.side) before (written_message (UserauthPkOk algorithm (m.blob algorithm secret))) phase.Auth (client_view session (x ∷ later)) (UserauthPkOk algorithm (m.blob algorithm secret)) sits (read Mpint) stays_60,
         )
 
-    pub client_succeeds : (before : Units) (session : List ℕ) (r : AttemptData) (later : List AttemptData) → Sits m d Client (config_of_client c) (version_of s.side) before phase.Auth false (client_view session (r ∷ later))
-        → reply_at m d Client (config_of_client c) (version_of s.side) before (written_message UserauthSuccess)
+    pub client_succeeds : (before : Units) (session : List ℕ) (r : AttemptData) (later : List AttemptData) → Sits (client_setup m d c) (version_of s.side) before phase.Auth false (client_view session (r ∷ later))
+        → reply_at (client_setup m d c) (version_of s.side) before (written_message UserauthSuccess)
         ≡ record { answers = []; end = Authenticated (record { algorithms = a; strict = is_strict c.side.strict Client (server_offer s); session = session; user = r.user; service = r.service }) }
     unfolding work
     client_succeeds before session r later sits =
-        reads m d Client (config_of_client c) (version_of s.side) before (written_message UserauthSuccess) phase.Auth false (client_view session (r ∷ later)) UserauthSuccess sits (success_read (m.share_form a.kex))
+        reads (client_setup m d c) (version_of s.side) before (written_message UserauthSuccess) phase.Auth false (client_view session (r ∷ later)) UserauthSuccess sits (success_read (m.share_form a.kex))
         (leaving_line _ Client phase.Auth (client_view session (r ∷ later)).strict)
 
     -- the server
-    pub server_accepts : (before : Units) (session : List ℕ) (n : ℕ) (g : ReachedData) → Sits m d Server (config_of_server s) (version_of c.side) before phase.Service false (server_view session n g)
-        → (reply_at m d Server (config_of_server s) (version_of c.side) before (written_message (ServiceRequest userauth)) ≡ goes (written_message (ServiceAccept userauth) ∷ banner_by s.banner))
-        × Sits m d Server (config_of_server s) (version_of c.side) (before ++ written_message (ServiceRequest userauth) ∷ []) phase.Auth false (server_view session n g)
+    pub server_accepts : (before : Units) (session : List ℕ) (n : ℕ) (g : ReachedData) → Sits (server_setup m d s) (version_of c.side) before phase.Service false (server_view session n g)
+        → (reply_at (server_setup m d s) (version_of c.side) before (written_message (ServiceRequest userauth)) ≡ goes (written_message (ServiceAccept userauth) ∷ banner_by s.banner))
+        × Sits (server_setup m d s) (version_of c.side) (before ++ written_message (ServiceRequest userauth) ∷ []) phase.Auth false (server_view session n g)
     unfolding work
     server_accepts before session n g sits = (
-      reads m d Server (config_of_server s) (version_of c.side) before (written_message (ServiceRequest userauth)) phase.Service false (server_view session n g) (ServiceRequest userauth) sits (service_read (m.share_form a.kex))
+      reads (server_setup m d s) (version_of c.side) before (written_message (ServiceRequest userauth)) phase.Service false (server_view session n g) (ServiceRequest userauth) sits (service_read (m.share_form a.kex))
           (leaving_line _ Server phase.Service (server_view session n g).strict),
-      goes_leaving m d Server (config_of_server s) (version_of c.side) before (written_message (ServiceRequest userauth)) phase.Service (server_view session n g) (ServiceRequest userauth) sits refl (service_read Mpint) refl,
+      goes_leaving (server_setup m d s) (version_of c.side) before (written_message (ServiceRequest userauth)) phase.Service (server_view session n g) (ServiceRequest userauth) sits refl (service_read Mpint) refl,
     )
 
     pub server_asked_for : (before : Units) (n i : ℕ) (g : ReachedData) (r : AttemptData) → slice_get (offered m d s c.plan) i ≡ Some r
-        → Sits m d Server (config_of_server s) (version_of c.side) before phase.Auth false (server_view (session_between m c s a) n g)
-        → (reply_at m d Server (config_of_server s) (version_of c.side) before (request_of m (session_between m c s a) r)
+        → Sits (server_setup m d s) (version_of c.side) before phase.Auth false (server_view (session_between m c s a) n g)
+        → (reply_at (server_setup m d s) (version_of c.side) before (request_of m (session_between m c s a) r)
         ≡ request_reply m d (config_of_server s) (server_view (session_between m c s a) n g) r.user r.service (method_by m (session_between m c s a) r.user r.service r.proving))
-        × Sits m d Server (config_of_server s) (version_of c.side) (before ++ request_of m (session_between m c s a) r ∷ []) phase.Auth false
+        × Sits (server_setup m d s) (version_of c.side) (before ++ request_of m (session_between m c s a) r ∷ []) phase.Auth false
         (server_view (session_between m c s a) (n + 1) (reached_after_one g (tried_with r.user r.service (method_by m (session_between m c s a) r.user r.service r.proving)
         (is_successful_at m d (config_of_server s) (session_between m c s a) n r.user r.service (method_by m (session_between m c s a) r.user r.service r.proving)))))
     unfolding work
     server_asked_for before n i g r at sits = (
-      reads m d Server (config_of_server s) (version_of c.side) before (request_of m (session_between m c s a) r) phase.Auth false (server_view (session_between m c s a) n g) (UserauthRequest r.user r.service (method_by m (session_between m c s a) r.user r.service r.proving))
+      reads (server_setup m d s) (version_of c.side) before (request_of m (session_between m c s a) r) phase.Auth false (server_view (session_between m c s a) n g) (UserauthRequest r.user r.service (method_by m (session_between m c s a) r.user r.service r.proving))
           sits (readable.requests i r at (m.share_form a.kex)) (leaving_line _ Server phase.Auth (server_view (session_between m c s a) n g).strict),
-      goes_leaving m d Server (config_of_server s) (version_of c.side) before (request_of m (session_between m c s a) r) phase.Auth (server_view (session_between m c s a) n g) (UserauthRequest r.user r.service (method_by m (session_between m c s a) r.user r.service r.proving))
+      goes_leaving (server_setup m d s) (version_of c.side) before (request_of m (session_between m c s a) r) phase.Auth (server_view (session_between m c s a) n g) (UserauthRequest r.user r.service (method_by m (session_between m c s a) r.user r.service r.proving))
           sits refl (readable.requests i r at Mpint) refl,
     )

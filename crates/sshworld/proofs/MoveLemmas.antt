@@ -16,8 +16,8 @@ use Rattle.sshworld.specs.Laws.{Laws}
 use Rattle.sshworld.specs.Nodes.{BrokenWith, Receives, Takes, node_data}
 use Rattle.sshworld.specs.WorldRounds.{Keeps, Moves}
 use Rattle.sshworld.specs.Worlds.{HadMemory, WorldData, waiting, waiting_at, waiting_for}
-use Rattle.sshworld.proofs.DeliveryLemmas.{StandAt, delivered, each_replies, either, none_ended, refused, same_then, seen_at, still}
-use Rattle.sshworld.proofs.WorldCourseLemmas.{ReceiveLaw, WorldAt, course_in, headline_in, received_world}
+use Rattle.sshworld.proofs.DeliveryLemmas.{StandAt, delivered, either, none_ended, refused, same_then, seen_at, still}
+use Rattle.sshworld.proofs.WorldCourseLemmas.{ReceiveLaw, WorldAt, holds_in, received_world}
 
 module _ {S D : Type 0} (meaning : S → SuiteData) (policy : D → DecisionsData) (client_config : ClientData) (server_config : ServerData) (suite : S) (decisions : D)
     (laws : Laws) (receive_law : ReceiveLaw) (lawful : IsLawful (meaning suite)) where
@@ -28,17 +28,13 @@ module _ {S D : Type 0} (meaning : S → SuiteData) (policy : D → DecisionsDat
       → Keeps meaning policy (seen_at meaning policy client_config server_config suite decisions to own their) (seen_at meaning policy client_config server_config suite decisions to next their)
   keeps_at Client own their next old new = record {
     setup = record { same_client_config = refl; same_server_config = refl; same_suite = refl; same_decisions = refl };
-    replies = each_replies meaning policy client_config server_config suite decisions next their new.nodes;
-    course = course_in meaning policy client_config server_config suite decisions laws receive_law lawful next their new;
-    headline = headline_in meaning policy client_config server_config suite decisions laws receive_law lawful next their new;
+    holds = holds_in meaning policy client_config server_config suite decisions laws receive_law lawful next their new;
     was_on = old.on_course;
     on_course = new.on_course;
   }
   keeps_at Server own their next old new = record {
     setup = record { same_client_config = refl; same_server_config = refl; same_suite = refl; same_decisions = refl };
-    replies = each_replies meaning policy client_config server_config suite decisions their next new.nodes;
-    course = course_in meaning policy client_config server_config suite decisions laws receive_law lawful their next new;
-    headline = headline_in meaning policy client_config server_config suite decisions laws receive_law lawful their next new;
+    holds = holds_in meaning policy client_config server_config suite decisions laws receive_law lawful their next new;
     was_on = old.on_course;
     on_course = new.on_course;
   }
@@ -101,4 +97,4 @@ module _ {S D : Type 0} (meaning : S → SuiteData) (policy : D → DecisionsDat
 -- two deliveries
 pub keeps_then : {S D : Type 0} (meaning : S → SuiteData) (policy : D → DecisionsData) (a b c : WorldData S D) → Keeps meaning policy a b → Keeps meaning policy b c → Keeps meaning policy a c
 keeps_then meaning policy a b c x y =
-    record { setup = same_then a b c x.setup y.setup; replies = y.replies; course = y.course; headline = y.headline; was_on = x.was_on; on_course = y.on_course }
+    record { setup = same_then a b c x.setup y.setup; holds = y.holds; was_on = x.was_on; on_course = y.on_course }

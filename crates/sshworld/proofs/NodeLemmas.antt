@@ -4,10 +4,10 @@ use Rattle.std.proofs.Common.{◌≡◌, ℕ, false, List, take, sym, subst}
 use Rattle.sshneg.specs.declared.side.Side.{Side}
 use Rattle.sshpacket.specs.Suite.{IsLawful, SuiteData}
 use Rattle.sshcore.specs.EndData.{by_owner}
-use Rattle.sshcore.specs.EndpointData.{EndpointData}
+use Rattle.sshcore.specs.EndpointData.{EndpointData, endpoint_setup}
 use Rattle.sshcore.specs.Endpoints.{EndpointAfter, endpoint_end}
 use Rattle.sshcore.specs.StateData.{state_data}
-use Rattle.sshcore.specs.EndpointParts.{ConfigData, DecisionsData}
+use Rattle.sshcore.specs.EndpointParts.{ConfigData, DecisionsData, setup_with}
 use Rattle.sshworld.specs.declared.node.Node.{Node}
 use Rattle.sshworld.specs.Partners.{BothOnCourse, HasHistory, NodeReplies, Partner, ReceivesCourse}
 use Rattle.sshworld.specs.Laws.{Laws}
@@ -18,16 +18,16 @@ use Rattle.sshworld.proofs.StandsLemmas.{sent_on}
 module _ {S D : Type 0} (meaning : S → SuiteData) (policy : D → DecisionsData) where
   -- an endpoint of this role, party, suite and decisions, as its history
   endpoint_history : (e : EndpointData S D) (role : Side) (party : ConfigData) (suite : S) (decisions : D) (h s : List ℕ) → e.role ≡ role → e.party ≡ party → e.suite ≡ suite → e.decisions ≡ decisions
-      → by_owner (endpoint_end e) ≡ false → EndpointAfter meaning policy e h s → HasHistory (meaning suite) (policy decisions) role party (endpoint_end e) h s
+      → by_owner (endpoint_end e) ≡ false → EndpointAfter meaning policy e h s → HasHistory (setup_with (meaning suite) (policy decisions) role party) (endpoint_end e) h s
   endpoint_history e role party suite decisions h s is_role is_config is_suite is_decisions whole a =
-      subst (λ (k : Side). HasHistory (meaning suite) (policy decisions) k party (endpoint_end e) h s) is_role
-      (subst (λ (k : ConfigData). HasHistory (meaning suite) (policy decisions) e.role k (endpoint_end e) h s) is_config
-      (subst (λ (k : S). HasHistory (meaning k) (policy decisions) e.role e.party (endpoint_end e) h s) is_suite
-      (subst (λ (k : D). HasHistory (meaning e.suite) (policy k) e.role e.party (endpoint_end e) h s) is_decisions
-      (from_standing (meaning e.suite) (policy e.decisions) e.role e.party (state_data e.state) e.input h s a whole))))
+      subst (λ (k : Side). HasHistory (setup_with (meaning suite) (policy decisions) k party) (endpoint_end e) h s) is_role
+      (subst (λ (k : ConfigData). HasHistory (setup_with (meaning suite) (policy decisions) e.role k) (endpoint_end e) h s) is_config
+      (subst (λ (k : S). HasHistory (setup_with (meaning k) (policy decisions) e.role e.party) (endpoint_end e) h s) is_suite
+      (subst (λ (k : D). HasHistory (setup_with (meaning e.suite) (policy k) e.role e.party) (endpoint_end e) h s) is_decisions
+      (from_standing (endpoint_setup meaning policy e) (state_data e.state) e.input h s a whole))))
 
   pub node_history : (role : Side) (party : ConfigData) (suite : S) (decisions : D) (node other_node : Node S D) → NodeStands meaning policy role party suite decisions node other_node.sent.items
-      → by_owner (endpoint_end node.endpoint) ≡ false → NodeReplies (meaning suite) (policy decisions) role party (node_data node) (node_data other_node)
+      → by_owner (endpoint_end node.endpoint) ≡ false → NodeReplies (setup_with (meaning suite) (policy decisions) role party) (node_data node) (node_data other_node)
   node_history role party suite decisions node other_node r whole = record {
     used_within = r.used_within;
     moved_within = r.moved_within;

@@ -2,13 +2,11 @@
 
 use Rattle.std.proofs.Common.{◌≡◌, ℕ, zero, suc, ◌+◌, ◌-◌, ◌<◌, ◌≤◌, ◌==◌, true, false, List, [], ◌∷◌, ◌++◌, length, refl, sym, ap, subst, ◌∙◌, arith, append_assoc, append-nil, length-append, eq-eqb}
 use Rattle.std.proofs.lemmas.Bool.{ne_eqb}
-use Rattle.sshneg.specs.declared.side.Side.{Side}
 use Rattle.sshpacket.specs.Places.{EachPlace, IsPrefix}
 use Rattle.sshpacket.specs.Stream.{Units}
-use Rattle.sshpacket.specs.Suite.{SuiteData}
 use Rattle.sshpacket.proofs.Places.{each-prefix, each-last}
 use Rattle.sshcore.specs.EndData.{EndData, Reply, goes}
-use Rattle.sshcore.specs.EndpointParts.{ConfigData, DecisionsData}
+use Rattle.sshcore.specs.EndpointParts.{Setup}
 use Rattle.sshcore.specs.Replies.{unit_reply}
 use Rattle.sshworld.specs.Course.{Part, answers_to, group_at, sent_after}
 use Rattle.sshworld.specs.Follows.{IsAsPart}
@@ -65,15 +63,15 @@ pub grows : (p : Part) (n : ℕ) → n ≤ p.receives → IsPrefix (sent_after p
 grows p n h = grows_to p n p.receives h
 
 -- an endpoint that replies so at a place is as its part has it there, where it goes on and where it ends
-module _ (m : SuiteData) (d : DecisionsData) (role : Side) (own : ConfigData) (p : Part) (before : Units) (unit : List ℕ) where
-  pub as_open : (answers : Units) → unit_reply m d role own before unit ≡ goes answers → p.group (length before) ≡ answers → suc (length before) < p.receives → IsAsPart m d role own p before unit
+module _ (setup : Setup) (p : Part) (before : Units) (unit : List ℕ) where
+  pub as_open : (answers : Units) → unit_reply setup before unit ≡ goes answers → p.group (length before) ≡ answers → suc (length before) < p.receives → IsAsPart setup p before unit
   as_open answers e g h = record {
     answer = ap (λ (r : Reply). r.answers) e ∙ sym g;
     end = ap (λ (r : Reply). r.end) e ∙ sym (let no_end : (suc (length before) == p.receives) ≡ false = ne_eqb (suc (length before)) p.receives (λ z. omega (arith, z, h)) in rw no_end refl);
   }
 
-  pub as_last : (answers : Units) (end : EndData) → unit_reply m d role own before unit ≡ record { answers = answers; end = end } → p.group (length before) ≡ answers
-      → suc (length before) ≡ p.receives → p.final ≡ end → IsAsPart m d role own p before unit
+  pub as_last : (answers : Units) (end : EndData) → unit_reply setup before unit ≡ record { answers = answers; end = end } → p.group (length before) ≡ answers
+      → suc (length before) ≡ p.receives → p.final ≡ end → IsAsPart setup p before unit
   as_last answers end e g h f = record {
     answer = ap (λ (r : Reply). r.answers) e ∙ sym g;
     end = ap (λ (r : Reply). r.end) e ∙ (sym f ∙ sym (let at_end : (suc (length before) == p.receives) ≡ true = eq-eqb (suc (length before)) p.receives h in rw at_end refl));

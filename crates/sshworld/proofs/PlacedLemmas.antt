@@ -25,7 +25,7 @@ use Rattle.sshcore.specs.EndData.{EndData}
 use Rattle.sshcore.specs.Exchange.{chosen_or}
 use Rattle.sshcore.specs.History.{IsReady}
 use Rattle.sshcore.specs.Known.{Known}
-use Rattle.sshcore.specs.EndpointParts.{ConfigData, DecisionsData, config_of_client, config_of_server}
+use Rattle.sshcore.specs.EndpointParts.{ConfigData, DecisionsData, config_of_client, config_of_server, setup_with}
 use Rattle.sshcore.specs.Phases.{leaving, past_exchange, past_kexinit}
 use Rattle.sshcore.specs.Standing.{Sits}
 use Rattle.sshcore.specs.Work.{guessed_method, init_for, reply_in}
@@ -77,7 +77,7 @@ module _ (role : Side) (own : ConfigData) where
     after_exchange (before ++ x ∷ []) xs (offered_push before x ∙ rw off refl) (stood_push role own.offer before x (leaving role phase.Exchange) ∙ rw on refl) (no_guess role own.offer before x off),
   )
 
-  sits_after : (m : SuiteData) (d : DecisionsData) (version : List ℕ) (before xs : Units) (p : Phase) (x : Known) → Sits m d role own version before p false x → past_exchange p ≡ true → past_kexinit p ≡ true → EachPlace (IsInPlace role own) before xs
+  sits_after : (m : SuiteData) (d : DecisionsData) (version : List ℕ) (before xs : Units) (p : Phase) (x : Known) → Sits (setup_with m d role own) version before p false x → past_exchange p ≡ true → past_kexinit p ≡ true → EachPlace (IsInPlace role own) before xs
   sits_after m d version before xs p x s past begun = after_exchange before xs (s.tied.offer ∙ begun) (s.tied.exchange ∙ past) s.due
 
 never : {P : Type 0} (b : Bool) → b ≡ false → b ≡ true → P

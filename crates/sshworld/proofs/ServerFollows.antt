@@ -15,7 +15,7 @@ use Rattle.sshcore.specs.declared.table.Phase.{Phase}
 use Rattle.sshcore.specs.declared.table.Phase.TheVariants as phase
 use Rattle.sshcore.specs.ConfigParts.{ClientData, ServerData, client_offer, server_offer, version_of}
 use Rattle.sshcore.specs.EndData.{Closed, EndData, Failed, goes}
-use Rattle.sshcore.specs.EndpointParts.{DecisionsData, config_of_client, config_of_server}
+use Rattle.sshcore.specs.EndpointParts.{DecisionsData, config_of_client, config_of_server, server_setup}
 use Rattle.sshcore.specs.Reached.{nothing_reached}
 use Rattle.sshcore.specs.Standing.{Sits}
 use Rattle.sshcore.specs.Work.{chosen_reply, guessed_method}
@@ -75,7 +75,7 @@ module _ (m : SuiteData) (d : DecisionsData) (c : ClientData) (s : ServerData) (
     v = verdict m d c s
 
     abbrev pub sits : Units → Phase → Bool → List ℕ → Type 0
-    sits before q due session = Sits m d Server (config_of_server s) (version_of c.side) before q due (server_view m d c s understood sound offers a chosen readable session 1 nothing_reached)
+    sits before q due session = Sits (server_setup m d s) (version_of c.side) before q due (server_view m d c s understood sound offers a chosen readable session 1 nothing_reached)
 
     pub begun : (b : Bool) → (c.guess && not (is_right_guess (client_offer c) (server_offer s))) ≡ b → sits (w.client_offer ∷ []) phase.Exchange b []
     begun b e = subst (λ (due : Bool). sits (w.client_offer ∷ []) phase.Exchange due []) e (server_begins m d c s understood sound offers a chosen readable)
@@ -86,25 +86,25 @@ module _ (m : SuiteData) (d : DecisionsData) (c : ClientData) (s : ServerData) (
       p = server_requests w guess v end
 
       abbrev Q : Units → List ℕ → Type 0
-      Q = IsAsPart m d Server (config_of_server s) p
+      Q = IsAsPart (server_setup m d s) p
 
       asked_tail : (pre : Units) → sits pre phase.Exchange false [] → length pre ≡ 1 + length (unanswered guess)
           → EachPlace Q (version_of c.side ∷ pre) (w.init ∷ w.new_keys ∷ w.service_request ∷ from (client_next w v) 0 (suc v.requests))
       asked_tail pre here at =
           let one = server_exchanges m d c s understood sound offers a chosen readable pre here in
-          let two = switches m d Server (config_of_server s) (version_of c.side) (pre ++ w.init ∷ []) _ one in
+          let two = switches (server_setup m d s) (version_of c.side) (pre ++ w.init ∷ []) _ one in
           let three = server_accepts m d c s understood sound offers a chosen readable ((pre ++ w.init ∷ []) ++ w.new_keys ∷ []) (session_between m c s a) 1 nothing_reached two in
           let l1 = length-append pre (w.init ∷ []) in
           let l2 = length-append (pre ++ w.init ∷ []) (w.new_keys ∷ []) in
           let l3 = length-append ((pre ++ w.init ∷ []) ++ w.new_keys ∷ []) (w.service_request ∷ []) in
           let made = counted_offered m d c s in (
-            as_open m d Server (config_of_server s) p (version_of c.side ∷ pre) w.init (w.reply ∷ w.new_keys ∷ []) (server_answers m d c s understood sound offers a chosen readable pre here)
+            as_open (server_setup m d s) p (version_of c.side ∷ pre) w.init (w.reply ∷ w.new_keys ∷ []) (server_answers m d c s understood sound offers a chosen readable pre here)
                 (ap (λ (n : ℕ). p.group n) (let e : suc (length pre) ≡ 2 + length (unanswered guess) = omega (arith, at) in e) ∙ group_0 w guess (server_next w v)) (omega (arith, at)),
             (
-              as_open m d Server (config_of_server s) p (version_of c.side ∷ (pre ++ w.init ∷ [])) w.new_keys [] (switched m d Server (config_of_server s) (version_of c.side) (pre ++ w.init ∷ []) _ one)
+              as_open (server_setup m d s) p (version_of c.side ∷ (pre ++ w.init ∷ [])) w.new_keys [] (switched (server_setup m d s) (version_of c.side) (pre ++ w.init ∷ []) _ one)
                   (ap (λ (n : ℕ). p.group n) (let e : suc (length (pre ++ w.init ∷ [])) ≡ 3 + length (unanswered guess) = omega (arith, at, l1) in e) ∙ group_1 w guess (server_next w v)) (omega (arith, at, l1)),
               (
-                as_open m d Server (config_of_server s) p (version_of c.side ∷ ((pre ++ w.init ∷ []) ++ w.new_keys ∷ [])) w.service_request (w.service_accept ∷ w.banner) three.0
+                as_open (server_setup m d s) p (version_of c.side ∷ ((pre ++ w.init ∷ []) ++ w.new_keys ∷ [])) w.service_request (w.service_accept ∷ w.banner) three.0
                     (ap (λ (n : ℕ). p.group n) (let e : suc (length ((pre ++ w.init ∷ []) ++ w.new_keys ∷ [])) ≡ 4 + length (unanswered guess) = omega (arith, at, l1, l2) in e) ∙ group_2 w guess (server_next w v)) (omega (arith, at, l1, l2, some_received v.how v.requests made.none_left)),
                 server_loop m d c s understood sound offers a chosen readable guess end final v.requests 0 (omega arith) made.most (((pre ++ w.init ∷ []) ++ w.new_keys ∷ []) ++ w.service_request ∷ []) three.1 (omega (arith, at, l1, l2, l3)),
               ),
@@ -112,28 +112,28 @@ module _ (m : SuiteData) (d : DecisionsData) (c : ClientData) (s : ServerData) (
           )
 
     asked_places : (end : EndData) → ((how : How) → (verdict m d c s).how ≡ how → end ≡ (ends_of_case (case_of_how m c s a how)).server) → (g r : Bool) → c.guess ≡ g → is_right_guess (client_offer c) (server_offer s) ≡ r
-        → EachPlace (IsAsPart m d Server (config_of_server s) (server_requests w (guess_by g r) v end)) [] (version_of c.side ∷ w.client_offer ∷ asks w v end (guess_by g r))
+        → EachPlace (IsAsPart (server_setup m d s) (server_requests w (guess_by g r) v end)) [] (version_of c.side ∷ w.client_offer ∷ asks w v end (guess_by g r))
     asked_places end final false r eg er = (
-      as_open m d Server (config_of_server s) (server_requests w NoGuess v end) [] (version_of c.side) [] refl refl (omega arith),
+      as_open (server_setup m d s) (server_requests w NoGuess v end) [] (version_of c.side) [] refl refl (omega arith),
       (
-        as_open m d Server (config_of_server s) (server_requests w NoGuess v end) (version_of c.side ∷ []) w.client_offer [] (server_first m d c s understood sound offers ∙ server_chose a chosen) refl (omega arith),
+        as_open (server_setup m d s) (server_requests w NoGuess v end) (version_of c.side ∷ []) w.client_offer [] (server_first m d c s understood sound offers ∙ server_chose a chosen) refl (omega arith),
         asked_tail NoGuess end final (w.client_offer ∷ []) (begun false (ap (λ (b : Bool). b && not (is_right_guess (client_offer c) (server_offer s))) eg)) refl,
       ),
     )
     asked_places end final true true eg er = (
-      as_open m d Server (config_of_server s) (server_requests w RightGuess v end) [] (version_of c.side) [] refl refl (omega arith),
+      as_open (server_setup m d s) (server_requests w RightGuess v end) [] (version_of c.side) [] refl refl (omega arith),
       (
-        as_open m d Server (config_of_server s) (server_requests w RightGuess v end) (version_of c.side ∷ []) w.client_offer [] (server_first m d c s understood sound offers ∙ server_chose a chosen) refl (omega arith),
+        as_open (server_setup m d s) (server_requests w RightGuess v end) (version_of c.side ∷ []) w.client_offer [] (server_first m d c s understood sound offers ∙ server_chose a chosen) refl (omega arith),
         asked_tail RightGuess end final (w.client_offer ∷ []) (begun false (ap (λ (b : Bool). b && not (is_right_guess (client_offer c) (server_offer s))) eg ∙ ap (λ (b : Bool). true && not b) er)) refl,
       ),
     )
     asked_places end final true false eg er =
         let drop = server_drops m d c s understood sound offers a chosen readable w.guess (init_kind m (config_of_client c) (guessed_method (config_of_client c))) (w.client_offer ∷ []) (begun true (ap (λ (b : Bool). b && not (is_right_guess (client_offer c) (server_offer s))) eg ∙ ap (λ (b : Bool). true && not b) er)) in (
-          as_open m d Server (config_of_server s) (server_requests w WrongGuess v end) [] (version_of c.side) [] refl refl (omega arith),
+          as_open (server_setup m d s) (server_requests w WrongGuess v end) [] (version_of c.side) [] refl refl (omega arith),
           (
-            as_open m d Server (config_of_server s) (server_requests w WrongGuess v end) (version_of c.side ∷ []) w.client_offer [] (server_first m d c s understood sound offers ∙ server_chose a chosen) refl (omega arith),
+            as_open (server_setup m d s) (server_requests w WrongGuess v end) (version_of c.side ∷ []) w.client_offer [] (server_first m d c s understood sound offers ∙ server_chose a chosen) refl (omega arith),
             (
-              as_open m d Server (config_of_server s) (server_requests w WrongGuess v end) (version_of c.side ∷ w.client_offer ∷ []) w.guess [] drop.0 refl (omega arith),
+              as_open (server_setup m d s) (server_requests w WrongGuess v end) (version_of c.side ∷ w.client_offer ∷ []) w.guess [] drop.0 refl (omega arith),
               asked_tail WrongGuess end final (w.client_offer ∷ w.guess ∷ []) drop.1 refl,
             ),
           ),
@@ -152,14 +152,14 @@ module _ (m : SuiteData) (d : DecisionsData) (c : ClientData) (s : ServerData) (
         )
 
     pub server_asked_follows : (end client_end : EndData) → ((how : How) → (verdict m d c s).how ≡ how → end ≡ (ends_of_case (case_of_how m c s a how)).server)
-        → FollowsPart m d Server (config_of_server s) (server_requests w (guess_by c.guess (is_right_guess (client_offer c) (server_offer s))) v end)
+        → FollowsPart (server_setup m d s) (server_requests w (guess_by c.guess (is_right_guess (client_offer c) (server_offer s))) v end)
         (units_of (config_of_client c) (client_requests w (guess_by c.guess (is_right_guess (client_offer c) (server_offer s))) v client_end))
     server_asked_follows end client_end final =
         let guess : Guess = guess_by c.guess (is_right_guess (client_offer c) (server_offer s)) in
         let received : Units = version_of c.side ∷ w.client_offer ∷ asks w v end (guess_by c.guess (is_right_guess (client_offer c) (server_offer s))) in
         record {
           making_is = refl;
-          places = at_each (IsAsPart m d Server (config_of_server s) (server_requests w (guess_by c.guess (is_right_guess (client_offer c) (server_offer s))) v end))
+          places = at_each (IsAsPart (server_setup m d s) (server_requests w (guess_by c.guess (is_right_guess (client_offer c) (server_offer s))) v end))
               (version_of c.side ∷ w.client_offer ∷ asks w v end (guess_by c.guess (is_right_guess (client_offer c) (server_offer s))))
               (units_of (config_of_client c) (client_requests w (guess_by c.guess (is_right_guess (client_offer c) (server_offer s))) v client_end)) _
               (omega (arith, asks_length end (guess_by c.guess (is_right_guess (client_offer c) (server_offer s)))))
@@ -173,15 +173,15 @@ module _ (m : SuiteData) (d : DecisionsData) (c : ClientData) (s : ServerData) (
       refused_part = server_no_trust w guess end
 
       refused_tail : (pre : Units) → sits pre phase.Exchange false [] → length pre ≡ 1 + length (unanswered guess)
-          → EachPlace (IsAsPart m d Server (config_of_server s) refused_part) (version_of c.side ∷ pre) (w.init ∷ w.disconnect 9 ∷ [])
+          → EachPlace (IsAsPart (server_setup m d s) refused_part) (version_of c.side ∷ pre) (w.init ∷ w.disconnect 9 ∷ [])
       refused_tail pre here at =
           let one = server_exchanges m d c s understood sound offers a chosen readable pre here in
           let l1 = length-append pre (w.init ∷ []) in (
-            as_open m d Server (config_of_server s) refused_part (version_of c.side ∷ pre) w.init (w.reply ∷ w.new_keys ∷ []) (server_answers m d c s understood sound offers a chosen readable pre here)
+            as_open (server_setup m d s) refused_part (version_of c.side ∷ pre) w.init (w.reply ∷ w.new_keys ∷ []) (server_answers m d c s understood sound offers a chosen readable pre here)
                 (ap (λ (n : ℕ). refused_part.group n) (let e : suc (length pre) ≡ 2 + length (unanswered guess) = omega (arith, at) in e) ∙ distrusted_0 w guess) (omega (arith, at)),
             (
-              as_last m d Server (config_of_server s) refused_part (version_of c.side ∷ (pre ++ w.init ∷ [])) (w.disconnect 9) [] (Closed 9)
-                  (closed m d Server (config_of_server s) (version_of c.side) (pre ++ w.init ∷ []) phase.NewKeys false _ 9 nine_read one)
+              as_last (server_setup m d s) refused_part (version_of c.side ∷ (pre ++ w.init ∷ [])) (w.disconnect 9) [] (Closed 9)
+                  (closed (server_setup m d s) (version_of c.side) (pre ++ w.init ∷ []) phase.NewKeys false _ 9 nine_read one)
                   (ap (λ (n : ℕ). refused_part.group n) (let e : suc (length (pre ++ w.init ∷ [])) ≡ 3 + length (unanswered guess) = omega (arith, at, l1) in e) ∙ distrusted_1 w guess)
                   (omega (arith, at, l1)) final,
               tt,
@@ -189,41 +189,41 @@ module _ (m : SuiteData) (d : DecisionsData) (c : ClientData) (s : ServerData) (
           )
 
     refused_places : (end : EndData) → end ≡ Closed 9 → (g r : Bool) → c.guess ≡ g → is_right_guess (client_offer c) (server_offer s) ≡ r
-        → EachPlace (IsAsPart m d Server (config_of_server s) (server_no_trust w (guess_by g r) end)) [] (version_of c.side ∷ w.client_offer ∷ (guessed w (guess_by g r) ++ (init_anew w (guess_by g r) ++ w.disconnect 9 ∷ [])))
+        → EachPlace (IsAsPart (server_setup m d s) (server_no_trust w (guess_by g r) end)) [] (version_of c.side ∷ w.client_offer ∷ (guessed w (guess_by g r) ++ (init_anew w (guess_by g r) ++ w.disconnect 9 ∷ [])))
     refused_places end final false r eg er = (
-      as_open m d Server (config_of_server s) (server_no_trust w NoGuess end) [] (version_of c.side) [] refl refl (omega arith),
+      as_open (server_setup m d s) (server_no_trust w NoGuess end) [] (version_of c.side) [] refl refl (omega arith),
       (
-        as_open m d Server (config_of_server s) (server_no_trust w NoGuess end) (version_of c.side ∷ []) w.client_offer [] (server_first m d c s understood sound offers ∙ server_chose a chosen) refl (omega arith),
+        as_open (server_setup m d s) (server_no_trust w NoGuess end) (version_of c.side ∷ []) w.client_offer [] (server_first m d c s understood sound offers ∙ server_chose a chosen) refl (omega arith),
         refused_tail NoGuess end final (w.client_offer ∷ []) (begun false (ap (λ (b : Bool). b && not (is_right_guess (client_offer c) (server_offer s))) eg)) refl,
       ),
     )
     refused_places end final true true eg er = (
-      as_open m d Server (config_of_server s) (server_no_trust w RightGuess end) [] (version_of c.side) [] refl refl (omega arith),
+      as_open (server_setup m d s) (server_no_trust w RightGuess end) [] (version_of c.side) [] refl refl (omega arith),
       (
-        as_open m d Server (config_of_server s) (server_no_trust w RightGuess end) (version_of c.side ∷ []) w.client_offer [] (server_first m d c s understood sound offers ∙ server_chose a chosen) refl (omega arith),
+        as_open (server_setup m d s) (server_no_trust w RightGuess end) (version_of c.side ∷ []) w.client_offer [] (server_first m d c s understood sound offers ∙ server_chose a chosen) refl (omega arith),
         refused_tail RightGuess end final (w.client_offer ∷ []) (begun false (ap (λ (b : Bool). b && not (is_right_guess (client_offer c) (server_offer s))) eg ∙ ap (λ (b : Bool). true && not b) er)) refl,
       ),
     )
     refused_places end final true false eg er =
         let drop = server_drops m d c s understood sound offers a chosen readable w.guess (init_kind m (config_of_client c) (guessed_method (config_of_client c))) (w.client_offer ∷ []) (begun true (ap (λ (b : Bool). b && not (is_right_guess (client_offer c) (server_offer s))) eg ∙ ap (λ (b : Bool). true && not b) er)) in (
-          as_open m d Server (config_of_server s) (server_no_trust w WrongGuess end) [] (version_of c.side) [] refl refl (omega arith),
+          as_open (server_setup m d s) (server_no_trust w WrongGuess end) [] (version_of c.side) [] refl refl (omega arith),
           (
-            as_open m d Server (config_of_server s) (server_no_trust w WrongGuess end) (version_of c.side ∷ []) w.client_offer [] (server_first m d c s understood sound offers ∙ server_chose a chosen) refl (omega arith),
+            as_open (server_setup m d s) (server_no_trust w WrongGuess end) (version_of c.side ∷ []) w.client_offer [] (server_first m d c s understood sound offers ∙ server_chose a chosen) refl (omega arith),
             (
-              as_open m d Server (config_of_server s) (server_no_trust w WrongGuess end) (version_of c.side ∷ w.client_offer ∷ []) w.guess [] drop.0 refl (omega arith),
+              as_open (server_setup m d s) (server_no_trust w WrongGuess end) (version_of c.side ∷ w.client_offer ∷ []) w.guess [] drop.0 refl (omega arith),
               refused_tail WrongGuess end final (w.client_offer ∷ w.guess ∷ []) drop.1 refl,
             ),
           ),
         )
 
     pub server_refused_follows : (end client_end : EndData) → end ≡ Closed 9
-        → FollowsPart m d Server (config_of_server s) (server_no_trust w (guess_by c.guess (is_right_guess (client_offer c) (server_offer s))) end)
+        → FollowsPart (server_setup m d s) (server_no_trust w (guess_by c.guess (is_right_guess (client_offer c) (server_offer s))) end)
         (units_of (config_of_client c) (client_no_trust w (guess_by c.guess (is_right_guess (client_offer c) (server_offer s))) client_end))
     server_refused_follows end client_end final =
         let guess : Guess = guess_by c.guess (is_right_guess (client_offer c) (server_offer s)) in
         record {
           making_is = refl;
-          places = at_each (IsAsPart m d Server (config_of_server s) (server_no_trust w guess end))
+          places = at_each (IsAsPart (server_setup m d s) (server_no_trust w guess end))
               (units_of (config_of_client c) (client_no_trust w guess client_end)) (units_of (config_of_client c) (client_no_trust w guess client_end)) _
               (omega (arith, first_sent w guess, length-append (guessed w guess) (init_anew w guess ++ w.disconnect 9 ∷ []), length-append (init_anew w guess) (w.disconnect 9 ∷ [])))
               (prefix-all (units_of (config_of_client c) (client_no_trust w guess client_end)))
@@ -232,16 +232,16 @@ module _ (m : SuiteData) (d : DecisionsData) (c : ClientData) (s : ServerData) (
 
   -- where nothing is common
   pub server_without_follows : (kex : List ℕ) (b : AlgorithmsData) (f : NoCommon) (guess : Guess) (end client_end : EndData) → choice m (client_offer c) (server_offer s) ≡ Err f → end ≡ Failed (fault.NoCommon f)
-      → FollowsPart m d Server (config_of_server s) (server_no_choice (wording_with m d c s kex b) end) (units_of (config_of_client c) (client_no_choice (wording_with m d c s kex b) guess client_end))
+      → FollowsPart (server_setup m d s) (server_no_choice (wording_with m d c s kex b) end) (units_of (config_of_client c) (client_no_choice (wording_with m d c s kex b) guess client_end))
   server_without_follows kex b f guess end client_end chosen final =
       let u : Wording = wording_with m d c s kex b in
       record {
         making_is = refl;
-        places = at_each (IsAsPart m d Server (config_of_server s) (server_no_choice u end)) (version_of c.side ∷ u.client_offer ∷ []) (units_of (config_of_client c) (client_no_choice u guess client_end)) 2
+        places = at_each (IsAsPart (server_setup m d s) (server_no_choice u end)) (version_of c.side ∷ u.client_offer ∷ []) (units_of (config_of_client c) (client_no_choice u guess client_end)) 2
             refl (record { rest = guessed u guess ++ u.disconnect 3 ∷ []; whole_is = refl }) (
-              as_open m d Server (config_of_server s) (server_no_choice u end) [] (version_of c.side) [] refl refl (omega arith),
+              as_open (server_setup m d s) (server_no_choice u end) [] (version_of c.side) [] refl refl (omega arith),
               (
-                as_last m d Server (config_of_server s) (server_no_choice u end) (version_of c.side ∷ []) u.client_offer (u.disconnect 3 ∷ []) (Failed (fault.NoCommon f))
+                as_last (server_setup m d s) (server_no_choice u end) (version_of c.side ∷ []) u.client_offer (u.disconnect 3 ∷ []) (Failed (fault.NoCommon f))
                     (server_first m d c s understood sound offers ∙ ap (λ r. chosen_reply m Server (config_of_server s) (client_offer c) r) chosen) refl refl final,
                 tt,
               ),

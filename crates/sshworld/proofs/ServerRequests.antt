@@ -4,7 +4,6 @@ use Rattle.std.proofs.Common.{◌≡◌, ◌⊎◌, inl, inr, ℕ, zero, suc, �
 use Rattle.std.proofs.lemmas.Bool.{ne_eqb}
 use native.Mathlib.Decide.{dec_lt}
 use Rattle.sshmsg.specs.Written.{written_message}
-use Rattle.sshneg.specs.declared.side.Side.TheVariants.{Server}
 use Rattle.sshneg.specs.ChoiceReadings.{choice}
 use Rattle.sshneg.specs.Fields.{AlgorithmsData}
 use Rattle.sshpacket.specs.Places.{EachPlace}
@@ -14,7 +13,7 @@ use Rattle.sshcore.specs.declared.table.Phase.TheVariants as phase
 use Rattle.sshcore.specs.Attempts.{method_by, request_of}
 use Rattle.sshcore.specs.ConfigParts.{AttemptData, ByKey, ByNothing, ByPassword, ClientData, CredentialData, ServerData, client_offer, server_offer, version_of}
 use Rattle.sshcore.specs.EndData.{EndData, goes}
-use Rattle.sshcore.specs.EndpointParts.{DecisionsData, config_of_server}
+use Rattle.sshcore.specs.EndpointParts.{DecisionsData, config_of_server, server_setup}
 use Rattle.sshcore.specs.Plan.{unasked}
 use Rattle.sshcore.specs.Reached.{ReachedData, nothing_reached, reached_after, reached_after_one}
 use Rattle.sshcore.specs.Replies.{reply_at}
@@ -75,14 +74,14 @@ module _ (m : SuiteData) (d : DecisionsData) (c : ClientData) (s : ServerData) (
   p = server_requests w guess v end
 
   abbrev Q : Units → List ℕ → Type 0
-  Q = IsAsPart m d Server (config_of_server s) p
+  Q = IsAsPart (server_setup m d s) p
 
   -- what is reached after the first j requests
   abbrev reached : ℕ → ReachedData
   reached j = reached_after nothing_reached (tried_of m d s (take j (offered m d s c.plan)))
 
   abbrev sits : Units → ℕ → Type 0
-  sits before j = Sits m d Server (config_of_server s) (version_of c.side) before phase.Auth false (server_view m d c s understood sound offers a chosen readable (session_between m c s a) (j + 1) (reached j))
+  sits before j = Sits (server_setup m d s) (version_of c.side) before phase.Auth false (server_view m d c s understood sound offers a chosen readable (session_between m c s a) (j + 1) (reached j))
 
   abbrev named_at : (j : ℕ) (x : AttemptData) → slice_get (offered m d s c.plan) j ≡ Some x → IsTestedName x.proving
   named_at j x at = offered_each m d s (λ (r : AttemptData). IsTestedName r.proving) named_itself c.plan sound.named j x at
@@ -111,8 +110,8 @@ module _ (m : SuiteData) (d : DecisionsData) (c : ClientData) (s : ServerData) (
   ends_here before j all here at (Success q) e = tt
   ends_here before j all here at Limit e = tt
   ends_here before j all here at Exhausted e = (
-    as_last m d Server (config_of_server s) p (version_of c.side ∷ before) (w.disconnect 14) [] _
-        (closed m d Server (config_of_server s) (version_of c.side) before phase.Auth false _ 14 fourteen_read here)
+    as_last (server_setup m d s) p (version_of c.side ∷ before) (w.disconnect 14) [] _
+        (closed (server_setup m d s) (version_of c.side) before phase.Auth false _ 14 fourteen_read here)
         (group_is before j at ∙ rw (lt_false (j + 1) v.requests (omega (arith, all)), let ne : nat_eq (j + 1) v.requests ≡ false = ne_eqb (j + 1) v.requests (λ z. omega (arith, z, all)) in ne) refl)
         (omega (arith, at, all, ap received_last e))
         (final Exhausted e),
@@ -130,39 +129,39 @@ module _ (m : SuiteData) (d : DecisionsData) (c : ClientData) (s : ServerData) (
   answers_here before j x here at get more most =
       let made : List AttemptData = take j (offered m d s c.plan) in
       let made_is : length (take j (offered m d s c.plan)) ≡ j = take_length (offered m d s c.plan) j (omega (arith, more, most)) in
-      let reply : reply_at m d Server (config_of_server s) (version_of c.side) before (request_of m (session_between m c s a) x) ≡ how_reply m d c s a (take j (offered m d s c.plan)) x (ends_by m d s (take j (offered m d s c.plan)) x) =
+      let reply : reply_at (server_setup m d s) (version_of c.side) before (request_of m (session_between m c s a) x) ≡ how_reply m d c s a (take j (offered m d s c.plan)) x (ends_by m d s (take j (offered m d s c.plan)) x) =
       (server_asked_for m d c s understood sound offers a chosen readable before (j + 1) j (reached j) x get here).0
       ∙ ap (λ (n : ℕ). request_reply m d (config_of_server s) (server_view m d c s understood sound offers a chosen readable (session_between m c s a) (n + 1) (reached j)) x.user x.service (method_by m (session_between m c s a) x.user x.service x.proving)) (sym made_is)
       ∙ judged m d c s sound a (session_between m c s a) (version_of c.side) _ _ [] _ false made x (named_at j x get) (signs_at j x get) (readable.short j x get) (omega (arith, made_is, granted m d c s sound.tries most j more)) refl refl in
       let b = brings_at m d c s j x get in
       elim (dec_lt (j + 1) v.requests) [
         | yes less ↦
-            as_open m d Server (config_of_server s) p (version_of c.side ∷ before) (request_of m (session_between m c s a) x) (w.refusal j ∷ [])
+            as_open (server_setup m d s) p (version_of c.side ∷ before) (request_of m (session_between m c s a) x) (w.refusal j ∷ [])
             (reply ∙ ap (how_reply m d c s a (take j (offered m d s c.plan)) x) (b.before (omega (arith, less))) ∙ refused j x get) (group_is before j at ∙ answer_in w v j less) (omega (arith, at, less))
         | no ge ↦
             let last : j + 1 ≡ v.requests = omega (arith, ge, more) in
             at_last reply last (b.last (omega (arith, last)))
       ]
     where
-      by_how : reply_at m d Server (config_of_server s) (version_of c.side) before (request_of m (session_between m c s a) x) ≡ how_reply m d c s a (take j (offered m d s c.plan)) x (ends_by m d s (take j (offered m d s c.plan)) x)
+      by_how : reply_at (server_setup m d s) (version_of c.side) before (request_of m (session_between m c s a) x) ≡ how_reply m d c s a (take j (offered m d s c.plan)) x (ends_by m d s (take j (offered m d s c.plan)) x)
           → j + 1 ≡ v.requests → (how : How) → v.how ≡ how → ends_by m d s (take j (offered m d s c.plan)) x ≡ Some how → Q (version_of c.side ∷ before) (request_of m (session_between m c s a) x)
       by_how reply last Unknown is e =
-          as_last m d Server (config_of_server s) p (version_of c.side ∷ before) (request_of m (session_between m c s a) x) (w.disconnect 7 ∷ []) _
+          as_last (server_setup m d s) p (version_of c.side ∷ before) (request_of m (session_between m c s a) x) (w.disconnect 7 ∷ []) _
           (reply ∙ ap (how_reply m d c s a (take j (offered m d s c.plan)) x) e) (group_is before j at ∙ answer_last w v j last ∙ ap (λ h. server_last w j h) is) (omega (arith, at, last, ap received_last is)) (final Unknown is)
       by_how reply last (Success q) is e =
-          as_last m d Server (config_of_server s) p (version_of c.side ∷ before) (request_of m (session_between m c s a) x) (w.success ∷ []) _
+          as_last (server_setup m d s) p (version_of c.side ∷ before) (request_of m (session_between m c s a) x) (w.success ∷ []) _
           (reply ∙ ap (how_reply m d c s a (take j (offered m d s c.plan)) x) e) (group_is before j at ∙ answer_last w v j last ∙ ap (λ h. server_last w j h) is) (omega (arith, at, last, ap received_last is)) (final (Success q) is)
       by_how reply last Limit is e =
-          as_last m d Server (config_of_server s) p (version_of c.side ∷ before) (request_of m (session_between m c s a) x) (w.disconnect 14 ∷ []) _
+          as_last (server_setup m d s) p (version_of c.side ∷ before) (request_of m (session_between m c s a) x) (w.disconnect 14 ∷ []) _
           (reply ∙ ap (how_reply m d c s a (take j (offered m d s c.plan)) x) e) (group_is before j at ∙ answer_last w v j last ∙ ap (λ h. server_last w j h) is) (omega (arith, at, last, ap received_last is)) (final Limit is)
       by_how reply last Exhausted is e = absurd (none_exhausts m d s (take j (offered m d s c.plan)) x e)
 
-      at_last : reply_at m d Server (config_of_server s) (version_of c.side) before (request_of m (session_between m c s a) x) ≡ how_reply m d c s a (take j (offered m d s c.plan)) x (ends_by m d s (take j (offered m d s c.plan)) x)
+      at_last : reply_at (server_setup m d s) (version_of c.side) before (request_of m (session_between m c s a) x) ≡ how_reply m d c s a (take j (offered m d s c.plan)) x (ends_by m d s (take j (offered m d s c.plan)) x)
           → j + 1 ≡ v.requests → (ends_by m d s (take j (offered m d s c.plan)) x ≡ Some v.how) ⊎ ((ends_by m d s (take j (offered m d s c.plan)) x ≡ None) × (v.how ≡ Exhausted))
           → Q (version_of c.side ∷ before) (request_of m (session_between m c s a) x)
       at_last reply last (inl e) = by_how reply last v.how refl e
       at_last reply last (inr e) =
-          as_open m d Server (config_of_server s) p (version_of c.side ∷ before) (request_of m (session_between m c s a) x) (w.refusal j ∷ [])
+          as_open (server_setup m d s) p (version_of c.side ∷ before) (request_of m (session_between m c s a) x) (w.refusal j ∷ [])
           (reply ∙ ap (how_reply m d c s a (take j (offered m d s c.plan)) x) e.0 ∙ refused j x get) (group_is before j at ∙ answer_last w v j last ∙ ap (λ h. server_last w j h) e.1) (omega (arith, at, last, ap received_last e.1))
 
   pub server_loop : (r j : ℕ) → j + r ≡ v.requests → v.requests ≤ length (offered m d s c.plan) → (before : Units) → sits before j → length before ≡ 4 + length (unanswered guess) + j
@@ -177,7 +176,7 @@ module _ (m : SuiteData) (d : DecisionsData) (c : ClientData) (s : ServerData) (
       let made_is : length (take j (offered m d s c.plan)) ≡ j = take_length (offered m d s c.plan) j (omega (arith, more, most)) in
       let next : sits (before ++ request_of m (session_between m c s a) x.0 ∷ []) (suc j) =
       subst (λ (n : ℕ). sits (before ++ request_of m (session_between m c s a) x.0 ∷ []) n) (let e : j + 1 ≡ suc j = omega arith in e)
-      (subst (λ (g : ReachedData). Sits m d Server (config_of_server s) (version_of c.side) (before ++ request_of m (session_between m c s a) x.0 ∷ []) phase.Auth false
+      (subst (λ (g : ReachedData). Sits (server_setup m d s) (version_of c.side) (before ++ request_of m (session_between m c s a) x.0 ∷ []) phase.Auth false
       (server_view m d c s understood sound offers a chosen readable (session_between m c s a) (j + 1 + 1) g)) (reached_next j x.0 x.1 made_is)
       (server_asked_for m d c s understood sound offers a chosen readable before (j + 1) j (reached j) x.0 x.1 here).1) in
       subst (λ (g : Units). EachPlace Q (version_of c.side ∷ before) (g ++ from (client_next w v) (suc j) (suc r))) (sym one) (

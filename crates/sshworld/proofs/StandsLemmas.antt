@@ -10,7 +10,8 @@ use Rattle.sshcore.specs.declared.end.Fault.TheVariants as fault
 use Rattle.sshcore.specs.EndData.{EndData, Failed, by_owner}
 use Rattle.sshcore.specs.Endpoints.{EndpointAfter, endpoint_end}
 use Rattle.sshcore.specs.History.{BrokenOff}
-use Rattle.sshcore.specs.EndpointParts.{ConfigData, DecisionsData}
+use Rattle.sshcore.specs.EndpointParts.{ConfigData, DecisionsData, setup_with}
+use Rattle.sshcore.specs.EndpointData.{endpoint_setup}
 use Rattle.sshworld.specs.declared.node.Node.{Node}
 use Rattle.sshworld.specs.Conversed.{SideBegins, SideReplies}
 use Rattle.sshworld.specs.Deliveries.{BreaksOff}
@@ -91,7 +92,7 @@ module _ {S D : Type 0} (meaning : S → SuiteData) (policy : D → DecisionsDat
   -- So callers see it: what was sent before stands in front, and all of it is whole packets.
   pub breaks_off : (role : Side) (party : ConfigData) (suite : S) (decisions : D) (old new their : Node S D) (n : ℕ)
       → NodeStands meaning policy role party suite decisions old their.sent.items → BrokenWith meaning policy their.sent.items n old new
-      → BreaksOff (meaning suite) (policy decisions) role party n (node_data old) (node_data new) (node_data their)
+      → BreaksOff (setup_with (meaning suite) (policy decisions) role party) n (node_data old) (node_data new) (node_data their)
   breaks_off role party suite decisions old new their n s b =
       let sent : List ℕ = their.sent.items in
       let had : endpoint_end old.endpoint ≢ Failed fault.Memory = λ h. cc (h, b.was_open) in
@@ -106,12 +107,12 @@ module _ {S D : Type 0} (meaning : S → SuiteData) (policy : D → DecisionsDat
         used = b.breaks.used;
         used_within = within;
         broken_off =
-            subst (λ (r : Side). BrokenOff (meaning suite) (policy decisions) r party (take (old.used + b.breaks.used) sent) new.sent.items) s.is_role
-            (subst (λ (p : ConfigData). BrokenOff (meaning suite) (policy decisions) old.endpoint.role p (take (old.used + b.breaks.used) sent) new.sent.items) s.is_config
-            (subst (λ (k : S). BrokenOff (meaning k) (policy decisions) old.endpoint.role old.endpoint.party (take (old.used + b.breaks.used) sent) new.sent.items) s.is_suite
-            (subst (λ (k : D). BrokenOff (meaning old.endpoint.suite) (policy k) old.endpoint.role old.endpoint.party (take (old.used + b.breaks.used) sent) new.sent.items) s.is_decisions
-            (subst (λ (h : List ℕ). BrokenOff (meaning old.endpoint.suite) (policy old.endpoint.decisions) old.endpoint.role old.endpoint.party h new.sent.items) received
-            (subst (λ (t : List ℕ). BrokenOff (meaning old.endpoint.suite) (policy old.endpoint.decisions) old.endpoint.role old.endpoint.party (take old.used sent ++ take b.breaks.used (take n (drop old.moved sent))) t) (sym b.breaks.appended)
+            subst (λ (r : Side). BrokenOff (setup_with (meaning suite) (policy decisions) r party) (take (old.used + b.breaks.used) sent) new.sent.items) s.is_role
+            (subst (λ (p : ConfigData). BrokenOff (setup_with (meaning suite) (policy decisions) old.endpoint.role p) (take (old.used + b.breaks.used) sent) new.sent.items) s.is_config
+            (subst (λ (k : S). BrokenOff (setup_with (meaning k) (policy decisions) old.endpoint.role old.endpoint.party) (take (old.used + b.breaks.used) sent) new.sent.items) s.is_suite
+            (subst (λ (k : D). BrokenOff (setup_with (meaning old.endpoint.suite) (policy k) old.endpoint.role old.endpoint.party) (take (old.used + b.breaks.used) sent) new.sent.items) s.is_decisions
+            (subst (λ (h : List ℕ). BrokenOff (endpoint_setup meaning policy old.endpoint) h new.sent.items) received
+            (subst (λ (t : List ℕ). BrokenOff (endpoint_setup meaning policy old.endpoint) (take old.used sent ++ take b.breaks.used (take n (drop old.moved sent))) t) (sym b.breaks.appended)
             (b.breaks.follows (take old.used sent) old.sent.items (s.after had)))))));
       }
 

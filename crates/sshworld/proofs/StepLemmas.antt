@@ -25,7 +25,7 @@ use Rattle.sshcore.specs.Counting.{number_in}
 use Rattle.sshcore.specs.EndData.{fails, goes}
 use Rattle.sshcore.specs.Exchange.{exchange_with}
 use Rattle.sshcore.specs.Known.{Known}
-use Rattle.sshcore.specs.EndpointParts.{ConfigData, DecisionsData}
+use Rattle.sshcore.specs.EndpointParts.{ConfigData, DecisionsData, Setup}
 use Rattle.sshcore.specs.Phases.{leaving, next_phase, past_exchange}
 use Rattle.sshcore.specs.ConfigParts.{AttemptData}
 use Rattle.sshcore.specs.Plan.{confirmed, is_answer, is_waiting, listed_by, listed_in, next_after}
@@ -100,60 +100,60 @@ first_line : (role : Side) (b waits : Bool) → line_by role phase.KexInit b fal
 unfolding line_by
 first_line role b waits = refl
 
-module _ (m : SuiteData) (d : DecisionsData) (role : Side) (party : ConfigData) (version : List ℕ) where
+module _ (setup : Setup) (version : List ℕ) where
   -- a message that has a place is worked on
-  pub reads : (before : Units) (payload : List ℕ) (p : Phase) (guess : Bool) (x : Known) (content : MessageData) → Sits m d role party version before p guess x
-      → message_in x.shares payload ≡ Ok content → line_by role p x.strict guess (is_waiting x.left) (number_of content) ≡ line.Reads
-      → reply_at m d role party version before payload ≡ work m d role party x content
+  pub reads : (before : Units) (payload : List ℕ) (p : Phase) (guess : Bool) (x : Known) (content : MessageData) → Sits setup version before p guess x
+      → message_in x.shares payload ≡ Ok content → line_by setup.role p x.strict guess (is_waiting x.left) (number_of content) ≡ line.Reads
+      → reply_at setup version before payload ≡ work setup x content
   unfolding line_reply
   reads before payload p guess x content s e is =
-      standing.replies m d role party version before payload p guess x s
-      ∙ ap (λ (n : ℕ). line_reply m d role party x (number_in role party before) (line_by role p x.strict guess (is_waiting x.left) n) payload) (kind_tells x.shares payload content e)
-      ∙ ap (λ (l : Line). line_reply m d role party x (number_in role party before) l payload) is
-      ∙ ap (λ r. read_reply m d role party x (kind payload) r) e
+      standing.replies setup version before payload p guess x s
+      ∙ ap (λ (n : ℕ). line_reply setup x (number_in setup.role setup.config before) (line_by setup.role p x.strict guess (is_waiting x.left) n) payload) (kind_tells x.shares payload content e)
+      ∙ ap (λ (l : Line). line_reply setup x (number_in setup.role setup.config before) l payload) is
+      ∙ ap (λ r. read_reply setup x (kind payload) r) e
 
-  pub drops : (before : Units) (payload : List ℕ) (p : Phase) (guess : Bool) (x : Known) → Sits m d role party version before p guess x
-      → line_by role p x.strict guess (is_waiting x.left) (kind payload) ≡ line.Drops → reply_at m d role party version before payload ≡ goes []
+  pub drops : (before : Units) (payload : List ℕ) (p : Phase) (guess : Bool) (x : Known) → Sits setup version before p guess x
+      → line_by setup.role p x.strict guess (is_waiting x.left) (kind payload) ≡ line.Drops → reply_at setup version before payload ≡ goes []
   unfolding line_reply
   drops before payload p guess x s is =
-      standing.replies m d role party version before payload p guess x s
-      ∙ ap (λ (l : Line). line_reply m d role party x (number_in role party before) l payload) is
+      standing.replies setup version before payload p guess x s
+      ∙ ap (λ (l : Line). line_reply setup x (number_in setup.role setup.config before) l payload) is
 
   -- the peer's KEXINIT, the first payload
   pub begins : (payload : List ℕ) (peer : KexInitData) → message_in Mpint payload ≡ Ok (KexInit peer)
-      → Sits m d role party version (payload ∷ []) phase.Exchange (wrong_guess role party.offer (Some peer)) (after_offer m role party (nothing_known party version) payload peer)
-  begins payload peer e = standing.offers m d role party version [] payload below peer (nothing_known party version) (standing.begins m d role party version) (ap offer_by e)
+      → Sits setup version (payload ∷ []) phase.Exchange (wrong_guess setup.role setup.config.offer (Some peer)) (after_offer setup.suite setup.role setup.config (nothing_known setup.config version) payload peer)
+  begins payload peer e = standing.offers setup version [] payload below peer (nothing_known setup.config version) (standing.begins setup version) (ap offer_by e)
 
   pub replies_first : (payload : List ℕ) (peer : KexInitData) → message_in Mpint payload ≡ Ok (KexInit peer)
-      → reply_at m d role party version [] payload ≡ chosen_reply m role party peer (choice m (client_of role party.offer peer) (server_of role party.offer peer))
+      → reply_at setup version [] payload ≡ chosen_reply setup.suite setup.role setup.config peer (choice setup.suite (client_of setup.role setup.config.offer peer) (server_of setup.role setup.config.offer peer))
   unfolding work kexinit_reply
   replies_first payload peer e =
-      reads [] payload phase.KexInit false (nothing_known party version) (KexInit peer) (standing.begins m d role party version) e (first_line role false (is_waiting party.plan))
-      ∙ ap (λ (b : Bool). if b then fails (fault.Strict 20) else chosen_reply m role party peer (choice m (client_of role party.offer peer) (server_of role party.offer peer))) (and_right (strict_towards role party.strict (Some peer)) false refl)
+      reads [] payload phase.KexInit false (nothing_known setup.config version) (KexInit peer) (standing.begins setup version) e (first_line setup.role false (is_waiting setup.config.plan))
+      ∙ ap (λ (b : Bool). if b then fails (fault.Strict 20) else chosen_reply setup.suite setup.role setup.config peer (choice setup.suite (client_of setup.role setup.config.offer peer) (server_of setup.role setup.config.offer peer))) (and_right (strict_towards setup.role setup.config.strict (Some peer)) false refl)
 
   -- the packet of a wrong guess changes nothing but that none is due any more
-  pub goes_dropped : (before : Units) (payload : List ℕ) (p : Phase) (x : Known) → Sits m d role party version before p true x → (kind payload == 1) ≡ false
-      → Sits m d role party version (before ++ payload ∷ []) p false (record x { first = false })
-  goes_dropped before payload p x s one = standing.drops m d role party version before payload p x s one
+  pub goes_dropped : (before : Units) (payload : List ℕ) (p : Phase) (x : Known) → Sits setup version before p true x → (kind payload == 1) ≡ false
+      → Sits setup version (before ++ payload ∷ []) p false (record x { first = false })
+  goes_dropped before payload p x s one = standing.drops setup version before payload p x s one
 
   -- a message after the exchange
-  pub goes_leaving : (before : Units) (payload : List ℕ) (p : Phase) (x : Known) (content : MessageData) → Sits m d role party version before p false x → past_exchange p ≡ true
-      → message_in Mpint payload ≡ Ok content → number_of content ≡ leaving role p → Sits m d role party version (before ++ payload ∷ []) (next_phase p) false (after_content m d party x content)
+  pub goes_leaving : (before : Units) (payload : List ℕ) (p : Phase) (x : Known) (content : MessageData) → Sits setup version before p false x → past_exchange p ≡ true
+      → message_in Mpint payload ≡ Ok content → number_of content ≡ leaving setup.role p → Sits setup version (before ++ payload ∷ []) (next_phase p) false (after_content setup.suite setup.decisions setup.config x content)
   goes_leaving before payload p x content s past e n =
-      subst (λ (k : Known). Sits m d role party version (before ++ payload ∷ []) (next_phase p) false k) (after_read m d party x payload content e)
-      (standing.leaves m d role party version before payload p x s past (kind_tells Mpint payload content e ∙ n))
+      subst (λ (k : Known). Sits setup version (before ++ payload ∷ []) (next_phase p) false k) (after_read setup.suite setup.decisions setup.config x payload content e)
+      (standing.leaves setup version before payload p x s past (kind_tells Mpint payload content e ∙ n))
 
-  pub goes_staying : (before : Units) (payload : List ℕ) (p : Phase) (x : Known) (content : MessageData) → Sits m d role party version before p false x
-      → message_in Mpint payload ≡ Ok content → LeavesNone role (number_of content) → Sits m d role party version (before ++ payload ∷ []) p false (after_content m d party x content)
+  pub goes_staying : (before : Units) (payload : List ℕ) (p : Phase) (x : Known) (content : MessageData) → Sits setup version before p false x
+      → message_in Mpint payload ≡ Ok content → LeavesNone setup.role (number_of content) → Sits setup version (before ++ payload ∷ []) p false (after_content setup.suite setup.decisions setup.config x content)
   goes_staying before payload p x content s e l =
-      subst (λ (k : Known). Sits m d role party version (before ++ payload ∷ []) p false k) (after_read m d party x payload content e)
-      (standing.stays m d role party version before payload p x s (subst (λ (n : ℕ). LeavesNone role n) (sym (kind_tells Mpint payload content e)) l))
+      subst (λ (k : Known). Sits setup version (before ++ payload ∷ []) p false k) (after_read setup.suite setup.decisions setup.config x payload content e)
+      (standing.stays setup version before payload p x s (subst (λ (n : ℕ). LeavesNone setup.role n) (sym (kind_tells Mpint payload content e)) l))
 
   -- the exchange message gives the session
-  pub goes_exchanged : (before : Units) (payload : List ℕ) (x : Known) (content : MessageData) → Sits m d role party version before phase.Exchange false x → message_in x.shares payload ≡ Ok content
-      → number_of content ≡ leaving role phase.Exchange
-      → Sits m d role party version (before ++ payload ∷ []) phase.NewKeys false
-      (record x { session = exchange_hash m x.algorithms.kex (exchange_with m role party x.algorithms x.version x.kexinit (Ok content)) })
+  pub goes_exchanged : (before : Units) (payload : List ℕ) (x : Known) (content : MessageData) → Sits setup version before phase.Exchange false x → message_in x.shares payload ≡ Ok content
+      → number_of content ≡ leaving setup.role phase.Exchange
+      → Sits setup version (before ++ payload ∷ []) phase.NewKeys false
+      (record x { session = exchange_hash setup.suite x.algorithms.kex (exchange_with setup.suite setup.role setup.config x.algorithms x.version x.kexinit (Ok content)) })
   goes_exchanged before payload x content s e n =
-      subst (λ (r : _). Sits m d role party version (before ++ payload ∷ []) phase.NewKeys false (record x { session = exchange_hash m x.algorithms.kex (exchange_with m role party x.algorithms x.version x.kexinit r) }))
-      e (standing.exchanges m d role party version before payload x s (kind_tells x.shares payload content e ∙ n))
+      subst (λ (r : _). Sits setup version (before ++ payload ∷ []) phase.NewKeys false (record x { session = exchange_hash setup.suite x.algorithms.kex (exchange_with setup.suite setup.role setup.config x.algorithms x.version x.kexinit r) }))
+      e (standing.exchanges setup version before payload x s (kind_tells x.shares payload content e ∙ n))

@@ -3,18 +3,17 @@
 use Rattle.std.proofs.Common.{◌≡◌, ◌≢◌, inl, inr, ℕ, ◌+◌, ◌≤◌, List, length, min, take, refl, sym, ap, subst, ◌∙◌, arith}
 use Rattle.std.proofs.Math.Nat.{min-le_left, min-le_right}
 use Rattle.std.proofs.lemmas.List.{take-append-le}
-use Rattle.sshneg.specs.declared.side.Side.TheVariants.{Client, Server}
 use Rattle.sshpacket.specs.Places.{IsPrefix}
 use Rattle.sshpacket.specs.Suite.{IsLawful, SuiteData}
 use Rattle.sshcore.specs.declared.end.Fault.TheVariants as fault
 use Rattle.sshcore.specs.ConfigParts.{ClientData, ServerData}
 use Rattle.sshcore.specs.EndData.{Authenticated, Closed, Disconnected, EndData, Failed, Open}
-use Rattle.sshcore.specs.EndpointParts.{DecisionsData, config_of_client, config_of_server}
+use Rattle.sshcore.specs.EndpointParts.{DecisionsData, client_setup, server_setup}
 use Rattle.sshworld.specs.Offered.{most_requests}
 use Rattle.sshworld.specs.CourseReceived.{BothReceive, client_partner, server_partner}
 use Rattle.sshworld.specs.Follows.{part_of_client, part_of_server}
 use Rattle.sshworld.specs.Guesses.{guess_of}
-use Rattle.sshworld.specs.Partners.{BothOnCourse, HasHistory, OnCourse, Partner, ReceivesCourse}
+use Rattle.sshworld.specs.Partners.{BothOnCourse, HasHistory, OnCourse, Partner, ReceivesCourse, partner_setup}
 use Rattle.sshworld.specs.Laws.{Laws}
 use Rattle.sshworld.specs.Outcome.{outcome}
 use Rattle.sshworld.specs.Rounds.{UnitsReceived, after_rounds, server_receives_all, units_sent}
@@ -34,10 +33,10 @@ pub record HasTakenAll (old new opposite : NodeData) : Type 0 where
 module _ (laws : Laws) (m : SuiteData) (d : DecisionsData) (lawful : IsLawful m) (own their : Partner) (receives : ReceivesCourse m d own their) (received : ReceivesCourse m d their own) where
   -- the receiver
   takes_all : (node opposite : NodeData) → BothOnCourse m d own their node opposite → node.end ≢ Failed fault.Memory → opposite.end ≢ Failed fault.Memory → waiting node opposite ≡ 0
-      → (k : ℕ) → ((b : HasHistory m d their.role their.party opposite.end (take opposite.used node.sent) opposite.sent) → k ≤ length b.units)
-      → (a : HasHistory m d own.role own.party node.end (take node.used opposite.sent) node.sent) → min own.part.receives (units_sent their.part k) ≤ length a.units
+      → (k : ℕ) → ((b : HasHistory (partner_setup m d their) opposite.end (take opposite.used node.sent) opposite.sent) → k ≤ length b.units)
+      → (a : HasHistory (partner_setup m d own) node.end (take node.used opposite.sent) node.sent) → min own.part.receives (units_sent their.part k) ≤ length a.units
   takes_all node opposite on had other_had none k least a =
-      let b : HasHistory m d their.role their.party opposite.end (take opposite.used node.sent) opposite.sent = on.their_side.replies.replies other_had in
+      let b : HasHistory (partner_setup m d their) opposite.end (take opposite.used node.sent) opposite.sent = on.their_side.replies.replies other_had in
       let mine = in_part m d own their received node opposite on.own_side had other_had a in
       let theirs = in_part m d their own receives opposite node on.their_side other_had had b in
       elim (open_or_not node.end) [
@@ -55,12 +54,12 @@ module _ (laws : Laws) (m : SuiteData) (d : DecisionsData) (lawful : IsLawful m)
 
 -- the sender, beside a receiver that has sent more
 keeps_count : (m : SuiteData) (d : DecisionsData) (own their : Partner) (old new opposite : NodeData) → OnCourse m d their own opposite old → IsPrefix old.sent new.sent
-    → (k : ℕ) → ((b : HasHistory m d their.role their.party opposite.end (take opposite.used old.sent) opposite.sent) → k ≤ length b.units)
-    → (b : HasHistory m d their.role their.party opposite.end (take opposite.used new.sent) opposite.sent) → k ≤ length b.units
+    → (k : ℕ) → ((b : HasHistory (partner_setup m d their) opposite.end (take opposite.used old.sent) opposite.sent) → k ≤ length b.units)
+    → (b : HasHistory (partner_setup m d their) opposite.end (take opposite.used new.sent) opposite.sent) → k ≤ length b.units
 keeps_count m d own their old new opposite on more k least =
     let same : take opposite.used new.sent ≡ take opposite.used old.sent
     = ap (take opposite.used) more.whole_is ∙ take-append-le opposite.used old.sent more.rest (omega (arith, on.replies.used_within, on.replies.moved_within)) in
-    subst (λ (h : List ℕ). (b : HasHistory m d their.role their.party opposite.end h opposite.sent) → k ≤ length b.units) (sym same) least
+    subst (λ (h : List ℕ). (b : HasHistory (partner_setup m d their) opposite.end h opposite.sent) → k ≤ length b.units) (sym same) least
 
 module _ (laws : Laws) (m : SuiteData) (d : DecisionsData) (lawful : IsLawful m) (c : ClientData) (s : ServerData) (w : Wording) (receive : BothReceive m d c s w) where
   abbrev On : NodeData → NodeData → Type 0
@@ -98,9 +97,9 @@ module _ (laws : Laws) (m : SuiteData) (d : DecisionsData) (lawful : IsLawful m)
 
   -- a side that has received all that it receives has ended
   ended_by : (own their : Partner) → ReceivesCourse m d their own → own.part.final ≢ Open → (node opposite : NodeData) → OnCourse m d own their node opposite → node.end ≢ Failed fault.Memory → opposite.end ≢ Failed fault.Memory
-      → ((a : HasHistory m d own.role own.party node.end (take node.used opposite.sent) node.sent) → own.part.receives ≤ length a.units) → node.end ≢ Open
+      → ((a : HasHistory (partner_setup m d own) node.end (take node.used opposite.sent) node.sent) → own.part.receives ≤ length a.units) → node.end ≢ Open
   ended_by own their received final node opposite on had other_had all o =
-      let a : HasHistory m d own.role own.party node.end (take node.used opposite.sent) node.sent = on.replies.replies had in
+      let a : HasHistory (partner_setup m d own) node.end (take node.used opposite.sent) node.sent = on.replies.replies had in
       let less = fewer own.part a.units a.answers node.end (in_part m d own their received node opposite on had other_had a) o final in
       let most = all a in
       omega (arith, less, most)
@@ -111,9 +110,9 @@ module _ (laws : Laws) (m : SuiteData) (d : DecisionsData) (lawful : IsLawful m)
   settled of_client of_server r on had other_had few counts =
       let course = of_outcome m d c s w in
       let all = few_rounds m d c s w (guess_of c s) (outcome m d c s) r few in
-      let by_client : (a : HasHistory m d Client (config_of_client c) of_client.end (take of_client.used of_server.sent) of_client.sent) → (part_of_client m d c s w).receives ≤ length a.units
+      let by_client : (a : HasHistory (client_setup m d c) of_client.end (take of_client.used of_server.sent) of_client.sent) → (part_of_client m d c s w).receives ≤ length a.units
       = λ a. subst (λ (h : UnitsReceived). h.client ≤ length a.units) all (counts.by_client a) in
-      let by_server : (b : HasHistory m d Server (config_of_server s) of_server.end (take of_server.used of_client.sent) of_server.sent) → (part_of_server m d c s w).receives ≤ length b.units
+      let by_server : (b : HasHistory (server_setup m d s) of_server.end (take of_server.used of_client.sent) of_server.sent) → (part_of_server m d c s w).receives ≤ length b.units
       = λ b. subst (λ (h : UnitsReceived). h.server ≤ length b.units) all (counts.by_server b) in (
         none_waiting of_client.end (length of_server.sent) of_client.moved
             (ended_by (client_partner m d c s w) (server_partner m d c s w) receive.to_server course.client_ends of_client of_server on.own_side had other_had by_client),

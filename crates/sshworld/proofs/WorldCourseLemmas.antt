@@ -23,11 +23,11 @@ use Rattle.sshworld.specs.Rounds.{UnitsReceived, after_rounds}
 use Rattle.sshworld.specs.Nodes.{IsFresh, NodesStand, Receives, node_data, seen}
 use Rattle.sshworld.specs.Understood.{AreUnderstood}
 use Rattle.sshworld.specs.Wordings.{wording_of}
-use Rattle.sshworld.specs.WorldCourse.{AreUnderstoodIn, IsOnCourse, KeepsCourse, KeepsHeadline, ReceivesAll, WorldStands}
+use Rattle.sshworld.specs.WorldCourse.{AreUnderstoodIn, IsOnCourse, KeepsCourse, KeepsHeadline, ReceivesAll, WorldHolds, WorldStands}
 use Rattle.sshworld.specs.WorldRounds.{HaveReceivedIn, ReceivesRound, Settles, part_of_client_in, part_of_server_in, turn}
 use Rattle.sshworld.specs.Worlds.{Complete, HadMemory, IsSameSetup, NodeData, WorldData, waiting, waiting_at, waiting_for}
 use Rattle.sshworld.proofs.CourseReceivedLemmas.{course_received, headline_of}
-use Rattle.sshworld.proofs.DeliveryLemmas.{StandAt, nodes_received, seen_at}
+use Rattle.sshworld.proofs.DeliveryLemmas.{StandAt, each_replies, nodes_received, seen_at}
 use Rattle.sshworld.proofs.PartnerLemmas.{begins}
 use Rattle.sshworld.proofs.NodeLemmas.{node_history, stays_on_course}
 use Rattle.sshworld.proofs.OwnedLemmas.{there}
@@ -242,11 +242,20 @@ module _ {S D : Type 0} (meaning : S → SuiteData) (policy : D → DecisionsDat
     pub understands_in : AreUnderstood (meaning suite) (policy decisions) client_config server_config → ReceivesAll meaning policy (seen client_config server_config suite decisions client server)
     understands_in u = receive_law (meaning suite) (policy decisions) client_config server_config lawful u w.client_accepted w.server_accepted
 
-    pub course_in : KeepsCourse meaning policy (seen client_config server_config suite decisions client server)
+    course_in : KeepsCourse meaning policy (seen client_config server_config suite decisions client server)
     course_in = keeps_course meaning policy laws (seen client_config server_config suite decisions client server) lawful understands_in w.on_course
 
-    pub headline_in : KeepsHeadline meaning policy (seen client_config server_config suite decisions client server)
+    headline_in : KeepsHeadline meaning policy (seen client_config server_config suite decisions client server)
     headline_in = keeps_headline meaning policy laws (seen client_config server_config suite decisions client server) lawful understands_in w.on_course
+
+    pub holds_in : WorldHolds meaning policy (seen client_config server_config suite decisions client server)
+    holds_in = record {
+      client_accepted = w.client_accepted;
+      server_accepted = w.server_accepted;
+      replies = each_replies meaning policy client_config server_config suite decisions client server w.nodes;
+      course = course_in;
+      headline = headline_in;
+    }
 
     pub settles_in : Settles meaning policy (seen client_config server_config suite decisions client server)
     settles_in u = settles meaning policy laws (seen client_config server_config suite decisions client server) lawful understands_in w.on_course (understands_in u)

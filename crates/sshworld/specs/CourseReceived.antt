@@ -4,7 +4,7 @@ use Rattle.std.specs.Prelude.{◌≡◌, take, None}
 use Rattle.sshneg.specs.declared.side.Side.TheVariants.{Client, Server}
 use Rattle.sshpacket.specs.Suite.{SuiteData}
 use Rattle.sshcore.specs.ConfigParts.{ClientData, ServerData}
-use Rattle.sshcore.specs.EndpointParts.{DecisionsData, config_of_client, config_of_server}
+use Rattle.sshcore.specs.EndpointParts.{DecisionsData, client_setup, config_of_client, config_of_server, server_setup}
 use Rattle.sshworld.specs.Follows.{part_of_client, part_of_server}
 use Rattle.sshworld.specs.Partners.{HasHistory, Partner, ReceivesCourse, told}
 use Rattle.sshworld.specs.Headline.{AreInCourse, HaveReceivedAll}
@@ -27,8 +27,8 @@ module _ (m : SuiteData) (d : DecisionsData) (client : ClientData) (server : Ser
   -- Both sides of a world have such histories that they are in their course, without a refusal; and where nothing waits for either,
   -- each that is open has received all that the other has sent.
   pub record IsCourseReceived (of_client of_server : NodeData) : Type 0 where
-    pub client_history : HasHistory m d Client (config_of_client client) of_client.end (take of_client.used of_server.sent) of_client.sent
-    pub server_history : HasHistory m d Server (config_of_server server) of_server.end (take of_server.used of_client.sent) of_server.sent
+    pub client_history : HasHistory (client_setup m d client) of_client.end (take of_client.used of_server.sent) of_client.sent
+    pub server_history : HasHistory (server_setup m d server) of_server.end (take of_server.used of_client.sent) of_server.sent
     pub client_unrefused : client_history.refusal ≡ None
     pub server_unrefused : server_history.refusal ≡ None
     pub in_course : AreInCourse m d client server w (told client_history) (told server_history)

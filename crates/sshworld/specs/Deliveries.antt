@@ -7,11 +7,10 @@ use Rattle.sshpacket.specs.Suite.{SuiteData}
 use Rattle.sshcore.specs.declared.end.Fault.TheVariants as fault
 use Rattle.sshcore.specs.EndData.{Failed, Open}
 use Rattle.sshcore.specs.History.{BrokenOff}
-use Rattle.sshcore.specs.EndpointParts.{ConfigData, DecisionsData}
+use Rattle.sshcore.specs.EndpointParts.{DecisionsData, Setup, setup_with}
 use Rattle.sshworld.specs.declared.side.Delivery.{Delivery}
 use Rattle.sshneg.specs.declared.side.Side.TheVariants.{Client, Server}
-use Rattle.sshworld.specs.Conversed.{EachReplies}
-use Rattle.sshworld.specs.WorldCourse.{KeepsHeadline}
+use Rattle.sshworld.specs.WorldCourse.{WorldHolds}
 use Rattle.sshworld.specs.Worlds.{IsSameSetup, NodeData, WorldData, config_at, node_at, node_opposite, waiting_for}
 
 -- The next n bytes were moved to a side: it used all of them, or those up to its end, and what it sent by that is appended to
@@ -33,23 +32,22 @@ pub record Delivered {S D : Type 0} (to : Side) (n : ℕ) (old new : WorldData S
 -- The next n bytes were moved to a side, and memory ran out: it has failed by that. It doesn't count those that it used of them.
 -- What it sent by that is appended to what it had sent before, so that it has sent whole packets, a prefix of those that it would
 -- have sent.
-pub record BreaksOff (m : SuiteData) (d : DecisionsData) (role : Side) (party : ConfigData) (n : ℕ) (old new opposite : NodeData) : Type 0 where
+pub record BreaksOff (setup : Setup) (n : ℕ) (old new opposite : NodeData) : Type 0 where
   pub failed : new.end ≡ Failed fault.Memory
   pub moved_on : new.moved ≡ old.moved + n
   pub same_used : new.used ≡ old.used
   pub more_sent : IsPrefix old.sent new.sent
   pub used : ℕ
   pub used_within : used ≤ n
-  pub broken_off : BrokenOff m d role party (take (old.used + used) opposite.sent) new.sent
+  pub broken_off : BrokenOff setup (take (old.used + used) opposite.sent) new.sent
 
 module _ {S D : Type 0} (meaning : S → SuiteData) (policy : D → DecisionsData) where
-  -- A delivery of n bytes was done: the configs, the suite and the decisions are the same, both sides of the new world have
-  -- replied to what was moved to them, and the headline holds of it.
+  -- A delivery of n bytes was done: the configs, the suite and the decisions are the same, and what is true of every world is true of
+  -- the new one.
   pub record Done (to : Side) (n : ℕ) (old new : WorldData S D) : Type 0 where
     pub delivered : Delivered to n old new
     pub setup : IsSameSetup old new
-    pub replies : EachReplies meaning policy new
-    pub headline : KeepsHeadline meaning policy new
+    pub holds : WorldHolds meaning policy new
 
   -- A delivery of a schedule moves the lesser of its count and what waits.
   abbrev pub DoneBy : Delivery → WorldData S D → WorldData S D → Type 0
@@ -75,7 +73,7 @@ module _ {S D : Type 0} (meaning : S → SuiteData) (policy : D → DecisionsDat
 
   -- A delivery of n bytes for which memory ran out; the side that doesn't receive doesn't change.
   pub record Refused (to : Side) (n : ℕ) (old new : WorldData S D) : Type 0 where
-    pub receiver : BreaksOff (meaning old.suite) (policy old.decisions) to (config_at to old) n (node_at to old) (node_at to new) (node_opposite to old)
+    pub receiver : BreaksOff (setup_with (meaning old.suite) (policy old.decisions) to (config_at to old)) n (node_at to old) (node_at to new) (node_opposite to old)
     pub sender : node_opposite to new ≡ node_opposite to old
 
   -- a delivery of so many bytes as wait for which it was

@@ -1,14 +1,12 @@
 -- An endpoint that replies as its part of a course has it.
 
 use Rattle.std.specs.Prelude.{◌≡◌, ◌==◌, ◌<◌, ◌≤◌, ◌++◌, ℕ, suc, None, List, [], ◌∷◌, length, if◌then◌else◌}
-use Rattle.sshneg.specs.declared.side.Side.{Side}
-use Rattle.sshneg.specs.declared.side.Side.TheVariants.{Client, Server}
 use Rattle.sshpacket.specs.Places.{IsPrefix}
 use Rattle.sshpacket.specs.Stream.{Units}
 use Rattle.sshpacket.specs.Suite.{SuiteData}
 use Rattle.sshcore.specs.ConfigParts.{ClientData, ServerData}
 use Rattle.sshcore.specs.EndData.{EndData, Open}
-use Rattle.sshcore.specs.EndpointParts.{ConfigData, DecisionsData, config_of_client, config_of_server}
+use Rattle.sshcore.specs.EndpointParts.{ConfigData, DecisionsData, Setup, client_setup, config_of_client, config_of_server, server_setup}
 use Rattle.sshcore.specs.Replies.{Replies, answers_at, end_at}
 use Rattle.sshcore.specs.Work.{making}
 use Rattle.sshworld.specs.Course.{Part, client_part, sent_after, server_part, way_of}
@@ -25,16 +23,16 @@ abbrev pub units_of : ConfigData → Part → Units
 units_of own part = own.version ∷ sent_after part part.receives
 
 -- At this place an endpoint answers and stands as its part has it.
-pub record IsAsPart (m : SuiteData) (d : DecisionsData) (role : Side) (own : ConfigData) (part : Part) (before : Units) (unit : List ℕ) : Type 0 where
-  pub answer : answers_at m d role own before unit ≡ part.group (length before)
-  pub end : end_at m d role own before unit ≡ end_after part (suc (length before))
+pub record IsAsPart (setup : Setup) (part : Part) (before : Units) (unit : List ℕ) : Type 0 where
+  pub answer : answers_at setup before unit ≡ part.group (length before)
+  pub end : end_at setup before unit ≡ end_after part (suc (length before))
 
 -- An endpoint follows its part, while it receives units of this stream: it sends first what the part has first, and at each
 -- place up to the part's end it answers and stands as the part has it.
-pub record FollowsPart (m : SuiteData) (d : DecisionsData) (role : Side) (own : ConfigData) (part : Part) (stream : Units) : Type 0 where
-  pub making_is : making m role own ≡ part.first
+pub record FollowsPart (setup : Setup) (part : Part) (stream : Units) : Type 0 where
+  pub making_is : making setup.suite setup.role setup.config ≡ part.first
   pub places : (before : Units) (unit : List ℕ) → IsPrefix (before ++ unit ∷ []) stream → length before < part.receives
-      → IsAsPart m d role own part before unit
+      → IsAsPart setup part before unit
 
 -- A side that has received these units, has sent these answers and has this end stands in its part: it has received no more than
 -- the part receives, and has sent and stands as the part has it then.
@@ -44,9 +42,9 @@ pub record IsInPart (part : Part) (units answers : Units) (end : EndData) : Type
   pub ends : end ≡ end_after part (length units)
 
 -- Whatever prefix of this stream an endpoint has received, and whatever it replied, it stands in its part.
-abbrev pub KeepsPart : SuiteData → DecisionsData → Side → ConfigData → Part → Units → Type 0
-KeepsPart m d role own part stream =
-    (units answers : Units) (end : EndData) → IsPrefix units stream → Replies m d role own units None answers end → IsInPart part units answers end
+abbrev pub KeepsPart : Setup → Part → Units → Type 0
+KeepsPart setup part stream =
+    (units answers : Units) (end : EndData) → IsPrefix units stream → Replies setup units None answers end → IsInPart part units answers end
 
 module _ (m : SuiteData) (d : DecisionsData) (client : ClientData) (server : ServerData) (w : Wording) where
   -- the parts of two configs, in these words
@@ -58,10 +56,10 @@ module _ (m : SuiteData) (d : DecisionsData) (client : ClientData) (server : Ser
 
   -- Each of two endpoints with these configs follows its part, while it receives what the other sends in the course.
   pub record BothFollow : Type 0 where
-    pub client_follows : FollowsPart m d Client (config_of_client client) part_of_client (units_of (config_of_server server) part_of_server)
-    pub server_follows : FollowsPart m d Server (config_of_server server) part_of_server (units_of (config_of_client client) part_of_client)
+    pub client_follows : FollowsPart (client_setup m d client) part_of_client (units_of (config_of_server server) part_of_server)
+    pub server_follows : FollowsPart (server_setup m d server) part_of_server (units_of (config_of_client client) part_of_client)
 
   -- Each stands in its part then.
   pub record BothKeep : Type 0 where
-    pub client_keeps : KeepsPart m d Client (config_of_client client) part_of_client (units_of (config_of_server server) part_of_server)
-    pub server_keeps : KeepsPart m d Server (config_of_server server) part_of_server (units_of (config_of_client client) part_of_client)
+    pub client_keeps : KeepsPart (client_setup m d client) part_of_client (units_of (config_of_server server) part_of_server)
+    pub server_keeps : KeepsPart (server_setup m d server) part_of_server (units_of (config_of_client client) part_of_client)

@@ -10,7 +10,7 @@ use Rattle.sshpacket.specs.Suite.{SuiteData}
 use Rattle.sshcore.specs.declared.end.Fault.TheVariants as fault
 use Rattle.sshcore.specs.EndData.{EndData, Failed}
 use Rattle.sshcore.specs.History.{History}
-use Rattle.sshcore.specs.EndpointParts.{ConfigData, DecisionsData}
+use Rattle.sshcore.specs.EndpointParts.{ConfigData, DecisionsData, Setup, setup_with}
 use Rattle.sshworld.specs.Course.{Part, sent_after}
 use Rattle.sshworld.specs.Follows.{KeepsPart, units_of}
 use Rattle.sshworld.specs.Headline.{Told}
@@ -23,6 +23,9 @@ pub record Partner : Type 0 where
   pub party : ConfigData
   pub part : Part
 
+abbrev pub partner_setup : SuiteData → DecisionsData → Partner → Setup
+partner_setup m d p = setup_with m d p.role p.party
+
 -- all payloads that it sends, and all units
 abbrev pub payloads_of : Partner → Units
 payloads_of p = sent_after p.part p.part.receives
@@ -31,34 +34,34 @@ abbrev pub stream_of : Partner → Units
 stream_of p = units_of p.party p.part
 
 -- An endpoint that stands so has received and sent these bytes: they are such units and answers.
-pub record HasHistory (m : SuiteData) (d : DecisionsData) (role : Side) (party : ConfigData) (end : EndData) (received_bytes sent_bytes : List ℕ) : Type 0 where
+pub record HasHistory (setup : Setup) (end : EndData) (received_bytes sent_bytes : List ℕ) : Type 0 where
   pub units : Units
   pub rest : List ℕ
   pub refusal : Option Refusal
   pub answers : Units
-  pub history : History m d role party units rest refusal answers end received_bytes sent_bytes
+  pub history : History setup units rest refusal answers end received_bytes sent_bytes
 
 -- what it has received and sent, in units
-abbrev pub told : {m : SuiteData} {d : DecisionsData} {role : Side} {party : ConfigData} {end : EndData} {h s : List ℕ} → HasHistory m d role party end h s → Told
+abbrev pub told : {setup : Setup} {end : EndData} {h s : List ℕ} → HasHistory setup end h s → Told
 told {end = end} a = record { units = a.units; answers = a.answers; end = end }
 
 -- One direction of a course: all that the other sends can be received, and the other keeps its part whatever it has received of
 -- what the own side sends.
 pub record ReceivesCourse (m : SuiteData) (d : DecisionsData) (own their : Partner) : Type 0 where
   pub received : CanBeReceived m own.role their.role own.party their.party (payloads_of own) (payloads_of their)
-  pub keeps : KeepsPart m d their.role their.party their.part (stream_of own)
+  pub keeps : KeepsPart (partner_setup m d their) their.part (stream_of own)
 
 -- A side has used what was moved to it, up to its end; and unless memory ran out, it has a history with the bytes that it used
 -- and those that it sent.
-abbrev pub NodeReplies : SuiteData → DecisionsData → Side → ConfigData → NodeData → NodeData → Type 0
-NodeReplies m d role party node opposite = HasReplied (HasHistory m d role party node.end) node opposite
+abbrev pub NodeReplies : Setup → NodeData → NodeData → Type 0
+NodeReplies setup node opposite = HasReplied (HasHistory setup node.end) node opposite
 
 -- A side is on its course: unless one of the two ran out of memory, the units of each such history are a prefix of all that the
 -- other sends, and nothing was refused.
 pub record OnCourse (m : SuiteData) (d : DecisionsData) (own their : Partner) (node opposite : NodeData) : Type 0 where
-  pub replies : NodeReplies m d own.role own.party node opposite
+  pub replies : NodeReplies (partner_setup m d own) node opposite
   pub prefix : node.end ≢ Failed fault.Memory → opposite.end ≢ Failed fault.Memory
-      → (a : HasHistory m d own.role own.party node.end (take node.used opposite.sent) node.sent) → IsPrefix a.units (stream_of their) × (a.refusal ≡ None)
+      → (a : HasHistory (partner_setup m d own) node.end (take node.used opposite.sent) node.sent) → IsPrefix a.units (stream_of their) × (a.refusal ≡ None)
 
 -- Both sides are.
 pub record BothOnCourse (m : SuiteData) (d : DecisionsData) (own their : Partner) (node opposite : NodeData) : Type 0 where

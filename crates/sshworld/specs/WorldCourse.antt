@@ -5,6 +5,7 @@ use Rattle.sshcore.specs.ConfigParts.{ClientData, ServerData}
 use Rattle.sshcore.specs.ConfigRules.{IsClient, IsServer}
 use Rattle.sshcore.specs.EndpointParts.{DecisionsData}
 use Rattle.sshworld.specs.declared.node.Node.{Node}
+use Rattle.sshworld.specs.Conversed.{EachReplies}
 use Rattle.sshworld.specs.CourseReceived.{BothReceive, IsCourseReceived, client_partner, server_partner}
 use Rattle.sshworld.specs.Partners.{BothOnCourse}
 use Rattle.sshworld.specs.Headline.{Headline}
@@ -38,6 +39,15 @@ module _ {S D : Type 0} (meaning : S → SuiteData) (policy : D → DecisionsDat
   abbrev pub KeepsHeadline : Type 0
   KeepsHeadline = AreUnderstoodIn → HadMemory w
       → Headline (outcome (meaning w.suite) (policy w.decisions) w.client_config w.server_config) w.client.end w.server.end (Complete w)
+
+  -- What is true of every world: its configs were accepted; each side has replied to what was moved to it; both are in the course of
+  -- the configs; and the headline.
+  pub record WorldHolds : Type 0 where
+    pub client_accepted : IsClient w.client_config
+    pub server_accepted : IsServer w.server_config
+    pub replies : EachReplies meaning policy w
+    pub course : KeepsCourse
+    pub headline : KeepsHeadline
 
 module _ {S D : Type 0} (meaning : S → SuiteData) (policy : D → DecisionsData) where
   -- The invariant of a world: its configs were accepted, its nodes stand, and they are on the course of the configs.

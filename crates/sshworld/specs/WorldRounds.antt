@@ -4,11 +4,10 @@ use Rattle.std.specs.Prelude.{◌≡◌, ◌≤◌, ◌+◌, ℕ, length, min, t
 use Rattle.sshneg.specs.declared.side.Side.TheVariants as role
 use Rattle.sshpacket.specs.Suite.{SuiteData}
 use Rattle.sshcore.specs.ConfigParts.{ClientData, ServerData}
-use Rattle.sshcore.specs.EndpointParts.{DecisionsData, config_of_client, config_of_server}
+use Rattle.sshcore.specs.EndpointParts.{DecisionsData, client_setup, server_setup}
 use Rattle.sshworld.specs.Offered.{most_requests}
 use Rattle.sshneg.specs.declared.side.Side.{Side}
 use Rattle.sshneg.specs.declared.side.Side.TheVariants.{Client, Server}
-use Rattle.sshworld.specs.Conversed.{EachReplies}
 use Rattle.sshworld.specs.Course.{Part}
 use Rattle.sshworld.specs.Deliveries.{Delivered}
 use Rattle.sshworld.specs.Follows.{part_of_client, part_of_server}
@@ -16,7 +15,7 @@ use Rattle.sshworld.specs.Partners.{HasHistory}
 use Rattle.sshworld.specs.Rounds.{UnitsReceived, after_rounds, round_from, server_receives_all}
 use Rattle.sshworld.specs.Wording.{Wording}
 use Rattle.sshworld.specs.Wordings.{wording_of}
-use Rattle.sshworld.specs.WorldCourse.{AreUnderstoodIn, IsOnCourse, KeepsCourse, KeepsHeadline, ReceivesAll}
+use Rattle.sshworld.specs.WorldCourse.{AreUnderstoodIn, IsOnCourse, ReceivesAll, WorldHolds}
 use Rattle.sshworld.specs.Worlds.{Complete, HadMemory, IsSameSetup, NodeData, WorldData, waiting_for}
 
 -- what both have received when all that waits was moved to one side
@@ -26,8 +25,8 @@ turn client server Server received = record received { server = server_receives_
 
 -- In each of their histories, each of two sides has received at least so many units.
 pub record HaveReceived (m : SuiteData) (d : DecisionsData) (client : ClientData) (server : ServerData) (w : Wording) (received : UnitsReceived) (of_client of_server : NodeData) : Type 0 where
-  pub by_client : (a : HasHistory m d role.Client (config_of_client client) of_client.end (take of_client.used of_server.sent) of_client.sent) → received.client ≤ length a.units
-  pub by_server : (b : HasHistory m d role.Server (config_of_server server) of_server.end (take of_server.used of_client.sent) of_server.sent) → received.server ≤ length b.units
+  pub by_client : (a : HasHistory (client_setup m d client) of_client.end (take of_client.used of_server.sent) of_client.sent) → received.client ≤ length a.units
+  pub by_server : (b : HasHistory (server_setup m d server) of_server.end (take of_server.used of_client.sent) of_server.sent) → received.server ≤ length b.units
 
 module _ {S D : Type 0} (meaning : S → SuiteData) (policy : D → DecisionsData) (w : WorldData S D) where
   -- the two parts of the course
@@ -61,9 +60,7 @@ module _ {S D : Type 0} (meaning : S → SuiteData) (policy : D → DecisionsDat
   -- what is true after a delivery, whether or not memory ran out
   pub record Keeps (old new : WorldData S D) : Type 0 where
     pub setup : IsSameSetup old new
-    pub replies : EachReplies meaning policy new
-    pub course : KeepsCourse meaning policy new
-    pub headline : KeepsHeadline meaning policy new
+    pub holds : WorldHolds meaning policy new
     pub was_on : IsOnCourse meaning policy old
     pub on_course : IsOnCourse meaning policy new
 

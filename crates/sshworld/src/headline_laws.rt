@@ -6,7 +6,7 @@ ghost use Rattle.sshpacket.specs.Places.{IsPrefix};
 ghost use Rattle.sshpacket.specs.Suite.{SuiteData};
 ghost use Rattle.sshcore.specs.ConfigParts.{ClientData, ServerData, version_of};
 ghost use Rattle.sshcore.specs.EndData.{AgreedData, Authenticated, EndData, Open};
-ghost use Rattle.sshcore.specs.EndpointParts.{DecisionsData, config_of_client, config_of_server};
+ghost use Rattle.sshcore.specs.EndpointParts.{DecisionsData, client_setup, config_of_client, config_of_server, server_setup};
 ghost use Rattle.sshcore.specs.Replies.{Replies};
 ghost use Rattle.sshcore.specs.Work.{making};
 ghost use Rattle.sshworld.specs.Course.{Part, sent_after};
@@ -31,11 +31,11 @@ pub fn headline_law()
     ensures client_receives { (m : SuiteData) (d : DecisionsData) (client : ClientData) (server : ServerData) (w : Wording) (of_client of_server new : Told)
         → BothKeep m d client server w → AreInCourse m d client server w of_client of_server
         → IsPrefix of_client.units new.units → IsPrefix new.units (version_of server.side ∷ of_server.answers)
-        → Replies m d role.Client (config_of_client client) new.units None new.answers new.end → AreInCourse m d client server w new of_server }
+        → Replies (client_setup m d client) new.units None new.answers new.end → AreInCourse m d client server w new of_server }
     ensures server_receives { (m : SuiteData) (d : DecisionsData) (client : ClientData) (server : ServerData) (w : Wording) (of_client of_server new : Told)
         → BothKeep m d client server w → AreInCourse m d client server w of_client of_server
         → IsPrefix of_server.units new.units → IsPrefix new.units (version_of client.side ∷ of_client.answers)
-        → Replies m d role.Server (config_of_server server) new.units None new.answers new.end → AreInCourse m d client server w of_client new }
+        → Replies (server_setup m d server) new.units None new.answers new.end → AreInCourse m d client server w of_client new }
     // A side in its part that has ended has received and sent all that its part has.
     ensures all { (part : Part) (told : Told) → IsInPart part told.units told.answers told.end → told.end ≢ Open
         → (length told.units ≡ part.receives) × (told.answers ≡ sent_after part part.receives) }

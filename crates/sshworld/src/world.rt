@@ -1,14 +1,13 @@
 //! Two endpoints and the bytes between them.
 
 ghost use Rattle.std.specs.Prelude.{◌≡◌, ◌≢◌, ◌↔◌, ◌+◌, ◌≤◌, IfOk, IsTrue, None, Ok, OnErr, OnOk, min};
-ghost use Rattle.sshcore.specs.ConfigRules.{IsClient, IsServer};
 ghost use Rattle.sshcore.specs.EndData.{AgreedData, Authenticated, Open, end_data};
 ghost use Rattle.sshcore.specs.Redrawn.{redrawn_client, redrawn_server};
-ghost use Rattle.sshworld.specs.Conversed.{EachReplies, IsNew};
+ghost use Rattle.sshworld.specs.Conversed.{IsNew};
 ghost use Rattle.sshworld.specs.Offered.{most_requests};
 ghost use Rattle.sshworld.specs.Deliveries.{Delivered, DoneAll, Refused, RefusedAll, Round, RoundInto, Rounds, RoundsInto, Runs, RunsInto};
 ghost use Rattle.sshworld.specs.Joined.{HandOver};
-ghost use Rattle.sshworld.specs.WorldCourse.{AreUnderstoodIn, KeepsCourse, KeepsHeadline, ReceivesAll};
+ghost use Rattle.sshworld.specs.WorldCourse.{AreUnderstoodIn, ReceivesAll, WorldHolds};
 ghost use Rattle.sshworld.specs.WorldRounds.{Keeps, Moves, ReceivesRound, ReceivesTurn, Settles};
 ghost use Rattle.sshworld.specs.Worlds.{Complete, HadMemory, IsSameSetup, node_at, waiting_for};
 
@@ -77,9 +76,7 @@ impl<'a, S: Suite, D: Decisions> World<'a, S, D> {
         ensures suite { IfOk result (λ w. w.suite ≡ suite.now) }
         ensures decisions { IfOk result (λ w. w.decisions ≡ decisions.now) }
         ensures start { IfOk result (λ w. IsNew S.meaning D.policy w) }
-        ensures replies { IfOk result (λ w. EachReplies S.meaning D.policy w) }
-        ensures course { IfOk result (λ w. KeepsCourse S.meaning D.policy w) }
-        ensures headline { IfOk result (λ w. KeepsHeadline S.meaning D.policy w) }
+        ensures holds { IfOk result (λ w. WorldHolds S.meaning D.policy w) }
     {
         World::new_with(
             alloc,
@@ -108,9 +105,7 @@ impl<'a, S: Suite, D: Decisions> World<'a, S, D> {
         ensures suite { IfOk result (λ w. w.suite ≡ suite.now) }
         ensures decisions { IfOk result (λ w. w.decisions ≡ decisions.now) }
         ensures start { IfOk result (λ w. IsNew S.meaning D.policy w) }
-        ensures replies { IfOk result (λ w. EachReplies S.meaning D.policy w) }
-        ensures course { IfOk result (λ w. KeepsCourse S.meaning D.policy w) }
-        ensures headline { IfOk result (λ w. KeepsHeadline S.meaning D.policy w) }
+        ensures holds { IfOk result (λ w. WorldHolds S.meaning D.policy w) }
     {
         below_law();
         course_receiving_law();
@@ -133,10 +128,7 @@ impl<'a, S: Suite, D: Decisions> World<'a, S, D> {
 
     /// What is true of every world. Takes no memory.
     fn holds(&self)
-        ensures accepted { IsClient self.now.client_config × IsServer self.now.server_config }
-        ensures replies { EachReplies S.meaning D.policy self.now }
-        ensures course { KeepsCourse S.meaning D.policy self.now }
-        ensures headline { KeepsHeadline S.meaning D.policy self.now }
+        ensures holds { WorldHolds S.meaning D.policy self.now }
         ensures understands { AreUnderstoodIn S.meaning D.policy self.now → ReceivesAll S.meaning D.policy self.now }
         ensures settles { Settles S.meaning D.policy self.now }
     {
@@ -183,9 +175,7 @@ impl<'a, S: Suite, D: Decisions> World<'a, S, D> {
         ensures still { OnOk result (HadMemory self.old → HadMemory self.new) }
         ensures ended { (node_at to self.old).end ≢ Open → (result ≡ Ok 0) × (self.new ≡ self.old) }
         ensures setup { IsSameSetup self.old self.new }
-        ensures replies { EachReplies S.meaning D.policy self.new }
-        ensures course { KeepsCourse S.meaning D.policy self.new }
-        ensures headline { KeepsHeadline S.meaning D.policy self.new }
+        ensures holds { WorldHolds S.meaning D.policy self.new }
     {
         let moved = self.move_bytes(to, count as usize)?;
         Ok(moved as u32)
@@ -212,9 +202,7 @@ impl<'a, S: Suite, D: Decisions> World<'a, S, D> {
         ensures stopped { OnErr result (RunsInto S.meaning D.policy schedule.now self.old self.new) }
         ensures still { OnOk result (HadMemory self.old → HadMemory self.new) }
         ensures setup { IsSameSetup self.old self.new }
-        ensures replies { EachReplies S.meaning D.policy self.new }
-        ensures course { KeepsCourse S.meaning D.policy self.new }
-        ensures headline { KeepsHeadline S.meaning D.policy self.new }
+        ensures holds { WorldHolds S.meaning D.policy self.new }
     {
         for delivery in schedule {
             self.deliver(delivery.to, delivery.count)?;
@@ -244,9 +232,7 @@ impl<'a, S: Suite, D: Decisions> World<'a, S, D> {
         ensures stopped { OnErr result (RoundsInto S.meaning D.policy rounds self.old self.new) }
         ensures still { OnOk result (HadMemory self.old → HadMemory self.new) }
         ensures setup { IsSameSetup self.old self.new }
-        ensures replies { EachReplies S.meaning D.policy self.new }
-        ensures course { KeepsCourse S.meaning D.policy self.new }
-        ensures headline { KeepsHeadline S.meaning D.policy self.new }
+        ensures holds { WorldHolds S.meaning D.policy self.new }
         // Four rounds more than the client's plan has requests at the most (two of an attempt that asks first, one of any other) leave a
         // complete world, from any world that had memory and of which the two ends understand each other.
         ensures bound { OnOk result (AreUnderstoodIn S.meaning D.policy self.old → HadMemory self.old → most_requests self.old.client_config.plan + 4 ≤ rounds → Complete self.new) }
@@ -261,9 +247,7 @@ impl<'a, S: Suite, D: Decisions> World<'a, S, D> {
     /// Whether nothing waits for either side. Takes no memory.
     pub fn complete(&self) -> bool
         ensures complete { IsTrue result ↔ Complete self.now }
-        ensures accepted { IsClient self.now.client_config × IsServer self.now.server_config }
-        ensures course { KeepsCourse S.meaning D.policy self.now }
-        ensures headline { KeepsHeadline S.meaning D.policy self.now }
+        ensures holds { WorldHolds S.meaning D.policy self.now }
     {
         self.holds();
         self.waiting(Side::Client) == 0 && self.waiting(Side::Server) == 0
@@ -273,10 +257,7 @@ impl<'a, S: Suite, D: Decisions> World<'a, S, D> {
     pub fn ends(&self) -> (&End, &End)
         ensures client { end_data result.0.now ≡ self.now.client.end }
         ensures server { end_data result.1.now ≡ self.now.server.end }
-        ensures accepted { IsClient self.now.client_config × IsServer self.now.server_config }
-        ensures replies { EachReplies S.meaning D.policy self.now }
-        ensures course { KeepsCourse S.meaning D.policy self.now }
-        ensures headline { KeepsHeadline S.meaning D.policy self.now }
+        ensures holds { WorldHolds S.meaning D.policy self.now }
     {
         self.holds();
         (self.client.endpoint.end(), self.server.endpoint.end())

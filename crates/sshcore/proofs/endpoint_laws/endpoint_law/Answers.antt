@@ -2,6 +2,7 @@ use Rattle.std.proofs.Common.{ap, subst}
 use Rattle.sshcore.specs.EndData.{Authenticated, by_owner}
 use Rattle.sshcore.specs.Endpoints.{endpoint_end}
 use Rattle.sshcore.specs.Replies.{Ends}
+use Rattle.sshcore.specs.EndpointData.{endpoint_setup}
 use Rattle.sshcore.proofs.EndpointLemmas.{as_received, authenticated_strictly, cut_open, joined_ends, joined_received}
 use Rattle.sshcore.proofs.SessionLemmas.{uncut_end}
 use Rattle.sshcore.proofs.endpoint_laws.endpoint_law.Goals as goal
@@ -14,7 +15,7 @@ returns-clause-joined_received g c = joined_received g.S.Suite.meaning g.D.Decis
 
 pub returns-clause-strict : goal.returns-clause-strict
 returns-clause-strict g c = λ h s a.
-    c.strict_law.ensures.keeps (g.S.Suite.meaning c.args.one.now.suite) (g.D.Decisions.policy c.args.one.now.decisions) c.args.one.now.role c.args.one.now.party a.units a.refusal a.received_end
+    c.strict_law.ensures.keeps (endpoint_setup g.S.Suite.meaning g.D.Decisions.policy c.args.one.now) a.units a.refusal a.received_end
     a.history.replies.ends
 
 pub returns-clause-received : goal.returns-clause-received
@@ -22,20 +23,17 @@ returns-clause-received g c = λ h s a uncut. as_received a.received_end (endpoi
 
 pub returns-clause-cut : goal.returns-clause-cut
 returns-clause-cut g c = λ h s a cut.
-    cut_open (g.S.Suite.meaning c.args.one.now.suite) (g.D.Decisions.policy c.args.one.now.decisions) c.args.one.now.role c.args.one.now.party a.units a.refusal a.received_end
+    cut_open (endpoint_setup g.S.Suite.meaning g.D.Decisions.policy c.args.one.now) a.units a.refusal a.received_end
     (endpoint_end c.args.one.now) a.history.replies.ends a.ends (ap by_owner cut)
 
 pub returns-clause-left : goal.returns-clause-left
 returns-clause-left g c = λ h s a reason left.
-    cut_open (g.S.Suite.meaning c.args.one.now.suite) (g.D.Decisions.policy c.args.one.now.decisions) c.args.one.now.role c.args.one.now.party a.units a.refusal a.received_end
+    cut_open (endpoint_setup g.S.Suite.meaning g.D.Decisions.policy c.args.one.now) a.units a.refusal a.received_end
     (endpoint_end c.args.one.now) a.history.replies.ends a.ends (ap by_owner left)
 
 pub returns-clause-authenticated : goal.returns-clause-authenticated
 returns-clause-authenticated g c = λ h s a agreed is.
-    let m = g.S.Suite.meaning c.args.one.now.suite in
-    let d = g.D.Decisions.policy c.args.one.now.decisions in
-    let role = c.args.one.now.role in
-    let party = c.args.one.now.party in
-    let ends = subst (Ends m d role party a.units a.refusal) (uncut_end a.received_end (endpoint_end c.args.one.now) agreed a.ends is) a.history.replies.ends in
-    let authenticated = c.authentication_law.ensures.authenticated m d role party a.units a.refusal agreed ends in
-    (authenticated, authenticated_strictly m d role party a.units agreed (Authenticated agreed) (c.strict_law.ensures.keeps m d role party a.units a.refusal (Authenticated agreed) ends) authenticated)
+    let setup = endpoint_setup g.S.Suite.meaning g.D.Decisions.policy c.args.one.now in
+    let ends = subst (Ends setup a.units a.refusal) (uncut_end a.received_end (endpoint_end c.args.one.now) agreed a.ends is) a.history.replies.ends in
+    let authenticated = c.authentication_law.ensures.authenticated setup a.units a.refusal agreed ends in
+    (authenticated, authenticated_strictly setup a.units agreed (Authenticated agreed) (c.strict_law.ensures.keeps setup a.units a.refusal (Authenticated agreed) ends) authenticated)

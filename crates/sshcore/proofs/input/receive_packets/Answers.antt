@@ -2,7 +2,7 @@ use Rattle.std.proofs.Common.{◌<◌, ◌≤◌, ℕ, true, [], Some, Ok, Err, 
 use Rattle.sshpacket.specs.Parse.{OfPacket, parse_packet}
 use Rattle.sshpacket.specs.PacketReaderData.{ParseAnswer, ReaderLeaves, last_used, packet_reader_data, protection_at}
 use Rattle.sshcore.specs.declared.input.Input.TheVariants as input
-use Rattle.sshcore.specs.EndpointConfig.{config_data, role_of}
+use Rattle.sshcore.specs.EndpointConfig.{config_data, role_of, setup_of}
 use Rattle.sshcore.specs.EndData.{end_data}
 use Rattle.sshcore.specs.Exchange.{keys_by}
 use Rattle.sshcore.specs.Inputs.{Steps}
@@ -34,7 +34,7 @@ returns-in-Ok-More-clause-steps g c =
     } in
     let q = c.next.follows.lender-at-none in
     let came = c.in-Ok-More.is ∙ ap Ok c.in-Ok-More.field-0-is in
-    packets_part below streams m (g.D.Decisions.policy c.args.decisions.now) (role_of c.args.config.now) (config_data c.args.config.now) r q (state_data c.args.state.now)
+    packets_part below streams (setup_of m (g.D.Decisions.policy c.args.decisions.now) c.args.config.now) r q (state_data c.args.state.now)
     c.args.piece.now c.args.sent.now.items c.args.sent.now.items c.requires.open
     (subst (λ x. ParseAnswer m (packet_reader_data r) c.args.piece.now (Ok x)) c.in-Ok-More.field-0-is (c.in-Ok-More.ensures.answers c.requires.reads))
     (subst (λ x. ReaderLeaves m (packet_reader_data r) c.args.piece.now x q) came (c.next.follows.holds-at-none.0 c.requires.reads)).0
@@ -64,7 +64,7 @@ returns-in-Some-clause-steps g c =
     let last = state_data c.take_keys.new.self in
     let left = c.take_keys.ensures.left in
     let due = sym c.in-Some.is ∙ c.take_keys.ensures.keys in
-    packets_unit below streams m (g.D.Decisions.policy c.args.decisions.now) (role_of c.args.config.now) (config_data c.args.config.now) r c.use_keys.new.self (state_data c.args.state.now)
+    packets_unit below streams (setup_of m (g.D.Decisions.policy c.args.decisions.now) c.args.config.now) r c.use_keys.new.self (state_data c.args.state.now)
     c.args.piece.now c.args.sent.now.items c.receive.new.sent.items c.requires.open
     p new last c.in-Ok-Payload.used c.in-Ok-Payload.seq c.in-Ok-Payload.payload.now answer.0 answer.1 answer.2 leaves.0 c.in_ok-receive-in-Ok-Payload.ensures.brings
     (ap (λ (k : StateData). k.end) left) (ap (λ (k : StateData). k.phase) left) (ap (λ (k : StateData). k.guess) left) (ap (λ (k : StateData). k.known) left) (ap (λ (k : StateData). k.sending) left) (ap (λ (k : StateData). k.carried) left)
@@ -96,7 +96,7 @@ returns-in_default-clause-steps g c =
     let last = state_data c.take_keys.new.self in
     let left = c.take_keys.ensures.left in
     let due = sym c.in_default.is ∙ c.take_keys.ensures.keys in
-    packets_unit below streams m (g.D.Decisions.policy c.args.decisions.now) (role_of c.args.config.now) (config_data c.args.config.now) r p (state_data c.args.state.now)
+    packets_unit below streams (setup_of m (g.D.Decisions.policy c.args.decisions.now) c.args.config.now) r p (state_data c.args.state.now)
     c.args.piece.now c.args.sent.now.items c.receive.new.sent.items c.requires.open
     p new last c.in-Ok-Payload.used c.in-Ok-Payload.seq c.in-Ok-Payload.payload.now answer.0 answer.1 answer.2 leaves.0 c.in_ok-receive-in-Ok-Payload.ensures.brings
     (ap (λ (k : StateData). k.end) left) (ap (λ (k : StateData). k.phase) left) (ap (λ (k : StateData). k.guess) left) (ap (λ (k : StateData). k.known) left) (ap (λ (k : StateData). k.sending) left) (ap (λ (k : StateData). k.carried) left)
@@ -127,9 +127,9 @@ returns-in_ok-fail_packet-in-Err g c =
     let used_is = c.taken-used.ensures in
     let next = keys_by m (state_data c.args.state.now).known.algorithms (exchange_received m (role_of c.args.config.now) (config_data c.args.config.now) (state_data c.args.state.now).known []) (role_of c.args.config.now) in
     record {
-      steps = subst (λ (n : ℕ). Steps m (g.D.Decisions.policy c.args.decisions.now) (role_of c.args.config.now) (config_data c.args.config.now) (input.Packets r) (state_data c.args.state.now)
+      steps = subst (λ (n : ℕ). Steps (setup_of m (g.D.Decisions.policy c.args.decisions.now) c.args.config.now) (input.Packets r) (state_data c.args.state.now)
           (input.Packets q) (state_data c.fail_packet.new.state) (take n c.args.piece.now) c.args.sent.now.items c.fail_packet.new.sent.items) (sym used_is)
-          (packets_refused below streams m (g.D.Decisions.policy c.args.decisions.now) (role_of c.args.config.now) (config_data c.args.config.now) r q (state_data c.args.state.now)
+          (packets_refused below streams (setup_of m (g.D.Decisions.policy c.args.decisions.now) c.args.config.now) r q (state_data c.args.state.now)
           c.args.piece.now c.args.sent.now.items c.fail_packet.new.sent.items c.requires.open (state_data c.fail_packet.new.state) (last_used q) c.in-Err.fault true next leaves.1 ahead_is (told.gives true next));
       used = (
         subst (λ (n : ℕ). 0 < n) (sym used_is)

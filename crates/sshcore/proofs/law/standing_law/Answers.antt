@@ -10,8 +10,8 @@ pub returns-clause-replies : goal.returns-clause-replies
 returns-clause-replies c = standing.replies
 
 pub returns-clause-offers : goal.returns-clause-offers
-returns-clause-offers c = λ m d role party version before payload.
-    standing.offers m d role party version before payload (record { numbers = c.numbers_law.ensures.kind; alike = c.numbers_law.ensures.alike; right = c.markers_law.ensures.right })
+returns-clause-offers c = λ setup version before payload.
+    standing.offers setup version before payload (record { numbers = c.numbers_law.ensures.kind; alike = c.numbers_law.ensures.alike; right = c.markers_law.ensures.right })
 
 pub returns-clause-drops : goal.returns-clause-drops
 returns-clause-drops c = standing.drops

@@ -11,9 +11,7 @@ loop-step-preserved g c =
       done = step_more meaning policy c.args.steps.now c.loop-step.step-index _ c.args.world.now c.loop-step.world c.do_step.new.world c.loop-step-test.true i.done e.done;
       still = λ had. e.still (i.still had);
       setup = setup_then c.args.world.now c.loop-step.world c.do_step.new.world i.setup e.done.setup;
-      replies = λ r. e.done.replies;
-      course = λ k. e.course;
-      headline = λ k. e.headline;
+      holds = λ k. e.holds;
       settled = settled_more meaning policy c.args.steps.now c.loop-step.step-index _ c.args.world.now c.loop-step.world c.do_step.new.world c.loop-step-test.true i.setup i.still e.settled;
     }
 

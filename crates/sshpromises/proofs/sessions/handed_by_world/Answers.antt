@@ -15,4 +15,4 @@ returns g c = λ a b is other_is.
     let w = c.args.world in
     crossed _ w.client_config w.server_config a b c.into_sessions.result (c.into_sessions.ensures.sessions a b is other_is)
     (c.follows_law.ensures.understood (g.S.Suite.meaning w.suite) (g.D.Decisions.policy w.decisions) w.client_config w.server_config
-    (g.met.S.AgreeingSuite.agrees w.suite) c.complete.ensures.accepted.0 c.complete.ensures.accepted.1)
+    (g.met.S.AgreeingSuite.agrees w.suite) c.complete.ensures.holds.client_accepted c.complete.ensures.holds.server_accepted)

@@ -48,4 +48,4 @@ returns-clause-ends g c =
     (s.same_client_config ∙ e.client_config) (s.same_server_config ∙ e.server_config) (s.same_suite ∙ e.suite) (s.same_decisions ∙ e.decisions)
     (c.follows_law.ensures.understood (g.S.Suite.meaning c.args.suite.now) (g.D.Decisions.policy c.args.decisions.now) c.args.client.now c.args.server.now
     (g.met.S.AgreeingSuite.agrees c.args.suite.now) c.parts.ensures.accepted c.parts-2.ensures.accepted)
-    (still (new_had g.S.Suite.meaning g.D.Decisions.policy c.in_ok-world.world e.start)) c.run-ran.ensures.headline))
+    (still (new_had g.S.Suite.meaning g.D.Decisions.policy c.in_ok-world.world e.start)) c.run-ran.ensures.holds.headline))

@@ -34,6 +34,6 @@ returns-clause-ends g c =
     tt s.result s.new.self c.once.ensures.value c.once.ensures.done
     (where_both s.result s.ensures.still s.ensures.bound (λ still bound.
     settled_well g.S.Suite.meaning g.D.Decisions.policy c.args.client.now c.args.server.now c.args.suite.now c.args.decisions.now c.in_ok-world.world s.new.self
-    e.client_config e.server_config e.suite e.decisions s.ensures.setup e.understood (still e.memory) s.ensures.headline
+    e.client_config e.server_config e.suite e.decisions s.ensures.setup e.understood (still e.memory) s.ensures.holds.headline
     (bound e.understood e.memory
     (omega (arith, c.attempts.ensures.count, few_requests c.in_ok-world.world.client_config.plan, ap (λ (x : ClientData). length x.plan) e.client_config)))))

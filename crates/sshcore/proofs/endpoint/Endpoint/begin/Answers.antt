@@ -1,6 +1,6 @@
 use Rattle.std.proofs.Common.{◌≡◌, true, [], refl, ap, ◌∙◌, subst}
 use Rattle.sshpacket.specs.KeysData.{KeysData}
-use Rattle.sshcore.specs.EndpointConfig.{config_data, role_of}
+use Rattle.sshcore.specs.EndpointConfig.{setup_of}
 use Rattle.sshcore.specs.Brings.{Gives}
 use Rattle.sshneg.specs.declared.side.Side.{Side}
 use Rattle.sshcore.specs.Directions.{preamble_of}
@@ -28,20 +28,17 @@ returns-clause-made g c =
       more = c.stream_law.ensures.read_more;
       sent = c.stream_law.ensures.sent_append;
     } in
-    let m = g.S.Suite.meaning c.args.suite.now in
-    let d = g.D.Decisions.policy c.args.decisions.now in
-    let role = role_of c.args.config in
-    let party = config_data c.args.config in
+    let setup = setup_of (g.S.Suite.meaning c.args.suite.now) (g.D.Decisions.policy c.args.decisions.now) c.args.config in
     let new = state_data c.send_greeting.new.self in
     let first = c.new-state.ensures in
     let next : KeysData = record { cipher = []; mac = []; iv = []; enc = []; mac_key = [] } in
     let sent = c.in_ok-send_greeting.ensures.gives in
-    let gives = subst (λ (k : StateData). Gives m party.seed true next k new (preamble_of party) sent.0 (goes (making m role party))) first (sent.2 true next) in
-    let stays : new ≡ record (begun party) { sending = new.sending } = c.in_ok-send_greeting.ensures.stays ∙ ap (λ (k : StateData). record k { sending = new.sending }) first in
+    let gives = subst (λ (k : StateData). Gives setup.suite setup.config.seed true next k new (preamble_of setup.config) sent.0 (goes (making setup.suite setup.role setup.config))) first (sent.2 true next) in
+    let stays : new ≡ record (begun setup.config) { sending = new.sending } = c.in_ok-send_greeting.ensures.stays ∙ ap (λ (k : StateData). record k { sending = new.sending }) first in
     record {
       added = sent.0;
       appended = sent.1;
-      begins = begins_stands below streams m d role party new c.new.result (preamble_of party) sent.0 true next stays gives refl (subst (λ (r : Side). Begins r c.new.result) c.role.ensures c.new.ensures);
+      begins = begins_stands below streams setup new c.new.result (preamble_of setup.config) sent.0 true next stays gives refl (subst (λ (r : Side). Begins r c.new.result) c.role.ensures c.new.ensures);
       is_open = ap (λ (k : StateData). k.end) stays;
       is_role = refl;
       is_config = refl;

@@ -3,7 +3,7 @@ use Rattle.sshwire.specs.Feeding.{StandsOpen}
 use Rattle.sshwire.specs.LineReaderData.{LineReaderData}
 use Rattle.sshcore.specs.declared.input.Input.{Input}
 use Rattle.sshcore.specs.declared.input.Input.TheVariants as input
-use Rattle.sshcore.specs.EndpointConfig.{config_data, role_of}
+use Rattle.sshcore.specs.EndpointConfig.{setup_of}
 use Rattle.sshcore.specs.Exchange.{keys_by}
 use Rattle.sshcore.specs.ReceivesLines.{ReceivesLines}
 use Rattle.sshcore.specs.Inputs.{Steps}
@@ -30,18 +30,15 @@ returns-in-Whole-clause-steps g c =
       sent = c.stream_law.ensures.sent_append;
     } in
     let laws : LineLaws = record { only = c.parser_law.ensures.only; preamble = c.parser_law.ensures.preamble } in
-    let m = g.S.Suite.meaning c.args.suite.now in
-    let d = g.D.Decisions.policy c.args.decisions.now in
-    let role = role_of c.args.config.now in
-    let party = config_data c.args.config.now in
+    let setup = setup_of (g.S.Suite.meaning c.args.suite.now) (g.D.Decisions.policy c.args.decisions.now) c.args.config.now in
     let kept = state_data c.args.state.now in
     let last = state_data c.receive_lines.new.state in
-    let next = keys_by m kept.known.algorithms (exchange_received m role party kept.known []) role in
+    let next = keys_by setup.suite kept.known.algorithms (exchange_received setup.suite setup.role setup.config kept.known []) setup.role in
     let old = c.in-Lines.reader in
     let new = c.receive_lines.new.reader in
     let used = c.in-Whole.used in
-    subst (λ (i : Input). Steps m d role party i kept (input.Packets c.new.result) last (take used c.args.piece.now) c.args.sent.now.items c.args.sent.now.items) (sym (c.in-Lines.is ∙ ap input.Lines c.in-Lines.reader-is))
-    (lines_whole laws below streams m d role party next old kept c.args.piece.now c.args.sent.now.items c.requires.open new c.new.result last used
+    subst (λ (i : Input). Steps setup i kept (input.Packets c.new.result) last (take used c.args.piece.now) c.args.sent.now.items c.args.sent.now.items) (sym (c.in-Lines.is ∙ ap input.Lines c.in-Lines.reader-is))
+    (lines_whole laws below streams setup next old kept c.args.piece.now c.args.sent.now.items c.requires.open new c.new.result last used
     (λ k bytes o. subst (λ x. ReceivesLines k bytes new kept last c.args.piece.now x) c.in-Whole.is (c.in_ok-received-in-Lines.ensures.lines k bytes (subst (λ (r : LineReaderData). StandsOpen k bytes r.progress) (sym c.in-Lines.reader-is) o))) c.new.ensures.state)
 
 pub returns-in-Part-clause-steps : goal.returns-in-Part-clause-steps
@@ -60,18 +57,15 @@ returns-in-Part-clause-steps g c =
       sent = c.stream_law.ensures.sent_append;
     } in
     let laws : LineLaws = record { only = c.parser_law.ensures.only; preamble = c.parser_law.ensures.preamble } in
-    let m = g.S.Suite.meaning c.args.suite.now in
-    let d = g.D.Decisions.policy c.args.decisions.now in
-    let role = role_of c.args.config.now in
-    let party = config_data c.args.config.now in
+    let setup = setup_of (g.S.Suite.meaning c.args.suite.now) (g.D.Decisions.policy c.args.decisions.now) c.args.config.now in
     let kept = state_data c.args.state.now in
     let last = state_data c.receive_lines.new.state in
-    let next = keys_by m kept.known.algorithms (exchange_received m role party kept.known []) role in
+    let next = keys_by setup.suite kept.known.algorithms (exchange_received setup.suite setup.role setup.config kept.known []) setup.role in
     let old = c.in-Lines.reader in
     let new = c.receive_lines.new.reader in
     let used = c.in-Part.used in
-    subst (λ (i : Input). Steps m d role party i kept (input.Lines new) last (take used c.args.piece.now) c.args.sent.now.items c.args.sent.now.items) (sym (c.in-Lines.is ∙ ap input.Lines c.in-Lines.reader-is))
-    (lines_part laws below streams m d role party next old kept c.args.piece.now c.args.sent.now.items c.requires.open new last used
+    subst (λ (i : Input). Steps setup i kept (input.Lines new) last (take used c.args.piece.now) c.args.sent.now.items c.args.sent.now.items) (sym (c.in-Lines.is ∙ ap input.Lines c.in-Lines.reader-is))
+    (lines_part laws below streams setup next old kept c.args.piece.now c.args.sent.now.items c.requires.open new last used
     (λ k bytes o. subst (λ x. ReceivesLines k bytes new kept last c.args.piece.now x) c.in-Part.is (c.in_ok-received-in-Lines.ensures.lines k bytes (subst (λ (r : LineReaderData). StandsOpen k bytes r.progress) (sym c.in-Lines.reader-is) o))))
 
 pub returns-in-Refused-clause-steps : goal.returns-in-Refused-clause-steps
@@ -90,16 +84,13 @@ returns-in-Refused-clause-steps g c =
       sent = c.stream_law.ensures.sent_append;
     } in
     let laws : LineLaws = record { only = c.parser_law.ensures.only; preamble = c.parser_law.ensures.preamble } in
-    let m = g.S.Suite.meaning c.args.suite.now in
-    let d = g.D.Decisions.policy c.args.decisions.now in
-    let role = role_of c.args.config.now in
-    let party = config_data c.args.config.now in
+    let setup = setup_of (g.S.Suite.meaning c.args.suite.now) (g.D.Decisions.policy c.args.decisions.now) c.args.config.now in
     let kept = state_data c.args.state.now in
     let last = state_data c.receive_lines.new.state in
-    let next = keys_by m kept.known.algorithms (exchange_received m role party kept.known []) role in
+    let next = keys_by setup.suite kept.known.algorithms (exchange_received setup.suite setup.role setup.config kept.known []) setup.role in
     let old = c.in-Lines.reader in
     let new = c.receive_lines.new.reader in
     let used = c.in-Refused.used in
-    subst (λ (i : Input). Steps m d role party i kept (input.Lines new) last (take used c.args.piece.now) c.args.sent.now.items c.args.sent.now.items) (sym (c.in-Lines.is ∙ ap input.Lines c.in-Lines.reader-is))
-    (lines_refused laws below streams m d role party next old kept c.args.piece.now c.args.sent.now.items c.requires.open new (input.Lines new) last used
+    subst (λ (i : Input). Steps setup i kept (input.Lines new) last (take used c.args.piece.now) c.args.sent.now.items c.args.sent.now.items) (sym (c.in-Lines.is ∙ ap input.Lines c.in-Lines.reader-is))
+    (lines_refused laws below streams setup next old kept c.args.piece.now c.args.sent.now.items c.requires.open new (input.Lines new) last used
     (λ k bytes o. subst (λ x. ReceivesLines k bytes new kept last c.args.piece.now x) c.in-Refused.is (c.in_ok-received-in-Lines.ensures.lines k bytes (subst (λ (r : LineReaderData). StandsOpen k bytes r.progress) (sym c.in-Lines.reader-is) o))))

@@ -3,7 +3,7 @@ use Rattle.sshmsg.specs.MessageData as content
 use Rattle.sshmsg.specs.MessageData.{MessageData}
 use Rattle.sshmsg.specs.Numbers.{number_of}
 use Rattle.sshmsg.specs.View.{kexinit_data, message_data}
-use Rattle.sshcore.specs.EndpointConfig.{config_data, role_of}
+use Rattle.sshcore.specs.EndpointConfig.{role_of, setup_of}
 use Rattle.sshcore.specs.EndData.{end_data}
 use Rattle.sshcore.specs.StateData.{state_data}
 use Rattle.sshcore.proofs.WorksLemmas as works
@@ -50,7 +50,7 @@ returns-in_default-clause-works g c = λ _.
       success = c.in_default.not-UserauthSuccess;
       confirmation = c.in_default.not-UserauthPkOk;
     } in
-    let ignored = works.ignores (g.S.Suite.meaning c.args.suite.now) (g.D.Decisions.policy c.args.decisions.now) (role_of c.args.config.now) (config_data c.args.config.now) (state_data c.args.self.now).known c.args.message.now none in
+    let ignored = works.ignores (setup_of (g.S.Suite.meaning c.args.suite.now) (g.D.Decisions.policy c.args.decisions.now) c.args.config.now) (state_data c.args.self.now).known c.args.message.now none in
     works.plain_works _ _ _ _ _ _ _ _ _ has ignored.plain ignored.work_is c.requires.open refl
 
 pub returns-in-NewKeys-clause-works : goal.returns-in-NewKeys-clause-works

@@ -55,7 +55,7 @@ pub returns-clause-replies : goal.returns-clause-replies
 returns-clause-replies c =
     let done = c.do_steps-done in
     once_ok c.once.result (λ w. EachReplies (λ suite. lab) lab_policy w) tt done.result done.new.world c.once.ensures.value c.once.ensures.done
-    (where_ok done.result done.ensures.replies (λ replies. replies c.in_ok-world.ensures.replies))
+    (where_ok done.result done.ensures.holds (λ holds. (holds c.in_ok-world.ensures.holds).replies))
 
 pub returns-clause-course : goal.returns-clause-course
 returns-clause-course c =
@@ -64,11 +64,11 @@ returns-clause-course c =
     let self = c.args.self.now in
     once_ok c.once.result (λ w. IsCourseReceived lab (lab_policy self.decisions) self.client self.server (wording_of lab (lab_policy self.decisions) self.client self.server) w.client w.server)
     tt done.result done.new.world c.once.ensures.value c.once.ensures.done
-    (where_all done.result done.ensures.setup done.ensures.still done.ensures.course (λ setup still course.
+    (where_all done.result done.ensures.setup done.ensures.still done.ensures.holds (λ setup still holds.
     course_of lab lab_policy self.client self.server self.decisions done.new.world
     (setup.same_client_config ∙ before.client_config) (setup.same_server_config ∙ before.server_config) (setup.same_decisions ∙ before.decisions)
     (c.follows_law.ensures.understood lab (lab_policy self.decisions) self.client self.server lab_agreeing c.parts.ensures.accepted c.parts-2.ensures.accepted)
-    (still (new_had _ lab_policy c.in_ok-world.world before.start)) (course before.course)))
+    (still (new_had _ lab_policy c.in_ok-world.world before.start)) (holds before.holds).course))
 
 pub returns-clause-headline : goal.returns-clause-headline
 returns-clause-headline c =
@@ -77,11 +77,11 @@ returns-clause-headline c =
     let self = c.args.self.now in
     once_ok c.once.result (λ w. Headline (outcome lab (lab_policy self.decisions) self.client self.server) w.client.end w.server.end (Complete w))
     tt done.result done.new.world c.once.ensures.value c.once.ensures.done
-    (where_all done.result done.ensures.setup done.ensures.still done.ensures.headline (λ setup still headline.
+    (where_all done.result done.ensures.setup done.ensures.still done.ensures.holds (λ setup still holds.
     headline_of lab lab_policy self.client self.server self.decisions done.new.world
     (setup.same_client_config ∙ before.client_config) (setup.same_server_config ∙ before.server_config) (setup.same_decisions ∙ before.decisions)
     (c.follows_law.ensures.understood lab (lab_policy self.decisions) self.client self.server lab_agreeing c.parts.ensures.accepted c.parts-2.ensures.accepted)
-    (still (new_had _ lab_policy c.in_ok-world.world before.start)) (headline before.headline)))
+    (still (new_had _ lab_policy c.in_ok-world.world before.start)) (holds before.holds).headline))
 
 pub returns-clause-predicted : goal.returns-clause-predicted
 returns-clause-predicted c =

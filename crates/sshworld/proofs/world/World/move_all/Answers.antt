@@ -10,7 +10,7 @@ returns-clause-done g c =
     let old = c.args.self.now in
     let e = c.in_ok-move_bytes.ensures in
     done g.S.Suite.meaning g.D.Decisions.policy c.args.to c.in_ok-move_bytes.field-0 (waiting_for c.args.to old) old c.move_bytes.new.self
-    (all_moved c.args.to c.in_ok-move_bytes.field-0 c.waiting-all.result old c.waiting-all.ensures e.moves.counted) e.moves.delivered e.keeps.setup e.keeps.replies e.keeps.headline
+    (all_moved c.args.to c.in_ok-move_bytes.field-0 c.waiting-all.result old c.waiting-all.ensures e.moves.counted) e.moves.delivered e.keeps.setup e.keeps.holds
 
 pub returns-clause-turn : goal.returns-clause-turn
 returns-clause-turn g c = λ receive had received counts.

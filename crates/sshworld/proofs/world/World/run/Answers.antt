@@ -7,7 +7,7 @@ loop-delivery-preserved g c =
     let i = c.loop-delivery.invariant in
     record {
       runs = run_more g.S.Suite.meaning g.D.Decisions.policy c.args.schedule.now c.loop-delivery.delivery-index _ c.args.self.now c.loop-delivery.self c.deliver.new.self c.loop-delivery-test.true i.runs
-          (done g.S.Suite.meaning g.D.Decisions.policy _ c.in_ok-deliver.field-0 _ c.loop-delivery.self c.deliver.new.self e.count e.delivered e.setup e.replies e.headline);
+          (done g.S.Suite.meaning g.D.Decisions.policy _ c.in_ok-deliver.field-0 _ c.loop-delivery.self c.deliver.new.self e.count e.delivered e.setup e.holds);
       still = λ m. e.still (i.still m);
       setup = same_then c.args.self.now c.loop-delivery.self c.deliver.new.self i.setup e.setup;
     }
