@@ -117,11 +117,11 @@ typedef struct rezdolin_host_key {
     rezdolin_bytes private_key; /* 32 bytes */
 } rezdolin_host_key;
 
-/* What one user comes in by. A user may have several entries. */
+/* What one user is accepted by. A user may have several entries. */
 typedef struct rezdolin_user {
     rezdolin_bytes user;
     rezdolin_bytes proof; /* the password, or the public key as a request has it */
-    uint32_t method;      /* REZDOLIN_METHOD_; with NONE the user comes in without a proof */
+    uint32_t method;      /* REZDOLIN_METHOD_; with NONE the user is accepted without a proof */
 } rezdolin_user;
 
 typedef struct rezdolin_server_input {

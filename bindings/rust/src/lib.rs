@@ -271,7 +271,7 @@ fn attempt<'a>(user: &'a str, proof: &'a Proof) -> AttemptInput<'a> {
     }
 }
 
-/// A server: its parts, and whom it lets in.
+/// A server: its parts, and whom it accepts.
 pub struct Server {
     /// What it lists.
     pub side: Side,
@@ -279,7 +279,7 @@ pub struct Server {
     pub draws: Draws,
     /// The 32 bytes of the private host key.
     pub host_key: [u8; 32],
-    /// Who is let in, and by what.
+    /// Who is accepted, and by what.
     pub users: Vec<(String, Proof)>,
     /// The methods that all have to succeed, as a list of names; none where one success is enough.
     pub required: String,

@@ -84,7 +84,7 @@ pub struct HostKeyInput<'a> {
     pub private_key: &'a [u8],
 }
 
-/// What one user comes in by, or one of several things. A request is successful where one of a server's entries has
+/// What one user is accepted by, or one of several things. A request is successful where one of a server's entries has
 /// its user and what it proves.
 #[repr(C)]
 #[derive(Clone, Copy)]
@@ -93,7 +93,7 @@ pub struct UserInput<'a> {
     pub user: &'a [u8],
     /// The password, or the public key as a request has it.
     pub proof: &'a [u8],
-    /// What it is: [`METHOD_NONE`] (the user comes in without a proof), [`METHOD_PASSWORD`] or [`METHOD_PUBLICKEY`].
+    /// What it is: [`METHOD_NONE`] (the user is accepted without a proof), [`METHOD_PASSWORD`] or [`METHOD_PUBLICKEY`].
     /// An entry of another number accepts nobody.
     pub method: u32,
 }

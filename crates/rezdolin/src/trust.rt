@@ -2,7 +2,7 @@
 
 ghost use Rattle.std.specs.Prelude.{◌≡◌, ◌&&◌};
 ghost use Rattle.sshcore.specs.EndpointPartsView.{proof_data};
-ghost use Rattle.rezdolin.specs.Trust.{is_trusted, lets_in, proves, trust_policy};
+ghost use Rattle.rezdolin.specs.Trust.{is_trusted, accepts, proves, trust_policy};
 
 use crate::inputs::{METHOD_NONE, METHOD_PASSWORD, METHOD_PUBLICKEY, UserInput};
 use sshcore::{Decisions, Proof};
@@ -26,7 +26,7 @@ impl Decisions for Trust<'_> {
     }
 
     fn user(&self, _request_number: u32, user: &str, _service: &str, proof: &Proof<'_>) -> bool {
-        lets_in(self.users, user.as_bytes(), proof)
+        accepts(self.users, user.as_bytes(), proof)
     }
 }
 
@@ -38,8 +38,8 @@ fn is_trusted(keys: &[&[u8]], blob: &[u8]) -> bool
 }
 
 /// Whether one of the entries has this user and this proof.
-fn lets_in(users: &[UserInput<'_>], user: &[u8], proof: &Proof<'_>) -> bool
-    ensures { result ≡ lets_in users.now user.now (proof_data proof.now) }
+fn accepts(users: &[UserInput<'_>], user: &[u8], proof: &Proof<'_>) -> bool
+    ensures { result ≡ accepts users.now user.now (proof_data proof.now) }
 {
     users
         .iter()
