@@ -1,7 +1,8 @@
 -- Fields that are put one after the other.
 
-use Rattle.std.proofs.Common.{◌≡◌, ◌∙◌, ℕ, List, [], ◌∷◌, ◌++◌, ap, append_assoc, refl, sym}
-use Rattle.std.proofs.lemmas.List.{append-nil}
+use Rattle.std.proofs.Common.{◌≡◌, ◌∙◌, ℕ, ◌+◌, ◌<◌, List, [], ◌∷◌, ◌++◌, ap, append_assoc, get_or, length, map, refl, sym, take}
+use Rattle.std.specs.Borrow.{Bor}
+use Rattle.std.proofs.lemmas.List.{append-nil, map_more}
 use Rattle.sshwire.specs.Types.{string}
 use Rattle.rezdolin.specs.Records.{strings}
 
@@ -15,6 +16,14 @@ pub put_more : (fs : List (List ℕ)) (f old before after : List ℕ) → before
 put_more fs f old before after b a =
     a ∙ (ap (λ (xs : List ℕ). xs ++ string f) b ∙ (append_assoc old (strings fs) (string f)
     ∙ ap (λ (xs : List ℕ). old ++ xs) (ap (λ (xs : List ℕ). strings fs ++ xs) (sym (append-nil (string f))) ∙ sym (strings_append fs (f ∷ [])))))
+
+-- the next of several fields
+pub put_next : (fields : List (Bor (List ℕ))) (i : ℕ) (d : Bor (List ℕ)) (old before after : List ℕ) → i < length fields
+    → before ≡ old ++ strings (map (λ field. field.now) (take i fields)) → after ≡ before ++ string (get_or fields i d).now
+    → after ≡ old ++ strings (map (λ field. field.now) (take (i + 1) fields))
+put_next fields i d old before after within b a =
+    put_more (map (λ field. field.now) (take i fields)) (get_or fields i d).now old before after b a
+    ∙ ap (λ (xs : List (List ℕ)). old ++ strings xs) (sym (map_more (λ field. field.now) fields i d within))
 
 pub two_puts : (f g old a b : List ℕ) → a ≡ old ++ string f → b ≡ a ++ string g → b ≡ old ++ strings (f ∷ g ∷ [])
 two_puts f g old a b x y = put_more (f ∷ []) g old a b (put_more [] f old old a (sym (append-nil old)) x) y

@@ -163,7 +163,6 @@ fn state_for_next(alloc: Global, bytes: &[u8]) -> Result<State, BytesFault>
 
 /// Seals a payload into `out`, raises the numbers of the state, and answers how many bytes the packet has. After a
 /// fault all is as before.
-#[tactic(auto, using(crate::proofs::DirectionLemmas::moved))]
 pub(crate) fn seal(
     alloc: Global,
     state: &mut [u8],
@@ -230,7 +229,6 @@ pub(crate) struct Opening {
 
 /// Opens the packet at the front of what was received into `out`, and raises the numbers of the state. After a fault
 /// all is as before.
-#[tactic(auto, using(crate::proofs::DirectionLemmas::moved))]
 pub(crate) fn open(
     alloc: Global,
     state: &mut [u8],

@@ -20,7 +20,6 @@ pub(crate) fn record_of(alloc: Global, session: &Option<Session>) -> Result<Vec<
 }
 
 /// The record of a session: its fields, each as a string (RFC 4251 section 5).
-#[tactic(auto, using(crate::proofs::RecordLemmas::three_parts))]
 fn session_record(alloc: Global, session: &Session) -> Result<Vec<u8>, Memory>
     ensures { IfOk result (λ v. v.items ≡ record_of session.now) }
 {
