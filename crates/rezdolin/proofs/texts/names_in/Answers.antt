@@ -5,6 +5,6 @@ use Rattle.rezdolin.proofs.texts.names_in.Goals as goal
 
 pub returns : goal.returns
 returns c =
-    let end = YieldsList-end (YieldsList-from_str_split 44 c.args.text.now (lit< tt) c.split-name-items.ensures.text c.split-name-items.ensures.has_more c.split-name-items.ensures.pattern)
+    let end = YieldsList-end (YieldsList-from_str_split 44 c.args.text.now (lit< tt) (cc) (cc) (cc))
     c.loop-name.yielded _ c.loop-name.yielded_by _ _ c.in-None.is c.next.ensures.steps in
     c.loop-name.invariant ∙ end.0
