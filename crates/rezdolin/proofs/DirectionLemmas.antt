@@ -1,6 +1,6 @@
 -- States in bytes.
 
-use Rattle.std.proofs.Common.{◌≡◌, ◌∙◌, ℕ, ◌+◌, ◌%◌, ◌^◌, ◌<◌, ◌≤◌, List, [], ◌∷◌, ◌++◌, Some, ap, drop, length, subst, take}
+use Rattle.std.proofs.Common.{◌≡◌, ◌∙◌, ℕ, ◌+◌, ◌%◌, ◌^◌, ◌<◌, ◌≤◌, List, [], ◌++◌, Some, ap, drop, length, subst, take}
 use Rattle.sshwire.specs.declared.limits.TheConstants.{PAYLOAD_LIMIT}
 use Rattle.sshwire.specs.Types.{string, uint32}
 use Rattle.sshpacket.specs.KeysData.{KeysData}
@@ -10,7 +10,7 @@ use Rattle.sshpacket.specs.Suite.{SuiteData}
 use Rattle.sshpacket.specs.Written.{IsWritten, written, written_sealed}
 use Rattle.sshcore.specs.declared.link.TheConstants.{LINK_LIMIT}
 use Rattle.rezdolin.specs.Directions.{IsOpened, IsPut, IsSealed}
-use Rattle.rezdolin.specs.Records.{state_bytes, strings}
+use Rattle.rezdolin.specs.Records.{state_bytes}
 
 -- what was read field by field
 pub state_whole : (n c : ℕ) (cipher mac iv enc mac_key all a b d e f g h : List ℕ)
@@ -32,7 +32,7 @@ pub sealed_by : (m : SuiteData) (number count : ℕ) (keys : KeysData) (seed pay
     → 0 < length payload → length payload ≤ PAYLOAD_LIMIT
     → packet ≡ written_sealed m keys seed number payload → IsPut packet room n new
     → IsWritten (m.counts_length keys.cipher keys.mac) (m.block keys.cipher) (m.tag_len keys.cipher keys.mac) payload
-      (written m (m.counts_length keys.cipher keys.mac) (m.block keys.cipher) seed number payload)
+    (written m (m.counts_length keys.cipher keys.mac) (m.block keys.cipher) seed number payload)
     → IsSealed m before seed payload room after n new
 sealed_by m number count keys seed payload packet before after room new n is left now some short packet_is put least = record {
   moves = record {

@@ -1,11 +1,11 @@
 -- What one call of `feed` comes to, from the first byte on, with the session that is handed over.
 
-use Rattle.std.proofs.Common.{◌≡◌, ◌≢◌, ◌∙◌, ℕ, ◌≤◌, Bool, true, false, List, [], ◌++◌, Option, None, Some, ap, length, refl, sym, subst, take}
+use Rattle.std.proofs.Common.{◌≡◌, ◌≢◌, ◌∙◌, ℕ, ◌≤◌, Bool, true, false, List, [], Option, None, Some, ap, length, refl, sym, subst, take}
 use Rattle.std.proofs.lemmas.Bool.{true≢false}
 use Rattle.sshpacket.specs.Suite.{SuiteData}
 use Rattle.sshcore.specs.declared.end.Fault.TheVariants as fault
 use Rattle.sshcore.specs.declared.session.Session.{Session}
-use Rattle.sshcore.specs.EndData.{AgreedData, Authenticated, Failed, Open, by_owner, end_data}
+use Rattle.sshcore.specs.EndData.{AgreedData, Authenticated, Failed, Open, by_owner}
 use Rattle.sshcore.specs.EndpointData.{EndpointData}
 use Rattle.sshcore.specs.Endpoints.{EndpointAfter, Fed, IsSameEndpoint, endpoint_end}
 use Rattle.sshcore.specs.Inputs.{EndpointStands}

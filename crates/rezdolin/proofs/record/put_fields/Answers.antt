@@ -1,4 +1,3 @@
-use Rattle.std.proofs.Common.{◌≡◌}
 use Rattle.rezdolin.proofs.RecordLemmas.{put_next}
 use Rattle.rezdolin.proofs.record.put_fields.Goals as goal
 
