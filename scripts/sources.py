@@ -1,7 +1,7 @@
 """The definitions of specs/ and the public clauses that cite them, as `check_documents` reads them."""
 import re, os, glob, sys
 
-CRATES = ['sshwire', 'sshpacket', 'sshmsg', 'sshneg', 'sshcore', 'sshworld', 'sshpromises', 'sshsuite', 'sshsuites', 'sshlab']
+CRATES = ['sshwire', 'sshpacket', 'sshmsg', 'sshneg', 'sshcore', 'sshworld', 'sshpromises', 'sshsuite', 'sshsuites', 'sshlab', 'rezdolin']
 
 
 def definitions(root):
@@ -68,7 +68,7 @@ def citations(root):
             file = os.path.basename(path)
             # heads of public functions, of functions of public traits, of impls of a Model
             spans = []
-            for m in re.finditer(r'\bpub (?:unsafe )?fn (\w+)', text):
+            for m in re.finditer(r'\bpub (?:unsafe )?(?:extern "C" )?fn (\w+)', text):
                 spans.append((m.start(), m.group(1)))
             for m in re.finditer(r'\bpub trait (\w+)[^{]*\{', text):
                 end = braces(text, m.end() - 1)

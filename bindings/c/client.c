@@ -1,0 +1,142 @@
+/* A client over a socket that is its standard input: it authenticates by a password, runs a command and prints what the
+ * command prints.
+ *
+ *     client USER PASSWORD-FILE KEY-FILE COMMAND <&3       (3: a socket, as bash makes one of /dev/tcp/localhost/22)
+ *
+ * KEY-FILE has the host key's bytes, which `cut -d' ' -f2 host.pub | base64 -d` gives. Its status is 0 where the command
+ * was run, 1 where the server didn't let it, and 2 where it can't begin. */
+#define _DEFAULT_SOURCE
+#include "rezdolin.h"
+#include <stdio.h>
+#include <string.h>
+#include <sys/random.h>
+#include <unistd.h>
+
+static uint8_t received[REZDOLIN_RECEIVED_LIMIT], out[REZDOLIN_PACKET_ROOM], record[REZDOLIN_RECORD_ROOM];
+static size_t len; /* of what was received and isn't done with */
+static uint8_t drawn[112];
+
+/* The bytes of a file, at most `room`. */
+static rezdolin_bytes bytes_of(const char *path, uint8_t *at, size_t room) {
+    FILE *file = fopen(path, "rb");
+    rezdolin_bytes bytes = {at, file ? fread(at, 1, room, file) : 0};
+    if (file)
+        fclose(file);
+    return bytes;
+}
+
+static bool send_all(const uint8_t *at, size_t count) {
+    while (count > 0) {
+        ssize_t n = write(0, at, count);
+        if (n <= 0)
+            return false;
+        at += n;
+        count -= (size_t)n;
+    }
+    return true;
+}
+
+/* Reads what there is after what was received. */
+static bool receive(void) {
+    ssize_t n = len < sizeof received ? read(0, received + len, sizeof received - len) : 0;
+    len += n > 0 ? (size_t)n : 0;
+    return n > 0;
+}
+
+/* Authenticates, and leaves the bytes that come after that in `received`. */
+static bool authenticate(const rezdolin_client_input *client) {
+    rezdolin_endpoint_answer answer;
+    size_t sent = 0;
+    do {
+        do {
+            answer = rezdolin_client(client, received, len, sent, out, sizeof out, record, sizeof record);
+            if (answer.status != REZDOLIN_ANSWERED) {
+                fprintf(stderr, "no client: status %u, C%u\n", answer.status, answer.config);
+                return false;
+            }
+            sent += answer.written;
+        } while (send_all(out, answer.written) && sent < answer.sent);
+    } while (answer.end == REZDOLIN_OPEN && receive());
+    memmove(received, received + answer.used, len -= answer.used);
+    if (answer.end != REZDOLIN_AUTHENTICATED)
+        fprintf(stderr, "end %u: F%u %u\n", answer.end, answer.fault, answer.detail);
+    return answer.end == REZDOLIN_AUTHENTICATED && answer.session_len <= sizeof record;
+}
+
+/* Sends a payload in a packet of its own. */
+static bool send_payload(const uint8_t *payload, size_t count) {
+    size_t state_len;
+    uint8_t *state = rezdolin_field(record, sizeof record, REZDOLIN_OUTGOING, &state_len);
+    rezdolin_bytes_answer answer = rezdolin_seal(state, state_len, drawn + 80, 32, payload, count, out, sizeof out);
+    return answer.status == REZDOLIN_ANSWERED && send_all(out, answer.len);
+}
+
+/* Receives the next payload into `out`. */
+static bool receive_payload(size_t *count) {
+    size_t state_len;
+    uint8_t *state = rezdolin_field(record, sizeof record, REZDOLIN_INCOMING, &state_len);
+    rezdolin_bytes_answer answer;
+    do
+        answer = rezdolin_open(state, state_len, received, len, out, sizeof out);
+    while (answer.status == REZDOLIN_MORE && receive());
+    if (answer.status != REZDOLIN_ANSWERED)
+        return false;
+    memmove(received, received + answer.used, len -= answer.used);
+    *count = answer.len;
+    return true;
+}
+
+/* Puts a string after a message, and answers its new length. */
+static size_t put(uint8_t *message, size_t at, const char *text) {
+    size_t count = strlen(text);
+    message[at] = message[at + 1] = message[at + 2] = 0;
+    message[at + 3] = (uint8_t)count;
+    memcpy(message + at + 4, text, count);
+    return at + 4 + count;
+}
+
+/* Runs a command of at most 255 bytes on channel 0 of both sides (RFC 4254), and prints what it prints. */
+static bool run(const char *command) {
+    static const uint8_t sizes[12] = {0, 0, 0, 0, 0, 16, 0, 0, 0, 0, 128, 0};
+    uint8_t message[300] = {90}; /* CHANNEL_OPEN */
+    size_t count = put(message, 1, "session");
+    memcpy(message + count, sizes, sizeof sizes);
+    if (strlen(command) > 255 || !send_payload(message, count + sizeof sizes))
+        return false;
+    while (receive_payload(&count)) {
+        if (out[0] == 91) { /* CONFIRMATION */
+            memset(message, 0, 5);
+            message[0] = 98; /* CHANNEL_REQUEST */
+            count = put(message, 5, "exec");
+            message[count] = 1;
+            if (!send_payload(message, put(message, count + 1, command)))
+                return false;
+        } else if (out[0] == 94 && count > 9) { /* DATA */
+            fwrite(out + 9, 1, count - 9, stdout);
+        } else if (out[0] == 97) { /* CLOSE */
+            return true;
+        }
+    }
+    return false;
+}
+
+int main(int argc, char **argv) {
+    static uint8_t password[1024], key[1024];
+    if (argc != 5 || getentropy(drawn, sizeof drawn) != 0)
+        return 2;
+    rezdolin_bytes trusted = bytes_of(argv[3], key, sizeof key), ciphers = REZDOLIN_TEXT(REZDOLIN_CIPHERS),
+                   macs = REZDOLIN_TEXT(REZDOLIN_MACS);
+    rezdolin_attempt attempt = {.user = {(const uint8_t *)argv[1], strlen(argv[1])},
+                                .service = REZDOLIN_TEXT("ssh-connection"),
+                                .algorithm = REZDOLIN_TEXT(""),
+                                .secret = bytes_of(argv[2], password, sizeof password),
+                                .method = REZDOLIN_METHOD_PASSWORD};
+    if (attempt.secret.len > 0 && password[attempt.secret.len - 1] == '\n')
+        attempt.secret.len--;
+    rezdolin_client_input client = {
+        .side = {REZDOLIN_TEXT("rezdolin"), REZDOLIN_TEXT(""), REZDOLIN_TEXT(REZDOLIN_KEX), ciphers, ciphers, macs, macs,
+                 {drawn, 16}, {drawn + 16, 32}, {drawn + 48, 32}, true},
+        .server_host_key_algorithms = REZDOLIN_TEXT(REZDOLIN_HOST_KEY),
+        .plan = &attempt, .plan_len = 1, .trusted_host_keys = &trusted, .trusted_host_keys_len = 1};
+    return authenticate(&client) && run(argv[4]) ? 0 : 1;
+}

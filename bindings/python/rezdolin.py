@@ -1,0 +1,235 @@
+"""SSH up to the authenticated user, as a client and as a server, and the packets of the session that goes on, over the
+proved library rezdolin.
+
+    client = Client('al', [Password(b'secret')], [host_key])
+    socket.sendall(client.feed(b''))
+    while client.is_open:
+        socket.sendall(client.feed(socket.recv(4096)))
+
+A Client and a Server open no socket: feed takes what came and answers what is to be sent. Each keeps all bytes that it has
+received, and each call of the library makes all work anew: so feed what there is, rather than byte by byte. It wants
+librezdolin.so, in the folder out at the top of the repository or where the variable REZDOLIN says, and nothing else but
+Python's own library.
+"""
+import ctypes
+import os
+import struct
+
+RECEIVED_LIMIT = 262144
+KEX = 'curve25519-sha256,curve25519-sha256@libssh.org'
+CIPHERS = 'chacha20-poly1305@openssh.com,aes256-gcm@openssh.com'
+MACS = 'hmac-sha2-256-etm@openssh.com,hmac-sha2-512-etm@openssh.com,hmac-sha2-256,hmac-sha2-512,hmac-sha1'
+HOST_KEY, SERVICE = b'ssh-ed25519', b'ssh-connection'
+ANSWERED, MEMORY, CONFIG, UNREADABLE, ROOM, PAYLOAD, USED_UP, PACKET, MORE = range(9)
+OPEN, AUTHENTICATED, FAILED, CLOSED = range(4)
+
+
+class _Bytes(ctypes.Structure):
+    _fields_ = [('at', ctypes.c_char_p), ('len', ctypes.c_size_t)]
+
+
+def _struct(name, *fields):
+    return type(name, (ctypes.Structure,), {'_fields_': list(fields)})
+
+
+_Side = _struct('_Side', *[(name, _Bytes) for name in (
+    'softwareversion', 'comments', 'kex_algorithms', 'encryption_client_to_server', 'encryption_server_to_client',
+    'mac_client_to_server', 'mac_server_to_client', 'cookie', 'exchange_random', 'padding_seed')],
+    ('strict', ctypes.c_bool))
+_Attempt = _struct('_Attempt', *[(name, _Bytes) for name in ('user', 'service', 'algorithm', 'secret')],
+                   ('method', ctypes.c_uint32), ('ask', ctypes.c_bool))
+_Client = _struct('_Client', ('side', _Side), ('server_host_key_algorithms', _Bytes),
+                  ('plan', ctypes.POINTER(_Attempt)), ('plan_len', ctypes.c_size_t),
+                  ('trusted_host_keys', ctypes.POINTER(_Bytes)), ('trusted_host_keys_len', ctypes.c_size_t),
+                  ('guess', ctypes.c_bool))
+_HostKey = _struct('_HostKey', ('algorithm', _Bytes), ('private_key', _Bytes))
+_User = _struct('_User', ('user', _Bytes), ('proof', _Bytes), ('method', ctypes.c_uint32))
+_Server = _struct('_Server', ('side', _Side), ('host_keys', ctypes.POINTER(_HostKey)), ('host_keys_len', ctypes.c_size_t),
+                  *[(name, _Bytes) for name in ('services', 'methods', 'required', 'banner')],
+                  ('notice_lines', ctypes.POINTER(_Bytes)), ('notice_lines_len', ctypes.c_size_t),
+                  ('users', ctypes.POINTER(_User)), ('users_len', ctypes.c_size_t), ('tries', ctypes.c_uint32))
+_EndpointAnswer = _struct('_EndpointAnswer', *[(name, ctypes.c_uint32) for name in ('status', 'config', 'end', 'fault', 'detail')],
+                          *[(name, ctypes.c_size_t) for name in ('used', 'sent', 'written', 'session_len')])
+_BytesAnswer = _struct('_BytesAnswer', ('status', ctypes.c_uint32), ('fault', ctypes.c_uint32),
+                       ('used', ctypes.c_size_t), ('len', ctypes.c_size_t))
+
+_IN, _OUT, _SIZE = ctypes.c_char_p, ctypes.c_void_p, ctypes.c_size_t
+_CALLS = {
+    'rezdolin_client': (_EndpointAnswer, [ctypes.POINTER(_Client), _IN, _SIZE, _SIZE, _OUT, _SIZE, _OUT, _SIZE]),
+    'rezdolin_server': (_EndpointAnswer, [ctypes.POINTER(_Server), _IN, _SIZE, _SIZE, _OUT, _SIZE, _OUT, _SIZE]),
+    'rezdolin_public_key': (_BytesAnswer, [_IN, _SIZE, _OUT, _SIZE]),
+    'rezdolin_seal': (_BytesAnswer, [_OUT, _SIZE, _IN, _SIZE, _IN, _SIZE, _OUT, _SIZE]),
+    'rezdolin_open': (_BytesAnswer, [_OUT, _SIZE, _IN, _SIZE, _OUT, _SIZE]),
+}
+
+
+def _load():
+    here = os.path.dirname(os.path.abspath(__file__))
+    library = ctypes.CDLL(os.environ.get('REZDOLIN') or os.path.join(here, '..', '..', 'out', 'librezdolin.so'))
+    for name, (result, parameters) in _CALLS.items():
+        call = getattr(library, name)
+        call.restype, call.argtypes = result, parameters
+    return library
+
+
+_library = _load()
+
+
+class Refused(Exception):
+    """A call wasn't answered: `status`, and of CONFIG the number of the refusal, of PACKET that of the fault."""
+
+    def __init__(self, status, number=0):
+        what = {MEMORY: 'memory ran out', CONFIG: f'C{number}', UNREADABLE: 'what was put in can\'t be read', ROOM: 'no room',
+                PAYLOAD: 'a payload has 1 to 32768 bytes', USED_UP: 'keys used up', PACKET: f'P{number}'}
+        super().__init__(what[status])
+        self.status, self.number = status, number
+
+
+class Password:
+    """A password."""
+    method = 1
+
+    def __init__(self, password):
+        self.bytes = bytes(password)
+
+
+class Key:
+    """A key of ssh-ed25519: of a client's user the 32 bytes of the private key, at a server the public key."""
+    method = 2
+
+    def __init__(self, key):
+        self.bytes = bytes(key)
+
+
+class Nothing:
+    """The method none."""
+    method, bytes = 0, b''
+
+
+def _lent(data):
+    return _Bytes(data, len(data))
+
+
+def _list(kind, values):
+    return (kind * max(1, len(values)))(*values), len(values)
+
+
+def _text(text):
+    return text.encode() if isinstance(text, str) else bytes(text)
+
+
+class Link:
+    """Both directions of a session, and what was agreed: its fields, numbered as include/rezdolin.h has them."""
+
+    def __init__(self, record):
+        self.fields, self._seed = [], os.urandom(32)
+        while record:
+            size, = struct.unpack('>I', record[:4])
+            self.fields.append(record[4:4 + size])
+            record = record[4 + size:]
+        self._incoming, self._outgoing = (ctypes.create_string_buffer(state, len(state)) for state in self.fields[:2])
+        self.session_identifier, self.user, self.service = self.fields[2:5]
+        self.own_version, self.peer_version, self.host_key = self.fields[5:8]
+        self.is_strict = self.fields[16] == b'\x01'
+
+    def seal(self, payload):
+        """The packet of a payload."""
+        out = ctypes.create_string_buffer(35000)
+        answer = _library.rezdolin_seal(self._outgoing, len(self._outgoing), self._seed, 32, payload, len(payload), out, len(out))
+        if answer.status != ANSWERED:
+            raise Refused(answer.status)
+        return out.raw[:answer.len]
+
+    def open(self, received):
+        """The payload of the packet at the front, and how many bytes it had; None where it isn't all there."""
+        out = ctypes.create_string_buffer(35000)
+        answer = _library.rezdolin_open(self._incoming, len(self._incoming), received, len(received), out, len(out))
+        if answer.status == MORE:
+            return None
+        if answer.status != ANSWERED:
+            raise Refused(answer.status, answer.fault)
+        return out.raw[:answer.len], answer.used
+
+
+class _Endpoint:
+    """What a client and a server have alike."""
+    call = None
+
+    def __init__(self, kex=KEX, ciphers=CIPHERS, macs=MACS, softwareversion='rezdolin', strict=True):
+        self._received, self._sent, self._record = b'', 0, b''
+        self.end, self.fault, self.detail, self.left = OPEN, 0, 0, b''
+        texts = [_text(it) for it in (softwareversion, '', kex, ciphers, ciphers, macs, macs)]
+        drawn = [os.urandom(size) for size in (16, 32, 32)]
+        # (each structure keeps the bytes that were put in alive)
+        self._side = _Side(*[_lent(it) for it in texts + drawn], strict)
+
+    @property
+    def is_open(self):
+        """Whether it goes on."""
+        return self.end == OPEN
+
+    @property
+    def is_authenticated(self):
+        """Whether the user is authenticated."""
+        return self.end == AUTHENTICATED
+
+    def feed(self, piece):
+        """Receives a piece, and answers what is sent. What it doesn't use stands in `left`, for a Link."""
+        if not self.is_open:
+            self.left += piece
+            return b''
+        received = self._received + piece
+        if len(received) > RECEIVED_LIMIT:
+            raise Refused(ROOM)
+        said, out, record = [], ctypes.create_string_buffer(8192), ctypes.create_string_buffer(65536)
+        while True:
+            answer = type(self).call(self._input, received, len(received), self._sent, out, len(out), record, len(record))
+            if answer.status != ANSWERED:
+                raise Refused(answer.status, answer.config)
+            said.append(out.raw[:answer.written])
+            self._sent += answer.written
+            if self._sent >= answer.sent:
+                break
+        self._received, self.left = received, received[answer.used:]
+        self.end, self.fault, self.detail = answer.end, answer.fault, answer.detail
+        self._record = record.raw[:answer.session_len]
+        return b''.join(said)
+
+    def link(self):
+        """The session of an authenticated endpoint. Take one alone: it counts packets."""
+        if not self.is_authenticated:
+            raise ValueError('it isn\'t authenticated')
+        return Link(self._record)
+
+
+class Client(_Endpoint):
+    """A client: its user, the attempts in order, and the host keys that it trusts, each a public key."""
+    call = _library.rezdolin_client
+
+    def __init__(self, user, plan, trusted_host_keys, **lists):
+        super().__init__(**lists)
+        attempts = [_Attempt(_lent(_text(user)), _lent(SERVICE), _lent(HOST_KEY if proof.method == 2 else b''), _lent(proof.bytes),
+                             proof.method, proof.method == 2) for proof in plan]
+        plan, trusted = _list(_Attempt, attempts), _list(_Bytes, [_lent(bytes(key)) for key in trusted_host_keys])
+        self._input = _Client(self._side, _lent(HOST_KEY), *plan, *trusted, False)
+
+
+class Server(_Endpoint):
+    """A server: the 32 bytes of its private host key, and who is accepted by what: pairs of a user and a proof."""
+    call = _library.rezdolin_server
+
+    def __init__(self, host_key, users, methods='publickey,password', required='', banner=b'', tries=6, **lists):
+        super().__init__(**lists)
+        keys = _list(_HostKey, [_HostKey(_lent(HOST_KEY), _lent(bytes(host_key)))])
+        users = _list(_User, [_User(_lent(_text(user)), _lent(proof.bytes), proof.method) for user, proof in users])
+        texts = [_lent(_text(it)) for it in (SERVICE, methods, required, banner)]
+        self._input = _Server(self._side, *keys, *texts, *_list(_Bytes, []), *users, tries)
+
+
+def public_key(private_key):
+    """The public key of the 32 bytes of a private key, as servers send it."""
+    out = ctypes.create_string_buffer(64)
+    answer = _library.rezdolin_public_key(private_key, len(private_key), out, len(out))
+    if answer.status != ANSWERED:
+        raise Refused(answer.status)
+    return out.raw[:answer.len]

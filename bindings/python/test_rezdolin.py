@@ -1,0 +1,124 @@
+"""Tests of the module: in memory, and at the client and the server of asyncssh where that is there (as Debian has it).
+
+    python3 test_rezdolin.py
+"""
+import asyncio
+import socket
+import threading
+import unittest
+import warnings
+
+import rezdolin
+from client import carry
+from rezdolin import Client, Key, Nothing, Password, Refused, Server, public_key
+
+try:
+    with warnings.catch_warnings():
+        warnings.simplefilter('ignore')
+        import asyncssh
+except ImportError:
+    asyncssh = None
+
+HOST, USER = bytes(range(32)), bytes(range(1, 33))
+
+
+def meet(client, server, size=1000):
+    to_server, to_client = client.feed(b''), server.feed(b'')
+    while to_server or to_client:
+        given, to_server = to_server, b''
+        for at in range(0, len(given), size):
+            to_client += server.feed(given[at:at + size])
+        given, to_client = to_client, b''
+        for at in range(0, len(given), size):
+            to_server += client.feed(given[at:at + size])
+
+
+def pair(proof):
+    client = Client('al', [proof], [public_key(HOST)])
+    return client, Server(HOST, [('al', Key(public_key(USER))), ('al', Password(b'secret'))])
+
+
+class Memory(unittest.TestCase):
+    def test_authenticates(self):
+        for proof in (Key(USER), Password(b'secret')):
+            client, server = pair(proof)
+            meet(client, server, 50)
+            self.assertTrue(client.is_authenticated and server.is_authenticated)
+
+    def test_session_goes_on(self):
+        client, server = pair(Password(b'secret'))
+        meet(client, server)
+        ours, theirs = client.link(), server.link()
+        self.assertEqual(ours.session_identifier, theirs.session_identifier)
+        self.assertEqual((ours.user, ours.peer_version, ours.host_key), (b'al', b'SSH-2.0-rezdolin', public_key(HOST)))
+        for n in range(1, 40):
+            packet = ours.seal(b'\0' * n)
+            self.assertIsNone(theirs.open(packet[:-1]))
+            self.assertEqual(theirs.open(packet + b'more'), (b'\0' * n, len(packet)))
+        with self.assertRaises(Refused):
+            theirs.open(b'\7' * 100)
+
+    def test_refusals(self):
+        client, server = pair(Password(b'wrong'))
+        meet(client, server)
+        self.assertEqual((client.end, client.fault, server.end, server.detail), (rezdolin.FAILED, 14, rezdolin.CLOSED, 14))
+        client = Client('al', [Nothing()], [])
+        meet(client, Server(HOST, []))
+        self.assertEqual((client.end, client.fault), (rezdolin.FAILED, 10))
+        with self.assertRaises(Refused) as refused:
+            Client('al', [], [], kex='').feed(b'')
+        self.assertEqual((refused.exception.status, refused.exception.number), (rezdolin.CONFIG, 1))
+
+
+@unittest.skipUnless(asyncssh, 'asyncssh is not there')
+class Asyncssh(unittest.TestCase):
+    """At the client and the server of asyncssh, over TCP at this machine itself."""
+
+    def test_client(self):
+        key = asyncssh.generate_private_key('ssh-ed25519')
+
+        class Doors(asyncssh.SSHServer):
+            def begin_auth(self, username):
+                return True
+
+            def password_auth_supported(self):
+                return True
+
+            def validate_password(self, username, password):
+                return (username, password) == ('al', 'secret')
+
+        async def met():
+            server = await asyncssh.listen('127.0.0.1', 0, server_factory=Doors, server_host_keys=[key])
+            with socket.create_connection(server.sockets[0].getsockname()) as end:
+                await asyncio.get_running_loop().run_in_executor(None, carry, client, end)
+            server.close()
+
+        client = Client('al', [Password(b'secret')], [key.public_data])
+        asyncio.run(met())
+        self.assertTrue(client.is_authenticated, (client.end, client.fault, client.detail))
+        self.assertEqual(client.link().host_key, key.public_data)
+
+    def test_server(self):
+        def serve():
+            with listening.accept()[0] as end:
+                carry(server, end)
+                gone.wait(10)
+
+        async def met():
+            host, port = listening.getsockname()
+            end = await asyncssh.connect(host, port, username='al', password='secret', known_hosts=None, client_keys=None, config=None)
+            end.abort()
+
+        server, gone = Server(HOST, [('al', Password(b'secret'))]), threading.Event()
+        with socket.create_server(('127.0.0.1', 0)) as listening:
+            thread = threading.Thread(target=serve)
+            thread.start()
+            asyncio.run(met())
+            gone.set()
+            thread.join()
+        self.assertTrue(server.is_authenticated, (server.end, server.fault, server.detail))
+        self.assertEqual((server.link().user, server.link().fields[17]), (b'al', b'\x01'))
+
+
+if __name__ == '__main__':
+    unittest.main()

@@ -1,0 +1,348 @@
+//! SSH up to the authenticated user, as a client and as a server, and the packets of the session that goes on: safe Rust
+//! over the proved static library `rezdolin`.
+//!
+//! A [`Client`] and a [`Server`] open no socket: [`feed`](Client::feed) takes what came and appends what is to be sent.
+//! Each keeps all bytes that it has received, and its library call makes all work anew: so feed what there is, rather
+//! than byte by byte.
+#![deny(missing_docs)]
+
+mod door;
+mod link;
+
+use door::{AttemptInput, Bytes, ClientInput, EndpointAnswer, HostKeyInput, List, ServerInput, SideInput, UserInput};
+pub use link::{Link, LinkFault};
+use std::error::Error;
+use std::fmt;
+
+/// The most bytes that an endpoint receives before it has ended.
+pub const RECEIVED_LIMIT: usize = 262_144;
+
+/// The bytes that one connection draws. They are random, and nobody can foresee them; no two connections have the same.
+pub struct Draws {
+    /// The cookie of the KEXINIT.
+    pub cookie: [u8; 16],
+    /// The secret of which the own share is made.
+    pub exchange_random: [u8; 32],
+    /// The secret of which padding is made.
+    pub padding_seed: [u8; 32],
+}
+
+/// What both sides list. A list of names is its text, with single commas between.
+pub struct Side {
+    /// The softwareversion of the version line.
+    pub softwareversion: String,
+    /// Key exchange methods.
+    pub kex: String,
+    /// Ciphers, both ways.
+    pub ciphers: String,
+    /// MACs, both ways.
+    pub macs: String,
+    /// Whether the side is willing to be strict.
+    pub strict: bool,
+}
+
+impl Default for Side {
+    /// The algorithms that the library and peers in use have.
+    fn default() -> Side {
+        Side {
+            softwareversion: "rezdolin".into(),
+            kex: "curve25519-sha256,curve25519-sha256@libssh.org".into(),
+            ciphers: "chacha20-poly1305@openssh.com,aes256-gcm@openssh.com".into(),
+            macs: "hmac-sha2-256-etm@openssh.com,hmac-sha2-512-etm@openssh.com,hmac-sha2-256,hmac-sha2-512,hmac-sha1"
+                .into(),
+            strict: true,
+        }
+    }
+}
+
+impl Side {
+    fn input<'a>(&'a self, draws: &'a Draws) -> SideInput<'a> {
+        let (ciphers, macs) = (Bytes::new(self.ciphers.as_bytes()), Bytes::new(self.macs.as_bytes()));
+        SideInput {
+            softwareversion: Bytes::new(self.softwareversion.as_bytes()),
+            comments: Bytes::new(b""),
+            kex_algorithms: Bytes::new(self.kex.as_bytes()),
+            encryption_client_to_server: ciphers,
+            encryption_server_to_client: ciphers,
+            mac_client_to_server: macs,
+            mac_server_to_client: macs,
+            cookie: Bytes::new(&draws.cookie),
+            exchange_random: Bytes::new(&draws.exchange_random),
+            padding_seed: Bytes::new(&draws.padding_seed),
+            strict: self.strict,
+        }
+    }
+}
+
+/// How a client proves who its user is, or by what a server lets one in.
+#[derive(Clone)]
+pub enum Proof {
+    /// By nothing: the method `none`.
+    None,
+    /// By a password.
+    Password(Vec<u8>),
+    /// By a key of ssh-ed25519: at a client the 32 bytes of the private key, about which the server is asked first; at a
+    /// server the public key ([`public_key`]).
+    Key(Vec<u8>),
+}
+
+impl Proof {
+    fn method(&self) -> u32 {
+        match self {
+            Proof::None => 0,
+            Proof::Password(_) => 1,
+            Proof::Key(_) => 2,
+        }
+    }
+
+    fn bytes(&self) -> &[u8] {
+        match self {
+            Proof::None => b"",
+            Proof::Password(bytes) | Proof::Key(bytes) => bytes,
+        }
+    }
+}
+
+/// How an endpoint stands.
+#[derive(Clone, Copy, Debug, PartialEq, Eq)]
+pub enum End {
+    /// It goes on.
+    Open,
+    /// The user is authenticated.
+    Authenticated,
+    /// It failed.
+    Failed {
+        /// The number of the failure, 1 for F1.
+        fault: u32,
+        /// Of F5, F6 and F7 the number of the message, of F8 the field of the KEXINIT, 1 to 8; else 0.
+        detail: u32,
+    },
+    /// The peer sent a DISCONNECT with this reason.
+    Closed(u32),
+}
+
+/// Why a call wasn't answered.
+#[derive(Clone, Copy, Debug, PartialEq, Eq)]
+pub enum Refused {
+    /// Memory ran out: the same call may be made again.
+    Memory,
+    /// The parts make no config; the number of the refusal, 1 for C1.
+    Config(u32),
+    /// What was put in can't be read.
+    Unreadable,
+    /// More than [`RECEIVED_LIMIT`] bytes came.
+    TooMuch,
+}
+
+impl fmt::Display for Refused {
+    fn fmt(&self, f: &mut fmt::Formatter<'_>) -> fmt::Result {
+        match self {
+            Refused::Memory => f.write_str("out of memory"),
+            Refused::Config(number) => write!(f, "the parts make no config: C{number}"),
+            Refused::Unreadable => f.write_str("what was put in can't be read"),
+            Refused::TooMuch => f.write_str("the peer sends too much"),
+        }
+    }
+}
+
+impl Error for Refused {}
+
+/// What an endpoint has received and sent.
+struct Talk {
+    received: Vec<u8>,
+    sent: usize,
+    end: End,
+    record: Vec<u8>,
+}
+
+impl Talk {
+    fn new() -> Talk {
+        Talk { received: Vec::new(), sent: 0, end: End::Open, record: Vec::new() }
+    }
+
+    /// Receives a piece, appends to `out` what is sent, and answers how many bytes of the piece were used.
+    fn feed(
+        &mut self,
+        piece: &[u8],
+        out: &mut Vec<u8>,
+        call: impl Fn(&[u8], usize, &mut [u8], &mut [u8]) -> EndpointAnswer,
+    ) -> Result<usize, Refused> {
+        if self.end != End::Open {
+            return Ok(0);
+        }
+        let before = self.received.len();
+        if before + piece.len() > RECEIVED_LIMIT {
+            return Err(Refused::TooMuch);
+        }
+        self.received.extend_from_slice(piece);
+        let mut room = [0; 4096];
+        let mut record = vec![0; 65536];
+        loop {
+            let answer = call(&self.received, self.sent, &mut room, &mut record);
+            match answer.status {
+                0 => {}
+                1..=3 => {
+                    self.received.truncate(before);
+                    return Err([Refused::Memory, Refused::Config(answer.config), Refused::Unreadable]
+                        [answer.status as usize - 1]);
+                }
+                status => unreachable!("the library answers no status {status}"),
+            }
+            out.extend_from_slice(&room[..answer.written]);
+            self.sent += answer.written;
+            if self.sent >= answer.sent {
+                self.end = match answer.end {
+                    0 => End::Open,
+                    1 => End::Authenticated,
+                    2 => End::Failed { fault: answer.fault, detail: answer.detail },
+                    _ => End::Closed(answer.detail),
+                };
+                record.truncate(answer.session_len);
+                self.record = record;
+                return Ok(answer.used - before);
+            }
+        }
+    }
+}
+
+/// A client: its parts, and the host keys that it trusts.
+pub struct Client {
+    /// What it lists.
+    pub side: Side,
+    /// What is drawn for the connection.
+    pub draws: Draws,
+    /// The user's name.
+    pub user: String,
+    /// The attempts to authenticate, in order.
+    pub plan: Vec<Proof>,
+    /// The host keys that are trusted ([`public_key`]).
+    pub trusted_host_keys: Vec<Vec<u8>>,
+    talk: Talk,
+}
+
+impl Client {
+    /// A client that has received nothing. Feed it no bytes for what it sends first.
+    #[must_use]
+    pub fn new(draws: Draws, user: &str, plan: Vec<Proof>, trusted_host_keys: Vec<Vec<u8>>) -> Client {
+        Client { side: Side::default(), draws, user: user.into(), plan, trusted_host_keys, talk: Talk::new() }
+    }
+
+    /// Receives a piece and appends to `out` what is sent. Answers how many bytes of the piece were used: all while it
+    /// is open. What stands after them is for the [`Link`].
+    ///
+    /// # Errors
+    ///
+    /// As [`Refused`] says; the piece then counts as not received, and what was appended to `out` is good.
+    pub fn feed(&mut self, piece: &[u8], out: &mut Vec<u8>) -> Result<usize, Refused> {
+        let plan: Vec<_> = self.plan.iter().map(|proof| attempt(&self.user, proof)).collect();
+        let trusted: Vec<_> = self.trusted_host_keys.iter().map(|key| Bytes::new(key)).collect();
+        let input = ClientInput {
+            side: self.side.input(&self.draws),
+            server_host_key_algorithms: Bytes::new(b"ssh-ed25519"),
+            plan: List::new(&plan),
+            trusted_host_keys: List::new(&trusted),
+            guess: false,
+        };
+        self.talk.feed(piece, out, |received, skip, out, record| door::client(&input, received, skip, out, record))
+    }
+
+    /// How it stands.
+    #[must_use]
+    pub fn end(&self) -> End {
+        self.talk.end
+    }
+
+    /// The session of an authenticated client, with 32 random bytes that served nothing else; else none.
+    #[must_use]
+    pub fn into_link(self, padding_seed: [u8; 32]) -> Option<Link> {
+        (self.talk.end == End::Authenticated).then(|| Link::new(self.talk.record, padding_seed))
+    }
+}
+
+fn attempt<'a>(user: &'a str, proof: &'a Proof) -> AttemptInput<'a> {
+    let is_key = matches!(proof, Proof::Key(_));
+    AttemptInput {
+        user: Bytes::new(user.as_bytes()),
+        service: Bytes::new(b"ssh-connection"),
+        algorithm: Bytes::new(if is_key { b"ssh-ed25519" } else { b"" }),
+        secret: Bytes::new(proof.bytes()),
+        method: proof.method(),
+        ask: is_key,
+    }
+}
+
+/// A server: its parts, and whom it accepts.
+pub struct Server {
+    /// What it lists.
+    pub side: Side,
+    /// What is drawn for the connection.
+    pub draws: Draws,
+    /// The 32 bytes of the private host key.
+    pub host_key: [u8; 32],
+    /// Who is accepted, and by what.
+    pub users: Vec<(String, Proof)>,
+    /// The methods that all have to succeed, as a list of names; none where one success is enough.
+    pub required: String,
+    /// The text of the BANNER; no bytes where none is sent.
+    pub banner: Vec<u8>,
+    /// The request at which a failure ends the session, 1 to 20.
+    pub tries: u32,
+    talk: Talk,
+}
+
+impl Server {
+    /// A server that has received nothing. Feed it no bytes for what it sends first.
+    #[must_use]
+    pub fn new(draws: Draws, host_key: [u8; 32], users: Vec<(String, Proof)>) -> Server {
+        let (required, banner) = (String::new(), Vec::new());
+        Server { side: Side::default(), draws, host_key, users, required, banner, tries: 6, talk: Talk::new() }
+    }
+
+    /// Receives a piece and appends to `out` what is sent. Answers how many bytes of the piece were used: all while it
+    /// is open. What stands after them is for the [`Link`].
+    ///
+    /// # Errors
+    ///
+    /// As [`Refused`] says; the piece then counts as not received, and what was appended to `out` is good.
+    pub fn feed(&mut self, piece: &[u8], out: &mut Vec<u8>) -> Result<usize, Refused> {
+        let users: Vec<_> = self.users.iter().map(|(user, proof)| user_input(user, proof)).collect();
+        let host_keys =
+            [HostKeyInput { algorithm: Bytes::new(b"ssh-ed25519"), private_key: Bytes::new(&self.host_key) }];
+        let input = ServerInput {
+            side: self.side.input(&self.draws),
+            host_keys: List::new(&host_keys),
+            services: Bytes::new(b"ssh-connection"),
+            methods: Bytes::new(b"publickey,password"),
+            required: Bytes::new(self.required.as_bytes()),
+            banner: Bytes::new(&self.banner),
+            notice_lines: List::new(&[]),
+            users: List::new(&users),
+            tries: self.tries,
+        };
+        self.talk.feed(piece, out, |received, skip, out, record| door::server(&input, received, skip, out, record))
+    }
+
+    /// How it stands.
+    #[must_use]
+    pub fn end(&self) -> End {
+        self.talk.end
+    }
+
+    /// The session of an authenticated server, with 32 random bytes that served nothing else; else none.
+    #[must_use]
+    pub fn into_link(self, padding_seed: [u8; 32]) -> Option<Link> {
+        (self.talk.end == End::Authenticated).then(|| Link::new(self.talk.record, padding_seed))
+    }
+}
+
+fn user_input<'a>(user: &'a str, proof: &'a Proof) -> UserInput<'a> {
+    UserInput { user: Bytes::new(user.as_bytes()), proof: Bytes::new(proof.bytes()), method: proof.method() }
+}
+
+/// The public key of the 32 bytes of a private key of ssh-ed25519, as servers send it; none where memory ran out.
+#[must_use]
+pub fn public_key(private_key: &[u8; 32]) -> Option<Vec<u8>> {
+    let mut room = [0; 64];
+    let answer = door::public_key(private_key, &mut room);
+    (answer.status == 0).then(|| room[..answer.len].to_vec())
+}

@@ -1,0 +1,92 @@
+//! A client and a server meet in memory.
+
+use rezdolin::{Client, Draws, End, LinkFault, Proof, Refused, Server, public_key};
+
+const HOST: [u8; 32] = [9; 32];
+const USER: [u8; 32] = [8; 32];
+
+fn draws(seed: u8) -> Draws {
+    Draws { cookie: [seed; 16], exchange_random: [seed + 1; 32], padding_seed: [seed + 2; 32] }
+}
+
+fn client(plan: Vec<Proof>) -> Client {
+    Client::new(draws(1), "al", plan, vec![public_key(&HOST).unwrap()])
+}
+
+fn server() -> Server {
+    let key = Proof::Key(public_key(&USER).unwrap());
+    Server::new(draws(5), HOST, vec![("al".into(), key), ("al".into(), Proof::Password(b"secret".to_vec()))])
+}
+
+/// Both talk, by pieces of at most this many bytes, until neither has more to send. Answers what the client has left.
+fn meet(client: &mut Client, server: &mut Server, size: usize) -> Result<Vec<u8>, Refused> {
+    let (mut to_server, mut to_client) = (Vec::new(), Vec::new());
+    client.feed(b"", &mut to_server)?;
+    server.feed(b"", &mut to_client)?;
+    while !(to_server.is_empty() && to_client.is_empty()) {
+        for piece in std::mem::take(&mut to_server).chunks(size) {
+            server.feed(piece, &mut to_client)?;
+        }
+        for piece in std::mem::take(&mut to_client).chunks(size) {
+            client.feed(piece, &mut to_server)?;
+        }
+    }
+    Ok(to_client)
+}
+
+#[test]
+fn authenticates_by_a_key_and_by_a_password() {
+    for proof in [Proof::Key(USER.to_vec()), Proof::Password(b"secret".to_vec())] {
+        let (mut client, mut server) = (client(vec![proof]), server());
+        meet(&mut client, &mut server, 1000).unwrap();
+        assert_eq!((client.end(), server.end()), (End::Authenticated, End::Authenticated));
+    }
+}
+
+#[test]
+fn pieces_change_nothing() {
+    let (mut client, mut server) = (client(vec![Proof::Password(b"secret".to_vec())]), server());
+    meet(&mut client, &mut server, 11).unwrap();
+    assert_eq!((client.end(), server.end()), (End::Authenticated, End::Authenticated));
+}
+
+#[test]
+fn a_session_goes_on() {
+    let (mut client, mut server) = (client(vec![Proof::Key(USER.to_vec())]), server());
+    meet(&mut client, &mut server, 1000).unwrap();
+    let (mut ours, mut theirs) = (client.into_link([3; 32]).unwrap(), server.into_link([4; 32]).unwrap());
+    assert_eq!(ours.session_identifier(), theirs.session_identifier());
+    assert_eq!((ours.user(), ours.peer_version(), ours.is_strict()), (&b"al"[..], &b"SSH-2.0-rezdolin"[..], true));
+    assert_eq!(ours.host_key(), public_key(&HOST).unwrap());
+    for n in 1..50 {
+        let (payload, mut packet) = (vec![n; usize::from(n) * 100], Vec::new());
+        ours.seal(&payload, &mut packet).unwrap();
+        assert_eq!(theirs.open(&packet[..packet.len() - 1]).unwrap(), None);
+        let used = packet.len();
+        packet.push(0);
+        assert_eq!(theirs.open(&packet).unwrap(), Some((payload, used)));
+    }
+    assert_eq!(ours.seal(b"", &mut Vec::new()), Err(LinkFault::Payload));
+    assert_eq!(theirs.open(&[7; 100]), Err(LinkFault::Packet(1)));
+}
+
+#[test]
+fn refusals_are_told() {
+    let (mut client, mut server) = (client(vec![Proof::Password(b"wrong".to_vec())]), server());
+    meet(&mut client, &mut server, 1000).unwrap();
+    assert_eq!((client.end(), server.end()), (End::Failed { fault: 14, detail: 0 }, End::Closed(14)));
+    assert!(client.into_link([3; 32]).is_none());
+    let (mut client, mut server) = (Client::new(draws(1), "al", vec![Proof::None], Vec::new()), self::server());
+    meet(&mut client, &mut server, 1000).unwrap();
+    assert_eq!(client.end(), End::Failed { fault: 10, detail: 0 });
+}
+
+#[test]
+fn parts_are_refused() {
+    let mut client = client(vec![]);
+    client.side.kex = String::new();
+    assert_eq!(client.feed(b"", &mut Vec::new()), Err(Refused::Config(1)));
+    let mut server = server();
+    server.tries = 21;
+    assert_eq!(server.feed(b"", &mut Vec::new()), Err(Refused::Config(9)));
+}

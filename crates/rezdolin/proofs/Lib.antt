@@ -1,0 +1,4 @@
+pub mod AnswerLemmas
+pub mod DirectionLemmas
+pub mod RecordLemmas
+pub mod Told

@@ -1,0 +1,30 @@
+-- Whom an endpoint trusts, by what a program has put in.
+
+use Rattle.std.specs.Prelude.{ℕ, ◌==◌, ◌&&◌, Bool, List}
+use Rattle.std.specs.Borrow.{Bor}
+use Rattle.std.specs.List.{list_any}
+use Rattle.std.specs.Str.{bytes_eq}
+use Rattle.sshcore.specs.EndpointParts.{DecisionsData, KeyProof, NoProof, PasswordProof, ProofData}
+use Rattle.rezdolin.specs.declared.inputs.TheConstants.{METHOD_NONE, METHOD_PASSWORD, METHOD_PUBLICKEY}
+use Rattle.rezdolin.specs.declared.inputs.UserInput.{UserInput}
+
+-- the key is one of these
+abbrev pub is_trusted : List (Bor (List ℕ)) → List ℕ → Bool
+is_trusted keys blob = list_any (λ key. bytes_eq key.now blob) keys
+
+-- the proof is the one of an entry: none, its password or its key
+abbrev pub proves : UserInput → ProofData → Bool
+proves entry NoProof = entry.method == METHOD_NONE
+proves entry (PasswordProof password) = entry.method == METHOD_PASSWORD && bytes_eq entry.proof.now password
+proves entry (KeyProof algorithm blob) = entry.method == METHOD_PUBLICKEY && bytes_eq entry.proof.now blob
+
+-- one of the entries has this user and this proof
+abbrev pub accepts : List UserInput → List ℕ → ProofData → Bool
+accepts users user proof = list_any (λ entry. bytes_eq entry.user.now user && proves entry proof) users
+
+-- these host keys are trusted, and these users are accepted
+abbrev pub trust_policy : List (Bor (List ℕ)) → List UserInput → DecisionsData
+trust_policy keys users = record {
+  host_key = λ algorithm blob. is_trusted keys blob;
+  user = λ number user service proof. accepts users user proof;
+}

@@ -1,0 +1,27 @@
+//! Bytes into the room of a program.
+
+ghost use Rattle.std.specs.Prelude.{◌≡◌, ◌≤◌, false, length, true};
+ghost use Rattle.rezdolin.specs.Directions.{IsPut};
+ghost use Rattle.rezdolin.specs.Talks.{IsWrittenFrom};
+
+/// Copies as many of the bytes from `skip` on as there is room for, and answers how many.
+pub(crate) fn copied_from(from: &[u8], skip: usize, out: &mut [u8]) -> usize
+    ensures { IsWrittenFrom from.now skip out.old result out.new }
+{
+    let rest = from.get(skip..).unwrap_or(&[]);
+    let count = rest.len().min(out.len());
+    out[..count].copy_from_slice(&rest[..count]);
+    count
+}
+
+/// Copies all of the bytes where there is room for them, and answers whether there was.
+pub(crate) fn is_copied(from: &[u8], out: &mut [u8]) -> bool
+    ensures put { result ≡ true → IsPut from.now out.old (length from.now) out.new }
+    ensures no_room { result ≡ false → (length from.now ≤ length out.old → ⊥) × (out.new ≡ out.old) }
+{
+    if from.len() > out.len() {
+        return false;
+    }
+    out[..from.len()].copy_from_slice(from);
+    true
+}

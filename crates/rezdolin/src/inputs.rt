@@ -1,0 +1,123 @@
+//! What a program puts in: the parts of a config, and whom the endpoint trusts.
+//!
+//! Everything is lent for one call. A list of names is its text, names with single commas between (RFC 4251 section 5);
+//! no bytes are the empty list.
+
+/// What both sides have. The fields are those of [`SideParts`](sshcore::SideParts), with their limits.
+#[repr(C)]
+#[derive(Clone, Copy)]
+pub struct SideInput<'a> {
+    /// The softwareversion of the version line, as UTF-8 (RFC 4253 section 4.2).
+    pub softwareversion: &'a [u8],
+    /// The comments of the version line, as UTF-8; no bytes where there are none.
+    pub comments: &'a [u8],
+    /// Key exchange methods, a list of names.
+    pub kex_algorithms: &'a [u8],
+    /// Ciphers from client to server, a list of names.
+    pub encryption_client_to_server: &'a [u8],
+    /// Ciphers from server to client, a list of names.
+    pub encryption_server_to_client: &'a [u8],
+    /// MACs from client to server, a list of names.
+    pub mac_client_to_server: &'a [u8],
+    /// MACs from server to client, a list of names.
+    pub mac_server_to_client: &'a [u8],
+    /// The cookie of the KEXINIT: 16 random bytes of this connection.
+    pub cookie: &'a [u8],
+    /// The secret of which the own share is made: 32 random bytes of this connection.
+    pub exchange_random: &'a [u8],
+    /// The secret of which padding is made: 32 random bytes of this connection.
+    pub padding_seed: &'a [u8],
+    /// Whether the side is willing to be strict (OpenSSH PROTOCOL section 1.10).
+    pub strict: bool,
+}
+
+/// One attempt of a client's plan (RFC 4252 section 5).
+#[repr(C)]
+#[derive(Clone, Copy)]
+pub struct AttemptInput<'a> {
+    /// The user's name, as UTF-8.
+    pub user: &'a [u8],
+    /// The name of the service that is to start after authentication.
+    pub service: &'a [u8],
+    /// The name of the private key's algorithm, of a public key alone.
+    pub algorithm: &'a [u8],
+    /// The password, or the private key as the suite has it.
+    pub secret: &'a [u8],
+    /// How the user is proved: [`METHOD_NONE`], [`METHOD_PASSWORD`] or [`METHOD_PUBLICKEY`].
+    pub method: u32,
+    /// Of a public key: whether the server is asked first if it would do.
+    pub ask: bool,
+}
+
+/// The method `none` (RFC 4252 section 5.2).
+pub const METHOD_NONE: u32 = 0;
+
+/// The method `password` (RFC 4252 section 8).
+pub const METHOD_PASSWORD: u32 = 1;
+
+/// The method `publickey` (RFC 4252 section 7).
+pub const METHOD_PUBLICKEY: u32 = 2;
+
+/// A client: its config, and the host keys that it trusts.
+#[repr(C)]
+#[derive(Clone, Copy)]
+pub struct ClientInput<'a> {
+    /// What both sides have.
+    pub side: SideInput<'a>,
+    /// Algorithms of the server's host key, a list of names.
+    pub server_host_key_algorithms: &'a [u8],
+    /// The attempts, in order.
+    pub plan: &'a [AttemptInput<'a>],
+    /// The host keys that are trusted, each a public key as the server sends it.
+    pub trusted_host_keys: &'a [&'a [u8]],
+    /// Whether the client announces a guess (RFC 4253 section 7).
+    pub guess: bool,
+}
+
+/// One host key of a server.
+#[repr(C)]
+#[derive(Clone, Copy)]
+pub struct HostKeyInput<'a> {
+    /// The name of its algorithm.
+    pub algorithm: &'a [u8],
+    /// The private key as the suite has it.
+    pub private_key: &'a [u8],
+}
+
+/// What one user is accepted by, or one of several things. A request is successful where one of a server's entries has
+/// its user and what it proves.
+#[repr(C)]
+#[derive(Clone, Copy)]
+pub struct UserInput<'a> {
+    /// The user's name.
+    pub user: &'a [u8],
+    /// The password, or the public key as a request has it.
+    pub proof: &'a [u8],
+    /// What it is: [`METHOD_NONE`] (the user is accepted without a proof), [`METHOD_PASSWORD`] or [`METHOD_PUBLICKEY`].
+    /// An entry of another number accepts nobody.
+    pub method: u32,
+}
+
+/// A server: its config, and whom it accepts.
+#[repr(C)]
+#[derive(Clone, Copy)]
+pub struct ServerInput<'a> {
+    /// What both sides have.
+    pub side: SideInput<'a>,
+    /// The host keys, in order.
+    pub host_keys: &'a [HostKeyInput<'a>],
+    /// The services that may start after authentication, a list of names.
+    pub services: &'a [u8],
+    /// The methods that a FAILURE lists, a list of names.
+    pub methods: &'a [u8],
+    /// The methods that all have to succeed, a list of names.
+    pub required: &'a [u8],
+    /// The text of the BANNER, or no bytes where none is sent.
+    pub banner: &'a [u8],
+    /// Lines before the version line, without their CR LF.
+    pub notice_lines: &'a [&'a [u8]],
+    /// Who is accepted, and by what.
+    pub users: &'a [UserInput<'a>],
+    /// The number of the request at which a failure ends the session, 1 to 20.
+    pub tries: u32,
+}

@@ -1,0 +1,228 @@
+//! Configs of what a program has put in.
+
+ghost use Rattle.std.specs.Prelude.{◌≡◌, ◌≢◌, IfErr, IfOk, map, string_bytes};
+ghost use Rattle.std.specs.List.{AllByRecursion};
+ghost use Rattle.std.specs.Str.{IsUtf8};
+ghost use Rattle.sshcore.specs.ConfigRules.{IsClient, IsServer};
+ghost use Rattle.sshcore.specs.ConfigView.{attempt_data, client_data, credential_data, host_key_data, server_data, side_data};
+ghost use Rattle.rezdolin.specs.declared.texts.InputFault.TheVariants as fault;
+ghost use Rattle.rezdolin.specs.Inputs.{AreAttemptTexts, AreClientTexts, AreServerTexts, AreSideTexts, attempt_by, client_of, host_key_by, proving_by, server_of, side_of};
+ghost use Rattle.rezdolin.specs.Refusals.{RefusesClient, RefusesServer};
+
+use crate::inputs::{
+    AttemptInput, ClientInput, HostKeyInput, METHOD_NONE, METHOD_PASSWORD, METHOD_PUBLICKEY,
+    ServerInput, SideInput,
+};
+use crate::texts::{InputFault, bytes_in, copies_of, names_of, text_in, text_of};
+use sshcore::{
+    Attempt, ClientConfig, ClientParts, ConfigFault, Credential, HostKey, ServerConfig,
+    ServerParts, SideParts,
+};
+use sshwire::Memory;
+use std::alloc::Global;
+
+/// Why there is no config.
+#[derive(Clone, Copy)]
+pub(crate) enum NoConfig {
+    /// What was put in can't be read.
+    Input(InputFault),
+    /// The parts are refused.
+    Parts(ConfigFault),
+}
+
+/// A client's config.
+pub(crate) fn client_config(
+    alloc: Global,
+    client: &ClientInput<'_>,
+) -> Result<ClientConfig, NoConfig>
+    ensures config { IfOk result (λ config. (config ≡ client_of client.now) × IsClient config) }
+    ensures refused { IfErr result (λ f. RefusesClient client.now f) }
+{
+    match client_parts(alloc, client) {
+        Ok(parts) => match ClientConfig::new(alloc, parts) {
+            Ok(config) => Ok(config),
+            Err(fault) => Err(NoConfig::Parts(fault)),
+        },
+        Err(fault) => Err(NoConfig::Input(fault)),
+    }
+}
+
+/// A server's config.
+pub(crate) fn server_config(
+    alloc: Global,
+    server: &ServerInput<'_>,
+) -> Result<ServerConfig, NoConfig>
+    ensures config { IfOk result (λ config. (config ≡ server_of server.now) × IsServer config) }
+    ensures refused { IfErr result (λ f. RefusesServer server.now f) }
+{
+    match server_parts(alloc, server) {
+        Ok(parts) => match ServerConfig::new(alloc, parts) {
+            Ok(config) => Ok(config),
+            Err(fault) => Err(NoConfig::Parts(fault)),
+        },
+        Err(fault) => Err(NoConfig::Input(fault)),
+    }
+}
+
+/// A client's parts.
+fn client_parts(alloc: Global, client: &ClientInput<'_>) -> Result<ClientParts, InputFault>
+    ensures parts { IfOk result (λ parts. client_data parts ≡ client_of client.now) }
+    ensures unreadable { IfErr result (λ f. f ≡ fault.Unreadable → AreClientTexts client.now → ⊥) }
+{
+    let side = side_parts(alloc, &client.side)?;
+    let server_host_key_algorithms = names_of(alloc, client.server_host_key_algorithms)?;
+    let plan = plan_of(alloc, client.plan)?;
+    Ok(ClientParts {
+        side,
+        server_host_key_algorithms,
+        guess: client.guess,
+        plan,
+    })
+}
+
+/// A client's plan.
+fn plan_of(alloc: Global, attempts: &[AttemptInput<'_>]) -> Result<Vec<Attempt>, InputFault>
+    ensures plan { IfOk result (λ plan. map attempt_data plan.items ≡ map attempt_by attempts.now) }
+    ensures unreadable { IfErr result (λ f. f ≡ fault.Unreadable → AllByRecursion AreAttemptTexts attempts.now → ⊥) }
+{
+    let mut plan = Vec::new(alloc);
+    for attempt in attempts {
+        plan.push(attempt_data(alloc, attempt)?)?;
+    }
+    Ok(plan)
+}
+
+/// One attempt.
+fn attempt_data(alloc: Global, attempt: &AttemptInput<'_>) -> Result<Attempt, InputFault>
+    ensures attempt { IfOk result (λ made. attempt_data made ≡ attempt_by attempt.now) }
+    ensures unreadable { IfErr result (λ f. f ≡ fault.Unreadable → AreAttemptTexts attempt.now → ⊥) }
+{
+    let user = text_of(alloc, attempt.user)?;
+    let service = text_of(alloc, attempt.service)?;
+    let credential = credential_of(alloc, attempt)?;
+    Ok(Attempt {
+        user,
+        service,
+        credential,
+    })
+}
+
+/// How an attempt proves its user.
+fn credential_of(alloc: Global, attempt: &AttemptInput<'_>) -> Result<Credential, InputFault>
+    ensures credential { IfOk result (λ credential. credential_data credential ≡ proving_by attempt.now) }
+    ensures unreadable { IfErr result (λ f. f ≡ fault.Unreadable → AreAttemptTexts attempt.now → ⊥) }
+{
+    match attempt.method {
+        METHOD_NONE => Ok(Credential::None),
+        METHOD_PASSWORD => Ok(Credential::Password(Vec::from_slice(alloc, attempt.secret)?)),
+        METHOD_PUBLICKEY => {
+            let algorithm = text_of(alloc, attempt.algorithm)?;
+            Ok(Credential::PublicKey {
+                algorithm,
+                private_key: Vec::from_slice(alloc, attempt.secret)?,
+                ask: attempt.ask,
+            })
+        }
+        _ => Err(InputFault::Unreadable),
+    }
+}
+
+/// A server's parts.
+fn server_parts(alloc: Global, server: &ServerInput<'_>) -> Result<ServerParts, InputFault>
+    ensures parts { IfOk result (λ parts. server_data parts ≡ server_of server.now) }
+    ensures unreadable { IfErr result (λ f. f ≡ fault.Unreadable → AreServerTexts server.now → ⊥) }
+{
+    let side = side_parts(alloc, &server.side)?;
+    let host_keys = host_keys_of(alloc, server.host_keys)?;
+    let services = names_of(alloc, server.services)?;
+    let methods = names_of(alloc, server.methods)?;
+    let required = names_of(alloc, server.required)?;
+    let banner = bytes_in(alloc, server.banner)?;
+    let notice_lines = copies_of(alloc, server.notice_lines)?;
+    Ok(ServerParts {
+        side,
+        host_keys,
+        services,
+        methods,
+        required,
+        tries: server.tries,
+        banner,
+        notice_lines,
+    })
+}
+
+/// A server's host keys.
+fn host_keys_of(alloc: Global, keys: &[HostKeyInput<'_>]) -> Result<Vec<HostKey>, InputFault>
+    ensures keys { IfOk result (λ made. map host_key_data made.items ≡ map host_key_by keys.now) }
+    ensures unreadable { IfErr result (λ f. f ≡ fault.Unreadable → AllByRecursion (λ (key : HostKeyInput). IsUtf8 key.algorithm.now) keys.now → ⊥) }
+{
+    let mut host_keys = Vec::new(alloc);
+    for key in keys {
+        host_keys.push(host_key_data(alloc, key)?)?;
+    }
+    Ok(host_keys)
+}
+
+/// One host key.
+fn host_key_data(alloc: Global, key: &HostKeyInput<'_>) -> Result<HostKey, InputFault>
+    ensures key { IfOk result (λ made. host_key_data made ≡ host_key_by key.now) }
+    ensures unreadable { IfErr result (λ f. f ≡ fault.Unreadable → IsUtf8 key.now.algorithm.now → ⊥) }
+{
+    let algorithm = text_of(alloc, key.algorithm)?;
+    Ok(HostKey {
+        algorithm,
+        private_key: Vec::from_slice(alloc, key.private_key)?,
+    })
+}
+
+/// What both sides have.
+fn side_parts(alloc: Global, side: &SideInput<'_>) -> Result<SideParts, InputFault>
+    ensures side { IfOk result (λ parts. side_data parts ≡ side_of side.now) }
+    ensures unreadable { IfErr result (λ f. f ≡ fault.Unreadable → AreSideTexts side.now → ⊥) }
+{
+    let softwareversion = text_of(alloc, side.softwareversion)?;
+    let comments = text_in(alloc, side.comments)?;
+    let kex_algorithms = names_of(alloc, side.kex_algorithms)?;
+    let encryption_client_to_server = names_of(alloc, side.encryption_client_to_server)?;
+    let encryption_server_to_client = names_of(alloc, side.encryption_server_to_client)?;
+    let mac_client_to_server = names_of(alloc, side.mac_client_to_server)?;
+    let mac_server_to_client = names_of(alloc, side.mac_server_to_client)?;
+    let draws = drawn_of(alloc, side)?;
+    Ok(SideParts {
+        softwareversion,
+        comments,
+        kex_algorithms,
+        encryption_client_to_server,
+        encryption_server_to_client,
+        mac_client_to_server,
+        mac_server_to_client,
+        strict: side.strict,
+        cookie: draws.cookie,
+        exchange_random: draws.exchange_random,
+        padding_seed: draws.padding_seed,
+    })
+}
+
+/// What a side has drawn, of whatever lengths.
+#[derive(Drop)]
+struct Drawn {
+    cookie: Vec<u8>,
+    exchange_random: Vec<u8>,
+    padding_seed: Vec<u8>,
+}
+
+/// Copies of what a side has drawn.
+fn drawn_of(alloc: Global, side: &SideInput<'_>) -> Result<Drawn, Memory>
+    ensures cookie { IfOk result (λ drawn. drawn.cookie.items ≡ side.now.cookie.now) }
+    ensures random { IfOk result (λ drawn. drawn.exchange_random.items ≡ side.now.exchange_random.now) }
+    ensures seed { IfOk result (λ drawn. drawn.padding_seed.items ≡ side.now.padding_seed.now) }
+{
+    let cookie = Vec::from_slice(alloc, side.cookie)?;
+    let exchange_random = Vec::from_slice(alloc, side.exchange_random)?;
+    let padding_seed = Vec::from_slice(alloc, side.padding_seed)?;
+    Ok(Drawn {
+        cookie,
+        exchange_random,
+        padding_seed,
+    })
+}

@@ -1,0 +1,58 @@
+//! Whom an endpoint trusts: decisions that are data.
+
+ghost use Rattle.std.specs.Prelude.{◌≡◌, ◌&&◌};
+ghost use Rattle.sshcore.specs.EndpointPartsView.{proof_data};
+ghost use Rattle.rezdolin.specs.Trust.{is_trusted, accepts, proves, trust_policy};
+
+use crate::inputs::{METHOD_NONE, METHOD_PASSWORD, METHOD_PUBLICKEY, UserInput};
+use sshcore::{Decisions, Proof};
+
+/// The host keys that are trusted, and who is accepted by what.
+///
+/// It has no `Debug`: passwords are never printed.
+#[derive(Clone, Copy)]
+pub(crate) struct Trust<'a> {
+    pub(crate) host_keys: &'a [&'a [u8]],
+    pub(crate) users: &'a [UserInput<'a>],
+}
+
+impl Decisions for Trust<'_> {
+    ghost use Rattle.rezdolin.specs.Trust.{trust_policy};
+
+    ghost policy = { λ t. trust_policy t.host_keys.now t.users.now };
+
+    fn host_key(&self, _algorithm: &str, blob: &[u8]) -> bool {
+        is_trusted(self.host_keys, blob)
+    }
+
+    fn user(&self, _request_number: u32, user: &str, _service: &str, proof: &Proof<'_>) -> bool {
+        accepts(self.users, user.as_bytes(), proof)
+    }
+}
+
+/// Whether the key is one of these.
+fn is_trusted(keys: &[&[u8]], blob: &[u8]) -> bool
+    ensures { result ≡ is_trusted keys.now blob.now }
+{
+    keys.iter().any(|key| *key == blob)
+}
+
+/// Whether one of the entries has this user and this proof.
+fn accepts(users: &[UserInput<'_>], user: &[u8], proof: &Proof<'_>) -> bool
+    ensures { result ≡ accepts users.now user.now (proof_data proof.now) }
+{
+    users
+        .iter()
+        .any(|entry| entry.user == user && proves(entry, proof))
+}
+
+/// Whether the proof is the one of an entry.
+fn proves(entry: &UserInput<'_>, proof: &Proof<'_>) -> bool
+    ensures { result ≡ proves entry.now (proof_data proof.now) }
+{
+    match proof {
+        Proof::None => entry.method == METHOD_NONE,
+        Proof::Password(password) => entry.method == METHOD_PASSWORD && entry.proof == *password,
+        Proof::Key { blob, .. } => entry.method == METHOD_PUBLICKEY && entry.proof == *blob,
+    }
+}

@@ -1,0 +1,234 @@
+/* SSH up to the authenticated user, as a client and as a server, and the packets of the session that goes on.
+ *
+ * An endpoint is a function of what it is made of, of whom it trusts and of all bytes that it has received: so no
+ * handle is needed. The program keeps the bytes that came, hands all of them to each call, and says by `skip` how many
+ * of the endpoint's bytes it has already. A call that ran out of memory is made again; no call leaves anything behind.
+ * Calls of several threads share nothing.
+ *
+ *   - Link librezdolin.a and then liblibc_c.a, which ties it to malloc, realloc and free.
+ *   - A pointer is never null, also where its length is 0; memory to write overlaps no other of the same call. Nothing
+ *     else is asked of a caller: whatever the bytes are, a call ends, and reads and writes no other memory.
+ *   - A call makes all its work anew. So call when you have read what there was, rather than for each byte, and don't
+ *     take more bytes than REZDOLIN_RECEIVED_LIMIT from a peer that hasn't authenticated.
+ *   - Nothing is wiped: the secrets that you hand in, and the record, are yours to wipe.
+ *
+ * docs/USING.md has a whole client. Codes (C1, F1, P1 and so on) are those of its tables. */
+#ifndef REZDOLIN_H
+#define REZDOLIN_H
+
+#include <stdbool.h>
+#include <stddef.h>
+#include <stdint.h>
+
+#ifdef __cplusplus
+extern "C" {
+#endif
+
+/* Bytes that are lent for a call. */
+typedef struct rezdolin_bytes {
+    const uint8_t *at;
+    size_t len;
+} rezdolin_bytes;
+
+/* The bytes of a text between quotes, without its NUL. */
+#define REZDOLIN_TEXT(text) {(const uint8_t *)(text), sizeof(text) - 1}
+
+/* Lists of names that the library and peers in use have. aes256-gcm@openssh.com works only where both sides are
+ * strict, so list it behind another cipher. */
+#define REZDOLIN_KEX "curve25519-sha256,curve25519-sha256@libssh.org"
+#define REZDOLIN_HOST_KEY "ssh-ed25519"
+#define REZDOLIN_CIPHERS "chacha20-poly1305@openssh.com,aes256-gcm@openssh.com"
+#define REZDOLIN_MACS \
+    "hmac-sha2-256-etm@openssh.com,hmac-sha2-512-etm@openssh.com,hmac-sha2-256,hmac-sha2-512,hmac-sha1"
+
+/* More than a peer has to send to be authenticated by a handful of requests. */
+#define REZDOLIN_RECEIVED_LIMIT 262144
+
+/* The room that each record and each packet fits in that the library makes. */
+#define REZDOLIN_RECORD_ROOM 65536
+#define REZDOLIN_PACKET_ROOM 35000
+
+/* What came of a call. */
+enum {
+    REZDOLIN_ANSWERED = 0,
+    REZDOLIN_MEMORY = 1,     /* memory ran out: the same call may be made again */
+    REZDOLIN_CONFIG = 2,     /* the parts make no config; `config` says why */
+    REZDOLIN_UNREADABLE = 3, /* a text isn't UTF-8, a method has no such number, a secret not its length, a state isn't one */
+    REZDOLIN_ROOM = 4,       /* `out` is too small; `len` says what it has to take */
+    REZDOLIN_PAYLOAD = 5,    /* a payload has 1 to 32768 bytes */
+    REZDOLIN_USED_UP = 6,    /* 2^31 packets went in this direction: end the connection */
+    REZDOLIN_PACKET = 7,     /* what came is no packet; `fault` says why: end the connection */
+    REZDOLIN_MORE = 8        /* the packet isn't all there */
+};
+
+/* How an endpoint stands. 4 and 5 are kept for ends that no call answers yet. */
+enum {
+    REZDOLIN_OPEN = 0,
+    REZDOLIN_AUTHENTICATED = 1,
+    REZDOLIN_FAILED = 2, /* `fault` and `detail` say why */
+    REZDOLIN_CLOSED = 3  /* the peer sent a DISCONNECT; `detail` is its reason */
+};
+
+/* Methods of authentication. */
+enum {
+    REZDOLIN_METHOD_NONE = 0,
+    REZDOLIN_METHOD_PASSWORD = 1,
+    REZDOLIN_METHOD_PUBLICKEY = 2
+};
+
+/* What both sides have. A list of names is its text, with single commas between the names; no bytes are the empty
+ * list. Draws are random bytes for one connection, which nobody can foresee. */
+typedef struct rezdolin_side {
+    rezdolin_bytes softwareversion; /* of the version line */
+    rezdolin_bytes comments;        /* of the version line; no bytes: none */
+    rezdolin_bytes kex_algorithms;
+    rezdolin_bytes encryption_client_to_server;
+    rezdolin_bytes encryption_server_to_client;
+    rezdolin_bytes mac_client_to_server;
+    rezdolin_bytes mac_server_to_client;
+    rezdolin_bytes cookie;          /* 16 bytes drawn */
+    rezdolin_bytes exchange_random; /* 32 bytes drawn */
+    rezdolin_bytes padding_seed;    /* 32 bytes drawn */
+    bool strict;                    /* willing to be strict: true, unless you know better */
+} rezdolin_side;
+
+/* One attempt of a client to authenticate. */
+typedef struct rezdolin_attempt {
+    rezdolin_bytes user;      /* at most 255 bytes */
+    rezdolin_bytes service;   /* "ssh-connection" as a rule */
+    rezdolin_bytes algorithm; /* of a key: "ssh-ed25519" */
+    rezdolin_bytes secret;    /* the password, or the 32 bytes of the private key (RFC 8032 section 5.1.5) */
+    uint32_t method;          /* REZDOLIN_METHOD_ */
+    bool ask;                 /* of a key: ask first whether it would do */
+} rezdolin_attempt;
+
+typedef struct rezdolin_client_input {
+    rezdolin_side side;
+    rezdolin_bytes server_host_key_algorithms;
+    const rezdolin_attempt *plan; /* in order, at most 64 */
+    size_t plan_len;
+    const rezdolin_bytes *trusted_host_keys; /* public keys, as the server sends them */
+    size_t trusted_host_keys_len;
+    bool guess; /* sends the share at once */
+} rezdolin_client_input;
+
+typedef struct rezdolin_host_key {
+    rezdolin_bytes algorithm;   /* "ssh-ed25519" */
+    rezdolin_bytes private_key; /* 32 bytes */
+} rezdolin_host_key;
+
+/* What one user is accepted by. A user may have several entries. */
+typedef struct rezdolin_user {
+    rezdolin_bytes user;
+    rezdolin_bytes proof; /* the password, or the public key as a request has it */
+    uint32_t method;      /* REZDOLIN_METHOD_; with NONE the user is accepted without a proof */
+} rezdolin_user;
+
+typedef struct rezdolin_server_input {
+    rezdolin_side side;
+    const rezdolin_host_key *host_keys; /* in order, at least one */
+    size_t host_keys_len;
+    rezdolin_bytes services; /* a list of names */
+    rezdolin_bytes methods;  /* what a FAILURE lists: "password,publickey" or one of them */
+    rezdolin_bytes required; /* methods that all have to succeed; no bytes: one success is enough */
+    rezdolin_bytes banner;   /* no bytes: none is sent */
+    const rezdolin_bytes *notice_lines; /* before the version line */
+    size_t notice_lines_len;
+    const rezdolin_user *users;
+    size_t users_len;
+    uint32_t tries; /* the request at which a failure ends the session, 1 to 20 */
+} rezdolin_server_input;
+
+/* What an endpoint answers. Where `status` isn't REZDOLIN_ANSWERED only `config` says something. */
+typedef struct rezdolin_endpoint_answer {
+    uint32_t status; /* REZDOLIN_ANSWERED, _MEMORY, _CONFIG or _UNREADABLE */
+    uint32_t config; /* of REZDOLIN_CONFIG: 1 for C1 and so on; else 0 */
+    uint32_t end;    /* REZDOLIN_OPEN and so on */
+    uint32_t fault;  /* of REZDOLIN_FAILED: 1 for F1 and so on; else 0 */
+    uint32_t detail; /* F5, F6, F7: the message; F8: the field, 1 to 8; of REZDOLIN_CLOSED: the reason; else 0 */
+    size_t used;     /* of the bytes received: all while it is open. What stands after them is for rezdolin_open */
+    size_t sent;     /* bytes that the endpoint has sent since it began: send them all, also where it has ended */
+    size_t written;  /* of these, from `skip` on, to `out`; call again while `skip` + `written` is below `sent` */
+    size_t session_len; /* of REZDOLIN_AUTHENTICATED: the length of the record; else 0 */
+} rezdolin_endpoint_answer;
+
+/* What a call answers that makes bytes. */
+typedef struct rezdolin_bytes_answer {
+    uint32_t status;
+    uint32_t fault; /* of REZDOLIN_PACKET: 1 for P1 and so on; else 0 */
+    size_t used;    /* of the bytes received */
+    size_t len;     /* bytes written; of REZDOLIN_ROOM: bytes that there has to be room for */
+} rezdolin_bytes_answer;
+
+/* A client that has received these bytes, and a server: what it sends for them. With nothing received it answers what
+ * it sends first. `session` is filled with the record of the session where the endpoint ended authenticated and the
+ * room takes `session_len` bytes of the answer. */
+rezdolin_endpoint_answer rezdolin_client(const rezdolin_client_input *client, const uint8_t *received,
+                                         size_t received_len, size_t skip, uint8_t *out, size_t out_len,
+                                         uint8_t *session, size_t session_len);
+rezdolin_endpoint_answer rezdolin_server(const rezdolin_server_input *server, const uint8_t *received,
+                                         size_t received_len, size_t skip, uint8_t *out, size_t out_len,
+                                         uint8_t *session, size_t session_len);
+
+/* The public key of the 32 bytes of a private key. It has 51 bytes. */
+rezdolin_bytes_answer rezdolin_public_key(const uint8_t *private_key, size_t private_key_len, uint8_t *out,
+                                          size_t out_len);
+
+/* Seals a payload of 1 to 32768 bytes. `state` is REZDOLIN_OUTGOING of a record, and its numbers are raised in place;
+ * `padding_seed` has 32 bytes drawn for this session alone. */
+rezdolin_bytes_answer rezdolin_seal(uint8_t *state, size_t state_len, const uint8_t *padding_seed,
+                                    size_t padding_seed_len, const uint8_t *payload, size_t payload_len, uint8_t *out,
+                                    size_t out_len);
+
+/* Opens the packet at the front of what was received and not used: first what the endpoint didn't use, then what
+ * comes. `state` is REZDOLIN_INCOMING of a record, and its numbers are raised in place; `out` gets the payload. Go on
+ * after `used` bytes. With REZDOLIN_MORE read on and hand in all from the packet's first byte again. */
+rezdolin_bytes_answer rezdolin_open(uint8_t *state, size_t state_len, const uint8_t *received, size_t received_len,
+                                    uint8_t *out, size_t out_len);
+
+/* The fields of a record, each as a uint32 with its length and so many bytes. */
+enum {
+    REZDOLIN_INCOMING = 0,           /* the state of what the peer sends: keys, secret */
+    REZDOLIN_OUTGOING = 1,           /* the state of what is sent: keys, secret */
+    REZDOLIN_SESSION_IDENTIFIER = 2,
+    REZDOLIN_USER = 3,
+    REZDOLIN_SERVICE = 4,
+    REZDOLIN_OWN_VERSION = 5,        /* version lines, without CR LF */
+    REZDOLIN_PEER_VERSION = 6,
+    REZDOLIN_SERVER_KEY = 7,         /* the server's public key */
+    REZDOLIN_AGREED_KEX = 8,         /* names of algorithms from here on */
+    REZDOLIN_AGREED_HOST_KEY = 9,
+    REZDOLIN_AGREED_ENCRYPTION_CLIENT_TO_SERVER = 10,
+    REZDOLIN_AGREED_ENCRYPTION_SERVER_TO_CLIENT = 11,
+    REZDOLIN_AGREED_MAC_CLIENT_TO_SERVER = 12,
+    REZDOLIN_AGREED_MAC_SERVER_TO_CLIENT = 13,
+    REZDOLIN_AGREED_COMPRESSION_CLIENT_TO_SERVER = 14,
+    REZDOLIN_AGREED_COMPRESSION_SERVER_TO_CLIENT = 15,
+    REZDOLIN_STRICT = 16,            /* one byte, 1 where both sides are strict */
+    REZDOLIN_BY_PASSWORD = 17,       /* of a server: one byte, 1 where a password succeeded; of a client no byte */
+    REZDOLIN_BY_KEY_ALGORITHM = 18,  /* of a server where a key succeeded: its algorithm; else no byte */
+    REZDOLIN_BY_KEY = 19             /* of a server where a key succeeded: the public key; else no byte */
+};
+
+/* Where a field of a record of `len` bytes stands, and how many bytes it has; null where there is no such field. */
+static inline uint8_t *rezdolin_field(uint8_t *record, size_t len, unsigned field, size_t *field_len) {
+    while (len >= 4) {
+        size_t size = (size_t)record[0] << 24 | (size_t)record[1] << 16 | (size_t)record[2] << 8 | (size_t)record[3];
+        if (size > len - 4)
+            break;
+        if (field == 0) {
+            *field_len = size;
+            return record + 4;
+        }
+        record += 4 + size;
+        len -= 4 + size;
+        field--;
+    }
+    *field_len = 0;
+    return NULL;
+}
+
+#ifdef __cplusplus
+}
+#endif
+#endif
