@@ -29,7 +29,7 @@ static void flood(unsigned size) {
         before[0] = before[1], before[1] = before[2], before[2] = s.to_server.len;
         step(&s, 0, 65536);
     }
-    /* behind the request for a service, in the place of the second packet with keys */
+    /* after the request for a service, in the place of the second packet with keys */
     memcpy(received, s.to_server.at, len = before[0]);
     rezdolin_bytes state = field(&s, 0, REZDOLIN_OUTGOING);
     memcpy((uint8_t *)state.at, "\0\0\0\1", 4);
