@@ -1,26 +1,25 @@
 //! One channel of a session, by messages made by hand, to show that the session goes on (RFC 4254).
 
+use crate::channel_messages::{confirmation, data, exec, farewell, of_channel, open, status};
 use crate::fault::Fault;
 use crate::report::{tell, tell_number};
 use crate::session_stream::SessionStream;
 use sshcore::Session;
-use sshwire::{Memory, Reader, WireFault, put_boolean, put_string, put_u32};
-use std::alloc::Global;
-use std::io::Write;
+use sshwire::Reader;
 
 /// The most bytes of a command.
-const COMMAND_LIMIT: usize = 1000;
+pub(crate) const COMMAND_LIMIT: usize = 1000;
 
 /// What a server answers to whatever it is asked to do.
-const GREETING: &[u8] = b"authenticated by rezdolin\n";
+pub(crate) const GREETING: &[u8] = b"authenticated by rezdolin\n";
 
 /// How many bytes the peer may send, and how many in one message.
-const WINDOW: u32 = 1 << 20;
+pub(crate) const WINDOW: u32 = 1 << 20;
 
-const PACKET: u32 = 32768;
+pub(crate) const PACKET: u32 = 32768;
 
 /// Numbers of messages (RFC 4250 section 4.1.2).
-const DISCONNECT: u8 = 1;
+pub(crate) const DISCONNECT: u8 = 1;
 
 const KEXINIT: u8 = 20;
 
@@ -28,22 +27,22 @@ const GLOBAL_REQUEST: u8 = 80;
 
 const REQUEST_FAILURE: u8 = 82;
 
-const OPEN: u8 = 90;
+pub(crate) const OPEN: u8 = 90;
 
-const CONFIRMATION: u8 = 91;
+pub(crate) const CONFIRMATION: u8 = 91;
 
-const DATA: u8 = 94;
+pub(crate) const DATA: u8 = 94;
 
 const CHANNEL_EOF: u8 = 96;
 
 const CHANNEL_CLOSE: u8 = 97;
 
-const REQUEST: u8 = 98;
+pub(crate) const REQUEST: u8 = 98;
 
 const REQUEST_SUCCESS: u8 = 99;
 
 /// The reason of a DISCONNECT that ends a session as it is wished.
-const BY_APPLICATION: u32 = 11;
+pub(crate) const BY_APPLICATION: u32 = 11;
 
 /// A client's: asks for a command and tells what it prints; without one the session ends at once.
 pub(crate) fn ask(
@@ -213,67 +212,4 @@ fn finish(rt: &HostRuntime, stream: &mut SessionStream, theirs: u32) -> Result<(
     stream.send(rt, &status(alloc, theirs)?)?;
     stream.send(rt, &of_channel(alloc, CHANNEL_EOF, theirs)?)?;
     stream.send(rt, &of_channel(alloc, CHANNEL_CLOSE, theirs)?)
-}
-
-/// A message that has the number of the peer's channel, and whatever is put after it.
-fn of_channel(alloc: Global, number: u8, theirs: u32) -> Result<Vec<u8>, Memory> {
-    let mut payload = Vec::from_slice(alloc, &[number])?;
-    put_u32(&mut payload, theirs)?;
-    Ok(payload)
-}
-
-/// CHANNEL_OPEN of a session (RFC 4254 section 5.1): the own channel is 0.
-fn open(alloc: Global) -> Result<Vec<u8>, Memory> {
-    let mut payload = Vec::from_slice(alloc, &[OPEN])?;
-    put_string(&mut payload, b"session")?;
-    put_u32(&mut payload, 0)?;
-    put_u32(&mut payload, WINDOW)?;
-    put_u32(&mut payload, PACKET)?;
-    Ok(payload)
-}
-
-/// CHANNEL_OPEN_CONFIRMATION.
-fn confirmation(alloc: Global, theirs: u32) -> Result<Vec<u8>, Memory> {
-    let mut payload = of_channel(alloc, CONFIRMATION, theirs)?;
-    put_u32(&mut payload, 0)?;
-    put_u32(&mut payload, WINDOW)?;
-    put_u32(&mut payload, PACKET)?;
-    Ok(payload)
-}
-
-/// A request to execute a command (section 6.5).
-fn exec(alloc: Global, theirs: u32, command: &str) -> Result<Vec<u8>, Fault> {
-    if command.len() > COMMAND_LIMIT {
-        return Err(Fault::Words);
-    }
-    let mut payload = of_channel(alloc, REQUEST, theirs)?;
-    put_string(&mut payload, b"exec")?;
-    put_boolean(&mut payload, true)?;
-    put_string(&mut payload, command.as_bytes())?;
-    Ok(payload)
-}
-
-/// CHANNEL_DATA with the line that a server sends.
-fn data(alloc: Global, theirs: u32) -> Result<Vec<u8>, Memory> {
-    let mut payload = of_channel(alloc, DATA, theirs)?;
-    put_string(&mut payload, GREETING)?;
-    Ok(payload)
-}
-
-/// The exit status 0 (section 6.10).
-fn status(alloc: Global, theirs: u32) -> Result<Vec<u8>, Memory> {
-    let mut payload = of_channel(alloc, REQUEST, theirs)?;
-    put_string(&mut payload, b"exit-status")?;
-    put_boolean(&mut payload, false)?;
-    put_u32(&mut payload, 0)?;
-    Ok(payload)
-}
-
-/// DISCONNECT by the application (RFC 4253 section 11.1).
-fn farewell(alloc: Global) -> Result<Vec<u8>, Memory> {
-    let mut payload = Vec::from_slice(alloc, &[DISCONNECT])?;
-    put_u32(&mut payload, BY_APPLICATION)?;
-    put_string(&mut payload, b"")?;
-    put_string(&mut payload, b"")?;
-    Ok(payload)
 }

@@ -4,6 +4,7 @@
 
 mod authorized;
 mod channel;
+mod channel_messages;
 mod clear_stream;
 mod fault;
 mod files;

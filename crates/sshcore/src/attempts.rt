@@ -1,38 +1,27 @@
 //! Phase auth at a client: the attempts of its plan and what the server answers (RFC 4252).
 
-ghost use Rattle.std.specs.Prelude.{◌≡◌, ◌≢◌, ◌≤◌, [], true, false, Bool, IfOk, OnOk, if◌then◌else◌, length, map};
-ghost use Rattle.sshwire.specs.Types.{IsName};
-ghost use Rattle.sshmsg.specs.MessageData as content;
-ghost use Rattle.sshmsg.specs.View.{method_data};
-ghost use Rattle.sshmsg.specs.Written.{written_message};
+ghost use Rattle.std.specs.Prelude.{◌≡◌, ◌≢◌, [], true, false, Bool, IfOk, OnOk, if◌then◌else◌, map};
 ghost use Rattle.sshneg.specs.ChoiceReadings.{is_in};
 ghost use Rattle.sshpacket.specs.KeysData.{KeysData};
-ghost use Rattle.sshpacket.specs.declared.limits.TheConstants.{DIGEST_LIMIT};
 ghost use Rattle.sshcore.specs.declared.end.Fault.TheVariants as fault;
 ghost use Rattle.sshcore.specs.declared.table.Phase.TheVariants as phase;
-ghost use Rattle.sshcore.specs.declared.config_parts.TheConstants.{PRIVATE_KEY_LIMIT};
-ghost use Rattle.sshcore.specs.Attempts.{attempt_reply, failure_reply, is_asked, method_by, pk_ok_reply, request_of, success_reply};
-ghost use Rattle.sshcore.specs.Authenticating.{FitsRequest, confirmed_attempt, failed_attempt};
-ghost use Rattle.sshcore.specs.Brings.{Gives, IsOngoing, StandsAt, received_one};
+ghost use Rattle.sshcore.specs.Attempts.{attempt_reply, failure_reply, is_asked, pk_ok_reply, success_reply};
+ghost use Rattle.sshcore.specs.Authenticating.{confirmed_attempt, failed_attempt};
+ghost use Rattle.sshcore.specs.Brings.{Gives, IsOngoing, received_one};
 ghost use Rattle.sshcore.specs.EndpointConfig.{config_data};
-ghost use Rattle.sshcore.specs.ConfigRules.{IsAttempt};
-ghost use Rattle.sshcore.specs.ConfigParts.{ByKey};
 ghost use Rattle.sshcore.specs.ConfigView.{attempt_data, credential_data};
 ghost use Rattle.sshcore.specs.EndData.{Failed, Open, end_data, fails};
 ghost use Rattle.sshcore.specs.StateData.{state_data};
-ghost use Rattle.sshcore.specs.Made.{IsMade};
-ghost use Rattle.sshcore.specs.Plan.{confirmed, first_made, next_after, next_listed, proving_name};
+ghost use Rattle.sshcore.specs.Plan.{confirmed, next_after, next_listed, proving_name};
 
+use crate::attempt_payloads::{is_asked, next_payload};
 use crate::config::Config;
-use crate::config_parts::{Attempt, Credential};
+use crate::config_parts::Attempt;
 use crate::end::Fault;
-use crate::payloads::payload_from;
 use crate::state::State;
-use sshmsg::{Message, Method, SSH_MSG_USERAUTH_PK_OK, SSH_MSG_USERAUTH_SUCCESS};
-use sshneg::signed_request;
+use sshmsg::{SSH_MSG_USERAUTH_PK_OK, SSH_MSG_USERAUTH_SUCCESS};
 use sshpacket::Suite;
 use sshwire::{Memory, NameList};
-use std::alloc::Global;
 
 impl State<'_> {
     /// Makes the first of the attempts that are left (RFC 4252 section 5); fails as `NoMoreMethods`
@@ -193,130 +182,4 @@ fn is_listed(attempt: &Attempt, listed: &NameList) -> bool
     ensures { result ≡ is_in listed.now (proving_name (credential_data attempt.now.credential)) }
 {
     listed.contains(attempt.credential.method())
-}
-
-/// The payload of the request that an attempt makes next (RFC 4252 section 5), in the session of this
-/// identifier: its query, if it asks one that wasn't confirmed (section 7), else itself.
-fn next_payload<S: Suite>(
-    alloc: Global,
-    suite: &S,
-    session: &[u8],
-    confirmed: bool,
-    attempt: &Attempt,
-) -> Result<Vec<u8>, Memory>
-    requires attempt { IsAttempt (attempt_data attempt.now) }
-    requires session { length session.now ≤ DIGEST_LIMIT }
-    ensures { IfOk result (λ made. IsMade (request_of (S.meaning suite.now) session.now (first_made confirmed (attempt_data attempt.now))) made.items) }
-{
-    match &attempt.credential {
-        Credential::None => method_payload(alloc, attempt, Method::None),
-        Credential::Password(password) => {
-            method_payload(alloc, attempt, Method::Password { password })
-        }
-        Credential::PublicKey {
-            algorithm,
-            private_key,
-            ask,
-        } => {
-            if *ask && !confirmed {
-                query_payload(alloc, suite, attempt, algorithm, private_key)
-            } else {
-                signed_payload(alloc, suite, session, attempt, algorithm, private_key)
-            }
-        }
-    }
-}
-
-/// The payload of the query whether a key would do (RFC 4252 section 7).
-fn query_payload<S: Suite>(
-    alloc: Global,
-    suite: &S,
-    attempt: &Attempt,
-    algorithm: &str,
-    private_key: &[u8],
-) -> Result<Vec<u8>, Memory>
-    requires attempt { IsAttempt (attempt_data attempt.now) }
-    requires named { IsName algorithm.now }
-    requires key { length private_key.now ≤ PRIVATE_KEY_LIMIT }
-    ensures { IfOk result (λ made. IsMade (written_message (content.UserauthRequest (attempt_data attempt.now).user (attempt_data attempt.now).service
-        (method_by (S.meaning suite.now) [] [] [] (ByKey algorithm.now private_key.now true)))) made.items) }
-{
-    let key = suite.blob(alloc, algorithm, private_key)?;
-    let method = Method::PublicKeyQuery {
-        algorithm: algorithm.as_bytes(),
-        key: &key,
-    };
-    method_payload(alloc, attempt, method)
-}
-
-/// The payload of the request that is signed by a key, in the session of this identifier (RFC 4252
-/// section 7).
-fn signed_payload<S: Suite>(
-    alloc: Global,
-    suite: &S,
-    session: &[u8],
-    attempt: &Attempt,
-    algorithm: &str,
-    private_key: &[u8],
-) -> Result<Vec<u8>, Memory>
-    requires attempt { IsAttempt (attempt_data attempt.now) }
-    requires named { IsName algorithm.now }
-    requires key { length private_key.now ≤ PRIVATE_KEY_LIMIT }
-    requires session { length session.now ≤ DIGEST_LIMIT }
-    ensures { IfOk result (λ made. IsMade (written_message (content.UserauthRequest (attempt_data attempt.now).user (attempt_data attempt.now).service
-        (method_by (S.meaning suite.now) session.now (attempt_data attempt.now).user (attempt_data attempt.now).service (ByKey algorithm.now private_key.now false)))) made.items) }
-{
-    sshneg::exchange_law();
-    let key = suite.blob(alloc, algorithm, private_key)?;
-    let service = attempt.service.as_bytes();
-    let input = signed_request(alloc, session, &attempt.user, service, algorithm, &key)?;
-    let signature = suite.sign(alloc, algorithm, private_key, &input)?;
-    let method = Method::PublicKey {
-        algorithm: algorithm.as_bytes(),
-        key: &key,
-        signature: &signature,
-    };
-    method_payload(alloc, attempt, method)
-}
-
-/// Whether it was asked if this key would do.
-fn is_asked<S: Suite>(
-    alloc: Global,
-    suite: &S,
-    attempt: &Attempt,
-    algorithm: &[u8],
-    key: &[u8],
-) -> Result<bool, Memory>
-    requires { IsAttempt (attempt_data attempt.now) }
-    ensures { IfOk result (λ asked. asked ≡ is_asked (S.meaning suite.now) (credential_data attempt.now.credential) algorithm.now key.now) }
-{
-    match &attempt.credential {
-        Credential::PublicKey {
-            algorithm: own,
-            private_key,
-            ask,
-        } => {
-            if !*ask || algorithm != own.as_bytes() {
-                return Ok(false);
-            }
-            let blob = suite.blob(alloc, own, private_key)?;
-            Ok(key == blob.as_slice())
-        }
-        _ => Ok(false),
-    }
-}
-
-/// The payload of the request of an attempt by this method.
-fn method_payload(alloc: Global, attempt: &Attempt, method: Method<'_>) -> Result<Vec<u8>, Memory>
-    requires attempt { IsAttempt (attempt_data attempt.now) }
-    requires fits { FitsRequest (method_data method) }
-    ensures { IfOk result (λ made. IsMade (written_message (content.UserauthRequest (attempt_data attempt.now).user (attempt_data attempt.now).service (method_data method.entry))) made.items) }
-{
-    sshmsg::lengths_law();
-    let message = Message::UserauthRequest {
-        user: &attempt.user,
-        service: attempt.service.as_bytes(),
-        method,
-    };
-    payload_from(alloc, message)
 }

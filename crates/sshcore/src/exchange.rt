@@ -1,40 +1,27 @@
 //! Phase exchange: the peer's share (RFC 4253 section 8, RFC 5656 section 4).
 
-ghost use Rattle.std.specs.Prelude.{◌≡◌, ◌≢◌, ◌≤◌, ◌++◌, ◌∷◌, [], ◌<◌, ◌^◌, IfOk, List, Ok, OnOk, Some, is_some, length, option_map, true, ℕ};
-ghost use Rattle.sshmsg.specs.MessageData as content;
-ghost use Rattle.sshmsg.specs.Written.{written_message};
+ghost use Rattle.std.specs.Prelude.{◌≡◌, ◌≢◌, ◌≤◌, ◌<◌, IfOk, List, Ok, OnOk, Some, is_some, length, option_map, true, ℕ};
 ghost use Rattle.sshpacket.specs.declared.limits.TheConstants.{DIGEST_LIMIT, PACKET_LIMIT, SHARE_LIMIT};
 ghost use Rattle.sshpacket.specs.Suite.{FitsShare, ResponseData, response_data};
-ghost use Rattle.sshneg.specs.declared.side.Side.TheVariants.{Client, Server};
-ghost use Rattle.sshneg.specs.Derivations.{exchange_text};
-ghost use Rattle.sshneg.specs.ExchangeEnd.{client_of, exchange_hash, server_of};
-ghost use Rattle.sshneg.specs.Markers.{other};
+ghost use Rattle.sshneg.specs.declared.side.Side.TheVariants.{Server};
 ghost use Rattle.sshcore.specs.declared.end.Fault.TheVariants as fault;
 ghost use Rattle.sshcore.specs.declared.table.Phase.TheVariants as phase;
-ghost use Rattle.sshcore.specs.Brings.{Gives};
 ghost use Rattle.sshcore.specs.EndpointConfig.{config_data, role_of};
 ghost use Rattle.sshcore.specs.EndData.{Failed, Open, end_data};
-ghost use Rattle.sshcore.specs.Exchange.{host_key_read, secret_of, share_read};
-ghost use Rattle.sshcore.specs.Exchanged.{AcceptsReply, AnswersInit, HasForm, IsSigned, JudgesReply, ReceivesExchange, client_shares, exchanged, kex_keys};
-ghost use Rattle.sshcore.specs.ExchangedView.{shares_data};
+ghost use Rattle.sshcore.specs.Exchange.{share_read};
+ghost use Rattle.sshcore.specs.Exchanged.{AnswersInit, HasForm, IsSigned, ReceivesExchange};
 ghost use Rattle.sshcore.specs.StateData.{state_data, with_exchange};
 ghost use Rattle.sshcore.specs.History.{FitsPacket};
-ghost use Rattle.sshcore.specs.Output.{with_packet, with_newkeys};
-ghost use Rattle.sshcore.specs.Work.{init_reply, reply_in, reply_reply, userauth};
-ghost use Rattle.sshcore.specs.EndpointParts.{setup_with};
+ghost use Rattle.sshcore.specs.Work.{init_reply};
 
-use crate::algorithms::Algorithms;
 use crate::config::Config;
-use crate::decisions::Decisions;
 use crate::end::Fault;
-use crate::payloads::{USERAUTH, kexinit_payload, payload_of, reply_payload};
+use crate::payloads::reply_payload;
 use crate::state::State;
 use crate::table::Phase;
-use sshmsg::Message;
-use sshneg::{Exchange, KeyMaterial, Side, exchange_input, keys_of};
+use sshneg::Exchange;
 use sshpacket::{Keys, Response, Suite};
 use sshwire::Memory;
-use std::alloc::Global;
 
 /// A server's answer as a client has received it.
 #[derive(Drop)]
@@ -47,10 +34,10 @@ pub(crate) struct KexReply<'a> {
 /// What the two sides have given and come to, besides version lines and KEXINITs.
 #[derive(Drop)]
 pub(crate) struct Shares<'a> {
-    host_key: &'a [u8],
-    client_share: &'a [u8],
-    server_share: &'a [u8],
-    shared: &'a [u8],
+    pub(crate) host_key: &'a [u8],
+    pub(crate) client_share: &'a [u8],
+    pub(crate) server_share: &'a [u8],
+    pub(crate) shared: &'a [u8],
 }
 
 /// A server's answer, the exchange hash that it signs, and its host key.
@@ -64,13 +51,12 @@ pub(crate) struct Signed {
 /// The keys of both directions.
 #[derive(Drop)]
 pub(crate) struct BothKeys {
-    incoming: Keys,
-    outgoing: Keys,
+    pub(crate) incoming: Keys,
+    pub(crate) outgoing: Keys,
 }
 
 impl State<'_> {
     ghost use Rattle.sshmsg.specs.MessageData.{MessageData};
-    ghost use Rattle.sshcore.specs.Directions.{spelled_by};
 
     /// A server receives the client's share: it answers with its own and the signature of the exchange
     /// hash, then with NEWKEYS. Fails as `Exchange` where the suite gives no shared secret.
@@ -172,195 +158,9 @@ impl State<'_> {
         self.stand_after_exchange(config, signed.hash, signed.host_key, keys.incoming)
     }
 
-    /// A client receives the server's share: it asks whether the host key is trusted (else `HostKey`), then
-    /// makes the shared secret (`Exchange` where the suite gives none), then verifies the signature of
-    /// the exchange hash (else `Signature`); then it sends NEWKEYS and requests the service.
-    pub(crate) fn receive_reply<S: Suite, D: Decisions>(
-        &mut self,
-        config: &Config<'_>,
-        suite: &S,
-        decisions: &D,
-        reply: &KexReply<'_>,
-        sent: &mut Vec<u8>,
-    ) -> Result<(), Memory>
-        requires open { end_data self.old.end ≡ Open }
-        requires at { self.old.phase ≡ phase.Exchange }
-        requires client { role_of config.now ≡ Client }
-        requires host_key { length reply.now.host_key.now ≤ PACKET_LIMIT }
-        requires share { length reply.now.share.now ≤ PACKET_LIMIT }
-        requires signature { length reply.now.signature.now ≤ PACKET_LIMIT }
-        ensures receives { OnOk result ((message : MessageData) → share_read (Ok message) ≡ reply.now.share.now → host_key_read (Ok message) ≡ reply.now.host_key.now → HasForm (S.meaning suite.now) (state_data self.old)
-            → ReceivesExchange (S.meaning suite.now) Client (config_data config.now) (state_data self.old) (state_data self.new) sent.old.items sent.new.items message
-            (reply_reply (setup_with (S.meaning suite.now) (D.policy decisions.now) Client (config_data config.now)) (state_data self.old).known message reply.now.signature.now)) }
-        ensures kept { OnOk result (end_data self.new.end ≢ Failed fault.Memory) }
-    {
-        let algorithms = self.algorithms.as_ref().unwrap();
-        if !decisions.host_key(algorithms.host_key(), reply.host_key) {
-            return self.fail(config, suite, Fault::HostKey, sent);
-        }
-        let random = config.exchange_random();
-        match suite.shared(self.alloc, algorithms.kex(), random, reply.share)? {
-            None => self.fail(config, suite, Fault::Exchange, sent),
-            Some(shared) => self.judge_reply(config, suite, reply, &shared, sent),
-        }
-    }
-
-    /// Judges the signature of the exchange hash, and answers.
-    fn judge_reply<S: Suite>(
-        &mut self,
-        config: &Config<'_>,
-        suite: &S,
-        reply: &KexReply<'_>,
-        shared: &[u8],
-        sent: &mut Vec<u8>,
-    ) -> Result<(), Memory>
-        requires open { end_data self.old.end ≡ Open }
-        requires at { self.old.phase ≡ phase.Exchange }
-        requires host_key { length reply.now.host_key.now ≤ PACKET_LIMIT }
-        requires share { length reply.now.share.now ≤ PACKET_LIMIT }
-        requires signature { length reply.now.signature.now ≤ PACKET_LIMIT }
-        requires shared { length shared.now ≤ SHARE_LIMIT }
-        ensures judges { OnOk result (JudgesReply (S.meaning suite.now) (role_of config.now) (config_data config.now) (state_data self.old) (state_data self.new)
-            (client_shares (S.meaning suite.now) (config_data config.now) (state_data self.old).known reply.now.host_key.now reply.now.share.now shared.now)
-            reply.now.signature.now sent.old.items sent.new.items) }
-        ensures kept { OnOk result (end_data self.new.end ≢ Failed fault.Memory) }
-    {
-        let hash = self.reply_hash(config, suite, reply, shared)?;
-        let algorithms = self.algorithms.as_ref().unwrap();
-        let host_key = algorithms.host_key();
-        if !suite.verify(self.alloc, host_key, reply.host_key, &hash, reply.signature)? {
-            return self.fail(config, suite, Fault::Signature, sent);
-        }
-        let key = Vec::from_slice(self.alloc, reply.host_key)?;
-        self.accept_reply(config, suite, shared, hash, key, sent)
-    }
-
-    /// The exchange hash at a client.
-    fn reply_hash<S: Suite>(
-        &self,
-        config: &Config<'_>,
-        suite: &S,
-        reply: &KexReply<'_>,
-        shared: &[u8],
-    ) -> Result<Vec<u8>, Memory>
-        requires chosen { is_some self.now.algorithms ≡ true }
-        requires host_key { length reply.now.host_key.now ≤ PACKET_LIMIT }
-        requires share { length reply.now.share.now ≤ PACKET_LIMIT }
-        requires shared { length shared.now ≤ SHARE_LIMIT }
-        ensures hash { IfOk result (λ hash. hash.items ≡ exchange_hash (S.meaning suite.now) (state_data self.now).known.algorithms.kex
-            (exchanged (role_of config.now) (config_data config.now) (state_data self.now).known
-            (client_shares (S.meaning suite.now) (config_data config.now) (state_data self.now).known reply.now.host_key.now reply.now.share.now shared.now))) }
-        ensures short { IfOk result (λ hash. length hash.items ≤ DIGEST_LIMIT) }
-    {
-        let algorithms = self.algorithms.as_ref().unwrap();
-        let random = config.exchange_random();
-        let own = suite.public(self.alloc, algorithms.kex(), random)?;
-        let shares = Shares {
-            host_key: reply.host_key,
-            client_share: &own,
-            server_share: reply.share,
-            shared,
-        };
-        self.hash(config, suite, &shares)
-    }
-
-    /// Sends NEWKEYS and the request of the service, and stands after the exchange.
-    fn accept_reply<S: Suite>(
-        &mut self,
-        config: &Config<'_>,
-        suite: &S,
-        shared: &[u8],
-        hash: Vec<u8>,
-        host_key: Vec<u8>,
-        sent: &mut Vec<u8>,
-    ) -> Result<(), Memory>
-        requires at { self.old.phase ≡ phase.Exchange }
-        requires hash { length hash.items ≤ DIGEST_LIMIT }
-        requires shared { length shared.now ≤ SHARE_LIMIT }
-        ensures { OnOk result (AcceptsReply (S.meaning suite.now) (role_of config.now) (config_data config.now) (state_data self.old) (state_data self.new) host_key.items shared.now hash.items sent.old.items sent.new.items) }
-    {
-        let keys = self.both_keys(config, suite, shared, &hash)?;
-        let request = payload_of(self.alloc, &Message::ServiceRequest { service: USERAUTH })?;
-        self.send_new_keys(config, suite, keys.outgoing, sent)?;
-        self.send(config, suite, &request, sent)?;
-        self.stand_after_exchange(config, hash, host_key, keys.incoming)
-    }
-
-    /// The exchange hash (RFC 4253 section 8).
-    fn hash<S: Suite>(
-        &self,
-        config: &Config<'_>,
-        suite: &S,
-        shares: &Shares<'_>,
-    ) -> Result<Vec<u8>, Memory>
-        requires chosen { is_some self.now.algorithms ≡ true }
-        requires host_key { length shares.now.host_key.now ≤ PACKET_LIMIT }
-        requires client_share { length shares.now.client_share.now ≤ PACKET_LIMIT }
-        requires server_share { length shares.now.server_share.now ≤ PACKET_LIMIT }
-        requires shared { length shares.now.shared.now ≤ SHARE_LIMIT }
-        ensures hash { IfOk result (λ hash. hash.items ≡ exchange_hash (S.meaning suite.now) (state_data self.now).known.algorithms.kex
-            (exchanged (role_of config.now) (config_data config.now) (state_data self.now).known (shares_data shares.now))) }
-        ensures short { IfOk result (λ hash. length hash.items ≤ DIGEST_LIMIT) }
-    {
-        sshneg::exchange_law();
-        let input = self.hash_input(config, shares)?;
-        let algorithms = self.algorithms.as_ref().unwrap();
-        suite.digest(self.alloc, algorithms.kex(), &input)
-    }
-
-    /// What is hashed (RFC 4253 section 8).
-    fn hash_input(&self, config: &Config<'_>, shares: &Shares<'_>) -> Result<Vec<u8>, Memory>
-        requires host_key { length shares.now.host_key.now ≤ PACKET_LIMIT }
-        requires client_share { length shares.now.client_share.now ≤ PACKET_LIMIT }
-        requires server_share { length shares.now.server_share.now ≤ PACKET_LIMIT }
-        requires shared { length shares.now.shared.now ≤ SHARE_LIMIT }
-        ensures input { IfOk result (λ input. input.items ≡ exchange_text (exchanged (role_of config.now) (config_data config.now) (state_data self.now).known (shares_data shares.now))) }
-        ensures short { IfOk result (λ input. length input.items < 2 ^ 32) }
-    {
-        sshneg::exchange_law();
-        let own = kexinit_payload(self.alloc, config)?;
-        let versions = in_order(config, config.version().text(), &self.version);
-        let kexinits = in_order(config, &own, &self.kexinit);
-        exchange_input(
-            self.alloc,
-            &Exchange {
-                client_version: versions.0,
-                server_version: versions.1,
-                client_kexinit: kexinits.0,
-                server_kexinit: kexinits.1,
-                host_key: shares.host_key,
-                client_share: shares.client_share,
-                server_share: shares.server_share,
-                shared: shares.shared,
-            },
-        )
-    }
-
-    /// The keys of both directions (RFC 4253 section 7.2).
-    fn both_keys<S: Suite>(
-        &self,
-        config: &Config<'_>,
-        suite: &S,
-        shared: &[u8],
-        hash: &[u8],
-    ) -> Result<BothKeys, Memory>
-        requires chosen { is_some self.now.algorithms ≡ true }
-        requires shared { length shared.now ≤ SHARE_LIMIT }
-        requires hash { length hash.now ≤ DIGEST_LIMIT }
-        ensures incoming { IfOk result (λ keys. keys.incoming ≡ kex_keys (S.meaning suite.now) (state_data self.now).known.algorithms shared.now hash.now (other (role_of config.now))) }
-        ensures outgoing { IfOk result (λ keys. keys.outgoing ≡ kex_keys (S.meaning suite.now) (state_data self.now).known.algorithms shared.now hash.now (role_of config.now)) }
-    {
-        let role = config.role();
-        let algorithms = self.algorithms.as_ref().unwrap();
-        Ok(BothKeys {
-            incoming: direction_keys(self.alloc, suite, algorithms, shared, hash, role.other())?,
-            outgoing: direction_keys(self.alloc, suite, algorithms, shared, hash, role)?,
-        })
-    }
-
     /// Goes on to phase newkeys, with the session identifier, the server's public host key and the keys of
     /// what is received.
-    fn stand_after_exchange(
+    pub(crate) fn stand_after_exchange(
         &mut self,
         config: &Config<'_>,
         hash: Vec<u8>,
@@ -392,39 +192,4 @@ fn answer_law<S: Suite>(config: &Config<'_>, suite: &S)
         → length r.shared ≤ SHARE_LIMIT }
 {
     config.exchange_random();
-}
-
-/// What this side has and what its peer has, the client's first.
-fn in_order<'a>(config: &Config<'_>, own: &'a [u8], peer: &'a [u8]) -> (&'a [u8], &'a [u8])
-    ensures client { result.0.now ≡ client_of (role_of config.now) own.now peer.now }
-    ensures server { result.1.now ≡ server_of (role_of config.now) own.now peer.now }
-{
-    match config {
-        Config::Client(..) => (own, peer),
-        Config::Server(..) => (peer, own),
-    }
-}
-
-/// The keys with which this role sends.
-fn direction_keys<S: Suite>(
-    alloc: Global,
-    suite: &S,
-    algorithms: &Algorithms,
-    shared: &[u8],
-    hash: &[u8],
-    sender: Side,
-) -> Result<Keys, Memory>
-    requires shared { length shared.now ≤ SHARE_LIMIT }
-    requires hash { length hash.now ≤ DIGEST_LIMIT }
-    ensures { IfOk result (λ keys. keys ≡ kex_keys (S.meaning suite.now) algorithms.now shared.now hash.now sender) }
-{
-    let material = KeyMaterial {
-        kex: algorithms.kex(),
-        shared,
-        hash,
-        session: hash,
-    };
-    let cipher = algorithms.cipher(sender);
-    let mac = algorithms.mac(sender);
-    keys_of(alloc, suite, &material, sender, cipher, mac)
 }

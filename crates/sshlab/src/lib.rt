@@ -1,10 +1,13 @@
 //! What the program `sshlab` does: its words, scenarios and recordings, and what it prints.
 #![tactic(auto)]
 
+mod clear_packets;
+mod command_answers;
 mod command_fault;
 mod engines;
 mod findings;
 mod input;
+mod line_words;
 mod listing;
 mod owned;
 mod program;

@@ -3,7 +3,7 @@
 ghost use Rattle.std.specs.Prelude.{◌<◌, ◌^◌, IfOk, length};
 ghost use Rattle.sshwire.specs.Types.{IsName};
 
-use crate::below_packets::keys_of;
+use crate::below_written::keys_of;
 use crate::names::Names;
 use crate::stop::Stop;
 use crate::terms::bytes_of;

@@ -16,6 +16,7 @@ mod law;
 mod link_laws;
 mod node;
 mod owned;
+mod predicted_ends;
 mod prediction;
 mod progress;
 mod session;

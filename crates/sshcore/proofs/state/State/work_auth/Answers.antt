@@ -4,7 +4,7 @@ use Rattle.sshmsg.specs.Numbers.{number_of}
 use Rattle.sshmsg.specs.View.{message_data, method_data}
 use Rattle.sshmsg.specs.MessageData.{method_name}
 use Rattle.sshpacket.specs.declared.limits.TheConstants.{PACKET_LIMIT}
-use Rattle.sshcore.specs.EndpointConfig.{role_of}
+use Rattle.sshcore.specs.EndpointConfig.{role_of, setup_of}
 use Rattle.sshcore.specs.StateData.{state_data}
 use Rattle.sshcore.proofs.WorksLemmas as works
 use Rattle.sshcore.proofs.WorksLemmas.{has_place, on_two}
@@ -38,24 +38,28 @@ receive_success-requires-clause-at g c =
 
 pub returns-in-UserauthRequest-clause-works : goal.returns-in-UserauthRequest-clause-works
 returns-in-UserauthRequest-clause-works g c =
+    let setup = setup_of (g.S.Suite.meaning c.args.suite.now) (g.D.Decisions.policy c.args.decisions.now) c.args.config.now in
     let has = has_place c.messages_law.ensures.complete c.numbers_law.ensures.kind c.numbers_law.ensures.alike (role_of c.args.config.now) (state_data c.args.self.now) c.args.payload.now (message_data c.args.message.now) c.requires.reads c.requires.spelled in
     on_two c.receive_request.result c.receive_request.ensures.gives c.receive_request.ensures.stays (λ gives stays _.
-    works.user_request_works _ _ _ _ _ _ _ _ _ _ has c.in-UserauthRequest.user.now c.in-UserauthRequest.service.now (method_data c.in-UserauthRequest.method) (ap message_data c.in-UserauthRequest.is) gives stays)
+    works.user_request_works setup _ _ _ _ _ _ has c.in-UserauthRequest.user.now c.in-UserauthRequest.service.now (method_data c.in-UserauthRequest.method) (ap message_data c.in-UserauthRequest.is) gives stays)
 
 pub returns-in-UserauthFailure-clause-works : goal.returns-in-UserauthFailure-clause-works
 returns-in-UserauthFailure-clause-works g c =
+    let setup = setup_of (g.S.Suite.meaning c.args.suite.now) (g.D.Decisions.policy c.args.decisions.now) c.args.config.now in
     let has = has_place c.messages_law.ensures.complete c.numbers_law.ensures.kind c.numbers_law.ensures.alike (role_of c.args.config.now) (state_data c.args.self.now) c.args.payload.now (message_data c.args.message.now) c.requires.reads c.requires.spelled in
     on_two c.receive_failure.result c.receive_failure.ensures.gives c.receive_failure.ensures.stays (λ gives stays _.
-    works.failure_works _ _ _ _ _ _ _ _ _ _ has c.in-UserauthFailure.methods c.in-UserauthFailure.partial_success (ap message_data c.in-UserauthFailure.is) gives stays)
+    works.failure_works setup _ _ _ _ _ _ has c.in-UserauthFailure.methods c.in-UserauthFailure.partial_success (ap message_data c.in-UserauthFailure.is) gives stays)
 
 pub returns-in-UserauthSuccess-clause-works : goal.returns-in-UserauthSuccess-clause-works
 returns-in-UserauthSuccess-clause-works g c =
+    let setup = setup_of (g.S.Suite.meaning c.args.suite.now) (g.D.Decisions.policy c.args.decisions.now) c.args.config.now in
     let has = has_place c.messages_law.ensures.complete c.numbers_law.ensures.kind c.numbers_law.ensures.alike (role_of c.args.config.now) (state_data c.args.self.now) c.args.payload.now (message_data c.args.message.now) c.requires.reads c.requires.spelled in
     on_two c.receive_success.result c.receive_success.ensures.gives c.receive_success.ensures.stays (λ gives stays _.
-    works.success_works _ _ _ _ _ _ _ _ _ _ has (ap message_data c.in-UserauthSuccess.is) gives stays)
+    works.success_works setup _ _ _ _ _ _ has (ap message_data c.in-UserauthSuccess.is) gives stays)
 
 pub returns-in-UserauthPkOk-clause-works : goal.returns-in-UserauthPkOk-clause-works
 returns-in-UserauthPkOk-clause-works g c =
+    let setup = setup_of (g.S.Suite.meaning c.args.suite.now) (g.D.Decisions.policy c.args.decisions.now) c.args.config.now in
     let has = has_place c.messages_law.ensures.complete c.numbers_law.ensures.kind c.numbers_law.ensures.alike (role_of c.args.config.now) (state_data c.args.self.now) c.args.payload.now (message_data c.args.message.now) c.requires.reads c.requires.spelled in
     on_two c.receive_pk_ok.result c.receive_pk_ok.ensures.gives c.receive_pk_ok.ensures.stays (λ gives stays _.
-    works.pk_ok_works _ _ _ _ _ _ _ _ _ _ has c.in-UserauthPkOk.algorithm.now c.in-UserauthPkOk.key.now (ap message_data c.in-UserauthPkOk.is) gives stays)
+    works.pk_ok_works setup _ _ _ _ _ _ has c.in-UserauthPkOk.algorithm.now c.in-UserauthPkOk.key.now (ap message_data c.in-UserauthPkOk.is) gives stays)

@@ -6,7 +6,7 @@ use Rattle.sshmsg.specs.Lengths.{payload_length}
 use Rattle.sshmsg.specs.Numbers.{number_of}
 use Rattle.sshmsg.specs.View.{message_data}
 use Rattle.sshpacket.specs.declared.limits.TheConstants.{PACKET_LIMIT}
-use Rattle.sshcore.specs.EndpointConfig.{role_of}
+use Rattle.sshcore.specs.EndpointConfig.{role_of, setup_of}
 use Rattle.sshcore.specs.Exchange.{host_key_read, share_read}
 use Rattle.sshcore.specs.StateData.{state_data}
 use Rattle.sshcore.proofs.WorksLemmas as works
@@ -33,10 +33,11 @@ receive_init-requires-clause-short g c =
 
 pub returns-in-KexdhInit-clause-works : goal.returns-in-KexdhInit-clause-works
 returns-in-KexdhInit-clause-works g c =
+    let setup = setup_of (g.S.Suite.meaning c.args.suite.now) (g.D.Decisions.policy c.args.decisions.now) c.args.config.now in
     let has = has_place c.messages_law.ensures.complete c.numbers_law.ensures.kind c.numbers_law.ensures.alike (role_of c.args.config.now) (state_data c.args.self.now) c.args.payload.now (message_data c.args.message.now) c.requires.reads c.requires.spelled in
     let is : message_data c.args.message.now ≡ content.KexdhInit c.in-KexdhInit.e = ap message_data c.in-KexdhInit.is in
     on_ok_weaker c.receive_init.result (λ given form.
-    works.init_works _ _ _ _ _ _ _ _ _ _ has (ap number_of is) (works.kexdh_init _ _ _ _ _ _ c.in-KexdhInit.e is)
+    works.init_works setup _ _ _ _ _ _ has (ap number_of is) (works.kexdh_init setup _ _ c.in-KexdhInit.e is)
     (given (message_data c.args.message.now) (ap (λ (x : MessageData). share_read (Ok x)) is ∙ sym c.body.ensures.body) form)) c.receive_init.ensures.receives
 
 pub receive_init-requires-in-KexEcdhInit-clause-at : goal.receive_init-requires-in-KexEcdhInit-clause-at
@@ -121,26 +122,29 @@ receive_reply-requires-in-KexEcdhReply-clause-signature g c =
 
 pub returns-in-KexEcdhInit-clause-works : goal.returns-in-KexEcdhInit-clause-works
 returns-in-KexEcdhInit-clause-works g c =
+    let setup = setup_of (g.S.Suite.meaning c.args.suite.now) (g.D.Decisions.policy c.args.decisions.now) c.args.config.now in
     let has = has_place c.messages_law.ensures.complete c.numbers_law.ensures.kind c.numbers_law.ensures.alike (role_of c.args.config.now) (state_data c.args.self.now) c.args.payload.now (message_data c.args.message.now) c.requires.reads c.requires.spelled in
     let is : message_data c.args.message.now ≡ content.KexEcdhInit c.in-KexEcdhInit.client_share.now = ap message_data c.in-KexEcdhInit.is in
     on_ok_weaker c.receive_init-in-KexEcdhInit.result (λ given form.
-    works.init_works _ _ _ _ _ _ _ _ _ _ has (ap number_of is) (works.kex_ecdh_init _ _ _ _ _ _ c.in-KexEcdhInit.client_share.now is)
+    works.init_works setup _ _ _ _ _ _ has (ap number_of is) (works.kex_ecdh_init setup _ _ c.in-KexEcdhInit.client_share.now is)
     (given (message_data c.args.message.now) (ap (λ (x : MessageData). share_read (Ok x)) is) form)) c.receive_init-in-KexEcdhInit.ensures.receives
 
 pub returns-in-KexdhReply-clause-works : goal.returns-in-KexdhReply-clause-works
 returns-in-KexdhReply-clause-works g c =
+    let setup = setup_of (g.S.Suite.meaning c.args.suite.now) (g.D.Decisions.policy c.args.decisions.now) c.args.config.now in
     let has = has_place c.messages_law.ensures.complete c.numbers_law.ensures.kind c.numbers_law.ensures.alike (role_of c.args.config.now) (state_data c.args.self.now) c.args.payload.now (message_data c.args.message.now) c.requires.reads c.requires.spelled in
     let is : message_data c.args.message.now ≡ content.KexdhReply c.in-KexdhReply.host_key.now c.in-KexdhReply.f c.in-KexdhReply.signature.now = ap message_data c.in-KexdhReply.is in
     on_ok_weaker c.receive_reply.result (λ given form.
-    works.reply_works _ _ _ _ _ _ _ _ _ _ has c.in-KexdhReply.signature.now (ap number_of is)
-    (works.kexdh_reply _ _ _ _ _ _ c.in-KexdhReply.host_key.now c.in-KexdhReply.f c.in-KexdhReply.signature.now is)
+    works.reply_works setup _ _ _ _ _ _ has c.in-KexdhReply.signature.now (ap number_of is)
+    (works.kexdh_reply setup _ _ c.in-KexdhReply.host_key.now c.in-KexdhReply.f c.in-KexdhReply.signature.now is)
     (given (message_data c.args.message.now) (ap (λ (x : MessageData). share_read (Ok x)) is ∙ sym c.body-in-KexdhReply.ensures.body) (ap (λ (x : MessageData). host_key_read (Ok x)) is) form)) c.receive_reply.ensures.receives
 
 pub returns-in-KexEcdhReply-clause-works : goal.returns-in-KexEcdhReply-clause-works
 returns-in-KexEcdhReply-clause-works g c =
+    let setup = setup_of (g.S.Suite.meaning c.args.suite.now) (g.D.Decisions.policy c.args.decisions.now) c.args.config.now in
     let has = has_place c.messages_law.ensures.complete c.numbers_law.ensures.kind c.numbers_law.ensures.alike (role_of c.args.config.now) (state_data c.args.self.now) c.args.payload.now (message_data c.args.message.now) c.requires.reads c.requires.spelled in
     let is : message_data c.args.message.now ≡ content.KexEcdhReply c.in-KexEcdhReply.host_key.now c.in-KexEcdhReply.server_share.now c.in-KexEcdhReply.signature.now = ap message_data c.in-KexEcdhReply.is in
     on_ok_weaker c.receive_reply-in-KexEcdhReply.result (λ given form.
-    works.reply_works _ _ _ _ _ _ _ _ _ _ has c.in-KexEcdhReply.signature.now (ap number_of is)
-    (works.kex_ecdh_reply _ _ _ _ _ _ c.in-KexEcdhReply.host_key.now c.in-KexEcdhReply.server_share.now c.in-KexEcdhReply.signature.now is)
+    works.reply_works setup _ _ _ _ _ _ has c.in-KexEcdhReply.signature.now (ap number_of is)
+    (works.kex_ecdh_reply setup _ _ c.in-KexEcdhReply.host_key.now c.in-KexEcdhReply.server_share.now c.in-KexEcdhReply.signature.now is)
     (given (message_data c.args.message.now) (ap (λ (x : MessageData). share_read (Ok x)) is) (ap (λ (x : MessageData). host_key_read (Ok x)) is) form)) c.receive_reply-in-KexEcdhReply.ensures.receives

@@ -1,0 +1,185 @@
+//! What a message that has a place does, by the phase that it has it in.
+
+ghost use Rattle.std.specs.Prelude.{◌≡◌, ◌≢◌, ◌≤◌, OnOk, false, length, true};
+ghost use Rattle.sshmsg.specs.Messages.{Spells};
+ghost use Rattle.sshmsg.specs.Numbers.{kind, number_of};
+ghost use Rattle.sshmsg.specs.View.{message_data};
+ghost use Rattle.sshpacket.specs.declared.limits.TheConstants.{PACKET_LIMIT};
+ghost use Rattle.sshcore.specs.declared.end.Fault.TheVariants as fault;
+ghost use Rattle.sshcore.specs.declared.table.Line.TheVariants as line;
+ghost use Rattle.sshcore.specs.Brings.{Works};
+ghost use Rattle.sshcore.specs.EndpointConfig.{role_of, setup_of};
+ghost use Rattle.sshcore.specs.EndData.{Failed, Open, end_data};
+ghost use Rattle.sshcore.specs.Exchanged.{HasForm};
+ghost use Rattle.sshcore.specs.StateData.{state_data};
+ghost use Rattle.sshcore.specs.Authenticating.{IsOfRequests};
+ghost use Rattle.sshcore.specs.Plan.{is_waiting};
+ghost use Rattle.sshcore.specs.Table.{is_of_method, line_by};
+ghost use Rattle.sshcore.specs.Work.{work};
+
+use crate::config::Config;
+use crate::decisions::Decisions;
+use crate::end::End;
+use crate::exchange::KexReply;
+use crate::lent::set;
+use crate::notice::tell_notice;
+use crate::packet_lines::kind;
+use crate::state::State;
+use sshmsg::Message;
+use sshpacket::Suite;
+use sshwire::Memory;
+
+impl State<'_> {
+    /// Answers a message that has a place (RFC 4253 sections 7 to 11, RFC 4252).
+    pub(crate) fn work<S: Suite, D: Decisions>(
+        &mut self,
+        config: &Config<'_>,
+        suite: &S,
+        decisions: &D,
+        payload: &[u8],
+        message: &Message<'_>,
+        sent: &mut Vec<u8>,
+    ) -> Result<(), Memory>
+        requires open { end_data self.old.end ≡ Open }
+        requires short { length payload.now ≤ PACKET_LIMIT }
+        requires reads { line_by (role_of config.now) self.old.phase self.old.strict self.old.guess (is_waiting (state_data self.old).known.left) (kind payload.now) ≡ line.Reads }
+        requires spelled { Spells self.old.shares (message_data message.now) payload.now }
+        ensures works { OnOk result (HasForm (S.meaning suite.now) (state_data self.old)
+            → Works (setup_of (S.meaning suite.now) (D.policy decisions.now) config.now) (state_data self.old) (state_data self.new) payload.now sent.old.items sent.new.items
+            (work (setup_of (S.meaning suite.now) (D.policy decisions.now) config.now) (state_data self.old).known (message_data message.now))) }
+        ensures kept { OnOk result (end_data self.new.end ≢ Failed fault.Memory) }
+    {
+        sshmsg::messages_law();
+        sshmsg::numbers_law();
+        tell_notice(decisions, message);
+        match message {
+            Message::Disconnect { reason, .. } => {
+                set(&mut self.end, End::Closed(*reason));
+                Ok(())
+            }
+            Message::KexInit(peer) => self.receive_kexinit(config, suite, payload, peer, sent),
+            Message::KexdhInit { .. }
+            | Message::KexdhReply { .. }
+            | Message::KexEcdhInit { .. }
+            | Message::KexEcdhReply { .. } => {
+                self.work_exchange(config, suite, decisions, payload, message, sent)
+            }
+            Message::NewKeys => {
+                self.receive_new_keys();
+                Ok(())
+            }
+            Message::ServiceRequest { service } => {
+                self.receive_service_request(config, suite, service, sent)
+            }
+            Message::ServiceAccept { service } => {
+                self.receive_service_accept(config, suite, service, sent)
+            }
+            Message::UserauthRequest { .. }
+            | Message::UserauthFailure { .. }
+            | Message::UserauthSuccess
+            | Message::UserauthPkOk { .. } => {
+                self.work_auth(config, suite, decisions, payload, message, sent)
+            }
+            _ => {
+                self.first = false;
+                Ok(())
+            }
+        }
+    }
+
+    /// Answers an exchange message, in either form of shares (RFC 4253 section 8, RFC 5656 section 4).
+    fn work_exchange<S: Suite, D: Decisions>(
+        &mut self,
+        config: &Config<'_>,
+        suite: &S,
+        decisions: &D,
+        payload: &[u8],
+        message: &Message<'_>,
+        sent: &mut Vec<u8>,
+    ) -> Result<(), Memory>
+        requires open { end_data self.old.end ≡ Open }
+        requires short { length payload.now ≤ PACKET_LIMIT }
+        requires reads { line_by (role_of config.now) self.old.phase self.old.strict self.old.guess (is_waiting (state_data self.old).known.left) (kind payload.now) ≡ line.Reads }
+        requires spelled { Spells self.old.shares (message_data message.now) payload.now }
+        requires exchange { is_of_method (number_of (message_data message.now)) ≡ true }
+        ensures works { OnOk result (HasForm (S.meaning suite.now) (state_data self.old)
+            → Works (setup_of (S.meaning suite.now) (D.policy decisions.now) config.now) (state_data self.old) (state_data self.new) payload.now sent.old.items sent.new.items
+            (work (setup_of (S.meaning suite.now) (D.policy decisions.now) config.now) (state_data self.old).known (message_data message.now))) }
+        ensures kept { OnOk result (end_data self.new.end ≢ Failed fault.Memory) }
+    {
+        sshmsg::messages_law();
+        sshmsg::numbers_law();
+        sshmsg::lengths_law();
+        match message {
+            Message::KexdhInit { e } => self.receive_init(config, suite, e.body(), sent),
+            Message::KexEcdhInit { client_share } => {
+                self.receive_init(config, suite, client_share, sent)
+            }
+            Message::KexdhReply {
+                host_key,
+                f,
+                signature,
+            } => {
+                let reply = KexReply {
+                    host_key,
+                    share: f.body(),
+                    signature,
+                };
+                self.receive_reply(config, suite, decisions, &reply, sent)
+            }
+            Message::KexEcdhReply {
+                host_key,
+                server_share,
+                signature,
+            } => {
+                let reply = KexReply {
+                    host_key,
+                    share: server_share,
+                    signature,
+                };
+                self.receive_reply(config, suite, decisions, &reply, sent)
+            }
+            _ => unreachable!(),
+        }
+    }
+
+    /// Answers a message of authentication (RFC 4252 sections 5 and 5.1).
+    fn work_auth<S: Suite, D: Decisions>(
+        &mut self,
+        config: &Config<'_>,
+        suite: &S,
+        decisions: &D,
+        payload: &[u8],
+        message: &Message<'_>,
+        sent: &mut Vec<u8>,
+    ) -> Result<(), Memory>
+        requires open { end_data self.old.end ≡ Open }
+        requires short { length payload.now ≤ PACKET_LIMIT }
+        requires reads { line_by (role_of config.now) self.old.phase self.old.strict self.old.guess (is_waiting (state_data self.old).known.left) (kind payload.now) ≡ line.Reads }
+        requires spelled { Spells self.old.shares (message_data message.now) payload.now }
+        requires auth { IsOfRequests (number_of (message_data message.now)) }
+        ensures works { OnOk result (HasForm (S.meaning suite.now) (state_data self.old)
+            → Works (setup_of (S.meaning suite.now) (D.policy decisions.now) config.now) (state_data self.old) (state_data self.new) payload.now sent.old.items sent.new.items
+            (work (setup_of (S.meaning suite.now) (D.policy decisions.now) config.now) (state_data self.old).known (message_data message.now))) }
+        ensures kept { OnOk result (end_data self.new.end ≢ Failed fault.Memory) }
+    {
+        sshmsg::messages_law();
+        sshmsg::numbers_law();
+        sshmsg::lengths_law();
+        match message {
+            Message::UserauthRequest {
+                user,
+                service,
+                method,
+            } => self.receive_request(config, suite, decisions, user, service, method, sent),
+            Message::UserauthFailure { methods, .. } => {
+                self.receive_failure(config, suite, methods, sent)
+            }
+            Message::UserauthSuccess => self.receive_success(config, suite, sent),
+            Message::UserauthPkOk { algorithm, key } => {
+                self.receive_pk_ok(config, suite, algorithm, key, sent)
+            }
+            _ => unreachable!(),
+        }
+    }
+}

@@ -1,5 +1,0 @@
-use Rattle.sshneg.specs.declared.choice.NoCommon.TheVariants as field
-use Rattle.sshworld.proofs.prediction.host_key.Goals as goal
-
-pub blob-requires-clause-alg : goal.blob-requires-clause-alg
-blob-requires-clause-alg g c = c.requires field.HostKey
