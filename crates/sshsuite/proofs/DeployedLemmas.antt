@@ -7,7 +7,8 @@ use Rattle.sshwire.specs.ByteLaws.{bytes_cons}
 use Rattle.sshwire.specs.Types.{IsBytes}
 use Rattle.sshsuite.specs.Bits.{number_of_32, word_at}
 use Rattle.sshsuite.specs.Curve25519.{base_point, clamped}
-use Rattle.sshsuite.specs.Deployed.{is_curve25519, mpint_body, share, shared, shared_secret}
+use Rattle.sshsuite.specs.Deployed.{is_curve25519, share, shared, shared_secret}
+use Rattle.sshsuite.specs.MpintBody.{mpint_body}
 use Rattle.sshsuite.proofs.DecodingLemmas.{same_number, zeros}
 use Rattle.sshsuite.proofs.WordLemmas.{are_words, zero_bytes}
 use Rattle.sshsuite.proofs.X25519Lemmas.{x25519_is}

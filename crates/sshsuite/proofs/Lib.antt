@@ -15,3 +15,4 @@ pub mod AesLemmas
 pub mod AesStateLemmas
 pub mod AesKeyLemmas
 pub mod AesSamples
+pub mod LongNumberLemmas

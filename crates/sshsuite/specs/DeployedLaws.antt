@@ -19,7 +19,8 @@ use Rattle.sshsuite.specs.Curve25519.{affine, base_point, x25519}
 use Rattle.sshsuite.specs.Edwards25519.{with_sign, encode_point}
 use Rattle.sshsuite.specs.declared.edwards25519.Point.{Point}
 use Rattle.sshsuite.specs.FieldElement.{encode}
-use Rattle.sshsuite.specs.Deployed.{deployed, ed25519, is_aes256_gcm, is_curve25519, key_lens, mpint_body, response_with, share, shared, shared_secret, wrapped}
+use Rattle.sshsuite.specs.Deployed.{deployed, ed25519, is_aes256_gcm, is_curve25519, key_lens, response_with, share, shared, shared_secret, wrapped}
+use Rattle.sshsuite.specs.MpintBody.{mpint_body}
 use Rattle.sshsuite.specs.Scalar.{bytes_of_halves, encode_scalar}
 use Rattle.sshsuite.specs.Gcm.{seal as gcm_seal, unseal as gcm_unseal}
 use Rattle.sshsuite.specs.GcmLaws as gcm

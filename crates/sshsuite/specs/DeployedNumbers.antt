@@ -4,7 +4,8 @@ use Rattle.std.proofs.Common.{ℕ, ◌%◌, ◌^◌, List}
 use Rattle.std.specs.Prelude.{◌==◌, ◌&&◌, if◌then◌else◌, length, Option, None, Some}
 use Rattle.sshsuite.specs.Bits.{number_of_32}
 use Rattle.sshsuite.specs.Curve25519.{clamped}
-use Rattle.sshsuite.specs.Deployed.{is_curve25519, mpint_body}
+use Rattle.sshsuite.specs.Deployed.{is_curve25519}
+use Rattle.sshsuite.specs.MpintBody.{mpint_body}
 use Rattle.sshsuite.specs.FieldBytes.{bytes_of_number}
 use Rattle.sshsuite.specs.FieldValues.{field}
 use Rattle.sshsuite.specs.X25519Numbers.{x25519_number}
