@@ -2,7 +2,7 @@
 
 use Rattle.std.proofs.Common.{◌≡◌, ℕ, zero, suc, ◌+◌, ◌-◌, ◌*◌, ◌/◌, ◌%◌, ◌^◌, ◌<◌, ◌≤◌, List, length, get_or, refl, sym, ap, ◌∙◌, add-one, arith, cond, eqb, ltb, inl, inr}
 use Rattle.std.proofs.lemmas.Bool.{cases_lt, cond_both, ltb-false, ltb-true}
-use Rattle.std.proofs.lemmas.List.{ext_get_or, get_or-set_other, get_or-set_same}
+use Rattle.std.proofs.lemmas.List.{get_or-set_other, get_or-set_same, length-set}
 use Rattle.std.proofs.lemmas.Nat.{pow-add, pow_pos, row_fits}
 use Rattle.std.specs.Prelude.{slice_index, slice_set}
 use Rattle.sshsuite.specs.LongNumbers.{number_of, number_to, weight}
@@ -55,7 +55,7 @@ number_below words (suc n) h =
     let top = fits (weight n) (slice_index words n) (h n) in
     let more = number_more words n in
     let heavier = weight_more n in
-    let e : suc n ≡ n + 1 = add-one n in rw e (omega (arith, low, top, more, heavier))
+    rw (sym (add-one n)) (omega (arith, low, top, more, heavier))
 
 -- A product is added.
 added : (s s0 b w x c bi si n q r : ℕ) → s + w * c ≡ s0 + x * b → n ≡ x * bi + si + c → n ≡ 2 ^ 64 * q + r
@@ -82,12 +82,17 @@ added_more s s0 b x c i n h so is =
           (added (number_to s i) (number_to s0 i) (number_to b i) (weight i) x c (slice_index b i) (slice_index s0 i) n (n / 2 ^ 64) (n % 2 ^ 64) so.sum own parts);
     }
 
+pub added_all : (s s0 b : List ℕ) (x i c : ℕ) → length s ≡ length s0 → length s0 ≡ length b → i ≡ length s0 → IsAdded s s0 b x i c
+    → number_of s + weight (length s0) * c ≡ number_of s0 + x * number_of b
+added_all s s0 b x i c long same at so =
+    rw (number_all s i (at ∙ sym long), number_all s0 i at, number_all b i (at ∙ same), sym at) so.sum
+
 -- A word of a difference: what is borrowed of the next.
 pub borrowed : (a b c d : ℕ) → a < 2 ^ 64 → b < 2 ^ 64 → c < 2 → d + b + c ≡ a + 2 ^ 64
     → (d / 2 ^ 64 ≤ 1) × (1 - d / 2 ^ 64 < 2) × (d % 2 ^ 64 + b + c ≡ a + 2 ^ 64 * (1 - d / 2 ^ 64))
 borrowed a b c d ha hb hc e =
     let top : d / 2 ^ 64 ≤ 1 = omega arith in
-    let low : d ≡ 2 ^ 64 * (d / 2 ^ 64) + d % 2 ^ 64 = omega arith in (top, (omega arith, omega (arith, top, low, e)))
+    let low : d ≡ 2 ^ 64 * (d / 2 ^ 64) + d % 2 ^ 64 = omega arith in (top, omega arith, omega (arith, top, low, e))
 
 -- A comparison.
 compared : (a b w x y c e r : ℕ) → b ≤ a + w * c → a + w * c < b + w → r + y + c ≡ x + 2 ^ 64 * e → r < 2 ^ 64
@@ -171,6 +176,11 @@ less_more s s0 n t i c d h hs hn ht so e =
           (subtracted (number_to s i) (number_to s0 i) (number_to n i) (weight i) t (slice_index s0 i) (d % 2 ^ 64) c (1 - d / 2 ^ 64) y so.rest is (slice_index n i) (times_bit t (slice_index n i) ht));
     }
 
+pub less_all : (s s0 n : List ℕ) (t i c : ℕ) → length s ≡ length s0 → length s0 ≡ length n → i ≡ length s0 → IsLess s s0 n t i c
+    → number_of s + t * number_of n ≡ number_of s0 + weight (length s0) * c
+less_all s s0 n t i c long same at so =
+    rw (number_all s i (at ∙ sym long), number_all s0 i at, number_all n i (at ∙ same), sym at) so.rest
+
 -- Words moved down.
 moved : (old new : List ℕ) (n : ℕ) → ((k : ℕ) → k < n → slice_index new k ≡ slice_index old (k + 1)) → slice_index old 0 + 2 ^ 64 * number_to new n ≡ number_to old (n + 1)
 moved old new zero same =
@@ -186,7 +196,7 @@ moved old new (suc n) same =
     let more = number_more new n in
     let last = number_more old (n + 1) in
     let w : weight (n + 1) * slice_index old (n + 1) ≡ 2 ^ 64 * (weight n * slice_index old (n + 1)) = rw (weight_more n) (omega arith) in
-    rw (add-one n) (omega (arith, e, f, more, last, w))
+    rw (sym (add-one n)) (omega (arith, e, f, more, last, w))
 
 pub moved_down : (old new : List ℕ) (n last : ℕ) → n < length new → ((k : ℕ) → k < n → slice_index new k ≡ slice_index old (k + 1))
     → slice_index old 0 + 2 ^ 64 * number_to (slice_set new n last) (n + 1) ≡ number_to old (n + 1) + weight (n + 1) * last
@@ -194,3 +204,9 @@ moved_down old new n last h same =
     let e = moved old new n same in
     let f = number_set new n last h in
     let w : weight (n + 1) * last ≡ 2 ^ 64 * (weight n * last) = rw (weight_more n) (omega arith) in omega (arith, e, f, w)
+
+pub moved_all : (old new : List ℕ) (n last : ℕ) → length new ≡ length old → n + 1 ≡ length old → ((k : ℕ) → k < n → slice_index new k ≡ slice_index old (k + 1))
+    → slice_index old 0 + 2 ^ 64 * number_of (slice_set new n last) ≡ number_of old + weight (length old) * last
+moved_all old new n last long at same =
+    rw (number_all (slice_set new n last) (n + 1) (at ∙ (sym long ∙ sym (length-set new n last))), number_all old (n + 1) at, sym at)
+    (moved_down old new n last (omega (arith, long)) same)
