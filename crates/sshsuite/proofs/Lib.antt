@@ -16,3 +16,4 @@ pub mod AesStateLemmas
 pub mod AesKeyLemmas
 pub mod AesSamples
 pub mod LongNumberLemmas
+pub mod MontgomeryLemmas

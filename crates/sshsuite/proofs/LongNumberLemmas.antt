@@ -57,6 +57,12 @@ number_below words (suc n) h =
     let heavier = weight_more n in
     rw (sym (add-one n)) (omega (arith, low, top, more, heavier))
 
+pub below_by : (words : List ℕ) (n : ℕ) → length words ≡ n → ((k : ℕ) → slice_index words k < 2 ^ 64) → number_of words < weight n
+below_by words n at h = rw (number_all words n (sym at)) (number_below words n h)
+
+pub all_below : (words : List ℕ) → ((k : ℕ) → slice_index words k < 2 ^ 64) → number_of words < weight (length words)
+all_below words h = below_by words (length words) refl h
+
 -- A product is added.
 added : (s s0 b w x c bi si n q r : ℕ) → s + w * c ≡ s0 + x * b → n ≡ x * bi + si + c → n ≡ 2 ^ 64 * q + r
     → s + w * r + 2 ^ 64 * w * q ≡ s0 + w * si + x * (b + w * bi)
@@ -182,7 +188,7 @@ less_all s s0 n t i c long same at so =
     rw (number_all s i (at ∙ sym long), number_all s0 i at, number_all n i (at ∙ same), sym at) so.rest
 
 -- Words moved down.
-moved : (old new : List ℕ) (n : ℕ) → ((k : ℕ) → k < n → slice_index new k ≡ slice_index old (k + 1)) → slice_index old 0 + 2 ^ 64 * number_to new n ≡ number_to old (n + 1)
+pub moved : (old new : List ℕ) (n : ℕ) → ((k : ℕ) → k < n → slice_index new k ≡ slice_index old (k + 1)) → slice_index old 0 + 2 ^ 64 * number_to new n ≡ number_to old (n + 1)
 moved old new zero same =
     let none = number_none new in
     let first = number_more old 0 in

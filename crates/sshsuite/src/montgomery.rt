@@ -19,7 +19,8 @@ fn step(sum: &mut [u64], top: u64, times: u64, number: &[u64], modulus: &[u64], 
     ensures below { number_of sum.new + weight (length modulus.now) * result < 2 * number_of modulus.now }
 {
     let first = add_product(sum, times, number);
-    let second = add_product(sum, sum[0].wrapping_mul(inverse), modulus);
+    let multiple = sum[0].wrapping_mul(inverse);
+    let second = add_product(sum, multiple, modulus);
     let above = u128::from(top) + u128::from(first) + u128::from(second);
     shift_down(sum, low(above));
     high(above)
@@ -48,8 +49,8 @@ pub(crate) fn product(out: &mut [u64], a: &[u64], b: &[u64], modulus: &[u64], in
 {
     out.fill(0);
     let mut top = 0;
-    for word in a {
-        top = step(out, top, *word, b, modulus, inverse);
+    for i in 0..a.len() {
+        top = step(out, top, a[i], b, modulus, inverse);
     }
     reduce(out, top, modulus);
 }
