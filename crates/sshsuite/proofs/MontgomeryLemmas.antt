@@ -3,8 +3,8 @@
 use Rattle.std.proofs.Common.{◌≡◌, ℕ, zero, suc, ◌+◌, ◌-◌, ◌*◌, ◌/◌, ◌%◌, ◌^◌, ◌<◌, ◌≤◌, List, length, drop, refl, sym, ap, ◌∙◌, add-one, arith, cond, ltb, inl, inr}
 use Rattle.std.proofs.Math.Nat.{add-mod-mod, add-mul-mod_self_right, mod-add-mod, mod-eq_of_lt}
 use Rattle.std.proofs.lemmas.Bool.{cases_lt, le-ltb, lt-ltb}
-use Rattle.std.proofs.lemmas.List.{get_or-drop, get_or-replicate}
-use Rattle.std.proofs.lemmas.Nat.{mod-mul-add, mod_below, mul-le, mul-mod_second}
+use Rattle.std.proofs.lemmas.List.{get_or-drop}
+use Rattle.std.proofs.lemmas.Nat.{mod-mul-add, mul-le, mul-mod_second}
 use Rattle.std.specs.Prelude.{replicate, slice_index}
 use Rattle.sshsuite.specs.LongNumbers.{number_of, number_to, weight}
 use Rattle.sshsuite.proofs.LongNumberLemmas.{moved, number_all, number_more, number_none, weight_more, weight_none}
@@ -167,6 +167,9 @@ number_zeros m (suc n) =
     zero_at (suc m) zero = refl
     zero_at (suc m) (suc n) = zero_at m n
 
+pub number_of_zeros : (m : ℕ) → number_of (replicate m 0) ≡ 0
+number_of_zeros m = number_all (replicate m 0) (length (replicate m 0)) refl ∙ number_zeros m (length (replicate m 0))
+
 pub record IsMultiplied (a : List ℕ) (b p i out top w : ℕ) : Type 0 where
   pub remainder : weight i * (out + w * top) % p ≡ number_to a i * b % p
   pub below : out + w * top < 2 * p
@@ -193,9 +196,8 @@ multiplied_more a b p i out top new above w so is low = record {
   below = low;
 }
 
-pub multiplied_all : (a : List ℕ) (b p n out top result : ℕ) → n ≡ length a → b < p → IsMultiplied a b p n out top (weight n) → result ≡ (out + weight n * top) % p
-    → (weight n * result % p ≡ number_of a * b % p) × (result < p)
-multiplied_all a b p n out top result at h so is = (
-  ap (λ (k : ℕ). weight n * k % p) is ∙ mul-mod_second (weight n) (out + weight n * top) p ∙ so.remainder ∙ ap (λ (k : ℕ). k * b % p) (sym (number_all a n at)),
-  rw is (mod_below (out + weight n * top) p (omega arith)),
-)
+pub multiplied_all : (a : List ℕ) (b p i n out top result : ℕ) → i ≡ n → n ≡ length a → IsMultiplied a b p i out top (weight n) → result ≡ (out + weight n * top) % p
+    → weight n * result % p ≡ number_of a * b % p
+multiplied_all a b p i n out top result same at so is =
+    ap (λ (k : ℕ). weight n * k % p) is ∙ mul-mod_second (weight n) (out + weight n * top) p ∙ ap (λ (k : ℕ). weight k * (out + weight n * top) % p) (sym same)
+    ∙ so.remainder ∙ ap (λ (k : ℕ). k * b % p) (sym (number_all a i (same ∙ at)))
