@@ -17,3 +17,5 @@ pub mod AesKeyLemmas
 pub mod AesSamples
 pub mod LongNumberLemmas
 pub mod MontgomeryLemmas
+pub mod PowerLemmas
+pub mod ByteNumberLemmas

@@ -85,9 +85,9 @@ step_is s s1 s2 s3 b p top x i f g ab low above some l0 l1 l2 inverse small hx h
     let g2 : number_of s2 + weight n * g ≡ number_of s1 + m * number_of p = ap (λ (k : ℕ). number_of s2 + weight k * g) (sym k1) ∙ h2 in
     let zero_word : slice_index s2 0 ≡ 0 = low_word s1 s2 p n g (slice_index s1 0) i m some k1 k2 refl inverse refl small g2 in
     let g3 : 2 ^ 64 * number_of s3 ≡ number_of s2 + weight n * (ab % 2 ^ 64) =
-        plain (slice_index s2 0) (2 ^ 64 * number_of s3) zero_word ∙ h3 ∙ ap (λ (k : ℕ). number_of s2 + weight k * low) k2 ∙ ap (λ (k : ℕ). number_of s2 + weight n * k) lows in
+    plain (slice_index s2 0) (2 ^ 64 * number_of s3) zero_word ∙ h3 ∙ ap (λ (k : ℕ). number_of s2 + weight k * low) k2 ∙ ap (λ (k : ℕ). number_of s2 + weight n * k) lows in
     let all : 2 ^ 64 * (number_of s3 + weight n * above) ≡ number_of s + weight n * top + x * number_of b + m * number_of p =
-        ap (λ (k : ℕ). 2 ^ 64 * (number_of s3 + weight n * k)) aboves ∙ stepped (number_of s) (weight n) top x (number_of b) (number_of p) f g m (number_of s1) (number_of s2) (number_of s3) ab g1 g2 g3 is in (
+    ap (λ (k : ℕ). 2 ^ 64 * (number_of s3 + weight n * k)) aboves ∙ stepped (number_of s) (weight n) top x (number_of b) (number_of p) f g m (number_of s1) (number_of s2) (number_of s3) ab g1 g2 g3 is in (
       step_remainder (number_of s3 + weight n * above) (number_of s + weight n * top + x * number_of b) m (number_of p) all,
       step_below (number_of s3 + weight n * above) (number_of s + weight n * top) x (number_of b) m (number_of p) all hs hx (omega arith) hb,
     )
@@ -148,6 +148,7 @@ reduced t w top p new borrow hp hn low e =
     below (suc zero) less s low e =
         let f = taken_above t w p new borrow hp hn less e in once (t + w * 1) p new (omega (arith, f, low)) (omega (arith, f))
     below (suc (suc n)) less s low e = absurd (omega arith)
+
     above : (n : ℕ) → p ≤ t → n < 2 → t + w * n < 2 * p → new + (n + 1 - 0) * p ≡ t + w * borrow → new ≡ (t + w * n) % p
     above zero more s low e =
         let f = taken t w p new borrow hp hn more e in once (t + w * 0) p new (omega (arith, f, low)) (omega (arith, f))

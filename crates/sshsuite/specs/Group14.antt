@@ -2,11 +2,12 @@
 
 use Rattle.std.proofs.Common.{ℕ, zero, suc, ◌+◌, ◌-◌, ◌*◌, ◌/◌, ◌%◌, ◌^◌, List, [], ◌∷◌, length}
 use Rattle.std.specs.Prelude.{◌&&◌, ◌||◌, Bool, false, if◌then◌else◌, nat_le, nat_lt, Option, None, Some}
+use Rattle.std.specs.Int.{bytes_high_first}
 use Rattle.sshsuite.specs.MpintBody.{mpint_body}
 use Rattle.sshsuite.specs.Scalar.{number_in}
 
 -- p, the prime of group 14 (RFC 3526 section 3): 2^2048 - 2^1984 - 1 + 2^64 * ([2^1918 pi] + 124476)
-abbrev pub prime : ℕ
+unfoldable pub prime : ℕ
 prime = 0xffffffffffffffffc90fdaa22168c234c4c6628b80dc1cd129024e088a67cc74020bbea63b139b22514a08798e3404ddef9519b3cd3a431b302b0a6df25f14374fe1356d6d51c245e485b576625e7ec6f44c42e9a637ed6b0bff5cb6f406b7edee386bfb5a899fa5ae9f24117c4b1fe649286651ece45b3dc2007cb8a163bf0598da48361c55d39a69163fa8fd24cf5f83655d23dca3ad961c62f356208552bb9ed529077096966d670c354e4abc9804f1746c08ca18217c32905e462e36ce3be39e772c180e86039b2783a2ec07a28fb5c55df06f4c52c9de2bcbf6955817183995497cea956ae515d2261898fa051015728e5a8aacaa68ffffffffffffffff
 
 -- g
@@ -21,11 +22,6 @@ is_within n = nat_lt 1 n && nat_lt n (prime - 1)
 unfoldable pub power : ℕ → List ℕ → ℕ
 power base exponent = base ^ number_in exponent % prime
 
--- so many bytes of a number, the highest first
-unfoldable pub bytes_high : ℕ → ℕ → List ℕ
-bytes_high zero n = []
-bytes_high (suc k) n = n / 256 ^ k % 256 ∷ bytes_high k n
-
 -- the number of bytes, the highest first
 unfoldable pub number_high : List ℕ → ℕ
 number_high [] = 0
@@ -33,7 +29,7 @@ number_high (b ∷ bytes) = b * 256 ^ length bytes + number_high bytes
 
 -- the body of an mpint of a number below 2^2048
 unfoldable pub number_body : ℕ → List ℕ
-number_body n = mpint_body (bytes_high 256 n)
+number_body n = mpint_body (bytes_high_first 256 n)
 
 -- whether these are the body of an mpint of a positive number, and the shortest (RFC 4251 section 5)
 unfoldable pub is_positive_body : List ℕ → Bool

@@ -1,8 +1,9 @@
 //! The method diffie-hellman-group14-sha256 (RFC 4253 section 8, RFC 8268), over group 14 (RFC 3526 section 3).
 
 ghost use Rattle.std.specs.Prelude.{◌≡◌, ◌<◌, ◌≤◌, ◌+◌, ◌*◌, ◌%◌, ◌^◌, ◌==◌, if◌then◌else◌, nat_lt, true, IfOk, Some, None, ℕ, length, option_map};
-ghost use Rattle.sshsuite.specs.Group14.{bytes_high, generator, group14_share, group14_shared, is_positive_body, is_within, number_body, number_high, peer_number, power, prime, secret_body, secret_with};
-ghost use Rattle.sshsuite.specs.LongNumbers.{number_of};
+ghost use Rattle.sshsuite.specs.Group14.{generator, group14_share, group14_shared, is_positive_body, is_within, number_body, number_high, peer_number, power, prime, secret_body, secret_with};
+ghost use Rattle.sshsuite.specs.LongNumbers.{number_of, weight};
+ghost use Rattle.std.specs.Int.{bytes_high_first};
 ghost use Rattle.sshsuite.specs.Bits.{high_word_at};
 
 use crate::bits::bit_at;
@@ -174,7 +175,7 @@ const TWO: Number = [
 /// The product of two numbers and of one through 2^2048, modulo the prime.
 fn times(a: &Number, b: &Number) -> Number
     requires { number_of b.now < prime }
-    ensures remainder { 2 ^ 2048 * number_of result % prime ≡ number_of a.now * number_of b.now % prime }
+    ensures remainder { weight 32 * number_of result % prime ≡ number_of a.now * number_of b.now % prime }
     ensures below { number_of result < prime }
 {
     let mut out = [0; 32];
@@ -187,8 +188,8 @@ fn power_step(power: &Number, factor: &Number, bit: u64) -> Number
     requires power { number_of power.now < prime }
     requires factor { number_of factor.now < prime }
     requires bit { bit < 2 }
-    ensures powers { (x y : ℕ) → number_of power.now ≡ 2 ^ 2048 * x % prime → number_of factor.now ≡ 2 ^ 2048 * y % prime
-        → number_of result ≡ 2 ^ 2048 * (x * x * y ^ bit) % prime }
+    ensures powers { (x y : ℕ) → number_of power.now ≡ weight 32 * x % prime → number_of factor.now ≡ weight 32 * y % prime
+        → number_of result ≡ weight 32 * (x * x * y ^ bit) % prime }
     ensures below { number_of result < prime }
 {
     let mut square = times(power, power);
@@ -222,7 +223,7 @@ fn is_within(number: &Number) -> bool
 
 /// The 256 bytes of a number, the highest first.
 fn bytes_high(number: &Number) -> [u8; 256]
-    ensures { result ≡ bytes_high 256 (number_of number.now) }
+    ensures { result ≡ bytes_high_first 256 (number_of number.now) }
 {
     let mut bytes = [0; 256];
     for i in 0..32 {
@@ -294,7 +295,7 @@ fn is_positive_body(body: &[u8]) -> bool
 /// The number of a body without the zero before it, where it is below 2^2048.
 fn number_in_body(body: &[u8]) -> Option<Number>
     requires { is_positive_body body.now ≡ true }
-    ensures { option_map number_of result ≡ (if nat_lt (number_high body.now) (2 ^ 2048) then Some (number_high body.now) else None) }
+    ensures { option_map number_of result ≡ (if nat_lt (number_high body.now) (weight 32) then Some (number_high body.now) else None) }
 {
     let digits = if body[0] == 0 { &body[1..] } else { body };
     if digits.len() > 256 {

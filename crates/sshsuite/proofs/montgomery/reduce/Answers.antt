@@ -20,6 +20,6 @@ pub returns : goal.returns
 returns c =
     let p = all_below c.args.modulus.now (λ k. (c.type_inv.modulus k).fits) in
     let new : number_of c.subtract_where-borrow.new.rest < weight (length c.args.modulus.now) =
-        below_by c.subtract_where-borrow.new.rest (length c.args.modulus.now) (search rules) (λ k. (c.type_inv.sum k).fits) in
+    below_by c.subtract_where-borrow.new.rest (length c.args.modulus.now) (search rules) (λ k. (c.type_inv.sum k).fits) in
     reduced (number_of c.args.sum.now) (weight (length c.args.modulus.now)) c.args.top (number_of c.args.modulus.now) (number_of c.subtract_where-borrow.new.rest) c.subtract_where-borrow.result
     p new c.requires.sum (rw (c.is_below.ensures, c.requires.long) at c.subtract_where-borrow.ensures)
