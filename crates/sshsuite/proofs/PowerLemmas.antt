@@ -3,8 +3,10 @@
 use Rattle.std.proofs.Common.{◌≡◌, ℕ, zero, suc, ◌+◌, ◌-◌, ◌*◌, ◌/◌, ◌%◌, ◌^◌, ◌<◌, ◌≤◌, List, length, refl, sym, ap, ◌∙◌, add-one, arith, Bool, true, false, cond, eqb, ltb}
 use Rattle.std.proofs.Math.Nat.{mod-eq_of_lt, pow-suc, pow-zero}
 use Rattle.std.proofs.lemmas.Nat.{mod_below, mul-mod, mul-mod_first, mul-mod_second, pow-add}
+use Rattle.std.proofs.lemmas.Bool.{le-ltb, ltb-true}
+use Rattle.std.specs.Prelude.{◌&&◌, Option, None, Some}
 use Rattle.sshsuite.specs.Bits.{bit_at}
-use Rattle.sshsuite.specs.Group14.{generator, is_within, power, prime}
+use Rattle.sshsuite.specs.Group14.{generator, is_positive_body, is_within, number_high, peer_number, power, prime}
 use Rattle.sshsuite.specs.LongNumbers.{number_of, number_to, weight}
 use Rattle.sshsuite.specs.Scalar.{number_in, number_to as bits_to}
 use Rattle.sshsuite.specs.declared.group14.TheConstants.{ONE, PRIME, PRIME_LESS_ONE, TWO, UNIT, UNIT_SQUARE}
@@ -143,3 +145,52 @@ pub within_else : (n r : ℕ) → r ≡ cond (ltb (number_of ONE) n) 1 0 → eqb
 within_else n r er isnt =
     let first : ltb 1 n ≡ false = ap (λ (k : ℕ). ltb k n) (sym one_is) ∙ sym (bit_true (ltb (number_of ONE) n) r er) ∙ isnt in
     rw first isnt
+
+prime_fits : prime < weight 32
+unfolding weight prime
+prime_fits = omega arith
+
+-- no number from 2^2048 on is in the range
+pub beyond : (n : ℕ) → weight 32 ≤ n → is_within n ≡ false
+beyond n h =
+    let fits = prime_fits in
+    let last : ltb n (prime - 1) ≡ false = le-ltb n (prime - 1) (omega (arith, fits)) in
+    rw last (both_false (ltb 1 n))
+  where
+    both_false : (b : Bool) → (b && false) ≡ false
+    both_false true = refl
+    both_false false = refl
+
+-- a peer's share
+pub peer_refused : (peer : List ℕ) → is_positive_body peer ≡ false → ◌≡◌ {A = Option ℕ} None (peer_number peer)
+unfolding peer_number
+peer_refused peer e = rw e refl
+
+pub peer_beyond : (peer : List ℕ) → is_positive_body peer ≡ true → weight 32 ≤ number_high peer → ◌≡◌ {A = Option ℕ} None (peer_number peer)
+unfolding peer_number
+peer_beyond peer e h = rw (e, beyond (number_high peer) h) refl
+
+pub peer_is : (peer : List ℕ) → is_positive_body peer ≡ true → cond (is_within (number_high peer)) (Some (number_high peer)) None ≡ peer_number peer
+unfolding peer_number
+peer_is peer e = rw e refl
+
+pub two_below : number_of TWO < prime
+two_below = let h = prime_big in rw two_is (omega (arith, h))
+
+small_of : (m n : ℕ) (b c : Bool) → is_within n ≡ c → ◌≡◌ {A = Option ℕ} (Some m) (cond (b && c) (Some n) None) → m < prime
+small_of m n true true is e =
+    let low = ltb-true n (prime - 1) (last (ltb 1 n) (ltb n (prime - 1)) is) in
+    let same : m ≡ n = same_some m n e in omega (arith, low, same)
+  where
+    last : (x y : Bool) → (x && y) ≡ true → y ≡ true
+    last true y e = e
+    last false y e = cc
+
+    same_some : (x y : ℕ) → ◌≡◌ {A = Option ℕ} (Some x) (Some y) → x ≡ y
+    same_some x y e = cc
+small_of m n true false is e = cc
+small_of m n false c is e = cc
+
+pub peer_small : (m : ℕ) (peer : List ℕ) → ◌≡◌ {A = Option ℕ} (Some m) (peer_number peer) → m < prime
+unfolding peer_number
+peer_small m peer e = small_of m (number_high peer) (is_positive_body peer) (is_within (number_high peer)) refl e

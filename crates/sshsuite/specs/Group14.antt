@@ -27,9 +27,13 @@ unfoldable pub number_high : List ℕ → ℕ
 number_high [] = 0
 number_high (b ∷ bytes) = b * 256 ^ length bytes + number_high bytes
 
+-- the 256 bytes of a number below 2^2048, the highest first
+unfoldable pub bytes_high : ℕ → List ℕ
+bytes_high n = bytes_high_first 256 n
+
 -- the body of an mpint of a number below 2^2048
 unfoldable pub number_body : ℕ → List ℕ
-number_body n = mpint_body (bytes_high_first 256 n)
+number_body n = mpint_body (bytes_high n)
 
 -- whether these are the body of an mpint of a positive number, and the shortest (RFC 4251 section 5)
 unfoldable pub is_positive_body : List ℕ → Bool

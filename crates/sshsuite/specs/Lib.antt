@@ -18,6 +18,7 @@ pub mod GcmLaws
 pub mod MpintBody
 pub mod LongNumbers
 pub mod Group14
+pub mod Group14Laws
 pub mod Deployed
 pub mod DeployedLaws
 pub mod FieldValues

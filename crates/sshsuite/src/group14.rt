@@ -1,9 +1,8 @@
 //! The method diffie-hellman-group14-sha256 (RFC 4253 section 8, RFC 8268), over group 14 (RFC 3526 section 3).
 
-ghost use Rattle.std.specs.Prelude.{◌≡◌, ◌<◌, ◌≤◌, ◌+◌, ◌*◌, ◌%◌, ◌^◌, ◌==◌, if◌then◌else◌, nat_lt, true, IfOk, Some, None, ℕ, length, option_map};
-ghost use Rattle.sshsuite.specs.Group14.{generator, group14_share, group14_shared, is_positive_body, is_within, number_body, number_high, peer_number, power, prime, secret_body, secret_with};
+ghost use Rattle.std.specs.Prelude.{◌≡◌, ◌<◌, ◌≤◌, ◌+◌, ◌*◌, ◌%◌, ◌^◌, ◌==◌, if◌then◌else◌, nat_lt, true, IfOk, Some, None, ℕ, drop, length, option_map, slice_index};
+ghost use Rattle.sshsuite.specs.Group14.{bytes_high, generator, group14_share, group14_shared, is_positive_body, is_within, number_body, number_high, peer_number, power, prime, secret_body, secret_with};
 ghost use Rattle.sshsuite.specs.LongNumbers.{number_of, weight};
-ghost use Rattle.std.specs.Int.{bytes_high_first};
 ghost use Rattle.sshsuite.specs.Bits.{high_word_at};
 
 use crate::bits::bit_at;
@@ -223,7 +222,7 @@ fn is_within(number: &Number) -> bool
 
 /// The 256 bytes of a number, the highest first.
 fn bytes_high(number: &Number) -> [u8; 256]
-    ensures { result ≡ bytes_high_first 256 (number_of number.now) }
+    ensures { result ≡ bytes_high (number_of number.now) }
 {
     let mut bytes = [0; 256];
     for i in 0..32 {
@@ -292,20 +291,52 @@ fn is_positive_body(body: &[u8]) -> bool
     }
 }
 
-/// The number of a body without the zero before it, where it is below 2^2048.
+/// The bytes after the first.
+fn after_first(bytes: &[u8]) -> &[u8]
+    requires { 0 < length bytes.now }
+    ensures { result.now ≡ drop 1 bytes.now }
+{
+    &bytes[1..]
+}
+
+/// The body without the zero before its first byte, where one stands there.
+fn digits_of(body: &[u8]) -> &[u8]
+    requires { is_positive_body body.now ≡ true }
+    ensures number { number_high result.now ≡ number_high body.now }
+    ensures some { 0 < length result.now }
+    ensures first { 0 < slice_index result.now 0 }
+{
+    if body[0] == 0 {
+        after_first(body)
+    } else {
+        body
+    }
+}
+
+/// The number of a body, where it is below 2^2048.
 fn number_in_body(body: &[u8]) -> Option<Number>
     requires { is_positive_body body.now ≡ true }
     ensures { option_map number_of result ≡ (if nat_lt (number_high body.now) (weight 32) then Some (number_high body.now) else None) }
 {
-    let digits = if body[0] == 0 { &body[1..] } else { body };
+    let digits = digits_of(body);
     if digits.len() > 256 {
         return None;
     }
     Some(number_of_bytes(&filled_before(digits)))
 }
 
+/// The number, where it is from 2 to p - 2.
+fn share_number(number: Number) -> Option<Number>
+    ensures { option_map number_of result ≡ (if is_within (number_of number) then Some (number_of number) else None) }
+{
+    if is_within(&number) {
+        Some(number)
+    } else {
+        None
+    }
+}
+
 /// The number of a peer's share, where it is from 2 to p - 2. A share is no secret.
-#[tactic(auto, unfolding(crate::specs::Group14::peer_number))]
 fn peer_number(peer: &[u8]) -> Option<Number>
     ensures { option_map number_of result ≡ peer_number peer.now }
 {
@@ -313,8 +344,8 @@ fn peer_number(peer: &[u8]) -> Option<Number>
         return None;
     }
     match number_in_body(peer) {
-        Some(number) if is_within(&number) => Some(number),
-        _ => None,
+        Some(number) => share_number(number),
+        None => None,
     }
 }
 
