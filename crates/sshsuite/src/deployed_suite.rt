@@ -20,9 +20,9 @@ use std::alloc::Global;
 const ED25519: &str = "ssh-ed25519";
 
 /// A suite of algorithms that are deployed: the key exchange curve25519-sha256 (RFC 8731), also under the
-/// name curve25519-sha256@libssh.org, keys of ssh-ed25519 (RFC 8709), and the ciphers
-/// chacha20-poly1305@openssh.com (OpenSSH PROTOCOL.chacha20poly1305) and aes256-gcm@openssh.com (RFC 5647 as
-/// OpenSSH PROTOCOL section 1.6 has it).
+/// name curve25519-sha256@libssh.org, and diffie-hellman-group14-sha256 (RFC 8268) for older peers, keys of ssh-ed25519
+/// (RFC 8709), and the ciphers chacha20-poly1305@openssh.com (OpenSSH PROTOCOL.chacha20poly1305) and
+/// aes256-gcm@openssh.com (RFC 5647 as OpenSSH PROTOCOL section 1.6 has it).
 ///
 /// A private key is the 32 bytes of RFC 8032 section 5.1.5; other bytes are hashed to one as these are. Of
 /// other names:
@@ -44,7 +44,7 @@ const ED25519: &str = "ssh-ed25519";
 ///
 /// No branch and no index depends on a secret, as the code is written; no contract promises it of what a
 /// compiler makes. What time does tell is how many zeros a shared secret begins with, since it goes as an
-/// mpint into the exchange hash (RFC 8731 section 3.1). How long a verification takes tells of its arguments, which
+/// mpint into the exchange hash (RFC 8731 section 3.1, RFC 4253 section 8). How long a verification takes tells of its arguments, which
 /// are all public. Nothing is wiped.
 #[derive(Clone, Copy, Debug)]
 pub struct DeployedSuite;

@@ -197,7 +197,8 @@ fn power_step(power: &Number, factor: &Number, bit: u64) -> Number
     square
 }
 
-/// The power modulo the prime, by the number of these bytes, the lowest first. What is multiplied is 2^2048 times the powers.
+/// The power modulo the prime, by the number of these bytes, the lowest first: for each bit a square and a product. What is
+/// multiplied is 2^2048 times the powers.
 fn power(base: &Number, exponent: &[u8]) -> Number
     requires base { number_of base.now < prime }
     requires exponent { length exponent.now ≡ 32 }
@@ -213,7 +214,7 @@ fn power(base: &Number, exponent: &[u8]) -> Number
     times(&power, &ONE)
 }
 
-/// 1 where the number is from 2 to p - 2, else 0.
+/// Whether the number is from 2 to p - 2.
 fn is_within(number: &Number) -> bool
     ensures { result ≡ is_within (number_of number.now) }
 {
