@@ -1,5 +1,6 @@
 """Calls of the suite whose algorithms are deployed: X25519 (RFC 7748), Ed25519 (RFC 8032) and chacha20-poly1305@openssh.com (OpenSSH
-PROTOCOL.chacha20poly1305, over the ChaCha20 and Poly1305 of RFC 8439), worked out here from their definitions in whole numbers."""
+PROTOCOL.chacha20poly1305, over the ChaCha20 and Poly1305 of RFC 8439), and of diffie-hellman-group14-sha256 (RFC 4253 section 8, RFC
+8268), worked out here from their definitions in whole numbers."""
 import hashlib
 import random
 
@@ -11,6 +12,22 @@ D = -121665 * pow(121666, P - 2, P) % P
 ROOT = pow(2, (P - 1) // 4, P)
 METHOD, METHOD_BEFORE, ALGORITHM = "curve25519-sha256", "curve25519-sha256@libssh.org", "ssh-ed25519"
 NEUTRAL = (0, 1, 1, 0)
+GROUP14 = "diffie-hellman-group14-sha256"
+# RFC 3526 section 3: 2^2048 - 2^1984 - 1 + 2^64 * ([2^1918 pi] + 124476), pi by Machin's formula
+PI_BITS = 2200
+
+
+def arctan_of_one_through(n):
+    """Times 2^PI_BITS, by its series."""
+    total, power, k = 0, (1 << PI_BITS) // n, 0
+    while power:
+        total += (-1) ** k * (power // (2 * k + 1))
+        power, k = power // (n * n), k + 1
+    return total
+
+
+PI = 4 * (4 * arctan_of_one_through(5) - arctan_of_one_through(239))
+PRIME = 2 ** 2048 - 2 ** 1984 - 1 + 2 ** 64 * ((PI >> PI_BITS - 1918) + 124476)
 
 
 def le(number, n=32):
@@ -57,6 +74,26 @@ def shared(secret, theirs):
     if not body:
         return None
     return body if body[0] < 128 else b"\x00" + body
+
+
+# diffie-hellman-group14-sha256. The exponent is the number of 32 random bytes, the lowest first.
+
+def body_of(n):
+    """The body of a positive number's mpint (RFC 4251 section 5)."""
+    return n.to_bytes(n.bit_length() // 8 + 1, "big")
+
+
+def group14_public(secret):
+    return body_of(pow(2, number_of(secret), PRIME))
+
+
+def group14_shared(secret, theirs):
+    """The body of the shared secret's mpint, or none."""
+    n = int.from_bytes(theirs, "big")
+    if not 2 <= n <= PRIME - 2 or body_of(n) != theirs:
+        return None
+    found = pow(n, number_of(secret), PRIME)
+    return body_of(found) if 2 <= found <= PRIME - 2 else None
 
 
 # Ed25519. A point is x, y, z and t of the extended coordinates.
@@ -199,7 +236,7 @@ class Calls:
 
 
 def shared_line(secret, theirs, method=METHOD):
-    found = shared(secret, theirs) if method in (METHOD, METHOD_BEFORE) else None
+    found = {METHOD: shared, METHOD_BEFORE: shared, GROUP14: group14_shared}.get(method, lambda *_: None)(secret, theirs)
     return "shared %s %s %s %s" % (method, hexa(secret), hexa(theirs), "none" if found is None else hexa(found))
 
 
@@ -253,6 +290,57 @@ def exchanges(calls):
     for method in ("curve25519-sha512", "curve25519-sha256@libssh", "Curve25519-sha256", "x25519"):
         calls.row("exchange by another method", shared_line(calls.bytes(32), calls.bytes(32), method))
     calls.row("exchange by the name before", shared_line(calls.bytes(32), calls.bytes(32), METHOD_BEFORE))
+
+
+def group14_exchange(calls, name, secret, *peers):
+    """The own share, and what is shared with peers: a share's body each."""
+    calls.row(name, "public %s %s %s" % (GROUP14, hexa(secret), hexa(group14_public(secret))), *(shared_line(secret, peer, GROUP14) for peer in peers))
+
+
+def group14_exchanges(calls):
+    for n in range(24):
+        ours, theirs = calls.bytes(32), calls.bytes(32)
+        group14_exchange(calls, "group 14", ours, group14_public(theirs))
+        group14_exchange(calls, "group 14", theirs, group14_public(ours))
+    # secrets that begin with zeros, and whose first byte is below 128 or not
+    for name, low, high in (("begins with zeros", 2, 2 ** 2040), ("begins with a bit", 2 ** 2047, PRIME), ("begins with none", 2 ** 2040, 2 ** 2047)):
+        for _ in range(2):
+            theirs = calls.bytes(32)
+            drawn = iter(lambda: calls.bytes(32), None)
+            ours = next(secret for secret in drawn if low <= pow(2, number_of(secret) * number_of(theirs), PRIME) < high)
+            group14_exchange(calls, "group 14, a secret that %s" % name, ours, group14_public(theirs))
+            # and a share that begins so
+            secret = next(secret for secret in drawn if low <= pow(2, number_of(secret), PRIME) < high)
+            group14_exchange(calls, "group 14, a share that %s" % name, secret, group14_public(theirs))
+            calls.row("group 14, a peer's share that %s" % name, shared_line(ours, group14_public(secret), GROUP14))
+    for bit in range(0, 256, 15):
+        group14_exchange(calls, "group 14 by a bit", le(1 << bit), group14_public(calls.bytes(32)))
+    for secret in (b"\x00" * 32, b"\xff" * 32, le(1), le(2), le(2 ** 255 - 1), le(2047), le(2048), le(2049)):
+        group14_exchange(calls, "group 14 by %d" % (number_of(secret) % 10000), secret, group14_public(calls.bytes(32)))
+    group14_limits(calls)
+
+
+def group14_limits(calls):
+    """Shares at the ends of the range, beyond it, and that aren't the shortest body of a positive number."""
+    for n in (2, 3, 127, 128, 255, 256, 2 ** 64 - 1, 2 ** 64, 2 ** 2040 - 1, 2 ** 2040, 2 ** 2047 - 1, 2 ** 2047, PRIME - 3, PRIME - 2):
+        calls.row("group 14 with %d" % (n % 10000), shared_line(calls.bytes(32), body_of(n), GROUP14))
+    for n in (1, PRIME - 1, PRIME, PRIME + 1, PRIME + 2, 2 * PRIME - 1, 2 * PRIME + 2, 2 ** 2048 - 1, 2 ** 2048, 2 ** 2048 + 2, 2 ** 2056 - 1, 2 ** 2063 + 2):
+        line = shared_line(calls.bytes(32), body_of(n), GROUP14)
+        assert line.endswith(" none")
+        calls.row("group 14 with a share beyond, %d" % (n % 10000), line)
+    good = group14_public(calls.bytes(32))
+    high = next(share for share in iter(lambda: group14_public(calls.bytes(32)), None) if share[0] == 0)
+    shortest = [b"", b"\x00", b"\x00\x00", b"\x01", b"\x00\x01", b"\x00\x02", b"\x00\x7f", b"\x00\x80"[:1] + b"\x7f" * 4, b"\x00" + body_of(2), b"\x00" + good, b"\x00" * 2 + good,
+                b"\x00" * 300 + b"\x02", b"\x00" * 300]
+    negative = [b"\x80", b"\xff", b"\xfe", b"\xff" * 256, b"\x80" + b"\x00" * 255, b"\xff" + good, high[1:]]
+    longer = [b"\x01" + good, b"\x01" + high, b"\x7f" * 257, b"\x7f" * 258, b"\x00\x80" + b"\x00" * 256, b"\x01" + b"\x00" * 4000]
+    for name, bodies in (("not the shortest", shortest), ("negative", negative), ("longer", longer)):
+        for body in bodies:
+            line = shared_line(calls.bytes(32), body, GROUP14)
+            assert line.endswith(" none"), body.hex()
+            calls.row("group 14, a share that is %s" % name, line)
+    for method in ("diffie-hellman-group14-sha1", "diffie-hellman-group16-sha512", "diffie-hellman-group14-sha25", "Diffie-hellman-group14-sha256"):
+        calls.row("group 14 by another method", shared_line(calls.bytes(32), group14_public(calls.bytes(32)), method))
 
 
 # RFC 8032 section 7.1: private key, public key, message, signature
@@ -346,3 +434,4 @@ def rows(file):
     exchanges(calls)
     signatures(calls)
     seals(calls)
+    group14_exchanges(calls)

@@ -15,3 +15,7 @@ pub mod AesLemmas
 pub mod AesStateLemmas
 pub mod AesKeyLemmas
 pub mod AesSamples
+pub mod LongNumberLemmas
+pub mod MontgomeryLemmas
+pub mod PowerLemmas
+pub mod ByteNumberLemmas

@@ -1,12 +1,18 @@
 -- Bytes and the bits and words in them.
 
 use Rattle.std.specs.Prelude.{ℕ, ◌+◌, ◌*◌, ◌/◌, ◌%◌, ◌^◌, List, [], ◌∷◌, ◌++◌, slice_index}
-use Rattle.std.specs.Int.{w64, from_le_bytes, to_le_bytes}
+use Rattle.std.specs.Int.{w64, from_be_bytes, from_le_bytes, to_le_bytes}
 
 -- the 64-bit word at a place, the lowest byte first
 unfoldable pub word_at : List ℕ → ℕ → ℕ
 word_at bytes i =
     from_le_bytes w64 (slice_index bytes i ∷ slice_index bytes (i + 1) ∷ slice_index bytes (i + 2) ∷ slice_index bytes (i + 3)
+    ∷ slice_index bytes (i + 4) ∷ slice_index bytes (i + 5) ∷ slice_index bytes (i + 6) ∷ slice_index bytes (i + 7) ∷ [])
+
+-- the 64-bit word at a place, the highest byte first
+unfoldable pub high_word_at : List ℕ → ℕ → ℕ
+high_word_at bytes i =
+    from_be_bytes w64 (slice_index bytes i ∷ slice_index bytes (i + 1) ∷ slice_index bytes (i + 2) ∷ slice_index bytes (i + 3)
     ∷ slice_index bytes (i + 4) ∷ slice_index bytes (i + 5) ∷ slice_index bytes (i + 6) ∷ slice_index bytes (i + 7) ∷ [])
 
 -- the bit at a place, counted from the lowest of the first byte

@@ -5,12 +5,14 @@ use Rattle.std.specs.Str.{bytes_eq}
 use Rattle.sha2.specs.Sha256.{sha256}
 use Rattle.sshwire.specs.Types.{string}
 use Rattle.sshpacket.specs.declared.suite.Need.TheVariants.{Encryption, Signature}
-use Rattle.sshwire.specs.declared.share_form.ShareForm.TheVariants.{OctetString}
+use Rattle.sshwire.specs.declared.share_form.ShareForm.TheVariants.{Mpint, OctetString}
 use Rattle.sshpacket.specs.declared.suite.KeyLens.{KeyLens}
 use Rattle.sshpacket.specs.Packet.{number}
 use Rattle.sshpacket.specs.Suite.{ResponseData, SuiteData}
 use Rattle.sshsuite.specs.Curve25519.{base_point, x25519}
 use Rattle.sshsuite.specs.Gcm.{seal as gcm_seal, unseal as gcm_unseal}
+use Rattle.sshsuite.specs.Group14.{group14_share, group14_shared}
+use Rattle.sshsuite.specs.MpintBody.{mpint_body}
 use Rattle.sshsuite.specs.Sealing.{head, seal, unseal}
 use Rattle.sshsuite.specs.Ed25519.{is_signature, public_key, signature}
 use Rattle.sshsuite.specs.KeyStream.{stream}
@@ -18,6 +20,10 @@ use Rattle.sshsuite.specs.KeyStream.{stream}
 -- a name of curve25519-sha256
 unfoldable pub is_curve25519 : List ℕ → Bool
 is_curve25519 kex = bytes_eq kex (codes "curve25519-sha256") || bytes_eq kex (codes "curve25519-sha256@libssh.org")
+
+-- the name of diffie-hellman-group14-sha256
+unfoldable pub is_group14 : List ℕ → Bool
+is_group14 kex = bytes_eq kex (codes "diffie-hellman-group14-sha256")
 
 abbrev pub ed25519 : List ℕ
 ed25519 = codes "ssh-ed25519"
@@ -34,13 +40,8 @@ key_lens true = record { iv = 12; enc = 32; mac = 0 }
 key_lens false = record { iv = 0; enc = 64; mac = 0 }
 
 -- the share of 32 random bytes
-unfoldable pub share : List ℕ → List ℕ
-share random = x25519 random base_point
-
--- the shortest body of an mpint whose number these bytes are, the highest first
-abbrev pub mpint_body : List ℕ → List ℕ
-mpint_body [] = []
-mpint_body (b ∷ bytes) = if b == 0 then mpint_body bytes else (if nat_le 128 b then 0 ∷ b ∷ bytes else b ∷ bytes)
+unfoldable pub share : List ℕ → List ℕ → List ℕ
+share kex random = if is_group14 kex then group14_share random else x25519 random base_point
 
 -- the number that is shared, where it isn't zero
 unfoldable pub shared_secret : List ℕ → Option (List ℕ)
@@ -48,7 +49,10 @@ shared_secret secret = if bytes_eq secret (replicate 32 0) then None else Some (
 
 -- what 32 random bytes and the peer's share make, by a method that is known
 unfoldable pub shared : List ℕ → List ℕ → List ℕ → Option (List ℕ)
-shared kex random peer = if is_curve25519 kex && (length peer == 32) then shared_secret (x25519 random peer) else None
+shared kex random peer =
+    if is_group14 kex then group14_shared random peer
+    else if is_curve25519 kex && (length peer == 32) then shared_secret (x25519 random peer)
+    else None
 
 abbrev pub response_with : List ℕ → List ℕ → ResponseData
 response_with own body = record { share = own; shared = body }
@@ -67,7 +71,7 @@ verify alg blob input found = if is_ed25519 alg && (length blob == 51) && (lengt
 -- the answers of the suite
 abbrev pub deployed : SuiteData
 deployed = record {
-  need = λ kex. if is_curve25519 kex then Signature else Encryption;
+  need = λ kex. if is_curve25519 kex || is_group14 kex then Signature else Encryption;
   can = λ alg. record { signature = is_ed25519 alg; encryption = false };
   block = λ cipher. if is_aes256_gcm cipher then 16 else 8;
   tag_len = λ cipher mac. 16;
@@ -77,10 +81,10 @@ deployed = record {
   head = λ keys seq first. if is_aes256_gcm keys.cipher then number first else head keys.enc seq first;
   unseal = λ keys seq sealed. if is_aes256_gcm keys.cipher then gcm_unseal keys.iv keys.enc seq sealed else unseal keys.enc seq sealed;
   padding = λ seed seq len. stream (sha256 seed) seq 0 len;
-  share_form = λ kex. OctetString;
-  share = λ kex random. share random;
+  share_form = λ kex. if is_group14 kex then Mpint else OctetString;
+  share = λ kex random. share kex random;
   shared = λ kex random peer. shared kex random peer;
-  respond = λ kex random peer. option_map (response_with (share random)) (shared kex random peer);
+  respond = λ kex random peer. option_map (response_with (share kex random)) (shared kex random peer);
   digest = λ kex input. sha256 input;
   blob = λ alg secret. wrapped (public_key secret);
   sign = λ alg secret input. wrapped (signature secret input);

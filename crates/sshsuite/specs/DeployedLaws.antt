@@ -12,14 +12,19 @@ use Rattle.sshwire.specs.ByteLaws.{bytes_append, bytes_cons, bytes_dropped, byte
 use Rattle.sshwire.specs.Types.{IsBytes, string}
 use Rattle.sshpacket.specs.KeysData.{KeysData}
 use Rattle.sshpacket.specs.Packet.{number}
-use Rattle.sshpacket.specs.Suite.{IsLawful, IsNumberBody, IsPositiveBody, Keeps, ResponseData}
+use Rattle.sshpacket.specs.Suite.{FitsShare, FitsShared, IsLawful, IsNumberBody, Keeps, ResponseData}
+use Rattle.sshwire.specs.declared.share_form.ShareForm.{ShareForm}
+use Rattle.sshwire.specs.declared.share_form.ShareForm.TheVariants.{Mpint, OctetString}
 use Rattle.sshpacket.specs.declared.limits.TheConstants.{BLOCK_LIMIT, KEY_LIMIT, SHARE_LIMIT}
 use Rattle.sshsuite.specs.Bits.{bytes_of_words}
 use Rattle.sshsuite.specs.Curve25519.{affine, base_point, x25519}
 use Rattle.sshsuite.specs.Edwards25519.{with_sign, encode_point}
 use Rattle.sshsuite.specs.declared.edwards25519.Point.{Point}
 use Rattle.sshsuite.specs.FieldElement.{encode}
-use Rattle.sshsuite.specs.Deployed.{deployed, ed25519, is_aes256_gcm, is_curve25519, key_lens, mpint_body, response_with, share, shared, shared_secret, wrapped}
+use Rattle.sshsuite.specs.Deployed.{deployed, ed25519, is_aes256_gcm, is_curve25519, is_group14, key_lens, response_with, share, shared, shared_secret, wrapped}
+use Rattle.sshsuite.specs.Group14.{group14_share, group14_shared}
+use Rattle.sshsuite.specs.Group14Laws.{body_bytes, body_number, group14_share_bytes, group14_share_fits, group14_shared_given}
+use Rattle.sshsuite.specs.MpintBody.{mpint_body}
 use Rattle.sshsuite.specs.Scalar.{bytes_of_halves, encode_scalar}
 use Rattle.sshsuite.specs.Gcm.{seal as gcm_seal, unseal as gcm_unseal}
 use Rattle.sshsuite.specs.GcmLaws as gcm
@@ -31,9 +36,6 @@ use Rattle.sshsuite.specs.KeyStream.{bytes_low, bytes_stream, length_stream}
 cond_some : {A : Type 0} (b : Bool) (o : Option A) (y : A) → cond b o None ≡ Some y → o ≡ Some y
 cond_some true o y e = e
 cond_some false o y e = cc
-
-short_by : (xs ys : List ℕ) → xs ≡ ys → length xs ≤ SHARE_LIMIT → length ys ≤ SHARE_LIMIT
-short_by xs ys e h = rw e at h
 
 bytes_by : (xs ys : List ℕ) → xs ≡ ys → IsBytes xs → IsBytes ys
 bytes_by xs ys e h = rw e at h
@@ -74,57 +76,47 @@ unfolding x25519 affine
 bytes_x25519 scalar point = bytes_encode _
 
 -- Shares.
-share_short : (random : List ℕ) → length (share random) ≤ SHARE_LIMIT
-unfolding share
+share_short : (random : List ℕ) → length (x25519 random base_point) ≤ SHARE_LIMIT
 share_short random = let long = length_x25519 random base_point in omega (arith, long)
 
-share_bytes : (random : List ℕ) → IsBytes (share random)
+both_share : (b : Bool) (random : List ℕ) → FitsShare (cond b Mpint OctetString) (cond b (group14_share random) (x25519 random base_point))
+both_share true random = group14_share_fits random
+both_share false random = share_short random
+
+share_fits : (kex random : List ℕ) → FitsShare (cond (is_group14 kex) Mpint OctetString) (share kex random)
 unfolding share
-share_bytes random = bytes_x25519 random base_point
+share_fits kex random = both_share (is_group14 kex) random
+
+share_bytes : (kex random : List ℕ) → IsBytes (share kex random)
+unfolding share
+share_bytes kex random =
+    cond_both (is_group14 kex) (group14_share random) (x25519 random base_point) (λ (xs : List ℕ). IsBytes xs) (λ _. group14_share_bytes random) (λ _. bytes_x25519 random base_point)
 
 -- The shared secret.
-low_positive : (b : ℕ) (bytes : List ℕ) → (b ≡ 0 → ⊥) → b < 128 → length bytes ≤ 31 → IsPositiveBody (b ∷ bytes)
-low_positive b bytes some h short = record { some = omega arith; sign = h; shortest = λ e. absurd (some e); short = omega arith }
-
-high_positive : (b : ℕ) (bytes : List ℕ) → 128 ≤ b → length bytes ≤ 31 → IsPositiveBody (0 ∷ b ∷ bytes)
-high_positive b bytes h short = record { some = omega arith; sign = omega arith; shortest = λ e. (omega arith, h); short = omega arith }
-
-body_number : (bytes : List ℕ) → length bytes ≤ 32 → IsNumberBody (mpint_body bytes)
-body_number [] short = inl refl
-body_number (b ∷ bytes) short =
-    cond_both (eqb b 0) (mpint_body bytes) (cond (leb 128 b) (0 ∷ b ∷ bytes) (b ∷ bytes)) (λ (xs : List ℕ). IsNumberBody xs)
-    (λ _. body_number bytes (omega arith))
-    (λ e. inr (cond_both (leb 128 b) (0 ∷ b ∷ bytes) (b ∷ bytes) (λ (xs : List ℕ). IsPositiveBody xs)
-    (λ h. high_positive b bytes (leb-true 128 b h) (omega arith))
-    (λ h. low_positive b bytes (eqb-false b 0 e) (leb-false 128 b h) (omega arith))))
-
-body_bytes : (bytes : List ℕ) → IsBytes bytes → IsBytes (mpint_body bytes)
-body_bytes [] h = bytes_none
-body_bytes (b ∷ bytes) h =
-    cond_both (eqb b 0) (mpint_body bytes) (cond (leb 128 b) (0 ∷ b ∷ bytes) (b ∷ bytes)) (λ (xs : List ℕ). IsBytes xs)
-    (λ _. body_bytes bytes (bytes_dropped 1 (b ∷ bytes) h))
-    (λ _. cond_both (leb 128 b) (0 ∷ b ∷ bytes) (b ∷ bytes) (λ (xs : List ℕ). IsBytes xs)
-    (λ _. bytes_cons 0 (b ∷ bytes) (omega arith) h)
-    (λ _. h))
-
 shared_secret_given : (secret body : List ℕ) → shared_secret secret ≡ Some body → mpint_body secret ≡ body
 unfolding shared_secret
 shared_secret_given secret body e =
     let inner = (guard_none (bytes_eq secret (replicate 32 0)) (Some (mpint_body secret)) body e).1 in cc
 
-shared_given : (kex random peer body : List ℕ) → shared kex random peer ≡ Some body → mpint_body (x25519 random peer) ≡ body
-unfolding shared
-shared_given kex random peer body e =
-    shared_secret_given (x25519 random peer) body (cond_some (is_curve25519 kex && eqb (length peer) 32) (shared_secret (x25519 random peer)) body e)
+curve_given : (b : Bool) (random peer body : List ℕ) → cond b (shared_secret (x25519 random peer)) None ≡ Some body → mpint_body (x25519 random peer) ≡ body
+curve_given b random peer body e = shared_secret_given (x25519 random peer) body (cond_some b (shared_secret (x25519 random peer)) body e)
 
-shared_fits : (kex random peer body : List ℕ) → shared kex random peer ≡ Some body → IsNumberBody body
-shared_fits kex random peer body e =
+both_shared : (b c : Bool) (random peer body : List ℕ) → cond b (group14_shared random peer) (cond c (shared_secret (x25519 random peer)) None) ≡ Some body
+    → FitsShared (cond b Mpint OctetString) body × IsBytes body
+both_shared true c random peer body e = group14_shared_given random peer body e
+both_shared false c random peer body e =
     let long = length_x25519 random peer in
-    number_by (mpint_body (x25519 random peer)) body (shared_given kex random peer body e) (body_number (x25519 random peer) (omega (arith, long)))
+    let same = curve_given c random peer body e in (
+      number_by (mpint_body (x25519 random peer)) body same (body_number (x25519 random peer) (omega (arith, long))),
+      bytes_by (mpint_body (x25519 random peer)) body same (body_bytes (x25519 random peer) (bytes_x25519 random peer)),
+    )
 
-shared_bytes : (kex random peer body : List ℕ) → shared kex random peer ≡ Some body → IsBytes body
-shared_bytes kex random peer body e =
-    bytes_by (mpint_body (x25519 random peer)) body (shared_given kex random peer body e) (body_bytes (x25519 random peer) (bytes_x25519 random peer))
+shared_fits : (kex random peer body : List ℕ) → shared kex random peer ≡ Some body → FitsShared (cond (is_group14 kex) Mpint OctetString) body × IsBytes body
+unfolding shared
+shared_fits kex random peer body e = both_shared (is_group14 kex) (is_curve25519 kex && eqb (length peer) 32) random peer body e
+
+share_by : (form : ShareForm) (xs ys : List ℕ) → xs ≡ ys → FitsShare form xs → FitsShare form ys
+share_by form xs ys e h = rw e at h
 
 some_response : (r other : ResponseData) → ◌≡◌ {A = Option ResponseData} (Some r) (Some other) → r ≡ other
 some_response r other e = cc
@@ -197,10 +189,10 @@ deployed_lawful = record {
   head_of_seal = λ keys seq payload clear h p. both_head (is_aes256_gcm keys.cipher) keys seq clear (some_of_packet _ _ _ payload clear p.1);
   unseal_of_seal = λ keys seq payload clear h p. both_unseal (is_aes256_gcm keys.cipher) keys seq clear (some_of_packet _ _ _ payload clear p.1);
   unsealed = λ keys seq sealed clear h bytes long e. both_unsealed (is_aes256_gcm keys.cipher) keys seq sealed clear bytes long e;
-  share_fits = λ kex a h. share_short a;
-  shared_fits = λ kex a peer body h e. shared_fits kex a peer body e;
-  response_fits = λ kex a peer r h e. let parts = response_parts (share a) (shared kex a peer) r e in
-      (short_by (share a) r.share parts.0 (share_short a), shared_fits kex a peer r.shared parts.1);
+  share_fits = λ kex a h. share_fits kex a;
+  shared_fits = λ kex a peer body h e. (shared_fits kex a peer body e).0;
+  response_fits = λ kex a peer r h e. let parts = response_parts (share kex a) (shared kex a peer) r e in
+      (share_by (cond (is_group14 kex) Mpint OctetString) (share kex a) r.share parts.0 (share_fits kex a), (shared_fits kex a peer r.shared parts.1).0);
   block_low = λ cipher. cond_both (is_aes256_gcm cipher) 16 8 (λ (n : ℕ). 8 ≤ n) (λ _. omega arith) (λ _. omega arith);
   block_high = λ cipher. cond_both (is_aes256_gcm cipher) 16 8 (λ (n : ℕ). n ≤ BLOCK_LIMIT) (λ _. omega arith) (λ _. omega arith);
   tag_high = λ cipher mac. omega arith;
@@ -217,8 +209,8 @@ deployed_lawful = record {
       cond_both (is_aes256_gcm keys.cipher) (gcm_seal keys.iv keys.enc seq clear) (seal keys.enc seq clear) (λ (xs : List ℕ). IsBytes xs)
       (λ _. gcm.bytes_seal keys.iv keys.enc seq clear h) (λ _. bytes_seal keys.enc seq clear h);
   padding_bytes = λ seed seq len. bytes_stream (sha256 seed) seq 0 len;
-  share_bytes = λ kex a h. share_bytes a;
-  shared_bytes = λ kex a peer body h k e. shared_bytes kex a peer body e;
-  response_bytes = λ kex a peer r h k e. let parts = response_parts (share a) (shared kex a peer) r e in
-      (bytes_by (share a) r.share parts.0 (share_bytes a), shared_bytes kex a peer r.shared parts.1);
+  share_bytes = λ kex a h. share_bytes kex a;
+  shared_bytes = λ kex a peer body h k e. (shared_fits kex a peer body e).1;
+  response_bytes = λ kex a peer r h k e. let parts = response_parts (share kex a) (shared kex a peer) r e in
+      (bytes_by (share kex a) r.share parts.0 (share_bytes kex a), (shared_fits kex a peer r.shared parts.1).1);
 }

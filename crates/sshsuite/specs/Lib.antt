@@ -15,6 +15,10 @@ pub mod AesBytes
 pub mod Ghash
 pub mod Gcm
 pub mod GcmLaws
+pub mod MpintBody
+pub mod LongNumbers
+pub mod Group14
+pub mod Group14Laws
 pub mod Deployed
 pub mod DeployedLaws
 pub mod FieldValues

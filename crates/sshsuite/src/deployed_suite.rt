@@ -1,13 +1,14 @@
 //! Algorithms that are deployed, as a suite.
 
 ghost use Rattle.std.specs.Prelude.{◌≡◌, ◌<◌, ◌≤◌, ◌^◌, IfOk, drop, length, option_map};
-ghost use Rattle.sshsuite.specs.Deployed.{deployed, is_aes256_gcm, is_curve25519, is_ed25519, is_verified, mpint_body, share, shared, shared_secret, verify, wrapped};
+ghost use Rattle.sshsuite.specs.Deployed.{deployed, is_aes256_gcm, is_curve25519, is_ed25519, is_group14, is_verified, share, shared, shared_secret, verify, wrapped};
 ghost use Rattle.sshsuite.specs.DeployedLaws.{deployed_lawful};
 
 use crate::chacha20::stream;
 use crate::constant_time::is_equal;
 use crate::curve25519::{BASE_POINT, x25519};
 use crate::ed25519::{is_signature, public_key, signature};
+use crate::group14::{group14_share, group14_shared};
 use crate::mpint::mpint_body;
 use crate::{gcm, sealing};
 use sha2::{Digest, Sha256};
@@ -19,9 +20,9 @@ use std::alloc::Global;
 const ED25519: &str = "ssh-ed25519";
 
 /// A suite of algorithms that are deployed: the key exchange curve25519-sha256 (RFC 8731), also under the
-/// name curve25519-sha256@libssh.org, keys of ssh-ed25519 (RFC 8709), and the ciphers
-/// chacha20-poly1305@openssh.com (OpenSSH PROTOCOL.chacha20poly1305) and aes256-gcm@openssh.com (RFC 5647 as
-/// OpenSSH PROTOCOL section 1.6 has it).
+/// name curve25519-sha256@libssh.org, and diffie-hellman-group14-sha256 (RFC 8268) for older peers, keys of ssh-ed25519
+/// (RFC 8709), and the ciphers chacha20-poly1305@openssh.com (OpenSSH PROTOCOL.chacha20poly1305) and
+/// aes256-gcm@openssh.com (RFC 5647 as OpenSSH PROTOCOL section 1.6 has it).
 ///
 /// A private key is the 32 bytes of RFC 8032 section 5.1.5; other bytes are hashed to one as these are. Of
 /// other names:
@@ -43,7 +44,7 @@ const ED25519: &str = "ssh-ed25519";
 ///
 /// No branch and no index depends on a secret, as the code is written; no contract promises it of what a
 /// compiler makes. What time does tell is how many zeros a shared secret begins with, since it goes as an
-/// mpint into the exchange hash (RFC 8731 section 3.1). How long a verification takes tells of its arguments, which
+/// mpint into the exchange hash (RFC 8731 section 3.1, RFC 4253 section 8). How long a verification takes tells of its arguments, which
 /// are all public. Nothing is wiped.
 #[derive(Clone, Copy, Debug)]
 pub struct DeployedSuite;
@@ -52,7 +53,7 @@ impl Suite for DeployedSuite {
     ghost meaning = { λ _. deployed };
 
     fn need(&self, kex: &str) -> Need {
-        if is_curve25519(kex) {
+        if is_curve25519(kex) || is_group14(kex) {
             Need::Signature
         } else {
             Need::Encryption
@@ -128,12 +129,16 @@ impl Suite for DeployedSuite {
         stream(alloc, Sha256::digest(seed), seq, 0, usize::from(len))
     }
 
-    fn share_form(&self, _kex: &str) -> ShareForm {
-        ShareForm::OctetString
+    fn share_form(&self, kex: &str) -> ShareForm {
+        if is_group14(kex) {
+            ShareForm::Mpint
+        } else {
+            ShareForm::OctetString
+        }
     }
 
-    fn public(&self, alloc: Global, _kex: &str, random: &[u8]) -> Result<Vec<u8>, Memory> {
-        Ok(Vec::from_slice(alloc, &share(random))?)
+    fn public(&self, alloc: Global, kex: &str, random: &[u8]) -> Result<Vec<u8>, Memory> {
+        share(alloc, kex, random)
     }
 
     fn shared(
@@ -156,7 +161,7 @@ impl Suite for DeployedSuite {
         let Some(shared) = shared(alloc, kex, random, peer)? else {
             return Ok(None);
         };
-        let share = Vec::from_slice(alloc, &share(random))?;
+        let share = share(alloc, kex, random)?;
         Ok(Some(Response { share, shared }))
     }
 
@@ -203,6 +208,14 @@ fn is_curve25519(kex: &str) -> bool
     kex == "curve25519-sha256" || kex == "curve25519-sha256@libssh.org"
 }
 
+/// Whether this is the name of diffie-hellman-group14-sha256.
+#[tactic(auto, unfolding(crate::specs::Deployed::is_group14))]
+fn is_group14(kex: &str) -> bool
+    ensures { result ≡ is_group14 kex.now }
+{
+    kex == "diffie-hellman-group14-sha256"
+}
+
 /// Whether this is the name of aes256-gcm.
 #[tactic(auto, unfolding(crate::specs::Deployed::is_aes256_gcm))]
 fn is_aes256_gcm(cipher: &str) -> bool
@@ -229,23 +242,29 @@ fn scalar_of(random: &[u8]) -> [u8; 32]
     scalar
 }
 
-/// The share of these random bytes (RFC 7748 section 6.1).
+/// The share of these random bytes (RFC 4253 section 8, RFC 7748 section 6.1).
 #[tactic(auto, unfolding(crate::specs::Deployed::share))]
-fn share(random: &[u8]) -> [u8; 32]
+fn share(alloc: Global, kex: &str, random: &[u8]) -> Result<Vec<u8>, Memory>
     requires { length random.now ≡ 32 }
-    ensures { result ≡ share random.now }
+    ensures { IfOk result (λ v. v.items ≡ share kex.now random.now) }
 {
-    x25519(scalar_of(random), &BASE_POINT)
+    if is_group14(kex) {
+        group14_share(alloc, random)
+    } else {
+        Ok(Vec::from_slice(alloc, &x25519(scalar_of(random), &BASE_POINT))?)
+    }
 }
 
-/// The shared secret as the body of an mpint; none where the method isn't known, the peer's share isn't 32
-/// bytes, or gives zero.
+/// The shared secret as the body of an mpint; none where the method isn't known or refuses the peer's share: of
+/// curve25519-sha256 one that isn't 32 bytes, or gives zero.
 #[tactic(auto, unfolding(crate::specs::Deployed::shared))]
 fn shared(alloc: Global, kex: &str, random: &[u8], peer: &[u8]) -> Result<Option<Vec<u8>>, Memory>
     requires { length random.now ≡ 32 }
     ensures { IfOk result (λ o. option_map (λ v. v.items) o ≡ shared kex.now random.now peer.now) }
 {
-    if is_curve25519(kex) && peer.len() == 32 {
+    if is_group14(kex) {
+        group14_shared(alloc, random, peer)
+    } else if is_curve25519(kex) && peer.len() == 32 {
         shared_secret(alloc, x25519(scalar_of(random), peer))
     } else {
         Ok(None)

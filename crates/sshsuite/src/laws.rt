@@ -93,10 +93,11 @@ pub fn gcm_law()
     ensures { bit_xor (cipher (round_keys tag_key) 0xcafebabefacedbaddecaf88800000001) (ghash (cipher (round_keys tag_key) 0) tag_additional tag_sealed) ≡ 0x76fc6ece0f4e1768cddf8853bb2d551b }
 {}
 
-/// The law of the suite: its shares and what both sides share are those of RFC 8731 (`share`, `shared`), its
-/// public keys and signatures those of RFC 8709 (`key`, `signature`), in numbers modulo 2^255 - 19.
+/// The law of the suite: its shares and what both sides share are those of RFC 8731, in numbers modulo 2^255 - 19, and of RFC
+/// 4253 section 8, modulo the prime of group 14 (`share`, `shared`); its public keys and signatures are those of RFC 8709
+/// (`key`, `signature`).
 pub fn deployed_law()
-    ensures share { (kex random : List ℕ) → deployed.share kex random ≡ share_bytes random }
+    ensures share { (kex random : List ℕ) → deployed.share kex random ≡ share_bytes kex random }
     ensures shared { (kex random peer : List ℕ) → IsBytes peer → deployed.shared kex random peer ≡ shared_body kex random peer }
     ensures key { (alg secret : List ℕ) → deployed.blob alg secret ≡ wrapped (key_of secret) }
     ensures signature { (alg secret input : List ℕ) → deployed.sign alg secret input ≡ wrapped (signed secret input) }

@@ -1,5 +1,5 @@
-//! Algorithms that are deployed, as a suite: curve25519-sha256, ssh-ed25519, chacha20-poly1305@openssh.com and
-//! aes256-gcm@openssh.com.
+//! Algorithms that are deployed, as a suite: curve25519-sha256, diffie-hellman-group14-sha256, ssh-ed25519,
+//! chacha20-poly1305@openssh.com and aes256-gcm@openssh.com.
 #![tactic(auto)]
 
 mod aes;
@@ -13,9 +13,12 @@ mod edwards25519;
 mod field_element;
 mod gcm;
 mod ghash;
+mod group14;
 mod key_pair;
 mod keyed_suite;
 mod laws;
+mod long_numbers;
+mod montgomery;
 mod mpint;
 mod poly1305;
 mod scalar;

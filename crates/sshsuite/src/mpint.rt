@@ -1,7 +1,7 @@
 //! Numbers as mpints.
 
 ghost use Rattle.std.specs.Prelude.{◌≡◌, ◌<◌, ◌≤◌, IfOk, drop, length};
-ghost use Rattle.sshsuite.specs.Deployed.{mpint_body};
+ghost use Rattle.sshsuite.specs.MpintBody.{mpint_body};
 
 use sshwire::Memory;
 use std::alloc::Global;

@@ -5,7 +5,7 @@ use Rattle.sshsuite.proofs.Ed25519Lemmas.{key_is, signed_is}
 use Rattle.sshsuite.proofs.laws.deployed_law.Goals as goal
 
 pub returns-clause-share : goal.returns-clause-share
-returns-clause-share c = λ kex random. share_is random
+returns-clause-share c = share_is
 
 pub returns-clause-shared : goal.returns-clause-shared
 returns-clause-shared c = shared_is

@@ -1,5 +1,5 @@
 use Rattle.std.proofs.Common.{◌≡◌, [], drop}
-use Rattle.sshsuite.specs.Deployed.{mpint_body}
+use Rattle.sshsuite.specs.MpintBody.{mpint_body}
 use Rattle.sshsuite.proofs.mpint.mpint_body.Given as goal
 
 abbrev pub invariant-loop-i : goal.invariant-loop-i

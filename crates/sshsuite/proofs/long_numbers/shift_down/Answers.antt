@@ -1,0 +1,9 @@
+use Rattle.std.proofs.Common.{◌≡◌, ℕ, ◌+◌, ◌-◌, length, arith, ap, sym, ◌∙◌}
+use Rattle.std.specs.Prelude.{slice_set}
+use Rattle.sshsuite.proofs.LongNumberLemmas.{moved_all}
+use Rattle.sshsuite.proofs.long_numbers.shift_down.Goals as goal
+
+pub returns : goal.returns
+returns c =
+    moved_all c.args.words.now c.loop-i.words (length c.args.words.now - 1) c.args.last c.loop-i.auto.words (omega arith)
+    (λ k h. c.loop-i.invariant.0 k (omega arith))
