@@ -39,7 +39,7 @@ returns-in-Whole-clause-steps g c =
     let used = c.in-Whole.used in
     subst (λ (i : Input). Steps setup i kept (input.Packets c.new.result) last (take used c.args.piece.now) c.args.sent.now.items c.args.sent.now.items) (sym (c.in-Lines.is ∙ ap input.Lines c.in-Lines.reader-is))
     (lines_whole laws below streams setup next old kept c.args.piece.now c.args.sent.now.items c.requires.open new c.new.result last used
-    (λ k bytes o. subst (λ x. ReceivesLines k bytes new kept last c.args.piece.now x) c.in-Whole.is (c.in_ok-used-in-Lines.ensures.lines k bytes (subst (λ (r : LineReaderData). StandsOpen k bytes r.progress) (sym c.in-Lines.reader-is) o))) c.new.ensures.state)
+    (λ k bytes o. subst (λ x. ReceivesLines k bytes new kept last c.args.piece.now x) c.in-Whole.is (c.in_ok-received-in-Lines.ensures.lines k bytes (subst (λ (r : LineReaderData). StandsOpen k bytes r.progress) (sym c.in-Lines.reader-is) o))) c.new.ensures.state)
 
 pub returns-in-Part-clause-steps : goal.returns-in-Part-clause-steps
 returns-in-Part-clause-steps g c =
@@ -66,7 +66,7 @@ returns-in-Part-clause-steps g c =
     let used = c.in-Part.used in
     subst (λ (i : Input). Steps setup i kept (input.Lines new) last (take used c.args.piece.now) c.args.sent.now.items c.args.sent.now.items) (sym (c.in-Lines.is ∙ ap input.Lines c.in-Lines.reader-is))
     (lines_part laws below streams setup next old kept c.args.piece.now c.args.sent.now.items c.requires.open new last used
-    (λ k bytes o. subst (λ x. ReceivesLines k bytes new kept last c.args.piece.now x) c.in-Part.is (c.in_ok-used-in-Lines.ensures.lines k bytes (subst (λ (r : LineReaderData). StandsOpen k bytes r.progress) (sym c.in-Lines.reader-is) o))))
+    (λ k bytes o. subst (λ x. ReceivesLines k bytes new kept last c.args.piece.now x) c.in-Part.is (c.in_ok-received-in-Lines.ensures.lines k bytes (subst (λ (r : LineReaderData). StandsOpen k bytes r.progress) (sym c.in-Lines.reader-is) o))))
 
 pub returns-in-Refused-clause-steps : goal.returns-in-Refused-clause-steps
 returns-in-Refused-clause-steps g c =
@@ -93,4 +93,4 @@ returns-in-Refused-clause-steps g c =
     let used = c.in-Refused.used in
     subst (λ (i : Input). Steps setup i kept (input.Lines new) last (take used c.args.piece.now) c.args.sent.now.items c.args.sent.now.items) (sym (c.in-Lines.is ∙ ap input.Lines c.in-Lines.reader-is))
     (lines_refused laws below streams setup next old kept c.args.piece.now c.args.sent.now.items c.requires.open new (input.Lines new) last used
-    (λ k bytes o. subst (λ x. ReceivesLines k bytes new kept last c.args.piece.now x) c.in-Refused.is (c.in_ok-used-in-Lines.ensures.lines k bytes (subst (λ (r : LineReaderData). StandsOpen k bytes r.progress) (sym c.in-Lines.reader-is) o))))
+    (λ k bytes o. subst (λ x. ReceivesLines k bytes new kept last c.args.piece.now x) c.in-Refused.is (c.in_ok-received-in-Lines.ensures.lines k bytes (subst (λ (r : LineReaderData). StandsOpen k bytes r.progress) (sym c.in-Lines.reader-is) o))))
