@@ -1,10 +1,18 @@
-use Rattle.std.proofs.Common.{◌≡◌, ◌+◌, ◌≤◌, ◌-◌, length, take, drop, ◌++◌, sym, ap, ◌∙◌, subst, arith}
+use Rattle.std.proofs.Common.{◌≡◌, ◌+◌, ◌≤◌, ◌-◌, length, take, drop, ◌++◌, refl, sym, ap, ◌∙◌, subst, arith}
 use Rattle.std.proofs.lemmas.List.{length-drop}
 use Rattle.std.proofs.Math.Seq.{take-add}
 use Rattle.sshcore.specs.EndData.{Open}
 use Rattle.sshcore.specs.Endpoints.{Breaks, Fed, endpoint_end}
-use Rattle.sshcore.proofs.CallLemmas.{breaks_then, fed_as, fed_then, on_err, tail_is}
+use Rattle.sshcore.proofs.CallLemmas.{breaks_then, fed_as, fed_none, fed_then, on_err, tail_is}
 use Rattle.sshcore.proofs.endpoint.Endpoint.feed.Goals as goal
+
+pub loop-used-init : goal.loop-used-init
+loop-used-init g c = record {
+  fed = fed_none g.S.Suite.meaning g.D.Decisions.policy c.args.self.now c.args.out.now.items;
+  within = omega arith;
+  kept = λ e. e;
+  ended = λ shut. (refl, refl, refl);
+}
 
 pub loop-used-preserved : goal.loop-used-preserved
 loop-used-preserved g c =
