@@ -84,7 +84,7 @@ pub(crate) fn subtract_where(rest: &mut [u64], number: &[u64], bit: u64) -> u64
     borrow
 }
 
-/// Leaves out the lowest word, and puts one behind the last.
+/// Leaves out the lowest word, and puts one after the last.
 pub(crate) fn shift_down(words: &mut [u64], last: u64)
     requires { 0 < length words.old }
     ensures { slice_index words.old 0 + 2 ^ 64 * number_of words.new ≡ number_of words.old + weight (length words.old) * last }
