@@ -1,11 +1,11 @@
 -- Two sides of diffie-hellman-group14-sha256 come to one shared secret.
 
-use Rattle.std.proofs.Common.{◌≡◌, ℕ, zero, suc, ◌+◌, ◌-◌, ◌*◌, ◌/◌, ◌%◌, ◌^◌, ◌<◌, ◌≤◌, Bool, true, false, List, [], ◌∷◌, length, refl, sym, ap, ◌∙◌, arith, cond, eqb, leb, ltb}
+use Rattle.std.proofs.Common.{◌≡◌, ℕ, zero, suc, ◌+◌, ◌-◌, ◌*◌, ◌/◌, ◌%◌, ◌^◌, ◌<◌, Bool, true, false, List, [], ◌∷◌, length, refl, sym, ap, ◌∙◌, arith, cond, eqb, leb, ltb}
 use Rattle.std.proofs.Math.Nat.{div-add-mod, div-one, mod-eq_of_lt, mod-one, pow-suc, pow-zero}
 use Rattle.std.proofs.lemmas.Bool.{cond_both, eqb-false, eqb-true, false≢true, leb-false, lt-ltb, ltb-true}
 use Rattle.std.proofs.lemmas.Nat.{mod-mul-add, mod_below, mul-add-lt, pow-add, pow-mod}
 use Rattle.std.specs.Int.{byte_at, bytes_high_first}
-use Rattle.std.specs.Prelude.{◌&&◌, ◌||◌, Option, None, Some}
+use Rattle.std.specs.Prelude.{◌&&◌, None, Some}
 use Rattle.sshsuite.specs.Group14.{bytes_high, generator, group14_share, group14_shared, is_positive_body, is_within, number_body, number_high, peer_number, power, prime, secret_body, secret_with}
 use Rattle.sshsuite.specs.MpintBody.{mpint_body}
 use Rattle.sshsuite.specs.Scalar.{number_in}
