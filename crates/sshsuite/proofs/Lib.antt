@@ -19,3 +19,4 @@ pub mod LongNumberLemmas
 pub mod MontgomeryLemmas
 pub mod PowerLemmas
 pub mod ByteNumberLemmas
+pub mod AgreementLemmas

@@ -1,7 +1,7 @@
 -- Numbers of words of 64 bits, word by word.
 
-use Rattle.std.proofs.Common.{◌≡◌, ℕ, zero, suc, ◌+◌, ◌-◌, ◌*◌, ◌/◌, ◌%◌, ◌^◌, ◌<◌, ◌≤◌, List, length, get_or, refl, sym, ap, ◌∙◌, add-one, arith, cond, eqb, ltb, inl, inr}
-use Rattle.std.proofs.lemmas.Bool.{cases_lt, cond_both, ltb-false, ltb-true}
+use Rattle.std.proofs.Common.{◌≡◌, ℕ, zero, suc, ◌+◌, ◌-◌, ◌*◌, ◌/◌, ◌%◌, ◌^◌, ◌<◌, ◌≤◌, List, length, refl, sym, ap, ◌∙◌, add-one, arith, cond, eqb, ltb}
+use Rattle.std.proofs.lemmas.Bool.{cond_both, ltb-false, ltb-true}
 use Rattle.std.proofs.lemmas.List.{get_or-set_other, get_or-set_same, length-set}
 use Rattle.std.proofs.lemmas.Nat.{pow-add, pow_pos, row_fits}
 use Rattle.std.specs.Prelude.{slice_index, slice_set}

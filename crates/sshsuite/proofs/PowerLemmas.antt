@@ -1,6 +1,6 @@
 -- Powers modulo the prime of group 14, of numbers that are 2^2048 times the powers.
 
-use Rattle.std.proofs.Common.{◌≡◌, ℕ, zero, suc, ◌+◌, ◌-◌, ◌*◌, ◌/◌, ◌%◌, ◌^◌, ◌<◌, ◌≤◌, List, length, refl, sym, ap, ◌∙◌, add-one, arith, Bool, true, false, cond, eqb, ltb}
+use Rattle.std.proofs.Common.{◌≡◌, ℕ, zero, suc, ◌+◌, ◌-◌, ◌*◌, ◌%◌, ◌^◌, ◌<◌, ◌≤◌, List, length, refl, sym, ap, ◌∙◌, add-one, arith, Bool, true, false, cond, eqb, ltb}
 use Rattle.std.proofs.Math.Nat.{mod-eq_of_lt, pow-suc, pow-zero}
 use Rattle.std.proofs.lemmas.Nat.{mod_below, mul-mod, mul-mod_first, mul-mod_second, pow-add}
 use Rattle.std.proofs.lemmas.Bool.{le-ltb, ltb-true}

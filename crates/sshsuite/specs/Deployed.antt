@@ -1,6 +1,6 @@
 -- What the suite answers.
 
-use Rattle.std.specs.Prelude.{ℕ, ◌==◌, ◌&&◌, ◌||◌, codes, true, false, nat_le, if◌then◌else◌, Bool, List, [], ◌∷◌, ◌++◌, length, drop, replicate, Option, None, Some, option_map}
+use Rattle.std.specs.Prelude.{ℕ, ◌==◌, ◌&&◌, ◌||◌, codes, true, false, if◌then◌else◌, Bool, List, ◌++◌, length, drop, replicate, Option, None, Some, option_map}
 use Rattle.std.specs.Str.{bytes_eq}
 use Rattle.sha2.specs.Sha256.{sha256}
 use Rattle.sshwire.specs.Types.{string}

@@ -1,14 +1,14 @@
 -- The suite has the laws of one end.
 
-use Rattle.std.proofs.Common.{◌≡◌, ℕ, ◌+◌, ◌<◌, ◌≤◌, Bool, true, false, List, [], ◌∷◌, ◌++◌, length, take, refl, sym, ap, ap₂, ◌∙◌, arith, cond, leb, eqb, inl, inr}
-use Rattle.std.proofs.lemmas.Bool.{cond_both, eqb-false, leb-false, leb-true}
+use Rattle.std.proofs.Common.{◌≡◌, ℕ, ◌+◌, ◌≤◌, Bool, true, false, List, ◌++◌, length, take, refl, sym, ap, ap₂, ◌∙◌, arith, cond, eqb}
+use Rattle.std.proofs.lemmas.Bool.{cond_both}
 use Rattle.std.proofs.lemmas.List.{length-append, length-set}
 use Rattle.std.specs.Int.{w64, to_le_bytes}
 use Rattle.std.specs.Prelude.{◌&&◌, Option, None, Some, option_map, replicate, slice_index}
 use Rattle.std.specs.Str.{bytes_eq}
 use Rattle.sha2.proofs.Facts256.{length-sha256}
 use Rattle.sha2.specs.Sha256.{sha256}
-use Rattle.sshwire.specs.ByteLaws.{bytes_append, bytes_cons, bytes_dropped, bytes_none}
+use Rattle.sshwire.specs.ByteLaws.{bytes_append}
 use Rattle.sshwire.specs.Types.{IsBytes, string}
 use Rattle.sshpacket.specs.KeysData.{KeysData}
 use Rattle.sshpacket.specs.Packet.{number}

@@ -1,6 +1,6 @@
 -- The method diffie-hellman-group14-sha256 (RFC 4253 section 8, RFC 8268), in numbers.
 
-use Rattle.std.proofs.Common.{ℕ, zero, suc, ◌+◌, ◌-◌, ◌*◌, ◌/◌, ◌%◌, ◌^◌, List, [], ◌∷◌, length}
+use Rattle.std.proofs.Common.{ℕ, ◌+◌, ◌-◌, ◌*◌, ◌%◌, ◌^◌, List, [], ◌∷◌, length}
 use Rattle.std.specs.Prelude.{◌&&◌, ◌||◌, Bool, false, if◌then◌else◌, nat_le, nat_lt, Option, None, Some}
 use Rattle.std.specs.Int.{bytes_high_first}
 use Rattle.sshsuite.specs.MpintBody.{mpint_body}

@@ -3,13 +3,12 @@
 use Rattle.std.proofs.Common.{◌≡◌, ℕ, zero, suc, ◌+◌, ◌-◌, ◌*◌, ◌/◌, ◌%◌, ◌^◌, ◌<◌, ◌≤◌, Bool, true, false, List, [], ◌∷◌, length, refl, sym, ap, ◌∙◌, arith, cond, eqb, leb, ltb, inl, inr}
 use Rattle.std.proofs.Math.Nat.{div-add-mod, div-one, mod-eq_of_lt, pow-suc, pow-zero}
 use Rattle.std.proofs.lemmas.Bool.{cases_lt, cond_both, eqb-false, eqb-true, leb-false, leb-true, ltb-true}
-use Rattle.std.proofs.lemmas.Nat.{div_below, mod-mul-add, mod_below, mul-mod_first, pow-add}
+use Rattle.std.proofs.lemmas.Nat.{div_below, mod-mul-add, mod_below, mul-mod_first}
 use Rattle.std.specs.Int.{byte_at, bytes_high_first}
-use Rattle.std.specs.Prelude.{◌&&◌, ◌⊎◌, Option, None, Some, slice_index}
+use Rattle.std.specs.Prelude.{◌&&◌, Option, None, Some}
 use Rattle.sshwire.specs.ByteLaws.{bytes_cons, bytes_dropped, bytes_none}
 use Rattle.sshwire.specs.Types.{IsBytes}
 use Rattle.sshpacket.specs.Suite.{IsNumberBody, IsPositiveBody}
-use Rattle.sshpacket.specs.declared.limits.TheConstants.{SHARE_LIMIT}
 use Rattle.sshsuite.specs.Group14.{bytes_high, generator, group14_share, group14_shared, is_within, number_body, peer_number, power, prime, secret_body, secret_with}
 use Rattle.sshsuite.specs.KeyStream.{byte_low}
 use Rattle.sshsuite.specs.MpintBody.{mpint_body}

@@ -1,7 +1,7 @@
 //! What the calls compute, in the RFCs' own words: theorems on their meanings, each of which is the code
 //! written again. No function of the crate calls them.
 
-ghost use Rattle.std.specs.Prelude.{◌≡◌, ◌<◌, ◌+◌, ◌*◌, ◌%◌, ◌^◌, List, ℕ, bit_xor, slice_index};
+ghost use Rattle.std.specs.Prelude.{◌≡◌, ◌<◌, ◌+◌, ◌*◌, ◌%◌, ◌^◌, List, Some, true, ℕ, bit_xor, slice_index};
 ghost use Rattle.sshwire.specs.Types.{IsBytes};
 ghost use Rattle.sshsuite.specs.Aes.{cipher, number_at, round_keys};
 ghost use Rattle.sshsuite.specs.AesBytes.{IsExpanded, bit_of, block_of, byte_inverse, byte_mapped, byte_product, encrypted_state, key_state, mapped_bit, sample_key, tag_additional, tag_key, tag_sealed};
@@ -19,6 +19,7 @@ ghost use Rattle.sshsuite.specs.FieldElement.{add, decode, encode, mul, scaled, 
 ghost use Rattle.sshsuite.specs.FieldValues.{AreBelow, field, value};
 ghost use Rattle.sshsuite.specs.Poly1305.{tag_of};
 ghost use Rattle.sshsuite.specs.Ghash.{ghash};
+ghost use Rattle.sshsuite.specs.Group14.{generator, group14_share, group14_shared, is_within, number_body, peer_number, power};
 ghost use Rattle.sshsuite.specs.PolyNumbers.{mac};
 ghost use Rattle.sshsuite.specs.X25519Numbers.{x25519_number};
 ghost use Rattle.sshsuite.specs.declared.edwards25519.Point.{Point};
@@ -91,6 +92,14 @@ pub fn aes_law()
 /// blocks.
 pub fn gcm_law()
     ensures { bit_xor (cipher (round_keys tag_key) 0xcafebabefacedbaddecaf88800000001) (ghash (cipher (round_keys tag_key) 0) tag_additional tag_sealed) ≡ 0x76fc6ece0f4e1768cddf8853bb2d551b }
+{}
+
+/// The law of diffie-hellman-group14-sha256: a share's body is read as its number (`read`), and two sides whose shares aren't
+/// refused come to one shared secret (`agreed`), each by its random bytes and the other's share.
+pub fn group14_law()
+    ensures read { (n : ℕ) → is_within n ≡ true → peer_number (number_body n) ≡ Some n }
+    ensures agreed { (client server : List ℕ) → is_within (power generator client) ≡ true → is_within (power generator server) ≡ true
+        → group14_shared client (group14_share server) ≡ group14_shared server (group14_share client) }
 {}
 
 /// The law of the suite: its shares and what both sides share are those of RFC 8731, in numbers modulo 2^255 - 19, and of RFC

@@ -1,4 +1,4 @@
-use Rattle.std.proofs.Common.{◌≡◌, ◌+◌, ◌-◌, ◌*◌, ◌++◌, ℕ, ap, arith, drop, rules, sym, ◌∙◌}
+use Rattle.std.proofs.Common.{◌+◌, ◌-◌, ◌*◌, ◌++◌, ℕ, ap, arith, drop, rules, sym, ◌∙◌}
 use Rattle.std.specs.Int.{to_be_bytes, w64}
 use Rattle.std.specs.Prelude.{slice_index}
 use Rattle.sshsuite.proofs.ByteNumberLemmas.{bytes_more, put_dropped, written_all}

@@ -1,7 +1,6 @@
 use Rattle.std.proofs.Common.{◌≡◌, ◌-◌, ◌*◌, drop}
 use Rattle.std.specs.Int.{bytes_high_first}
 use Rattle.sshsuite.specs.LongNumbers.{number_to}
-use Rattle.sshsuite.proofs.ByteNumberLemmas.{weight_bytes}
 use Rattle.sshsuite.proofs.group14.bytes_high.Given as goal
 
 abbrev pub invariant-loop-i : goal.invariant-loop-i

@@ -1,5 +1,5 @@
-use Rattle.std.proofs.Common.{arith, rules}
-use Rattle.sshsuite.proofs.ByteNumberLemmas.{after_zero, not_zero, positive_some}
+use Rattle.std.proofs.Common.{rules}
+use Rattle.sshsuite.proofs.ByteNumberLemmas.{after_zero, positive_some}
 use Rattle.sshsuite.proofs.group14.digits_of.Goals as goal
 
 pub bounds-body-0 : goal.bounds-body-0

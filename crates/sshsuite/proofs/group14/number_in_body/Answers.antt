@@ -1,7 +1,7 @@
-use Rattle.std.proofs.Common.{ℕ, ◌<◌, ◌^◌, arith, length, rules, ◌∙◌}
+use Rattle.std.proofs.Common.{ℕ, ◌<◌, arith, rules, ◌∙◌}
 use Rattle.std.specs.Prelude.{slice_index}
 use Rattle.sshsuite.specs.Group14.{number_high}
-use Rattle.sshsuite.specs.LongNumbers.{number_of, weight}
+use Rattle.sshsuite.specs.LongNumbers.{number_of}
 use Rattle.sshsuite.proofs.ByteNumberLemmas.{high_big, high_small, read_none_of, read_some_of}
 use Rattle.sshsuite.proofs.group14.number_in_body.Goals as goal
 

@@ -1,5 +1,5 @@
 use Rattle.std.proofs.Common.{◌≡◌, ℕ, ap, cond, rules, true, ◌∙◌}
-use Rattle.std.specs.Prelude.{Option, None, Some}
+use Rattle.std.specs.Prelude.{None, Some}
 use Rattle.sshsuite.specs.Group14.{is_positive_body, is_within, number_high}
 use Rattle.sshsuite.specs.LongNumbers.{number_of}
 use Rattle.sshsuite.proofs.ByteNumberLemmas.{given_none, given_number}

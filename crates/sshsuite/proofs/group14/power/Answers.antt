@@ -1,4 +1,4 @@
-use Rattle.std.proofs.Common.{◌≡◌, ℕ, ◌+◌, ◌*◌, ◌%◌, ◌^◌, ap, arith, ◌∙◌}
+use Rattle.std.proofs.Common.{ℕ, ◌*◌, ◌%◌, ◌^◌, ap, arith, ◌∙◌}
 use Rattle.sshsuite.specs.Group14.{prime}
 use Rattle.sshsuite.specs.LongNumbers.{number_of, weight}
 use Rattle.sshsuite.specs.Scalar.{number_to}

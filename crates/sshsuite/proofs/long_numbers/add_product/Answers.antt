@@ -1,4 +1,4 @@
-use Rattle.std.proofs.Common.{◌≡◌, ℕ, ◌+◌, ◌*◌, length, arith, ◌∙◌}
+use Rattle.std.proofs.Common.{arith}
 use Rattle.sshsuite.proofs.LongNumberLemmas.{added_all, added_more, added_none}
 use Rattle.sshsuite.proofs.long_numbers.add_product.Goals as goal
 

@@ -1,5 +1,4 @@
-use Rattle.std.proofs.Common.{◌≡◌, ℕ, ◌+◌, ◌-◌, length, arith, ap, sym, ◌∙◌}
-use Rattle.std.specs.Prelude.{slice_set}
+use Rattle.std.proofs.Common.{◌-◌, length, arith}
 use Rattle.sshsuite.proofs.LongNumberLemmas.{moved_all}
 use Rattle.sshsuite.proofs.long_numbers.shift_down.Goals as goal
 

@@ -1,5 +1,4 @@
-use Rattle.std.proofs.Common.{ℕ, ◌<◌, ◌^◌, length, arith, refl, rules}
-use Rattle.std.specs.Prelude.{slice_index}
+use Rattle.std.proofs.Common.{◌<◌, length, arith, rules}
 use Rattle.sshsuite.specs.LongNumbers.{number_of, weight}
 use Rattle.sshsuite.proofs.LongNumberLemmas.{all_below, below_by}
 use Rattle.sshsuite.proofs.MontgomeryLemmas.{bit_small, reduced, top_small}

@@ -1,4 +1,4 @@
-use Rattle.std.proofs.Common.{◌≡◌, ℕ, ◌+◌, ◌<◌, ◌^◌, arith, rules}
+use Rattle.std.proofs.Common.{◌≡◌, ◌+◌, ◌<◌, ◌^◌, arith, rules}
 use Rattle.std.specs.Prelude.{slice_index}
 use Rattle.sshsuite.proofs.MontgomeryLemmas.{step_is}
 use Rattle.sshsuite.proofs.montgomery.step.Goals as goal
