@@ -8,8 +8,13 @@
  *   - Link librezdolin.a and then liblibc_c.a, which ties it to malloc, realloc and free.
  *   - A pointer is never null, also where its length is 0; memory to write overlaps no other of the same call. Nothing
  *     else is asked of a caller: whatever the bytes are, a call ends, and reads and writes no other memory.
- *   - A call makes all its work anew. So call when you have read what there was, rather than for each byte, and don't
- *     take more bytes than REZDOLIN_RECEIVED_LIMIT from a peer that hasn't authenticated.
+ *   - A call makes all its work anew, so a peer that sends byte by byte costs the square of what it sends. Bound both:
+ *     take no more than REZDOLIN_RECEIVED_LIMIT bytes from a peer that hasn't authenticated, and make no more than
+ *     REZDOLIN_CALLS_LIMIT calls for them. Nothing new is answered before the last byte of a packet is there, so read
+ *     what there is before a call, and where that is little wait some milliseconds for more. As measured (docs/BENCH.md):
+ *     a session takes 6 calls of each side, 5 to 10 milliseconds of a processor for both; a client that is handed its 906
+ *     bytes one by one takes 110 to 230; and a server's call on as many bytes as the limit allows, in the smallest
+ *     packets, 10 to 18. So with both limits a connection costs 2.3 seconds, at the most that was tried.
  *   - Nothing is wiped: the secrets that you hand in, and the record, are yours to wipe.
  *
  * docs/USING.md has a whole client. Codes (C1, F1, P1 and so on) are those of its tables. */
@@ -41,8 +46,9 @@ typedef struct rezdolin_bytes {
 #define REZDOLIN_MACS \
     "hmac-sha2-256-etm@openssh.com,hmac-sha2-512-etm@openssh.com,hmac-sha2-256,hmac-sha2-512,hmac-sha1"
 
-/* More than a peer has to send to be authenticated by a handful of requests. */
+/* More than a peer has to send to be authenticated by a handful of requests, and more calls than that takes. */
 #define REZDOLIN_RECEIVED_LIMIT 262144
+#define REZDOLIN_CALLS_LIMIT 128
 
 /* The room that each record and each packet fits in that the library makes. */
 #define REZDOLIN_RECORD_ROOM 65536

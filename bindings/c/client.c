@@ -47,6 +47,7 @@ static bool receive(void) {
 static bool authenticate(const rezdolin_client_input *client) {
     rezdolin_endpoint_answer answer;
     size_t sent = 0;
+    unsigned calls = 0;
     do {
         do {
             answer = rezdolin_client(client, received, len, sent, out, sizeof out, record, sizeof record);
@@ -56,7 +57,7 @@ static bool authenticate(const rezdolin_client_input *client) {
             }
             sent += answer.written;
         } while (send_all(out, answer.written) && sent < answer.sent);
-    } while (answer.end == REZDOLIN_OPEN && receive());
+    } while (answer.end == REZDOLIN_OPEN && ++calls < REZDOLIN_CALLS_LIMIT && receive());
     memmove(received, received + answer.used, len -= answer.used);
     if (answer.end != REZDOLIN_AUTHENTICATED)
         fprintf(stderr, "end %u: F%u %u\n", answer.end, answer.fault, answer.detail);

@@ -4,10 +4,9 @@
 #include <stdio.h>
 #include <time.h>
 
+/* Of a processor, so what else runs weighs little. */
 static double milliseconds(void) {
-    struct timespec now;
-    timespec_get(&now, TIME_UTC);
-    return (double)now.tv_sec * 1000 + (double)now.tv_nsec / 1e6;
+    return (double)clock() * 1000 / CLOCKS_PER_SEC;
 }
 
 static double call(const session *s, size_t n) {
@@ -40,9 +39,11 @@ static void flood(unsigned size) {
             break;
     }
     double from = milliseconds();
-    rezdolin_endpoint_answer answer = rezdolin_server(&s.server, received, len, 0, out, sizeof out, record, sizeof record);
-    printf("a server's call at %zu bytes, packets of %u bytes, end %u, fault %u: %.1f ms\n", len, size, answer.end, answer.fault,
-           milliseconds() - from);
+    rezdolin_endpoint_answer answer;
+    for (int i = 0; i < 20; i++)
+        answer = rezdolin_server(&s.server, received, len, 0, out, sizeof out, record, sizeof record);
+    printf("a server's call at %zu bytes, payloads of %u bytes, %s: %.1f ms\n", len, size,
+           answer.end == REZDOLIN_OPEN && answer.used == len ? "all read" : "NOT ALL READ", (milliseconds() - from) / 20);
 }
 
 int main(void) {
