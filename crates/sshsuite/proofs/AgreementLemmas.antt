@@ -1,28 +1,17 @@
 -- Two sides of diffie-hellman-group14-sha256 come to one shared secret.
 
 use Rattle.std.proofs.Common.{◌≡◌, ℕ, zero, suc, ◌+◌, ◌-◌, ◌*◌, ◌/◌, ◌%◌, ◌^◌, ◌<◌, Bool, true, false, List, [], ◌∷◌, length, refl, sym, ap, ◌∙◌, arith, cond, eqb, leb, ltb}
-use Rattle.std.proofs.Math.Nat.{div-add-mod, div-one, mod-eq_of_lt, mod-one, pow-suc, pow-zero}
+use Rattle.std.proofs.Math.Nat.{div-add-mod, mod-eq_of_lt, mod-one, pow-suc, pow-zero}
 use Rattle.std.proofs.lemmas.Bool.{cond_both, eqb-false, eqb-true, false≢true, leb-false, lt-ltb, ltb-true}
 use Rattle.std.proofs.lemmas.Nat.{mod-mul-add, mod_below, mul-add-lt, pow-add, pow-mod}
 use Rattle.std.specs.Int.{byte_at, bytes_high_first}
 use Rattle.std.specs.Prelude.{◌&&◌, None, Some}
 use Rattle.sshsuite.specs.Group14.{bytes_high, generator, group14_share, group14_shared, is_positive_body, is_within, number_body, number_high, peer_number, power, prime, secret_body, secret_with}
+use Rattle.sshsuite.specs.Group14Laws.{byte_is, length_high, prime_short, some_power}
 use Rattle.sshsuite.specs.MpintBody.{mpint_body}
 use Rattle.sshsuite.specs.Scalar.{number_in}
 
 -- The number of the bytes of a number.
-length_high : (k n : ℕ) → length (bytes_high_first k n) ≡ k
-length_high zero n = refl
-length_high (suc k) n = ap (λ (m : ℕ). suc m) (length_high k n)
-
-byte_is : (k n : ℕ) → byte_at k n ≡ n / 256 ^ k % 256
-byte_is zero n = ap (λ (d : ℕ). d % 256) (sym (div-one n)) ∙ ap (λ (d : ℕ). n / d % 256) (sym (pow-zero 256))
-byte_is (suc k) n = refl
-
-some_power : (k : ℕ) → 0 < 256 ^ k
-some_power zero = let e = pow-zero 256 in omega (arith, e)
-some_power (suc k) = let e = pow-suc 256 k in let h = some_power k in omega (arith, e, h)
-
 split : (n w : ℕ) → 0 < w → n / w % 256 * w + n % w ≡ n % (w * 256)
 split n w some =
     let q : ℕ = n / w in
@@ -78,10 +67,6 @@ body_positive (b ∷ bytes) h =
     plain : (b : ℕ) (bytes : List ℕ) → 0 < b → b < 128 → is_positive_body (b ∷ bytes) ≡ true
     plain b [] some low = let e = lt-ltb 0 b some in let f = lt-ltb b 128 low in rw (e, f) refl
     plain b (c ∷ bytes) some low = let e = lt-ltb 0 b some in let f = lt-ltb b 128 low in rw (e, f) refl
-
-prime_short : prime < 256 ^ 256
-unfolding prime
-prime_short = omega arith
 
 -- a share is read as its number
 pub read_of_body : (n : ℕ) → is_within n ≡ true → peer_number (number_body n) ≡ Some n

@@ -1,7 +1,7 @@
 -- Numbers of words as bytes, the highest first.
 
 use Rattle.std.proofs.Common.{◌≡◌, ℕ, zero, suc, ◌+◌, ◌-◌, ◌*◌, ◌/◌, ◌%◌, ◌^◌, ◌<◌, ◌≤◌, List, [], ◌∷◌, ◌++◌, length, drop, take, refl, sym, ap, ap₂, ◌∙◌, add-one, arith, true, false, cond, ltb, leb, inl, inr}
-use Rattle.std.proofs.Math.Nat.{add-mul-div_left, div-div-eq-div-mul, div-one, pow-zero}
+use Rattle.std.proofs.Math.Nat.{add-mul-div_left, div-div-eq-div-mul, pow-zero}
 use Rattle.std.proofs.lemmas.List.{append-nil, drop-drop, drop_all, drop_at, drop_more, length-drop, length-replicate, length-take-le, take-replicate}
 use borrow.Rule.Slice.PartMut.{put_mid}
 use Rattle.std.proofs.lemmas.Nat.{div-mul-add, mul-le, pow-add}
@@ -10,6 +10,7 @@ use Rattle.std.specs.Int.{byte_at, bytes_high_first, from_be_bytes, to_be_bytes,
 use Rattle.std.specs.Prelude.{◌&&◌, ◌||◌, Bool, Option, None, Some, replicate, slice_index, slice_set}
 use Rattle.sshsuite.specs.Bits.{high_word_at}
 use Rattle.sshsuite.specs.Group14.{bytes_high, is_positive_body, number_high}
+use Rattle.sshsuite.specs.Group14Laws.{byte_is, some_power}
 use Rattle.sshsuite.specs.LongNumbers.{number_of, number_to, weight}
 use Rattle.sshsuite.proofs.LongNumberLemmas.{number_all, number_below, number_more, number_none, number_set, weight_more, weight_none}
 
@@ -21,15 +22,7 @@ weight_bytes (suc n) =
     let at : suc n ≡ n + 1 = sym (add-one n) in
     ap weight at ∙ weight_more n ∙ ap (λ (k : ℕ). 2 ^ 64 * k) (weight_bytes n) ∙ sym (ap (λ (k : ℕ). 256 ^ k) e ∙ pow-add 256 8 (8 * n))
 
-some : (k : ℕ) → 0 < 256 ^ k
-some zero = let e = pow-zero 256 in omega (arith, e)
-some (suc k) = let e = pow-add 256 1 k in let h = some k in let f : suc k ≡ 1 + k = omega arith in rw f (omega (arith, e, h))
-
 -- A byte of a number.
-byte_is : (k n : ℕ) → byte_at k n ≡ n / 256 ^ k % 256
-byte_is zero n = ap (λ (d : ℕ). d % 256) (sym (div-one n)) ∙ ap (λ (d : ℕ). n / d % 256) (sym (pow-zero 256))
-byte_is (suc k) n = refl
-
 high_byte : (k j n w : ℕ) → n < 256 ^ k → byte_at (k + j) (n + 256 ^ k * w) ≡ byte_at j w
 high_byte k j n w h =
     let e : n + 256 ^ k * w ≡ w * 256 ^ k + n = omega arith in
@@ -39,7 +32,7 @@ high_byte k j n w h =
 low_byte : (j i n w : ℕ) → byte_at j (n + 256 ^ (j + 1 + i) * w) ≡ byte_at j n
 low_byte j i n w =
     let e : n + 256 ^ (j + 1 + i) * w ≡ n + 256 ^ j * (256 * (256 ^ i * w)) = rw (pow-add 256 (j + 1) i, pow-add 256 j 1) (omega arith) in
-    byte_is j (n + 256 ^ (j + 1 + i) * w) ∙ ap (λ (d : ℕ). d / 256 ^ j % 256) e ∙ ap (λ (d : ℕ). d % 256) (add-mul-div_left n (256 * (256 ^ i * w)) (some j))
+    byte_is j (n + 256 ^ (j + 1 + i) * w) ∙ ap (λ (d : ℕ). d / 256 ^ j % 256) e ∙ ap (λ (d : ℕ). d % 256) (add-mul-div_left n (256 * (256 ^ i * w)) (some_power j))
     ∙ above (n / 256 ^ j) (256 ^ i * w) ∙ sym (byte_is j n)
   where
     above : (x y : ℕ) → (x + 256 * y) % 256 ≡ x % 256
@@ -225,7 +218,7 @@ more_bytes : (m n : ℕ) → m ≤ n → 256 ^ m ≤ 256 ^ n
 more_bytes m n h =
     let at : n ≡ m + (n - m) = omega arith in
     let e : 256 ^ n ≡ 256 ^ m * 256 ^ (n - m) = ap (λ (k : ℕ). 256 ^ k) at ∙ pow-add 256 m (n - m) in
-    let one : 256 ^ m * 1 ≤ 256 ^ m * 256 ^ (n - m) = mul-le (256 ^ m) 1 (256 ^ m) (256 ^ (n - m)) (omega arith) (let s = some (n - m) in omega (arith, s)) in omega (arith, e, one)
+    let one : 256 ^ m * 1 ≤ 256 ^ m * 256 ^ (n - m) = mul-le (256 ^ m) 1 (256 ^ m) (256 ^ (n - m)) (omega arith) (let s = some_power (n - m) in omega (arith, s)) in omega (arith, e, one)
 
 pub high_small : (bytes : List ℕ) → length bytes ≤ 256 → ((k : ℕ) → slice_index bytes k < 256) → number_high bytes < weight 32
 high_small bytes short h = let low = high_below bytes h in let e = weight_bytes 32 in let more = more_bytes (length bytes) 256 short in omega (arith, low, e, more)

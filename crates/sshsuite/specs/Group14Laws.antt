@@ -39,7 +39,7 @@ body_bytes (b ∷ bytes) h =
     (λ _. bytes_cons 0 (b ∷ bytes) (omega arith) h)
     (λ _. h))
 
-length_high : (k n : ℕ) → length (bytes_high_first k n) ≡ k
+pub length_high : (k n : ℕ) → length (bytes_high_first k n) ≡ k
 length_high zero n = refl
 length_high (suc k) n = ap (λ (m : ℕ). suc m) (length_high k n)
 
@@ -47,11 +47,11 @@ bytes_of : (k n : ℕ) → IsBytes (bytes_high_first k n)
 bytes_of zero n = bytes_none
 bytes_of (suc k) n = bytes_cons (byte_at k n) (bytes_high_first k n) (byte_low k n) (bytes_of k n)
 
-byte_is : (k n : ℕ) → byte_at k n ≡ n / 256 ^ k % 256
+pub byte_is : (k n : ℕ) → byte_at k n ≡ n / 256 ^ k % 256
 byte_is zero n = ap (λ (d : ℕ). d % 256) (sym (div-one n)) ∙ ap (λ (d : ℕ). n / d % 256) (sym (pow-zero 256))
 byte_is (suc k) n = refl
 
-some_power : (k : ℕ) → 0 < 256 ^ k
+pub some_power : (k : ℕ) → 0 < 256 ^ k
 some_power zero = let e = pow-zero 256 in omega (arith, e)
 some_power (suc k) = let e = pow-suc 256 k in let h = some_power k in omega (arith, e, h)
 
@@ -82,7 +82,7 @@ none_zero (suc k) n h e =
         let rest = mod_below n w h in
         let none : w * (n / w) ≡ 0 = rw e (omega arith) in omega (arith, parts, rest, none)
 
-prime_short : prime < 256 ^ 256
+pub prime_short : prime < 256 ^ 256
 unfolding prime
 prime_short = omega arith
 

@@ -39,8 +39,8 @@ const ED25519: &str = "ssh-ed25519";
 /// this cipher lists it after another, or for peers that are strict.
 ///
 /// What it computes is proved to be the RFCs' ([`deployed_law`](crate::deployed_law)), down to numbers; SHA-256,
-/// SHA-512 and ChaCha20 are the kit's. That two ends agree, and that a signature is verified by its own key,
-/// isn't proved.
+/// SHA-512 and ChaCha20 are the kit's. That two ends agree is proved of diffie-hellman-group14-sha256 alone
+/// ([`group14_law`](crate::group14_law)), and that a signature is verified by its own key isn't.
 ///
 /// No branch and no index depends on a secret, as the code is written; no contract promises it of what a
 /// compiler makes. What time does tell is how many zeros a shared secret begins with, since it goes as an
