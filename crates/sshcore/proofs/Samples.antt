@@ -6,7 +6,7 @@ use Rattle.std.specs.Char.{encode_utf8}
 use Rattle.std.specs.Str.{bytes_eq, chars, is_utf8}
 use Rattle.sshmsg.specs.Form.{utf8_at}
 use Rattle.sshmsg.specs.MessageData.{Disconnect, ServiceAccept, ServiceRequest, UserauthBanner}
-use Rattle.sshmsg.specs.Messages as messages
+use Rattle.sshmsg.specs.MessageData as messages
 use Rattle.sshmsg.specs.Messages.{message_in}
 use Rattle.sshmsg.specs.Written.{written_message}
 use Rattle.sshwire.specs.TypeReadings as readings
