@@ -87,7 +87,7 @@ unfolding toy kexinit_data config_data kexinit_of a ab ba o trusting wary writte
 server_sends d v = (refl, refl, refl, refl, refl, refl)
 
 -- what a client sends, up to the end that an empty plan has
-client_sends : (v : List ℕ) → (making toy Client client ≡ hello true ∷ []) × (unit_reply toy trusting Client client (v ∷ []) (welcome true) ≡ goes (init ∷ [])) × (unit_reply toy trusting Client client (v ∷ welcome true ∷ []) reply ≡ goes ((21 ∷ []) ∷ request ∷ [])) × (unit_reply toy trusting Client client (v ∷ welcome true ∷ reply ∷ []) (21 ∷ []) ≡ goes []) × (unit_reply toy trusting Client client (v ∷ welcome true ∷ reply ∷ (21 ∷ []) ∷ []) accept ≡ fails fault.NoMoreMethods) × (answers_at toy trusting Client client (v ∷ welcome true ∷ reply ∷ (21 ∷ []) ∷ []) accept ≡ (1 ∷ 0 ∷ 0 ∷ 0 ∷ 14 ∷ 0 ∷ 0 ∷ 0 ∷ 0 ∷ 0 ∷ 0 ∷ 0 ∷ 0 ∷ []) ∷ [])
+client_sends : (v : List ℕ) → (making toy Client client ≡ hello true ∷ []) × (unit_reply (setup_with toy trusting Client client) (v ∷ []) (welcome true) ≡ goes (init ∷ [])) × (unit_reply (setup_with toy trusting Client client) (v ∷ welcome true ∷ []) reply ≡ goes ((21 ∷ []) ∷ request ∷ [])) × (unit_reply (setup_with toy trusting Client client) (v ∷ welcome true ∷ reply ∷ []) (21 ∷ []) ≡ goes []) × (unit_reply (setup_with toy trusting Client client) (v ∷ welcome true ∷ reply ∷ (21 ∷ []) ∷ []) accept ≡ fails fault.NoMoreMethods) × (answers_at (setup_with toy trusting Client client) (v ∷ welcome true ∷ reply ∷ (21 ∷ []) ∷ []) accept ≡ (1 ∷ 0 ∷ 0 ∷ 0 ∷ 14 ∷ 0 ∷ 0 ∷ 0 ∷ 0 ∷ 0 ∷ 0 ∷ 0 ∷ 0 ∷ []) ∷ [])
 unfolding toy kexinit_data config_data kexinit_of a ab ba o trusting wary written_message offered kexinit since_offer expects_guess stood first_kept since line_by line_reply work kexinit_reply init_reply reply_reply secret_of choice choice_of_directions exchange_with exchange_by exchange_text number_out switched_out derived key message_in messages.form_of messages.ext_info messages.extensions messages.kexinit readings.string_at readings.uint32_at readings.names_at readings.names_in readings.mpint_at readings.mpint_in ignore server client hello init reply request accept welcome all_kept count_kept left_after next_listed listed_in proof_in tried_in tried_at request_reply signed_text messages.password messages.publickey messages.userauth_request utf8_at
 client_sends v = (refl, refl, refl, refl, refl, refl)
 
@@ -188,7 +188,7 @@ octet_welcome : List ℕ
 octet_welcome = kexinit_of Server true o false
 
 -- 30 is read in the form of the chosen method: 0005 is a share as octets, and no mpint
-forms : (d : DecisionsData) (v : List ℕ) → (unit_reply (setup_with toy d Server octet_server) (v ∷ octet_hello ∷ []) octets ≡ goes (reply ∷ (21 ∷ []) ∷ [])) × ((exchange_at toy Server octet_server v (octet_hello ∷ octets ∷ [])).client_share ≡ 0 ∷ 5 ∷ []) × (unit_reply (setup_with toy d Server server) (v ∷ hello true ∷ []) octets ≡ fails (fault.Malformed 30)) × (unit_reply toy trusting Client octet_client (v ∷ octet_welcome ∷ []) reply ≡ goes ((21 ∷ []) ∷ request ∷ [])) × (unit_reply (setup_with toy d Server server) (v ∷ []) octets ≡ fails (fault.Unexpected 30))
+forms : (d : DecisionsData) (v : List ℕ) → (unit_reply (setup_with toy d Server octet_server) (v ∷ octet_hello ∷ []) octets ≡ goes (reply ∷ (21 ∷ []) ∷ [])) × ((exchange_at toy Server octet_server v (octet_hello ∷ octets ∷ [])).client_share ≡ 0 ∷ 5 ∷ []) × (unit_reply (setup_with toy d Server server) (v ∷ hello true ∷ []) octets ≡ fails (fault.Malformed 30)) × (unit_reply (setup_with toy trusting Client octet_client) (v ∷ octet_welcome ∷ []) reply ≡ goes ((21 ∷ []) ∷ request ∷ [])) × (unit_reply (setup_with toy d Server server) (v ∷ []) octets ≡ fails (fault.Unexpected 30))
 unfolding toy kexinit_data config_data kexinit_of a ab ba o trusting wary written_message offered kexinit since_offer expects_guess stood first_kept since line_by line_reply work kexinit_reply init_reply reply_reply secret_of choice choice_of_directions exchange_with exchange_by exchange_text number_out switched_out derived key message_in messages.form_of messages.ext_info messages.extensions messages.kexinit readings.string_at readings.uint32_at readings.names_at readings.names_in readings.mpint_at readings.mpint_in ignore server client hello init reply request accept welcome to_server to_client guessing other_server guesser loose banner_server octet_server octet_client octets octet_hello octet_welcome
 forms d v = (refl, refl, refl, refl, refl)
 
@@ -203,7 +203,7 @@ forged : List ℕ
 forged = 31 ∷ 0 ∷ 0 ∷ 0 ∷ 2 ∷ 66 ∷ 0 ∷ 0 ∷ 0 ∷ 0 ∷ 2 ∷ 1 ∷ 9 ∷ 0 ∷ 0 ∷ 0 ∷ 2 ∷ 83 ∷ 1 ∷ []
 
 -- an exchange fails in this order at a client: the host key, the shared secret, the signature
-failed_exchanges : (d : DecisionsData) (v : List ℕ) → (unit_reply (setup_with toy d Server octet_server) (v ∷ octet_hello ∷ []) no_share ≡ fails fault.Exchange) × (unit_reply toy wary Client octet_client (v ∷ octet_welcome ∷ []) no_answer ≡ fails fault.HostKey) × (unit_reply toy trusting Client octet_client (v ∷ octet_welcome ∷ []) no_answer ≡ fails fault.Exchange) × (unit_reply toy trusting Client octet_client (v ∷ octet_welcome ∷ []) forged ≡ fails fault.Signature)
+failed_exchanges : (d : DecisionsData) (v : List ℕ) → (unit_reply (setup_with toy d Server octet_server) (v ∷ octet_hello ∷ []) no_share ≡ fails fault.Exchange) × (unit_reply (setup_with toy wary Client octet_client) (v ∷ octet_welcome ∷ []) no_answer ≡ fails fault.HostKey) × (unit_reply (setup_with toy trusting Client octet_client) (v ∷ octet_welcome ∷ []) no_answer ≡ fails fault.Exchange) × (unit_reply (setup_with toy trusting Client octet_client) (v ∷ octet_welcome ∷ []) forged ≡ fails fault.Signature)
 unfolding toy kexinit_data config_data kexinit_of a ab ba o trusting wary written_message offered kexinit since_offer expects_guess stood first_kept since line_by line_reply work kexinit_reply init_reply reply_reply secret_of choice choice_of_directions exchange_with exchange_by exchange_text number_out switched_out derived key message_in messages.form_of messages.ext_info messages.extensions messages.kexinit readings.string_at readings.uint32_at readings.names_at readings.names_in readings.mpint_at readings.mpint_in ignore server client hello init reply request accept welcome to_server to_client guessing other_server guesser loose banner_server octet_server octet_client octets octet_hello octet_welcome no_share no_answer forged
 failed_exchanges d v = (refl, refl, refl, refl)
 
@@ -281,17 +281,17 @@ mirror = record toy { sign = λ alg secret input. input }
 
 -- A client makes its attempts in order: the first after SERVICE_ACCEPT, the next whose method is listed after a FAILURE.
 -- An attempt that was skipped isn't made later, and without one it fails.
-attempts : (v : List ℕ) → (unit_reply toy trusting Client planner (v ∷ seen) accept ≡ goes (asks (codes "u") none_fields ∷ [])) × (unit_reply toy trusting Client planner (v ∷ (seen ++ accept ∷ [])) (lists (codes "publickey,password")) ≡ goes (asks (codes "k") (key_fields (83 ∷ 5 ∷ [])) ∷ [])) × (unit_reply toy trusting Client planner (v ∷ (seen ++ accept ∷ [])) (lists (codes "password")) ≡ goes (asks (codes "p") password_fields ∷ [])) × (unit_reply toy trusting Client planner (v ∷ (seen ++ accept ∷ lists (codes "password") ∷ [])) (lists (codes "publickey,password")) ≡ fails fault.NoMoreMethods) × (unit_reply toy trusting Client planner (v ∷ (seen ++ accept ∷ [])) (lists []) ≡ fails fault.NoMoreMethods) × (answers_at toy trusting Client planner (v ∷ (seen ++ accept ∷ [])) (lists []) ≡ (1 ∷ 0 ∷ 0 ∷ 0 ∷ 14 ∷ 0 ∷ 0 ∷ 0 ∷ 0 ∷ 0 ∷ 0 ∷ 0 ∷ 0 ∷ []) ∷ []) × (unit_reply toy trusting Client planner (v ∷ (seen ++ accept ∷ [])) (51 ∷ 0 ∷ 0 ∷ 0 ∷ 8 ∷ (codes "password" ++ 1 ∷ [])) ≡ goes (asks (codes "p") password_fields ∷ []))
+attempts : (v : List ℕ) → (unit_reply (setup_with toy trusting Client planner) (v ∷ seen) accept ≡ goes (asks (codes "u") none_fields ∷ [])) × (unit_reply (setup_with toy trusting Client planner) (v ∷ (seen ++ accept ∷ [])) (lists (codes "publickey,password")) ≡ goes (asks (codes "k") (key_fields (83 ∷ 5 ∷ [])) ∷ [])) × (unit_reply (setup_with toy trusting Client planner) (v ∷ (seen ++ accept ∷ [])) (lists (codes "password")) ≡ goes (asks (codes "p") password_fields ∷ [])) × (unit_reply (setup_with toy trusting Client planner) (v ∷ (seen ++ accept ∷ lists (codes "password") ∷ [])) (lists (codes "publickey,password")) ≡ fails fault.NoMoreMethods) × (unit_reply (setup_with toy trusting Client planner) (v ∷ (seen ++ accept ∷ [])) (lists []) ≡ fails fault.NoMoreMethods) × (answers_at (setup_with toy trusting Client planner) (v ∷ (seen ++ accept ∷ [])) (lists []) ≡ (1 ∷ 0 ∷ 0 ∷ 0 ∷ 14 ∷ 0 ∷ 0 ∷ 0 ∷ 0 ∷ 0 ∷ 0 ∷ 0 ∷ 0 ∷ []) ∷ []) × (unit_reply (setup_with toy trusting Client planner) (v ∷ (seen ++ accept ∷ [])) (51 ∷ 0 ∷ 0 ∷ 0 ∷ 8 ∷ (codes "password" ++ 1 ∷ [])) ≡ goes (asks (codes "p") password_fields ∷ []))
 unfolding toy kexinit_data config_data kexinit_of a ab ba o trusting wary written_message offered kexinit since_offer expects_guess stood first_kept since line_by line_reply work kexinit_reply init_reply reply_reply secret_of choice choice_of_directions exchange_with exchange_by exchange_text number_out switched_out derived key message_in messages.form_of messages.ext_info messages.extensions messages.kexinit readings.string_at readings.uint32_at readings.names_at readings.names_in readings.mpint_at readings.mpint_in ignore server client hello init reply request accept welcome all_kept count_kept left_after next_listed listed_in proof_in tried_in tried_at request_reply signed_text messages.password messages.publickey messages.userauth_request utf8_at is_utf8 chars encode_utf8 none_fields password_fields change_fields query_fields would_do key_front key_fields other_fields asks lists agreed planner seen mirror
 attempts v = (refl, refl, refl, refl, refl, refl, refl)
 
 -- what a publickey attempt signs: the session identifier and the request up to the signature
-signed_attempt : (unit_reply mirror trusting Client planner (server.version ∷ (seen ++ accept ∷ [])) (lists (codes "publickey,password")) ≡ goes (asks (codes "k") (key_fields (0 ∷ 0 ∷ 0 ∷ 1 ∷ 1 ∷ asks (codes "k") key_front)) ∷ []))
+signed_attempt : (unit_reply (setup_with mirror trusting Client planner) (server.version ∷ (seen ++ accept ∷ [])) (lists (codes "publickey,password")) ≡ goes (asks (codes "k") (key_fields (0 ∷ 0 ∷ 0 ∷ 1 ∷ 1 ∷ asks (codes "k") key_front)) ∷ []))
 unfolding toy kexinit_data config_data kexinit_of a ab ba o trusting wary written_message offered kexinit since_offer expects_guess stood first_kept since line_by line_reply work kexinit_reply init_reply reply_reply secret_of choice choice_of_directions exchange_with exchange_by exchange_text number_out switched_out derived key message_in messages.form_of messages.ext_info messages.extensions messages.kexinit readings.string_at readings.uint32_at readings.names_at readings.names_in readings.mpint_at readings.mpint_in ignore server client hello init reply request accept welcome all_kept count_kept left_after next_listed listed_in proof_in tried_in tried_at request_reply signed_text messages.password messages.publickey messages.userauth_request utf8_at is_utf8 chars encode_utf8 none_fields password_fields change_fields query_fields would_do key_front key_fields other_fields asks lists agreed planner seen mirror
 signed_attempt = refl
 
 -- a SUCCESS authenticates the user of the attempt that was made last; a banner is ignored; before the service a SUCCESS has no use
-successes : (unit_reply toy trusting Client planner (server.version ∷ (seen ++ accept ∷ [])) (52 ∷ []) ≡ record { answers = []; end = Authenticated (agreed (codes "u")) }) × (unit_reply toy trusting Client planner (server.version ∷ (seen ++ accept ∷ lists (codes "password") ∷ [])) (52 ∷ []) ≡ record { answers = []; end = Authenticated (agreed (codes "p")) }) × (unit_reply toy trusting Client planner (server.version ∷ (seen ++ accept ∷ [])) (53 ∷ 0 ∷ 0 ∷ 0 ∷ 2 ∷ 104 ∷ 105 ∷ 0 ∷ 0 ∷ 0 ∷ 0 ∷ []) ≡ goes []) × (unit_reply toy trusting Client planner (server.version ∷ seen) (52 ∷ []) ≡ fails (fault.Unexpected 52))
+successes : (unit_reply (setup_with toy trusting Client planner) (server.version ∷ (seen ++ accept ∷ [])) (52 ∷ []) ≡ record { answers = []; end = Authenticated (agreed (codes "u")) }) × (unit_reply (setup_with toy trusting Client planner) (server.version ∷ (seen ++ accept ∷ lists (codes "password") ∷ [])) (52 ∷ []) ≡ record { answers = []; end = Authenticated (agreed (codes "p")) }) × (unit_reply (setup_with toy trusting Client planner) (server.version ∷ (seen ++ accept ∷ [])) (53 ∷ 0 ∷ 0 ∷ 0 ∷ 2 ∷ 104 ∷ 105 ∷ 0 ∷ 0 ∷ 0 ∷ 0 ∷ []) ≡ goes []) × (unit_reply (setup_with toy trusting Client planner) (server.version ∷ seen) (52 ∷ []) ≡ fails (fault.Unexpected 52))
 unfolding toy kexinit_data config_data kexinit_of a ab ba o trusting wary written_message offered kexinit since_offer expects_guess stood first_kept since line_by line_reply work kexinit_reply init_reply reply_reply secret_of choice choice_of_directions exchange_with exchange_by exchange_text number_out switched_out derived key message_in messages.form_of messages.ext_info messages.extensions messages.kexinit readings.string_at readings.uint32_at readings.names_at readings.names_in readings.mpint_at readings.mpint_in ignore server client hello init reply request accept welcome all_kept count_kept left_after next_listed listed_in proof_in tried_in tried_at request_reply signed_text messages.password messages.publickey messages.userauth_request utf8_at is_utf8 chars encode_utf8 none_fields password_fields change_fields query_fields would_do key_front key_fields other_fields asks lists agreed planner seen mirror
 successes = (refl, refl, refl, refl)
 
@@ -327,13 +327,13 @@ checker = record toy { verify = λ alg blob input signature. bytes_eq signature 
 
 -- At a server: an unknown service; a request that is decided yes; one that is decided no, as the last try and before it.
 -- Requests are counted from 1.
-requests : (unit_reply toy trusting Server server (server.version ∷ entered) (asks (codes "u") none_fields) ≡ fails fault.Service) × (answers_at toy trusting Server server (server.version ∷ entered) (asks (codes "u") none_fields) ≡ (1 ∷ 0 ∷ 0 ∷ 0 ∷ 7 ∷ 0 ∷ 0 ∷ 0 ∷ 0 ∷ 0 ∷ 0 ∷ 0 ∷ 0 ∷ []) ∷ []) × (unit_reply toy trusting Server (keeper 1) (server.version ∷ entered) (asks (codes "u") none_fields) ≡ record { answers = (52 ∷ []) ∷ []; end = Authenticated (agreed (codes "u")) }) × (unit_reply toy refusing Server (keeper 1) (server.version ∷ entered) (asks (codes "u") none_fields) ≡ fails fault.TooManyTries) × (unit_reply toy refusing Server (keeper 2) (server.version ∷ entered) (asks (codes "u") none_fields) ≡ goes ((51 ∷ 0 ∷ 0 ∷ 0 ∷ 0 ∷ 0 ∷ []) ∷ [])) × (unit_reply toy refusing Server (keeper 2) (server.version ∷ (entered ++ asks (codes "u") none_fields ∷ [])) (asks (codes "u") none_fields) ≡ fails fault.TooManyTries) × (unit_reply toy second Server (keeper 2) (server.version ∷ entered) (asks (codes "u") none_fields) ≡ goes ((51 ∷ 0 ∷ 0 ∷ 0 ∷ 0 ∷ 0 ∷ []) ∷ [])) × (unit_reply toy second Server (keeper 2) (server.version ∷ (entered ++ asks (codes "u") none_fields ∷ [])) (asks (codes "u") none_fields) ≡ record { answers = (52 ∷ []) ∷ []; end = Authenticated (agreed (codes "u")) })
+requests : (unit_reply (setup_with toy trusting Server server) (server.version ∷ entered) (asks (codes "u") none_fields) ≡ fails fault.Service) × (answers_at (setup_with toy trusting Server server) (server.version ∷ entered) (asks (codes "u") none_fields) ≡ (1 ∷ 0 ∷ 0 ∷ 0 ∷ 7 ∷ 0 ∷ 0 ∷ 0 ∷ 0 ∷ 0 ∷ 0 ∷ 0 ∷ 0 ∷ []) ∷ []) × (unit_reply (setup_with toy trusting Server (keeper 1)) (server.version ∷ entered) (asks (codes "u") none_fields) ≡ record { answers = (52 ∷ []) ∷ []; end = Authenticated (agreed (codes "u")) }) × (unit_reply (setup_with toy refusing Server (keeper 1)) (server.version ∷ entered) (asks (codes "u") none_fields) ≡ fails fault.TooManyTries) × (unit_reply (setup_with toy refusing Server (keeper 2)) (server.version ∷ entered) (asks (codes "u") none_fields) ≡ goes ((51 ∷ 0 ∷ 0 ∷ 0 ∷ 0 ∷ 0 ∷ []) ∷ [])) × (unit_reply (setup_with toy refusing Server (keeper 2)) (server.version ∷ (entered ++ asks (codes "u") none_fields ∷ [])) (asks (codes "u") none_fields) ≡ fails fault.TooManyTries) × (unit_reply (setup_with toy second Server (keeper 2)) (server.version ∷ entered) (asks (codes "u") none_fields) ≡ goes ((51 ∷ 0 ∷ 0 ∷ 0 ∷ 0 ∷ 0 ∷ []) ∷ [])) × (unit_reply (setup_with toy second Server (keeper 2)) (server.version ∷ (entered ++ asks (codes "u") none_fields ∷ [])) (asks (codes "u") none_fields) ≡ record { answers = (52 ∷ []) ∷ []; end = Authenticated (agreed (codes "u")) })
 unfolding toy kexinit_data config_data kexinit_of a ab ba o trusting wary written_message offered kexinit since_offer expects_guess stood first_kept since line_by line_reply work kexinit_reply init_reply reply_reply secret_of choice choice_of_directions exchange_with exchange_by exchange_text number_out switched_out derived key message_in messages.form_of messages.ext_info messages.extensions messages.kexinit readings.string_at readings.uint32_at readings.names_at readings.names_in readings.mpint_at readings.mpint_in ignore server client hello init reply request accept welcome all_kept count_kept left_after next_listed listed_in proof_in tried_in tried_at request_reply signed_text messages.password messages.publickey messages.userauth_request utf8_at is_utf8 chars encode_utf8 none_fields password_fields change_fields query_fields would_do key_front key_fields other_fields asks lists agreed keeper lister entered refusing second knows knowing checker
 requests = (refl, refl, refl, refl, refl, refl, refl, refl)
 
 -- A query is answered by whether its key would do. A change of the password, a method with no meaning here and a method that isn't listed prove nothing. A password
 -- and a key are decided on; a signature is verified first.
-method_proofs : (unit_reply toy trusting Server lister (server.version ∷ entered) (asks (codes "u") query_fields) ≡ goes (would_do ∷ [])) × (unit_reply toy refusing Server lister (server.version ∷ entered) (asks (codes "u") query_fields) ≡ goes (lists (codes "publickey,password") ∷ [])) × (unit_reply toy trusting Server lister (server.version ∷ entered) (asks (codes "u") change_fields) ≡ goes (lists (codes "publickey,password") ∷ [])) × (unit_reply toy trusting Server lister (server.version ∷ entered) (asks (codes "u") other_fields) ≡ goes (lists (codes "publickey,password") ∷ [])) × (unit_reply toy trusting Server (keeper 6) (server.version ∷ entered) (asks (codes "u") password_fields) ≡ goes ((51 ∷ 0 ∷ 0 ∷ 0 ∷ 0 ∷ 0 ∷ []) ∷ [])) × (unit_reply toy trusting Server (keeper 6) (server.version ∷ entered) (asks (codes "u") (key_fields (83 ∷ 0 ∷ []))) ≡ goes ((51 ∷ 0 ∷ 0 ∷ 0 ∷ 0 ∷ 0 ∷ []) ∷ [])) × (unit_reply toy knowing Server lister (server.version ∷ entered) (asks (codes "u") password_fields) ≡ record { answers = (52 ∷ []) ∷ []; end = Authenticated (agreed (codes "u")) }) × (unit_reply toy knowing Server lister (server.version ∷ entered) (asks (codes "u") none_fields) ≡ goes (lists (codes "publickey,password") ∷ [])) × (unit_reply toy knowing Server lister (server.version ∷ entered) (asks (codes "u") (key_fields (83 ∷ 0 ∷ []))) ≡ record { answers = (52 ∷ []) ∷ []; end = Authenticated (agreed (codes "u")) }) × (unit_reply toy knowing Server lister (server.version ∷ entered) (asks (codes "u") (key_fields (83 ∷ 1 ∷ []))) ≡ goes (lists (codes "publickey,password") ∷ [])) × (unit_reply checker knowing Server lister (server.version ∷ entered) (asks (codes "u") (key_fields (0 ∷ 0 ∷ 0 ∷ 1 ∷ 1 ∷ asks (codes "u") key_front))) ≡ record { answers = (52 ∷ []) ∷ []; end = Authenticated (agreed (codes "u")) }) × (unit_reply checker knowing Server lister (server.version ∷ entered) (asks (codes "u") (key_fields (0 ∷ 0 ∷ 0 ∷ 1 ∷ 1 ∷ asks (codes "k") key_front))) ≡ goes (lists (codes "publickey,password") ∷ []))
+method_proofs : (unit_reply (setup_with toy trusting Server lister) (server.version ∷ entered) (asks (codes "u") query_fields) ≡ goes (would_do ∷ [])) × (unit_reply (setup_with toy refusing Server lister) (server.version ∷ entered) (asks (codes "u") query_fields) ≡ goes (lists (codes "publickey,password") ∷ [])) × (unit_reply (setup_with toy trusting Server lister) (server.version ∷ entered) (asks (codes "u") change_fields) ≡ goes (lists (codes "publickey,password") ∷ [])) × (unit_reply (setup_with toy trusting Server lister) (server.version ∷ entered) (asks (codes "u") other_fields) ≡ goes (lists (codes "publickey,password") ∷ [])) × (unit_reply (setup_with toy trusting Server (keeper 6)) (server.version ∷ entered) (asks (codes "u") password_fields) ≡ goes ((51 ∷ 0 ∷ 0 ∷ 0 ∷ 0 ∷ 0 ∷ []) ∷ [])) × (unit_reply (setup_with toy trusting Server (keeper 6)) (server.version ∷ entered) (asks (codes "u") (key_fields (83 ∷ 0 ∷ []))) ≡ goes ((51 ∷ 0 ∷ 0 ∷ 0 ∷ 0 ∷ 0 ∷ []) ∷ [])) × (unit_reply (setup_with toy knowing Server lister) (server.version ∷ entered) (asks (codes "u") password_fields) ≡ record { answers = (52 ∷ []) ∷ []; end = Authenticated (agreed (codes "u")) }) × (unit_reply (setup_with toy knowing Server lister) (server.version ∷ entered) (asks (codes "u") none_fields) ≡ goes (lists (codes "publickey,password") ∷ [])) × (unit_reply (setup_with toy knowing Server lister) (server.version ∷ entered) (asks (codes "u") (key_fields (83 ∷ 0 ∷ []))) ≡ record { answers = (52 ∷ []) ∷ []; end = Authenticated (agreed (codes "u")) }) × (unit_reply (setup_with toy knowing Server lister) (server.version ∷ entered) (asks (codes "u") (key_fields (83 ∷ 1 ∷ []))) ≡ goes (lists (codes "publickey,password") ∷ [])) × (unit_reply (setup_with checker knowing Server lister) (server.version ∷ entered) (asks (codes "u") (key_fields (0 ∷ 0 ∷ 0 ∷ 1 ∷ 1 ∷ asks (codes "u") key_front))) ≡ record { answers = (52 ∷ []) ∷ []; end = Authenticated (agreed (codes "u")) }) × (unit_reply (setup_with checker knowing Server lister) (server.version ∷ entered) (asks (codes "u") (key_fields (0 ∷ 0 ∷ 0 ∷ 1 ∷ 1 ∷ asks (codes "k") key_front))) ≡ goes (lists (codes "publickey,password") ∷ []))
 unfolding toy kexinit_data config_data kexinit_of a ab ba o trusting wary written_message offered kexinit since_offer expects_guess stood first_kept since line_by line_reply work kexinit_reply init_reply reply_reply secret_of choice choice_of_directions exchange_with exchange_by exchange_text number_out switched_out derived key message_in messages.form_of messages.ext_info messages.extensions messages.kexinit readings.string_at readings.uint32_at readings.names_at readings.names_in readings.mpint_at readings.mpint_in ignore server client hello init reply request accept welcome all_kept count_kept left_after next_listed listed_in proof_in tried_in tried_at request_reply signed_text messages.password messages.publickey messages.userauth_request utf8_at is_utf8 chars encode_utf8 none_fields password_fields change_fields query_fields would_do key_front key_fields other_fields asks lists agreed keeper lister entered refusing second knows knowing checker
 method_proofs = (refl, refl, refl, refl, refl, refl, refl, refl, refl, refl, refl, refl)
 
