@@ -34,8 +34,7 @@ const SERVER: &[&str] = &[
 ];
 
 /// Methods of key exchange where no word names others: both names of one, and one that older peers have.
-const KEX: &str =
-    "curve25519-sha256,curve25519-sha256@libssh.org,diffie-hellman-group14-sha256";
+const KEX: &str = "curve25519-sha256,curve25519-sha256@libssh.org,diffie-hellman-group14-sha256";
 
 /// The cipher where no word names others.
 const CIPHER: &str = "chacha20-poly1305@openssh.com";
