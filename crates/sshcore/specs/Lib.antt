@@ -35,6 +35,7 @@ pub mod Made
 pub mod Authenticating
 pub mod StateData
 pub mod Brings
+pub mod Questions
 pub mod Negotiated
 pub mod Exchanged
 pub mod ExchangedView
