@@ -8,6 +8,10 @@
 
 mod agreement;
 mod algorithms;
+mod asking_answer;
+mod asking_end;
+mod asking_endpoint;
+mod asking_input;
 mod attempt_payloads;
 mod attempts;
 mod chosen_names;
@@ -56,8 +60,10 @@ mod service;
 mod session;
 mod state;
 mod table;
+mod waiting;
 mod working;
 
+pub use asking_endpoint::{AskingEndpoint, Fed};
 pub use chosen_names::ChosenNames;
 pub use client_config::ClientConfig;
 pub use config_fault::ConfigFault;
