@@ -63,10 +63,17 @@ pub record IsAskingEndpoint (m : SuiteData) (role : Side) (party : ConfigData) (
   pub reads : IsOngoing kept.end → CanRead m j
   pub asked : IsAskedBy m role party kept j w
 
--- What a step did that used these bytes: it went on, whatever is decided; or it read a packet that asks, and did nothing more.
+-- A packet was read that asks, with the last of these bytes, and nothing more was done.
+pub record StopsAt (m : SuiteData) (role : Side) (party : ConfigData) (i : Input) (old : StateData) (j : Input) (new : StateData) (w : WaitingData) (taken before after : List ℕ) : Type 0 where
+  pub same : new ≡ old
+  pub nothing_sent : after ≡ before
+  pub reads : ReadsPacket m i j w taken
+  pub asked : IsAsked m role party new j w
+
+-- What a step did that used these bytes: it went on, whatever is decided; or it stopped at a packet that asks.
 abbrev pub AskingSteps : SuiteData → Side → ConfigData → Input → StateData → Input → StateData → Option WaitingData → List ℕ → List ℕ → List ℕ → Type 0
 AskingSteps m role party i old j new None taken before after = (d : DecisionsData) → Steps (setup_with m d role party) i old j new taken before after
-AskingSteps m role party i old j new (Some w) taken before after = (new ≡ old) × (after ≡ before) × ReadsPacket m i j w taken × IsAsked m role party new j w
+AskingSteps m role party i old j new (Some w) taken before after = StopsAt m role party i old j new w taken before after
 
 -- What an answer did, wherever the packet was read: a step that used the packet's bytes, for all decisions that answer so.
 abbrev pub AnswerSteps : SuiteData → Side → ConfigData → Bool → WaitingData → Input → StateData → Input → StateData → List ℕ → List ℕ → Type 0
