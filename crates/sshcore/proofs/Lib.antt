@@ -44,6 +44,7 @@ pub mod ReadsLemmas
 pub mod AfterLemmas
 pub mod WorksLemmas
 pub mod BringsLemmas
+pub mod QuestionLemmas
 pub mod AttemptLemmas
 pub mod BeginLemmas
 pub mod CallLemmas
