@@ -1,7 +1,7 @@
 -- Calls of an asking endpoint, one after another.
 
 use Rattle.std.proofs.Common.{◌≡◌, inl, ℕ, ◌+◌, ◌-◌, ◌≤◌, Bool, false, List, [], ◌∷◌, ◌++◌, length, take, drop, Option, None, Some, refl, sym, ap, subst, ◌∙◌, append_assoc, arith}
-use Rattle.std.specs.Prelude.{◌%◌, ◌^◌}
+use Rattle.std.specs.Prelude.{◌%◌, ◌^◌, is_some, true}
 use Rattle.std.proofs.lemmas.Bool.{true≢false}
 use Rattle.std.proofs.lemmas.List.{append-nil, length-drop, length-take-le}
 use Rattle.std.proofs.Math.Seq.{take-add, take-append-add, take-length}
@@ -19,7 +19,7 @@ use Rattle.sshcore.specs.declared.state.State.{State}
 use Rattle.sshcore.specs.Asking.{Answered, AskingAfter, AskingBreaks, AskingCuts, AskingFed, AskingLeaves, BrokenBefore, IsSameAsking, asked_at, asking_end}
 use Rattle.sshcore.specs.AskingData.{AskingData, WaitingData, asking_setup}
 use Rattle.sshcore.specs.Brings.{Brings, Gives}
-use Rattle.sshcore.specs.EndData.{EndData, Failed, Open, by_owner, disconnects, end_data, parting}
+use Rattle.sshcore.specs.EndData.{Authenticated, Closed, Disconnected, EndData, Failed, Open, by_owner, disconnects, end_data, parting}
 use Rattle.sshcore.specs.EndpointParts.{ConfigData, DecisionsData, Setup, setup_with}
 use Rattle.sshcore.specs.Exchanged.{HasForm}
 use Rattle.sshcore.specs.History.{BrokenOff}
@@ -136,6 +136,14 @@ asks_packet m role party kept j None is x e o = absurd cc
 asks_packet m role party kept j (Some w) is x e o =
     let same : w ≡ x = cc in
     subst (λ (y : WaitingData). question_at m role party kept y.payload ≡ Some y.question) same (is.asked (inl o)).asks
+
+-- who asks is open
+pub asks_open : (e : EndData) (w : Option WaitingData) → is_some (asked_at e w) ≡ true → e ≡ Open
+asks_open Open w some = refl
+asks_open (Authenticated a) w some = absurd cc
+asks_open (Failed f) w some = absurd cc
+asks_open (Closed reason) w some = absurd cc
+asks_open (Disconnected reason) w some = absurd cc
 
 module _ {S : Type 0} where
   pub same_none : (e : AskingData S) → IsSameAsking e e
@@ -268,7 +276,7 @@ module _ {S : Type 0} (meaning : S → SuiteData) where
     asked_open e w is = ap (λ (x : EndData). asked_at x (Some w)) is
 
     -- a packet that waited is answered by a step that used its bytes
-    pub answered_by : (good : Bool) (w : WaitingData) (i j : Input) (x y : State) (before after : List ℕ) → end_data x.end ≡ Open
+    answered_by : (good : Bool) (w : WaitingData) (i j : Input) (x y : State) (before after : List ℕ) → end_data x.end ≡ Open
         → (added : List ℕ) × (after ≡ before ++ added) × AnswerSteps (meaning suite) role party good w i (state_data x) j (state_data y) [] added
         → Answered meaning good (asking i x (Some w)) (asking j y None) before after
     answered_by good w i j x y before after is step = record {
@@ -284,6 +292,13 @@ module _ {S : Type 0} (meaning : S → SuiteData) where
       waits_for_none = refl;
       same = record { same_role = refl; same_config = refl; same_suite = refl };
     }
+
+    pub answered_from : (good : Bool) (w : WaitingData) (u v : Option WaitingData) (i j : Input) (x y : State) (before after : List ℕ) → u ≡ Some w → v ≡ None → end_data x.end ≡ Open
+        → (added : List ℕ) × (after ≡ before ++ added) × AnswerSteps (meaning suite) role party good w i (state_data x) j (state_data y) [] added
+        → Answered meaning good (asking i x u) (asking j y v) before after
+    answered_from good w u v i j x y before after some none is step =
+        subst (λ (a : Option WaitingData). Answered meaning good (asking i x a) (asking j y v) before after) (sym some)
+        (subst (λ (b : Option WaitingData). Answered meaning good (asking i x (Some w)) (asking j y b) before after) (sym none) (answered_by good w i j x y before after is step))
 
     -- the end of input
     pub cuts_by : (i : Input) (x y : State) (w : Option WaitingData) → end_data x.end ≡ Open → end_data y.end ≡ Failed fault.Cut → AskingCuts meaning (asking i x w) (asking i y w)
