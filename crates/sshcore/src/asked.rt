@@ -1,6 +1,6 @@
 //! What a packet asks before it can be answered.
 
-ghost use Rattle.std.specs.Prelude.{◌≡◌, ◌≤◌, IfOk, Ok, Some, length, option_map};
+ghost use Rattle.std.specs.Prelude.{◌≡◌, ◌≤◌, IfOk, List, Ok, Some, length, option_map, ℕ};
 ghost use Rattle.sshwire.specs.declared.limits.TheConstants.{NAME_LIMIT};
 ghost use Rattle.sshmsg.specs.Messages.{Spells, message_in};
 ghost use Rattle.sshmsg.specs.Numbers.{kind};
