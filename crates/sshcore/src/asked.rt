@@ -113,7 +113,7 @@ impl State<'_> {
 
     /// Whether a host key is trusted is asked.
     fn asked_host_key(&self, host_key: &[u8]) -> Result<Option<Asked>, Memory>
-        requires at { self.now.phase ≡ phase.Exchange }
+        requires { self.now.phase ≡ phase.Exchange }
         ensures { IfOk result (λ q. option_map asked_data q ≡ Some (HostKeyQuestion (state_data self.now).known.algorithms.host_key host_key.now)) }
     {
         let algorithms = self.algorithms.as_ref().unwrap();
