@@ -41,6 +41,8 @@ pub mod FeedLemmas
 pub mod ReadLemmas
 pub mod ExchangeLemmas
 pub mod ReadsLemmas
+pub mod AskedLemmas
+pub mod AnsweredLemmas
 pub mod AfterLemmas
 pub mod WorksLemmas
 pub mod BringsLemmas

@@ -36,6 +36,7 @@ pub mod Authenticating
 pub mod StateData
 pub mod Brings
 pub mod Questions
+pub mod AskedQuestions
 pub mod Negotiated
 pub mod Exchanged
 pub mod ExchangedView

@@ -8,6 +8,7 @@
 
 mod agreement;
 mod algorithms;
+mod asking_laws;
 mod attempt_payloads;
 mod attempts;
 mod chosen_names;
@@ -58,6 +59,7 @@ mod state;
 mod table;
 mod working;
 
+pub use asking_laws::questions_law;
 pub use chosen_names::ChosenNames;
 pub use client_config::ClientConfig;
 pub use config_fault::ConfigFault;
