@@ -1,6 +1,7 @@
 -- Of questions that are asked once some decisions give all answers.
 
-use Rattle.std.proofs.Common.{◌≡◌, ℕ, ◌==◌, ◌<◌, Bool, true, false, cond, List, [], ◌∷◌, ◌++◌, map, refl, sym, ap, ◌∙◌, arith}
+use Rattle.std.proofs.Common.{◌≡◌, ◌==◌, ◌<◌, Bool, true, false, cond, List, [], ◌∷◌, ◌++◌, map, refl, ap, ◌∙◌, subst, arith}
+use Rattle.std.specs.Prelude.{⊤}
 use Rattle.std.specs.List.{AllByRecursion}
 use Rattle.std.proofs.lemmas.Bool.{eq-eqb, ne_eqb}
 use Rattle.sshcore.specs.AskedQuestions.{AnsweredData, ComesLater, GiveAll, IsAskedOnce}
@@ -8,7 +9,7 @@ use Rattle.sshcore.specs.EndpointParts.{DecisionsData, ProofData}
 use Rattle.sshcore.specs.Questions.{HostKeyQuestion, QuestionData, UserQuestion, decided}
 
 -- each comes later than those in front
-pub Rises : List QuestionData → Type 0
+abbrev pub Rises : List QuestionData → Type 0
 Rises [] = ⊤
 Rises (q ∷ later) = AllByRecursion (ComesLater q) later × Rises later
 
@@ -29,18 +30,19 @@ pub all_at : (P : QuestionData → Type 0) (questions between after : List Quest
 all_at P [] [] after other e all = absurd cc
 all_at P [] (b ∷ between) after other e all = absurd cc
 all_at P (q ∷ later) [] after other e all = let same : q ≡ other = cc in subst P same all.0
-all_at P (q ∷ later) (b ∷ between) after other e all = all_at P later between after other cc all.1
+all_at P (q ∷ later) (b ∷ between) after other e all = let rest : later ≡ between ++ other ∷ after = cc in all_at P later between after other rest all.1
 
 pub asked_once : (questions : List QuestionData) → Rises questions → IsAskedOnce questions
 asked_once [] r [] between after one other e = absurd cc
 asked_once [] r (b ∷ before) between after one other e = absurd cc
 asked_once (q ∷ later) r [] between after one other e =
     let same : q ≡ one = cc in
-    subst (λ (x : QuestionData). ComesLater x other) same (all_at (ComesLater q) later between after other cc r.0)
+    let rest : later ≡ between ++ other ∷ after = cc in
+    subst (λ (x : QuestionData). ComesLater x other) same (all_at (ComesLater q) later between after other rest r.0)
 asked_once (q ∷ later) r (b ∷ before) between after one other e = asked_once later r.1 before between after one other cc
 
 -- an answer to one of two questions is one to the other
-is_about : QuestionData → QuestionData → Bool
+abbrev is_about : QuestionData → QuestionData → Bool
 is_about (HostKeyQuestion algorithm blob) (HostKeyQuestion other_algorithm other_blob) = true
 is_about (HostKeyQuestion algorithm blob) (UserQuestion other_number other_user other_service other_proof) = false
 is_about (UserQuestion number user service proof) (HostKeyQuestion other_algorithm other_blob) = false
@@ -58,11 +60,11 @@ about_later (UserQuestion number user service proof) (UserQuestion other_number 
     ne_eqb other_number number (λ e. omega (arith, e, later))
 
 -- the first answer to it
-answer_to : List AnsweredData → QuestionData → Bool
+abbrev answer_to : List AnsweredData → QuestionData → Bool
 answer_to [] q = false
 answer_to (a ∷ later) q = cond (is_about q a.question) a.good (answer_to later q)
 
-by_answers : List AnsweredData → DecisionsData
+abbrev by_answers : List AnsweredData → DecisionsData
 by_answers answers = record {
   host_key = λ algorithm blob. answer_to answers (HostKeyQuestion algorithm blob);
   user = λ number user service proof. answer_to answers (UserQuestion number user service proof);

@@ -1,15 +1,19 @@
 -- What payloads ask, and that it is asked once.
 
-use Rattle.std.proofs.Common.{◌≡◌, ◌⊎◌, inl, inr, ℕ, ◌+◌, ◌<◌, ◌≤◌, ◌==◌, Bool, true, false, cond, List, [], ◌∷◌, ◌++◌, Option, None, Some, Result, Ok, Err, refl, sym, ap, ◌∙◌, subst, arith}
+use Rattle.std.proofs.Common.{◌≡◌, ℕ, ◌+◌, ◌<◌, ◌≤◌, ◌==◌, Bool, true, false, cond, List, [], ◌∷◌, ◌++◌, Option, None, Some, Result, Ok, Err, refl, sym, ap, ◌∙◌, subst, arith}
+use Rattle.std.specs.Prelude.{◌&&◌, codes, length, nat_le}
 use Rattle.std.specs.List.{AllByRecursion}
 use Rattle.std.proofs.lemmas.Bool.{eq-eqb, true≢false}
+use Rattle.sshwire.specs.TypeReadings.{is_name}
 use Rattle.sshwire.specs.declared.share_form.ShareForm.{ShareForm}
 use Rattle.sshmsg.specs.declared.fault.MsgFault.{MsgFault}
 use Rattle.sshmsg.specs.MessageData.{KexEcdhReply, KexInitData, KexdhReply, MessageData, MethodData, PublicKeyQuery, UserauthRequest}
 use Rattle.sshmsg.specs.Messages.{message_in}
 use Rattle.sshmsg.specs.Numbers.{kind, number_of}
 use Rattle.sshneg.specs.declared.side.Side.{Side}
-use Rattle.sshneg.specs.declared.side.Side.TheVariants.{Client, Server}
+use Rattle.sshneg.specs.declared.side.Side.TheVariants.{Client}
+use Rattle.sshneg.specs.ChoiceReadings.{is_in}
+use Rattle.sshpacket.specs.declared.limits.TheConstants.{BLOB_LIMIT}
 use Rattle.sshpacket.specs.Places.{EachPlace, flat_places}
 use Rattle.sshpacket.specs.Stream.{Units}
 use Rattle.sshpacket.specs.Suite.{SuiteData}
@@ -20,13 +24,15 @@ use Rattle.sshcore.specs.declared.table.Phase.{Phase}
 use Rattle.sshcore.specs.declared.table.Phase.TheVariants as phase
 use Rattle.sshcore.specs.AskedQuestions.{ComesLater, IsAskedOnce, asked, question_after, questions_at}
 use Rattle.sshcore.specs.Before.{count_kept, expects_guess, kept, stood, strict_at}
-use Rattle.sshcore.specs.EndpointParts.{ConfigData, DecisionsData, ProofData, Setup, setup_with}
+use Rattle.sshcore.specs.EndpointParts.{ConfigData, DecisionsData, KeyProof, ProofData, Setup, setup_with}
+use Rattle.sshcore.specs.Exchange.{host_key_by}
 use Rattle.sshcore.specs.Known.{Known, known_at, waits_at}
 use Rattle.sshcore.specs.Phases.{leaving, phase_at, phase_by}
 use Rattle.sshcore.specs.Plan.{is_waiting}
 use Rattle.sshcore.specs.Questions.{HostKeyQuestion, QuestionData, UserQuestion, line_question, message_question, method_question, proof_question, query_question, question_at, request_question}
 use Rattle.sshcore.specs.Reached.{ReachedData}
 use Rattle.sshcore.specs.Replies.{line_at}
+use Rattle.sshcore.specs.Requests.{is_last_try}
 use Rattle.sshcore.specs.Standing.{Sits}
 use Rattle.sshcore.specs.StateData.{StateData}
 use Rattle.sshcore.specs.Table.{line_by}
@@ -50,10 +56,6 @@ data IsAsked (request n : ℕ) (q : QuestionData) : Type 0 where
   ByReply : n ≡ 31 → (algorithm blob : List ℕ) → q ≡ HostKeyQuestion algorithm blob → IsAsked request n q
   ByRequest : n ≡ 50 → IsNumbered request q → IsAsked request n q
 
-either : (b : Bool) (x y : Option QuestionData) (q : QuestionData) → cond b x y ≡ Some q → (x ≡ Some q) ⊎ (y ≡ Some q)
-either true x y q e = inl e
-either false x y q e = inr e
-
 -- a request
 numbered : (number : ℕ) (user service : List ℕ) (proof : ProofData) (q : QuestionData) → Some (UserQuestion number user service proof) ≡ Some q → IsNumbered number q
 numbered number user service proof q e = let same : UserQuestion number user service proof ≡ q = cc in subst (IsNumbered number) same refl
@@ -64,13 +66,16 @@ proof_asks number user service (Some proof) q e = numbered number user service p
 
 module _ (m : SuiteData) (role : Side) (party : ConfigData) where
   query_asks : (known : Known) (user service algorithm key : List ℕ) (q : QuestionData) → query_question party known user service algorithm key ≡ Some q → IsNumbered known.request q
-  query_asks known user service algorithm key q e = elim (either _ None _ q e) [
-    | inl none ↦ absurd cc
-    | inr f ↦ elim (either _ _ None q f) [
-      | inl is ↦ numbered known.request user service _ q is
-      | inr none ↦ absurd cc
-    ]
-  ]
+  query_asks known user service algorithm key q e = by_last (is_last_try party known) e
+    where
+      by_key : (b : Bool) → cond b (Some (UserQuestion known.request user service (KeyProof algorithm key))) None ≡ Some q → IsNumbered known.request q
+      by_key true is = numbered known.request user service (KeyProof algorithm key) q is
+      by_key false is = absurd cc
+
+      by_last : (b : Bool) → cond b None (cond (is_in party.methods (codes "publickey") && (is_name algorithm && nat_le (length key) BLOB_LIMIT))
+          (Some (UserQuestion known.request user service (KeyProof algorithm key))) None) ≡ Some q → IsNumbered known.request q
+      by_last true is = absurd cc
+      by_last false is = by_key (is_in party.methods (codes "publickey") && (is_name algorithm && nat_le (length key) BLOB_LIMIT)) is
 
   method_asks : (known : Known) (user service : List ℕ) (method : MethodData) (q : QuestionData) → method_question m party known user service method ≡ Some q → IsNumbered known.request q
   method_asks known user service (PublicKeyQuery algorithm key) q e = query_asks known user service algorithm key q e
@@ -78,15 +83,18 @@ module _ (m : SuiteData) (role : Side) (party : ConfigData) where
 
   request_asks : (known : Known) (user service : List ℕ) (method : MethodData) (q : QuestionData) → request_question m party known user service method ≡ Some q → IsNumbered known.request q
   unfolding request_question
-  request_asks known user service method q e = elim (either _ _ None q e) [
-    | inl is ↦ method_asks known user service method q is
-    | inr none ↦ absurd cc
-  ]
+  request_asks known user service method q e = by (is_in party.services service) e
+    where
+      by : (b : Bool) → cond b (method_question m party known user service method) None ≡ Some q → IsNumbered known.request q
+      by true is = method_asks known user service method q is
+      by false is = absurd cc
 
   module _ (numbers : Numbered) (known : Known) (payload : List ℕ) where
     message_asks : (r : Result MessageData MsgFault) (q : QuestionData) → message_in known.shares payload ≡ r → message_question m role party known r ≡ Some q → IsAsked known.request (kind payload) q
-    message_asks (Ok (KexdhReply key f signature)) q e is = ByReply (numbers known.shares payload (KexdhReply key f signature) e) _ _ cc
-    message_asks (Ok (KexEcdhReply key share signature)) q e is = ByReply (numbers known.shares payload (KexEcdhReply key share signature) e) _ _ cc
+    message_asks (Ok (KexdhReply key f signature)) q e is = 
+        ByReply (numbers known.shares payload (KexdhReply key f signature) e) known.algorithms.host_key (host_key_by m role party known.algorithms.host_key (Ok (KexdhReply key f signature))) cc
+    message_asks (Ok (KexEcdhReply key share signature)) q e is = 
+        ByReply (numbers known.shares payload (KexEcdhReply key share signature) e) known.algorithms.host_key (host_key_by m role party known.algorithms.host_key (Ok (KexEcdhReply key share signature))) cc
     message_asks (Ok (UserauthRequest user service method)) q e is =
         ByRequest (numbers known.shares payload (UserauthRequest user service method) e) (request_asks known user service method q is)
     message_asks _ q e is = absurd cc
@@ -108,7 +116,7 @@ leaving_reply : (role : Side) → role ≡ Client → leaving role phase.Exchang
 leaving_reply role e = ap (λ (r : Side). leaving r phase.Exchange) e
 
 -- after these payloads it may be asked: a host key before the exchange, and a request that has a greater number than those that stood
-MayAsk : Side → KexInitData → Units → QuestionData → Type 0
+abbrev MayAsk : Side → KexInitData → Units → QuestionData → Type 0
 MayAsk role own before (HostKeyQuestion algorithm blob) = stood role own (leaving role phase.Exchange) before ≡ false
 MayAsk role own before (UserQuestion number user service proof) = count_kept role own 50 before < number
 
@@ -135,7 +143,7 @@ module _ (role : Side) (own : KexInitData) (before : Units) (payload : List ℕ)
 module _ (numbers : Numbered) (setup : Setup) (version : List ℕ) where
   module _ (before : Units) (payload : List ℕ) where
     -- a payload that asks leaves what comes later
-    Asks : QuestionData → Type 0
+    abbrev Asks : QuestionData → Type 0
     Asks q = MayAsk setup.role setup.config.offer before q × ((r : QuestionData) → MayAsk setup.role setup.config.offer (before ++ payload ∷ []) r → ComesLater q r)
 
     place_reads : line_at setup.role setup.config before payload ≡ line.Reads → Reads setup.role (phase_at setup.role setup.config.offer before) (expects_guess setup.role setup.config.offer before) (kind payload)
@@ -189,7 +197,7 @@ module _ (numbers : Numbered) (setup : Setup) (version : List ℕ) where
             user_asks number user service proof (user_request_read setup.role _ _ (has_number 50 is)).none_due is same
 
   -- the questions of payloads after these, each later than those in front
-  place : Units → List ℕ → List QuestionData
+  abbrev place : Units → List ℕ → List QuestionData
   place before payload = asked (question_after setup version before payload)
 
   all_before : (before : Units) (payload : List ℕ) (qs : List QuestionData) → AllByRecursion (MayAsk setup.role setup.config.offer (before ++ payload ∷ [])) qs → AllByRecursion (MayAsk setup.role setup.config.offer before) qs
@@ -243,7 +251,7 @@ module _ (m : SuiteData) (role : Side) (party : ConfigData) where
   unreached_method : (known : Known) (r : ReachedData) (user service : List ℕ) (method : MethodData)
       → method_question m party (record known { reached = r }) user service method ≡ method_question m party known user service method
   unreached_method known r user service (PublicKeyQuery algorithm key) = refl
-  unreached_method known r user service method = refl
+  unreached_method known r user service _ = refl
 
   unreached_message : (known : Known) (r : ReachedData) (x : Result MessageData MsgFault) → message_question m role party (record known { reached = r }) x ≡ message_question m role party known x
   unfolding request_question

@@ -19,7 +19,7 @@ pub fn questions_law()
     // Whatever was answered to questions that are asked once, some decisions give these answers.
     ensures answers { (answers : List AnsweredData) → IsAskedOnce (map (λ (a : AnsweredData). a.question) answers) → (d : DecisionsData) × GiveAll d answers }
     // What payloads ask is the same under any decisions.
-    ensures same { (m : SuiteData) (d e : DecisionsData) (role : Side) (party : ConfigData) (version : List ℕ) (before : Units)
+    ensures same { (m : SuiteData) (role : Side) (party : ConfigData) (d e : DecisionsData) (version : List ℕ) (before : Units)
         → questions_at (setup_with m d role party) version before ≡ questions_at (setup_with m e role party) version before }
     // Nothing is asked before the first payload, and with each more what that asks.
     ensures nothing { (setup : Setup) (version : List ℕ) → questions_at setup version [] ≡ [] }
