@@ -46,6 +46,7 @@ pub mod AnsweredLemmas
 pub mod AfterLemmas
 pub mod WorksLemmas
 pub mod BringsLemmas
+pub mod QuestionLemmas
 pub mod AttemptLemmas
 pub mod BeginLemmas
 pub mod CallLemmas

@@ -37,6 +37,7 @@ pub mod StateData
 pub mod Brings
 pub mod Questions
 pub mod AskedQuestions
+pub mod QuestionsView
 pub mod Negotiated
 pub mod Exchanged
 pub mod ExchangedView

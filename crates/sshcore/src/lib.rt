@@ -8,6 +8,8 @@
 
 mod agreement;
 mod algorithms;
+mod answering;
+mod asked;
 mod asking_laws;
 mod attempt_payloads;
 mod attempts;
@@ -33,6 +35,7 @@ mod exchange_keys;
 mod exchange_reply;
 mod failing;
 mod fault_words;
+mod given;
 mod greeting;
 mod input;
 mod kexinit;
@@ -48,6 +51,7 @@ mod packet;
 mod packet_lines;
 mod payloads;
 mod proving;
+mod question;
 mod reaching;
 mod request_answers;
 mod requests;
@@ -75,6 +79,7 @@ pub use draws::Draws;
 pub use end::{Agreed, End, Fault, ShortFault};
 pub use endpoint::Endpoint;
 pub use endpoint_laws::endpoint_law;
+pub use given::{Listener, Silent};
 pub use law::{
     authentication_law, history_law, reached_law, sending_law, standing_law, strict_law,
 };
@@ -83,6 +88,7 @@ pub use link::{LINK_LIMIT, Link};
 pub use link_fault::LinkFault;
 pub use link_laws::link_law;
 pub use notice::Notice;
+pub use question::Question;
 pub use server_config::ServerConfig;
 pub use session::{Accepted, Direction, Session, UserKey};
 pub use table::{Line, Phase};
