@@ -51,6 +51,7 @@ pub mod AttemptLemmas
 pub mod BeginLemmas
 pub mod CallLemmas
 pub mod LineLemmas
+pub mod AskingLemmas
 pub mod LinkLemmas
 pub mod AuthenticatedLemmas
 pub mod UncutLemmas

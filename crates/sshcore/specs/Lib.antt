@@ -45,6 +45,10 @@ pub mod Inputs
 pub mod ReceivesLines
 pub mod EndpointData
 pub mod Endpoints
+pub mod AskingData
+pub mod WaitingView
+pub mod Unread
+pub mod Asking
 pub mod Authenticated
 pub mod Sessions
 pub mod Linked
