@@ -1,9 +1,10 @@
 -- What payloads ask, and that it is asked once.
 
-use Rattle.std.proofs.Common.{◌≡◌, ℕ, ◌+◌, ◌<◌, ◌≤◌, ◌==◌, Bool, true, false, cond, List, [], ◌∷◌, ◌++◌, Option, None, Some, Result, Ok, Err, refl, sym, ap, ◌∙◌, subst, arith}
+use Rattle.std.proofs.Common.{◌≡◌, ℕ, ◌+◌, ◌<◌, ◌≤◌, ◌==◌, Bool, true, false, cond, List, [], ◌∷◌, ◌++◌, Option, None, Some, Result, Ok, Err, refl, sym, ap, ◌∙◌, subst, append_assoc, arith}
 use Rattle.std.specs.Prelude.{◌&&◌, codes, length, nat_le}
 use Rattle.std.specs.List.{AllByRecursion}
 use Rattle.std.proofs.lemmas.Bool.{eq-eqb, true≢false}
+use Rattle.std.proofs.lemmas.List.{append-nil}
 use Rattle.sshwire.specs.TypeReadings.{is_name}
 use Rattle.sshwire.specs.declared.share_form.ShareForm.{ShareForm}
 use Rattle.sshmsg.specs.declared.fault.MsgFault.{MsgFault}
@@ -219,9 +220,22 @@ module _ (numbers : Numbered) (setup : Setup) (version : List ℕ) where
       by None e rest = (all_before before u _ rest.0, rest.1)
       by (Some q) e rest = let a : Asks before u q = place_asks before u q e in ((a.0, all_before before u _ rest.0), (all_later (before ++ u ∷ []) q a.1 _ rest.0, rest.1))
 
+  may_front : (before more : Units) (q : QuestionData) → MayAsk setup.role setup.config.offer (before ++ more) q → MayAsk setup.role setup.config.offer before q
+  may_front before [] q may = subst (λ (us : Units). MayAsk setup.role setup.config.offer us q) (append-nil before) may
+  may_front before (u ∷ us) q may =
+      may_before setup.role setup.config.offer before u q
+      (may_front (before ++ u ∷ []) us q (subst (λ (l : Units). MayAsk setup.role setup.config.offer l q) (sym (append_assoc before (u ∷ []) us)) may))
+
   pub once : (before : Units) → IsAskedOnce (questions_at setup version before)
   unfolding questions_at
   once before = asked_once (flat_places place [] before) (rise [] before).1
+
+-- what is asked after a payload that asks comes later
+pub later : (numbers : Numbered) (setup : Setup) (version other_version : List ℕ) (before more : Units) (payload other_payload : List ℕ) (q r : QuestionData)
+    → question_after setup version before payload ≡ Some q → question_after setup other_version ((before ++ payload ∷ []) ++ more) other_payload ≡ Some r → ComesLater q r
+later numbers setup version other_version before more payload other_payload q r e f =
+    (place_asks numbers setup version before payload q e).1 r
+    (may_front numbers setup version (before ++ payload ∷ []) more r (place_asks numbers setup other_version ((before ++ payload ∷ []) ++ more) other_payload r f).0)
 
 module _ (setup : Setup) (version : List ℕ) where
   pub nothing : questions_at setup version [] ≡ []

@@ -60,3 +60,4 @@ pub mod AnswerLemmas
 pub mod TriesLemmas
 pub mod SessionLemmas
 pub mod EndpointLemmas
+pub mod AskingLawLemmas

@@ -49,6 +49,7 @@ pub mod AskingData
 pub mod WaitingView
 pub mod Unread
 pub mod Asking
+pub mod AskingBeside
 pub mod Authenticated
 pub mod Sessions
 pub mod Linked
