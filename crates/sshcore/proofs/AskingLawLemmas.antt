@@ -13,11 +13,11 @@ use Rattle.sshpacket.proofs.Places.{flat-append}
 use Rattle.sshcore.specs.declared.input.Input.{Input}
 use Rattle.sshcore.specs.declared.input.Input.TheVariants as input
 use Rattle.sshcore.specs.AskedQuestions.{ComesLater, question_after}
-use Rattle.sshcore.specs.Asking.{AskingAfter, IsSameAsking, asking_end}
+use Rattle.sshcore.specs.Asking.{AskingAfter, IsSameAsking, asked_at, asked_by, asking_end}
 use Rattle.sshcore.specs.AskingBeside.{IsBeside}
 use Rattle.sshcore.specs.AskingData.{AskingData, WaitingData, asking_setup}
 use Rattle.sshcore.specs.Directions.{parsers, payloads_in, spells, version_in}
-use Rattle.sshcore.specs.EndData.{EndData, Open, by_owner}
+use Rattle.sshcore.specs.EndData.{Authenticated, Closed, Disconnected, EndData, Failed, Open, by_owner}
 use Rattle.sshcore.specs.EndpointData.{EndpointData, endpoint_setup}
 use Rattle.sshcore.specs.EndpointParts.{ConfigData, DecisionsData, Setup, setup_with}
 use Rattle.sshcore.specs.Endpoints.{EndpointAfter, IsSameEndpoint, endpoint_end}
@@ -110,9 +110,9 @@ module _ (streams : Streams) (setup : Setup) where
           ∙ flat-append (spells setup.suite setup.role setup.config (units ++ front.rest)) [] (setup.config.version ∷ answers) added
           ∙ ap (λ (l : List ℕ). l ++ flat_places (spells setup.suite setup.role setup.config (units ++ front.rest)) (setup.config.version ∷ answers) added) (sym stays.spelled)
 
-  pub stands_front : (kept other_kept : StateData) (i j other_i : Input) (w : Option WaitingData) (h more s t : List ℕ) → kept.end ≡ Open
+  pub stands_front : (kept other_kept : StateData) (i other_i : Input) (w : Option WaitingData) (h more s t : List ℕ) → kept.end ≡ Open
       → AskingStands setup kept i w h s → EndpointStands setup other_kept other_i (h ++ more) t → IsPrefix s t
-  stands_front kept other_kept i j other_i w h more s t is a b =
+  stands_front kept other_kept i other_i w h more s t is a b =
       let u = unread_front setup.suite a.reader i a.earlier w h a.unread in
       let o = received_open a.stands.received_end kept.end a.stands.ends is in
       sent_front a.stands.units b.units a.stands.rest b.rest a.stands.refusal b.refusal a.stands.answers b.answers a.stands.received_end b.received_end a.earlier (u.0 ++ more) s t
@@ -182,11 +182,63 @@ module _ (streams : Streams) (setup : Setup) where
           asked.later numbers setup a.version b.version a.before p.rest w.payload other_w.payload w.question other_w.question a.asks
           (ap (λ (l : Units). question_after setup b.version l other_w.payload) (sym payloads) ∙ b.asks)
 
--- what another endpoint of the same config has received and sent, as this one's
-module _ {S : Type 0} (meaning : S → SuiteData) (d : DecisionsData) where
-  pub same_after : (one other : AskingData S) → IsSameAsking one other → (g t : List ℕ) → AskingAfter meaning d other g t
-      → AskingStands (asking_setup meaning d one) (state_data other.state) other.input other.waiting g t
-  same_after one other same g t a =
-      subst (λ (v : S). AskingStands (setup_with (meaning v) d one.role one.party) (state_data other.state) other.input other.waiting g t) same.same_suite
-      (subst (λ (v : Side). AskingStands (setup_with (meaning other.suite) d v one.party) (state_data other.state) other.input other.waiting g t) same.same_role
-      (subst (λ (v : ConfigData). AskingStands (setup_with (meaning other.suite) d other.role v) (state_data other.state) other.input other.waiting g t) same.same_config a))
+  pub waits_by : (kept : StateData) (j : Input) (v : Option WaitingData) (w : WaitingData) (h s : List ℕ) → v ≡ Some w → kept.end ≡ Open → question_at setup.suite setup.role setup.config kept w.payload ≡ Some w.question
+      → (a : AskingStands setup kept j v h s) → WaitsAfter setup a.stands.units w h
+  waits_by kept j None w h s e is asks a = absurd cc
+  waits_by kept j (Some v) w h s e is asks a =
+      let same : v ≡ w = cc in
+      subst (λ (x : WaitingData). WaitsAfter setup a.stands.units x h) same
+      (waits_after kept j v h s is (subst (λ (x : WaitingData). question_at setup.suite setup.role setup.config kept x.payload ≡ Some x.question) (sym same) asks) a)
+
+-- it asks what its packet asks
+asked_so : (end : EndData) (v : Option WaitingData) (q : QuestionData) → asked_at end v ≡ Some q → (end ≡ Open) × (w : WaitingData) × (v ≡ Some w) × (w.question ≡ q)
+asked_so Open None q e = absurd cc
+asked_so Open (Some w) q e = (refl, w, refl, cc)
+asked_so (Authenticated a) v q e = absurd cc
+asked_so (Failed f) v q e = absurd cc
+asked_so (Closed reason) v q e = absurd cc
+asked_so (Disconnected reason) v q e = absurd cc
+
+module _ {S : Type 0} (meaning : S → SuiteData) where
+  -- what `question` of the endpoint promises of the packet that waits
+  abbrev pub AsksSo : AskingData S → Type 0
+  AsksSo e = (w : WaitingData) → e.waiting ≡ Some w → asking_end e ≡ Open → question_at (meaning e.suite) e.role e.party (state_data e.state) w.payload ≡ Some w.question
+
+  -- endpoints of one role, config and suite have one setup
+  setup_same : (d : DecisionsData) (role other_role : Side) (party other_party : ConfigData) (suite other_suite : S) → other_role ≡ role → other_party ≡ party → other_suite ≡ suite
+      → setup_with (meaning other_suite) d other_role other_party ≡ setup_with (meaning suite) d role party
+  setup_same d role other_role party other_party suite other_suite a b e =
+      ap (λ (x : S). setup_with (meaning x) d other_role other_party) e ∙ ap (λ (x : Side). setup_with (meaning suite) d x other_party) a ∙ ap (λ (x : ConfigData). setup_with (meaning suite) d role x) b
+
+  module _ (d : DecisionsData) (streams : Streams) (one : AskingData S) where
+    pub waits_here : AsksSo one → (h s : List ℕ) (a : AskingAfter meaning d one h s) (w : WaitingData) → one.waiting ≡ Some w → asking_end one ≡ Open → WaitsAfter (asking_setup meaning d one) a.stands.units w h
+    waits_here asks h s a w waits is = waits_by streams (asking_setup meaning d one) (state_data one.state) one.input one.waiting w h s waits is (asks w waits is) a
+
+    module _ (other : AskingData S) (same : IsSameAsking one other) where
+      one_setup : asking_setup meaning d other ≡ asking_setup meaning d one
+      one_setup = setup_same d one.role other.role one.party other.party one.suite other.suite same.same_role same.same_config same.same_suite
+
+      pub front_of : (h more s t : List ℕ) → asking_end one ≡ Open → other.waiting ≡ None → AskingAfter meaning d one h s → AskingAfter meaning d other (h ++ more) t → IsPrefix s t
+      front_of h more s t is none a b =
+          stands_front streams (asking_setup meaning d one) (state_data one.state) (state_data other.state) one.input other.input one.waiting h more s t is a
+          (subst (λ (x : Setup). EndpointStands x (state_data other.state) other.input (h ++ more) t) one_setup (stands_at_once meaning d other (h ++ more) t none b))
+
+      pub later_of : Numbered → AsksSo one → AsksSo other → (h more s t : List ℕ) → AskingAfter meaning d one h s → AskingAfter meaning d other (h ++ more) t → more ≢ []
+          → (q r : QuestionData) → asked_by one ≡ Some q → asked_by other ≡ Some r → ComesLater q r
+      later_of numbers asks other_asks h more s t a b some q r e f =
+          let x = asked_so (asking_end one) one.waiting q e in
+          let y = asked_so (asking_end other) other.waiting r f in
+          let here : WaitsAfter (asking_setup meaning d one) a.stands.units x.1 h = waits_here asks h s a x.1 x.2 x.0 in
+          let there : WaitsAfter (asking_setup meaning d other) b.stands.units y.1 (h ++ more) =
+          waits_by streams (asking_setup meaning d other) (state_data other.state) other.input other.waiting y.1 (h ++ more) t y.2 y.0 (other_asks y.1 y.2 y.0) b in
+          subst (λ (z : QuestionData). ComesLater z r) x.3 (subst (λ (z : QuestionData). ComesLater x.1.question z) y.3
+          (asks_later streams (asking_setup meaning d one) numbers a.stands.units b.stands.units x.1 y.1 h more some here
+          (subst (λ (z : Setup). WaitsAfter z b.stands.units y.1 (h ++ more)) one_setup there)))
+
+-- beside one that asks at once
+module _ {S D : Type 0} (meaning : S → SuiteData) (policy : D → DecisionsData) (streams : Streams) (one : AskingData S) (other : EndpointData S D) (beside : IsBeside one other) where
+  pub front_beside : (h more s t : List ℕ) → asking_end one ≡ Open → AskingAfter meaning (policy other.decisions) one h s → EndpointAfter meaning policy other (h ++ more) t → IsPrefix s t
+  front_beside h more s t is a b =
+      stands_front streams (asking_setup meaning (policy other.decisions) one) (state_data one.state) (state_data other.state) one.input other.input one.waiting h more s t is a
+      (subst (λ (x : Setup). EndpointStands x (state_data other.state) other.input (h ++ more) t)
+      (setup_same meaning (policy other.decisions) one.role other.role one.party other.party one.suite other.suite beside.same_role beside.same_config beside.same_suite) b)

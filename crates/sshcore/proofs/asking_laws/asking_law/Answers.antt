@@ -3,8 +3,9 @@ use Rattle.sshcore.specs.Asking.{asking_end}
 use Rattle.sshcore.specs.AskingData.{asking_setup}
 use Rattle.sshcore.specs.EndData.{Authenticated, by_owner}
 use Rattle.sshcore.specs.Replies.{Ends}
-use Rattle.sshcore.proofs.AskingLawLemmas.{joined}
+use Rattle.sshcore.proofs.AskingLawLemmas.{front_of, joined, later_of, waits_here}
 use Rattle.sshcore.proofs.EndpointLemmas.{authenticated_strictly, cut_open}
+use Rattle.sshcore.proofs.HistoryLemmas.{Streams}
 use Rattle.sshcore.proofs.SessionLemmas.{uncut_end}
 use Rattle.sshcore.proofs.asking_laws.asking_law.Goals as goal
 
@@ -34,5 +35,51 @@ returns-clause-authenticated g c = λ d h s a agreed is.
     let authenticated = c.authentication_law.ensures.authenticated setup a.stands.units a.stands.refusal agreed ends in
     (authenticated, authenticated_strictly setup a.stands.units agreed (Authenticated agreed) (c.strict_law.ensures.keeps setup a.stands.units a.stands.refusal (Authenticated agreed) ends) authenticated)
 
+pub returns-clause-front : goal.returns-clause-front
+returns-clause-front g c = λ same is none d h more s t.
+    let streams : Streams = record {
+      packets = c.parser_law.ensures.packets;
+      lines = c.parser_law.ensures.lines;
+      nothing = c.stream_law.ensures.nothing;
+      unit = c.stream_law.ensures.received_unit;
+      refusal = c.stream_law.ensures.received_refusal;
+      part = c.stream_law.ensures.received_part;
+      one = c.stream_law.ensures.one;
+      front = c.stream_law.ensures.prefix;
+      more = c.stream_law.ensures.read_more;
+      sent = c.stream_law.ensures.sent_append;
+    } in
+    front_of g.S.Suite.meaning d streams c.args.one.now c.args.other.now same h more s t is none
+
 pub returns-clause-asks : goal.returns-clause-asks
-returns-clause-asks g c = λ d h s a w waits is_open. ?
+returns-clause-asks g c = λ d h s a w waits is.
+    let streams : Streams = record {
+      packets = c.parser_law.ensures.packets;
+      lines = c.parser_law.ensures.lines;
+      nothing = c.stream_law.ensures.nothing;
+      unit = c.stream_law.ensures.received_unit;
+      refusal = c.stream_law.ensures.received_refusal;
+      part = c.stream_law.ensures.received_part;
+      one = c.stream_law.ensures.one;
+      front = c.stream_law.ensures.prefix;
+      more = c.stream_law.ensures.read_more;
+      sent = c.stream_law.ensures.sent_append;
+    } in
+    let there = waits_here g.S.Suite.meaning d streams c.args.one.now c.question.ensures.packet h s a w waits is in
+    (there.version, there.before, there.units_are, there.asks)
+
+pub returns-clause-later : goal.returns-clause-later
+returns-clause-later g c = λ same d h more s t.
+    let streams : Streams = record {
+      packets = c.parser_law.ensures.packets;
+      lines = c.parser_law.ensures.lines;
+      nothing = c.stream_law.ensures.nothing;
+      unit = c.stream_law.ensures.received_unit;
+      refusal = c.stream_law.ensures.received_refusal;
+      part = c.stream_law.ensures.received_part;
+      one = c.stream_law.ensures.one;
+      front = c.stream_law.ensures.prefix;
+      more = c.stream_law.ensures.read_more;
+      sent = c.stream_law.ensures.sent_append;
+    } in
+    later_of g.S.Suite.meaning d streams c.args.one.now c.args.other.now same c.numbers_law.ensures.kind c.question.ensures.packet c.question-2.ensures.packet h more s t
