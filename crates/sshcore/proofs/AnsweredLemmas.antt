@@ -74,7 +74,7 @@ decided_so : (answers : List AnsweredData) (q : QuestionData) → decided (by_an
 decided_so answers (HostKeyQuestion algorithm blob) = refl
 decided_so answers (UserQuestion number user service proof) = refl
 
-abbrev questions_of : List AnsweredData → List QuestionData
+abbrev pub questions_of : List AnsweredData → List QuestionData
 questions_of answers = map (λ (a : AnsweredData). a.question) answers
 
 -- an answer in front changes none of those that come later

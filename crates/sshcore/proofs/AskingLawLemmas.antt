@@ -16,6 +16,7 @@ use Rattle.sshcore.specs.AskedQuestions.{ComesLater, question_after}
 use Rattle.sshcore.specs.Asking.{AskingAfter, IsSameAsking, asked_at, asked_by, asking_end}
 use Rattle.sshcore.specs.AskingBeside.{IsBeside}
 use Rattle.sshcore.specs.AskingData.{AskingData, WaitingData, asking_setup}
+use Rattle.sshcore.specs.Dialogue.{AsksByPacket}
 use Rattle.sshcore.specs.Directions.{parsers, payloads_in, spells, version_in}
 use Rattle.sshcore.specs.EndData.{Authenticated, Closed, Disconnected, EndData, Failed, Open, by_owner}
 use Rattle.sshcore.specs.EndpointData.{EndpointData, endpoint_setup}
@@ -191,7 +192,7 @@ module _ (streams : Streams) (setup : Setup) where
       (waits_after kept j v h s is (subst (λ (x : WaitingData). question_at setup.suite setup.role setup.config kept x.payload ≡ Some x.question) (sym same) asks) a)
 
 -- it asks what its packet asks
-asked_so : (end : EndData) (v : Option WaitingData) (q : QuestionData) → asked_at end v ≡ Some q → (end ≡ Open) × (w : WaitingData) × (v ≡ Some w) × (w.question ≡ q)
+pub asked_so : (end : EndData) (v : Option WaitingData) (q : QuestionData) → asked_at end v ≡ Some q → (end ≡ Open) × (w : WaitingData) × (v ≡ Some w) × (w.question ≡ q)
 asked_so Open None q e = absurd cc
 asked_so Open (Some w) q e = (refl, w, refl, cc)
 asked_so (Authenticated a) v q e = absurd cc
@@ -200,18 +201,14 @@ asked_so (Closed reason) v q e = absurd cc
 asked_so (Disconnected reason) v q e = absurd cc
 
 module _ {S : Type 0} (meaning : S → SuiteData) where
-  -- what `question` of the endpoint promises of the packet that waits
-  abbrev pub AsksSo : AskingData S → Type 0
-  AsksSo e = (w : WaitingData) → e.waiting ≡ Some w → asking_end e ≡ Open → question_at (meaning e.suite) e.role e.party (state_data e.state) w.payload ≡ Some w.question
-
   -- endpoints of one role, config and suite have one setup
-  setup_same : (d : DecisionsData) (role other_role : Side) (party other_party : ConfigData) (suite other_suite : S) → other_role ≡ role → other_party ≡ party → other_suite ≡ suite
+  pub setup_same : (d : DecisionsData) (role other_role : Side) (party other_party : ConfigData) (suite other_suite : S) → other_role ≡ role → other_party ≡ party → other_suite ≡ suite
       → setup_with (meaning other_suite) d other_role other_party ≡ setup_with (meaning suite) d role party
   setup_same d role other_role party other_party suite other_suite a b e =
       ap (λ (x : S). setup_with (meaning x) d other_role other_party) e ∙ ap (λ (x : Side). setup_with (meaning suite) d x other_party) a ∙ ap (λ (x : ConfigData). setup_with (meaning suite) d role x) b
 
   module _ (d : DecisionsData) (streams : Streams) (one : AskingData S) where
-    pub waits_here : AsksSo one → (h s : List ℕ) (a : AskingAfter meaning d one h s) (w : WaitingData) → one.waiting ≡ Some w → asking_end one ≡ Open → WaitsAfter (asking_setup meaning d one) a.stands.units w h
+    pub waits_here : AsksByPacket meaning one → (h s : List ℕ) (a : AskingAfter meaning d one h s) (w : WaitingData) → one.waiting ≡ Some w → asking_end one ≡ Open → WaitsAfter (asking_setup meaning d one) a.stands.units w h
     waits_here asks h s a w waits is = waits_by streams (asking_setup meaning d one) (state_data one.state) one.input one.waiting w h s waits is (asks w waits is) a
 
     module _ (other : AskingData S) (same : IsSameAsking one other) where
@@ -223,7 +220,7 @@ module _ {S : Type 0} (meaning : S → SuiteData) where
           stands_front streams (asking_setup meaning d one) (state_data one.state) (state_data other.state) one.input other.input one.waiting h more s t is a
           (subst (λ (x : Setup). EndpointStands x (state_data other.state) other.input (h ++ more) t) one_setup (stands_at_once meaning d other (h ++ more) t none b))
 
-      pub later_of : Numbered → AsksSo one → AsksSo other → (h more s t : List ℕ) → AskingAfter meaning d one h s → AskingAfter meaning d other (h ++ more) t → more ≢ []
+      pub later_of : Numbered → AsksByPacket meaning one → AsksByPacket meaning other → (h more s t : List ℕ) → AskingAfter meaning d one h s → AskingAfter meaning d other (h ++ more) t → more ≢ []
           → (q r : QuestionData) → asked_by one ≡ Some q → asked_by other ≡ Some r → ComesLater q r
       later_of numbers asks other_asks h more s t a b some q r e f =
           let x = asked_so (asking_end one) one.waiting q e in

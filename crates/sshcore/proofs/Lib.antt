@@ -61,3 +61,4 @@ pub mod TriesLemmas
 pub mod SessionLemmas
 pub mod EndpointLemmas
 pub mod AskingLawLemmas
+pub mod DialogueLemmas

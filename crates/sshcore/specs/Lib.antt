@@ -50,6 +50,7 @@ pub mod WaitingView
 pub mod Unread
 pub mod Asking
 pub mod AskingBeside
+pub mod Dialogue
 pub mod Authenticated
 pub mod Sessions
 pub mod Linked

@@ -7,6 +7,7 @@ ghost use Rattle.sshcore.specs.AskingBeside.{IsBeside};
 ghost use Rattle.sshcore.specs.AskingData.{WaitingData, asking_setup};
 ghost use Rattle.sshcore.specs.Authenticated.{IsAuthenticated};
 ghost use Rattle.sshcore.specs.Before.{strict_at};
+ghost use Rattle.sshcore.specs.Dialogue.{Dialogue};
 ghost use Rattle.sshcore.specs.Directions.{payloads_in};
 ghost use Rattle.sshcore.specs.EndData.{AgreedData, Authenticated, Disconnected, Failed, Open, by_owner};
 ghost use Rattle.sshcore.specs.Endpoints.{EndpointAfter, endpoint_end};
@@ -118,4 +119,21 @@ pub fn beside_law<S: Suite, L: Listener, D: Decisions>(
     sshpacket::parser_law();
     sshpacket::stream_law();
     history_law();
+}
+
+/// The law of dialogues: whatever answers an asking endpoint was given, some decisions give them all, and under all decisions that
+/// do it has used and sent these bytes, and stands, as one that asks at once. Takes no memory.
+pub fn dialogue_law<S: Suite, L: Listener>(endpoint: &AskingEndpoint<'_, S, L>)
+    // Each question was asked once.
+    ensures once { (answers : List AnsweredData) (h s : List ℕ) → Dialogue S.meaning endpoint.now answers h s → IsAskedOnce (map (λ (a : AnsweredData). a.question) answers) }
+    // Some decisions give the answers, and it stands by them.
+    ensures some { (answers : List AnsweredData) (h s : List ℕ) → Dialogue S.meaning endpoint.now answers h s
+        → (d : DecisionsData) × GiveAll d answers × AskingAfter S.meaning d endpoint.now h s }
+    // It stands so by all decisions that give them.
+    ensures all { (answers : List AnsweredData) (h s : List ℕ) → Dialogue S.meaning endpoint.now answers h s
+        → (d : DecisionsData) → GiveAll d answers → AskingAfter S.meaning d endpoint.now h s }
+{
+    sshmsg::numbers_law();
+    sshpacket::parser_law();
+    sshpacket::stream_law();
 }
