@@ -112,10 +112,18 @@ pub fn beside_law<S: Suite, L: Listener, D: Decisions>(
         → (h g s t x y : List ℕ) → AskingAfter S.meaning (D.policy endpoint.now.decisions) asking.now h s → EndpointAfter S.meaning D.policy endpoint.now g t
         → h ++ x ≡ g ++ y → (asking_end asking.now ≡ Open → x ≡ []) → (endpoint_end endpoint.now ≡ Open → y ≡ [])
         → (h ≡ g) × (s ≡ t) × (asking_end asking.now ≡ endpoint_end endpoint.now) }
+    // So it is where its caller gave the answers that the other's decisions give.
+    ensures answered { IsBeside asking.now endpoint.now → asking.now.waiting ≡ None
+        → by_owner (asking_end asking.now) ≡ false → by_owner (endpoint_end endpoint.now) ≡ false
+        → (answers : List AnsweredData) (h g s t x y : List ℕ) → Dialogue S.meaning asking.now answers h s → GiveAll (D.policy endpoint.now.decisions) answers
+        → EndpointAfter S.meaning D.policy endpoint.now g t
+        → h ++ x ≡ g ++ y → (asking_end asking.now ≡ Open → x ≡ []) → (endpoint_end endpoint.now ≡ Open → y ≡ [])
+        → (h ≡ g) × (s ≡ t) × (asking_end asking.now ≡ endpoint_end endpoint.now) }
     // What it has sent while it is open, and waits, is the front of what the other has sent to more.
     ensures front { IsBeside asking.now endpoint.now → asking_end asking.now ≡ Open
         → (h more s t : List ℕ) → AskingAfter S.meaning (D.policy endpoint.now.decisions) asking.now h s → EndpointAfter S.meaning D.policy endpoint.now (h ++ more) t → IsPrefix s t }
 {
+    sshmsg::numbers_law();
     sshpacket::parser_law();
     sshpacket::stream_law();
     history_law();
