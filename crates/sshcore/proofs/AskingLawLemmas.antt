@@ -1,6 +1,6 @@
 -- Asking endpoints beside each other, and beside one that asks at once.
 
-use Rattle.std.proofs.Common.{◌≡◌, ◌≢◌, ℕ, ◌+◌, ◌≤◌, false, List, [], ◌∷◌, ◌++◌, length, take, Option, None, Some, inl, refl, sym, ap, ◌∙◌, subst, append_assoc, arith}
+use Rattle.std.proofs.Common.{◌≡◌, ◌≢◌, ℕ, ◌+◌, false, List, [], ◌∷◌, ◌++◌, length, Option, None, Some, inl, refl, sym, ap, ◌∙◌, subst, append_assoc, arith}
 use Rattle.std.proofs.lemmas.List.{append-nil}
 use Rattle.std.proofs.Math.Seq.{take-length}
 use Rattle.sshneg.specs.declared.side.Side.{Side}
@@ -19,11 +19,11 @@ use Rattle.sshcore.specs.AskingData.{AskingData, WaitingData, asking_setup}
 use Rattle.sshcore.specs.Dialogue.{AsksByPacket}
 use Rattle.sshcore.specs.Directions.{parsers, payloads_in, spells, version_in}
 use Rattle.sshcore.specs.EndData.{Authenticated, Closed, Disconnected, EndData, Failed, Open, by_owner}
-use Rattle.sshcore.specs.EndpointData.{EndpointData, endpoint_setup}
+use Rattle.sshcore.specs.EndpointData.{EndpointData}
 use Rattle.sshcore.specs.EndpointParts.{ConfigData, DecisionsData, Setup, setup_with}
 use Rattle.sshcore.specs.Endpoints.{EndpointAfter, IsSameEndpoint, endpoint_end}
 use Rattle.sshcore.specs.History.{History}
-use Rattle.sshcore.specs.Inputs.{EndpointStands, IsInput, IsInside, StandsSo}
+use Rattle.sshcore.specs.Inputs.{EndpointStands, IsInput, IsInside}
 use Rattle.sshcore.specs.Questions.{QuestionData, question_at}
 use Rattle.sshcore.specs.Replies.{answers_at, refusal_reply}
 use Rattle.sshcore.specs.Standing.{Sits}
@@ -74,6 +74,11 @@ module _ {S D : Type 0} (meaning : S → SuiteData) (policy : D → DecisionsDat
 unread_front : (m : SuiteData) (i j : Input) (earlier : List ℕ) (w : Option WaitingData) (h : List ℕ) → IsUnread m i earlier w j h → (taken : List ℕ) × (h ≡ earlier ++ taken)
 unread_front m i j earlier None h u = ([], sym u.1 ∙ sym (append-nil earlier))
 unread_front m i j earlier (Some w) h u = (u.0, u.1)
+
+-- where nothing waits that is all
+unread_all : (m : SuiteData) (i j : Input) (earlier : List ℕ) (w : Option WaitingData) (h : List ℕ) → w ≡ None → IsUnread m i earlier w j h → earlier ≡ h
+unread_all m i j earlier None h none u = u.1
+unread_all m i j earlier (Some w) h none u = absurd cc
 
 module _ (streams : Streams) (setup : Setup) where
   -- what was sent to the front of an input is the front of what was sent to it
@@ -214,6 +219,19 @@ module _ {S : Type 0} (meaning : S → SuiteData) where
     module _ (other : AskingData S) (same : IsSameAsking one other) where
       one_setup : asking_setup meaning d other ≡ asking_setup meaning d one
       one_setup = setup_same d one.role other.role one.party other.party one.suite other.suite same.same_role same.same_config same.same_suite
+
+      -- the same by what was received before an owner's end
+      pub received_of : Joined → one.waiting ≡ None → other.waiting ≡ None → (h g s t x y : List ℕ) (a : AskingAfter meaning d one h s) (b : AskingAfter meaning d other g t)
+          → h ++ x ≡ g ++ y → (a.stands.received_end ≡ Open → x ≡ []) → (b.stands.received_end ≡ Open → y ≡ [])
+          → (h ≡ g) × (s ≡ t) × (a.stands.received_end ≡ b.stands.received_end)
+      received_of law none other_none h g s t x y a b e f k =
+          let here : a.earlier ≡ h = unread_all (meaning one.suite) a.reader one.input a.earlier one.waiting h none a.unread in
+          let there : b.earlier ≡ g = unread_all (meaning other.suite) b.reader other.input b.earlier other.waiting g other_none b.unread in
+          let j = law (asking_setup meaning d one) a.stands.units b.stands.units a.stands.rest b.stands.rest a.stands.refusal b.stands.refusal a.stands.answers b.stands.answers
+          a.stands.received_end b.stands.received_end a.earlier b.earlier s t x y a.stands.history
+          (subst (λ (z : Setup). History z b.stands.units b.stands.rest b.stands.refusal b.stands.answers b.stands.received_end b.earlier t) one_setup b.stands.history)
+          (ap (λ (l : List ℕ). l ++ x) here ∙ e ∙ sym (ap (λ (l : List ℕ). l ++ y) there)) f k in
+          (sym here ∙ j.0 ∙ there, j.1.same_sent, j.1.same_end)
 
       pub front_of : (h more s t : List ℕ) → asking_end one ≡ Open → other.waiting ≡ None → AskingAfter meaning d one h s → AskingAfter meaning d other (h ++ more) t → IsPrefix s t
       front_of h more s t is none a b =

@@ -3,16 +3,15 @@
 use Rattle.std.proofs.Common.{◌≡◌, ◌≢◌, ℕ, Bool, List, [], ◌∷◌, ◌++◌, Option, None, Some, refl, sym, ap, ◌∙◌, subst, append_assoc}
 use Rattle.std.specs.List.{AllByRecursion}
 use Rattle.std.proofs.lemmas.List.{append-nil}
-use Rattle.sshneg.specs.declared.side.Side.{Side}
 use Rattle.sshpacket.specs.Stream.{Units}
 use Rattle.sshpacket.specs.Suite.{SuiteData}
 use Rattle.sshcore.specs.declared.end.Fault.TheVariants as fault
 use Rattle.sshcore.specs.AskedQuestions.{AnsweredData, ComesLater, GiveAll, IsAskedOnce}
-use Rattle.sshcore.specs.Asking.{Answered, AskingAfter, AskingCuts, AskingFed, AskingLeaves, AskingMade, IsSameAsking, asked_at, asked_by, asking_end}
+use Rattle.sshcore.specs.Asking.{Answered, AskingAfter, AskingFed, IsSameAsking, asked_at, asked_by, asking_end}
 use Rattle.sshcore.specs.AskingData.{AskingData, WaitingData, asking_setup}
 use Rattle.sshcore.specs.Dialogue.{Answers, AsksByPacket, Cuts, Dialogue, Feeds, Leaves, Makes}
 use Rattle.sshcore.specs.EndData.{Authenticated, Closed, Disconnected, EndData, Failed, Open}
-use Rattle.sshcore.specs.EndpointParts.{ConfigData, DecisionsData, Setup}
+use Rattle.sshcore.specs.EndpointParts.{DecisionsData, Setup}
 use Rattle.sshcore.specs.Questions.{QuestionData, decided, decided_by}
 use Rattle.sshcore.proofs.AnsweredLemmas.{Rises, asked_once, questions_of, some_decisions}
 use Rattle.sshcore.proofs.AskedLemmas.{Numbered}

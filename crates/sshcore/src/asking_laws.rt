@@ -67,6 +67,11 @@ pub fn asking_law<S: Suite, L: Listener, M: Listener>(
         → (d : DecisionsData) (h g s t x y : List ℕ) → AskingAfter S.meaning d one.now h s → AskingAfter S.meaning d other.now g t
         → h ++ x ≡ g ++ y → (asking_end one.now ≡ Open → x ≡ []) → (asking_end other.now ≡ Open → y ≡ [])
         → (h ≡ g) × (s ≡ t) × (asking_end one.now ≡ asking_end other.now) }
+    // The same of what was received before an owner's end.
+    ensures joined_received { IsSameAsking one.now other.now → one.now.waiting ≡ None → other.now.waiting ≡ None
+        → (d : DecisionsData) (h g s t x y : List ℕ) (a : AskingAfter S.meaning d one.now h s) (b : AskingAfter S.meaning d other.now g t)
+        → h ++ x ≡ g ++ y → (a.stands.received_end ≡ Open → x ≡ []) → (b.stands.received_end ≡ Open → y ≡ [])
+        → (h ≡ g) × (s ≡ t) × (a.stands.received_end ≡ b.stands.received_end) }
     // What an open endpoint has sent, which may wait, is the front of what one that waits for no answer has sent to more.
     ensures front { IsSameAsking one.now other.now → asking_end one.now ≡ Open → other.now.waiting ≡ None
         → (d : DecisionsData) (h more s t : List ℕ) → AskingAfter S.meaning d one.now h s → AskingAfter S.meaning d other.now (h ++ more) t → IsPrefix s t }

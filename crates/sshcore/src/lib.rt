@@ -69,7 +69,7 @@ mod waiting;
 mod working;
 
 pub use asking_endpoint::{AskingEndpoint, Fed};
-pub use asking_laws::questions_law;
+pub use asking_laws::{asking_law, beside_law, dialogue_law, questions_law};
 pub use chosen_names::ChosenNames;
 pub use client_config::ClientConfig;
 pub use config_fault::ConfigFault;

@@ -3,7 +3,7 @@ use Rattle.sshcore.specs.Asking.{asking_end}
 use Rattle.sshcore.specs.AskingData.{asking_setup}
 use Rattle.sshcore.specs.EndData.{Authenticated, by_owner}
 use Rattle.sshcore.specs.Replies.{Ends}
-use Rattle.sshcore.proofs.AskingLawLemmas.{front_of, joined, later_of, waits_here}
+use Rattle.sshcore.proofs.AskingLawLemmas.{front_of, joined, later_of, received_of, waits_here}
 use Rattle.sshcore.proofs.EndpointLemmas.{authenticated_strictly, cut_open}
 use Rattle.sshcore.proofs.HistoryLemmas.{Streams}
 use Rattle.sshcore.proofs.SessionLemmas.{uncut_end}
@@ -34,6 +34,22 @@ returns-clause-authenticated g c = λ d h s a agreed is.
     let ends = subst (Ends setup a.stands.units a.stands.refusal) (uncut_end a.stands.received_end (asking_end c.args.one.now) agreed a.stands.ends is) a.stands.history.replies.ends in
     let authenticated = c.authentication_law.ensures.authenticated setup a.stands.units a.stands.refusal agreed ends in
     (authenticated, authenticated_strictly setup a.stands.units agreed (Authenticated agreed) (c.strict_law.ensures.keeps setup a.stands.units a.stands.refusal (Authenticated agreed) ends) authenticated)
+
+pub returns-clause-joined_received : goal.returns-clause-joined_received
+returns-clause-joined_received g c = λ same none other_none d.
+    let streams : Streams = record {
+      packets = c.parser_law.ensures.packets;
+      lines = c.parser_law.ensures.lines;
+      nothing = c.stream_law.ensures.nothing;
+      unit = c.stream_law.ensures.received_unit;
+      refusal = c.stream_law.ensures.received_refusal;
+      part = c.stream_law.ensures.received_part;
+      one = c.stream_law.ensures.one;
+      front = c.stream_law.ensures.prefix;
+      more = c.stream_law.ensures.read_more;
+      sent = c.stream_law.ensures.sent_append;
+    } in
+    received_of g.S.Suite.meaning d streams c.args.one.now c.args.other.now same c.history_law.ensures.joined none other_none
 
 pub returns-clause-front : goal.returns-clause-front
 returns-clause-front g c = λ same is none d h more s t.
