@@ -62,7 +62,7 @@ about_later (UserQuestion number user service proof) (UserQuestion other_number 
 -- the first answer to it
 abbrev answer_to : List AnsweredData → QuestionData → Bool
 answer_to [] q = false
-answer_to (a ∷ later) q = cond (is_about q a.question) a.good (answer_to later q)
+answer_to (a ∷ later) q = cond (is_about q a.question) a.answer (answer_to later q)
 
 abbrev by_answers : List AnsweredData → DecisionsData
 by_answers answers = record {
@@ -79,15 +79,15 @@ questions_of answers = map (λ (a : AnsweredData). a.question) answers
 
 -- an answer in front changes none of those that come later
 passed : (a : AnsweredData) (rest later : List AnsweredData) → AllByRecursion (ComesLater a.question) (questions_of later)
-    → AllByRecursion (λ (b : AnsweredData). answer_to rest b.question ≡ b.good) later → AllByRecursion (λ (b : AnsweredData). answer_to (a ∷ rest) b.question ≡ b.good) later
+    → AllByRecursion (λ (b : AnsweredData). answer_to rest b.question ≡ b.answer) later → AllByRecursion (λ (b : AnsweredData). answer_to (a ∷ rest) b.question ≡ b.answer) later
 passed a rest [] rise all = tt
 passed a rest (b ∷ later) rise all = (rw (about_later a.question b.question rise.0) all.0, passed a rest later rise.1 all.1)
 
-found : (answers : List AnsweredData) → Rises (questions_of answers) → AllByRecursion (λ (b : AnsweredData). answer_to answers b.question ≡ b.good) answers
+found : (answers : List AnsweredData) → Rises (questions_of answers) → AllByRecursion (λ (b : AnsweredData). answer_to answers b.question ≡ b.answer) answers
 found [] r = tt
 found (a ∷ later) r = (rw (about_same a.question) refl, passed a later later r.0 (found later r.1))
 
-given : (answers part : List AnsweredData) → AllByRecursion (λ (b : AnsweredData). answer_to answers b.question ≡ b.good) part → GiveAll (by_answers answers) part
+given : (answers part : List AnsweredData) → AllByRecursion (λ (b : AnsweredData). answer_to answers b.question ≡ b.answer) part → GiveAll (by_answers answers) part
 given answers [] all = tt
 given answers (b ∷ later) all = (decided_so answers b.question ∙ all.0, given answers later all.1)
 

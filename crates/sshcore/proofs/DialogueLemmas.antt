@@ -40,7 +40,7 @@ rises_push [] a r all = (tt, tt)
 rises_push (x ∷ xs) a r all = (questions_push (ComesLater x.question) xs a r.0 all.0, rises_push xs a r.1 all.1)
 
 abbrev GivesOne : DecisionsData → AnsweredData → Type 0
-GivesOne d a = decided d a.question ≡ a.good
+GivesOne d a = decided d a.question ≡ a.answer
 
 longer : (more taken : List ℕ) → (taken ≡ [] → more ≢ []) → more ++ taken ≢ []
 longer [] [] f e = f refl refl
@@ -63,7 +63,7 @@ module _ {S : Type 0} (meaning : S → SuiteData) where
   ended_nothing e end same none r is = let bad : ◌≡◌ {A = Option QuestionData} None (Some r) = sym none ∙ ap (λ (x : EndData). asked_at x e.waiting) (sym same) ∙ is in cc (bad)
 
   -- a question was asked before the last of these bytes, and if one is asked now, more came after it
-  record IsBehind (d : DecisionsData) (e : AskingData S) (h : List ℕ) (q : QuestionData) : Type 0 where
+  record WasAsked (d : DecisionsData) (e : AskingData S) (h : List ℕ) (q : QuestionData) : Type 0 where
     units : Units
     w : WaitingData
     front : List ℕ
@@ -76,16 +76,16 @@ module _ {S : Type 0} (meaning : S → SuiteData) where
   -- what holds after a dialogue
   record Holds (e : AskingData S) (answers : List AnsweredData) (h s : List ℕ) : Type 0 where
     after : (d : DecisionsData) → GiveAll d answers → AskingAfter meaning d e h s
-    behind : (d : DecisionsData) → GiveAll d answers → AllByRecursion (λ (a : AnsweredData). IsBehind d e h a.question) answers
+    all_asked : (d : DecisionsData) → GiveAll d answers → AllByRecursion (λ (a : AnsweredData). WasAsked d e h a.question) answers
     rises : Rises (questions_of answers)
 
   same_setup : (d : DecisionsData) (old new : AskingData S) → IsSameAsking old new → asking_setup meaning d old ≡ asking_setup meaning d new
   same_setup d old new same = sym (setup_same meaning d old.role new.role old.party new.party old.suite new.suite same.same_role same.same_config same.same_suite)
 
   -- another call
-  behind_then : (d : DecisionsData) (old new : AskingData S) → IsSameAsking old new → (g taken : List ℕ) → ((more : List ℕ) → ((r : QuestionData) → asked_by old ≡ Some r → more ≢ []) → (r : QuestionData) → asked_by new ≡ Some r → more ++ taken ≢ [])
-      → (q : QuestionData) → IsBehind d old g q → IsBehind d new (g ++ taken) q
-  behind_then d old new same g taken f q b = record {
+  asked_then : (d : DecisionsData) (old new : AskingData S) → IsSameAsking old new → (g taken : List ℕ) → ((more : List ℕ) → ((r : QuestionData) → asked_by old ≡ Some r → more ≢ []) → (r : QuestionData) → asked_by new ≡ Some r → more ++ taken ≢ [])
+      → (q : QuestionData) → WasAsked d old g q → WasAsked d new (g ++ taken) q
+  asked_then d old new same g taken f q b = record {
     units = b.units;
     w = b.w;
     front = b.front;
@@ -100,9 +100,9 @@ module _ {S : Type 0} (meaning : S → SuiteData) where
       → (taken ≡ [] → asked_by new ≡ asked_by old) → Holds new answers (g ++ taken) (t ++ fed.added)
   holds_fed old new answers g t taken before after holds fed nothing = record {
     after = λ d gives. fed.follows d g t (holds.after d gives);
-    behind = λ d gives. all_weaker (λ (a : AnsweredData). IsBehind d old g a.question) (λ (a : AnsweredData). IsBehind d new (g ++ taken) a.question)
-        (λ a b. behind_then d old new fed.same g taken (λ more some r asks. longer more taken (λ none. some r (sym (nothing none) ∙ asks))) a.question b)
-        answers (holds.behind d gives);
+    all_asked = λ d gives. all_weaker (λ (a : AnsweredData). WasAsked d old g a.question) (λ (a : AnsweredData). WasAsked d new (g ++ taken) a.question)
+        (λ a b. asked_then d old new fed.same g taken (λ more some r asks. longer more taken (λ none. some r (sym (nothing none) ∙ asks))) a.question b)
+        answers (holds.all_asked d gives);
     rises = holds.rises;
   }
 
@@ -111,9 +111,9 @@ module _ {S : Type 0} (meaning : S → SuiteData) where
       → ((d : DecisionsData) → AskingAfter meaning d old h t → AskingAfter meaning d new h s) → ((r : QuestionData) → asked_by new ≡ Some r → ⊥) → Holds new answers h s
   holds_quiet old new answers h t s holds same follows none = record {
     after = λ d gives. follows d (holds.after d gives);
-    behind = λ d gives. all_weaker (λ (a : AnsweredData). IsBehind d old h a.question) (λ (a : AnsweredData). IsBehind d new h a.question)
-        (λ a b. subst (λ (l : List ℕ). IsBehind d new l a.question) (append-nil h) (behind_then d old new same h [] (λ more some r asks. absurd (none r asks)) a.question b))
-        answers (holds.behind d gives);
+    all_asked = λ d gives. all_weaker (λ (a : AnsweredData). WasAsked d old h a.question) (λ (a : AnsweredData). WasAsked d new h a.question)
+        (λ a b. subst (λ (l : List ℕ). WasAsked d new l a.question) (append-nil h) (asked_then d old new same h [] (λ more some r asks. absurd (none r asks)) a.question b))
+        answers (holds.all_asked d gives);
     rises = holds.rises;
   }
 
@@ -121,7 +121,7 @@ module _ {S : Type 0} (meaning : S → SuiteData) where
     -- what is asked now comes later than all that was answered
     comes_later : (old : AskingData S) (earlier : List AnsweredData) (h t : List ℕ) (q : QuestionData) → Holds old earlier h t → AsksByPacket meaning old → asked_by old ≡ Some q
         → AllByRecursion (λ (b : AnsweredData). ComesLater b.question q) earlier
-    comes_later old earlier h t q holds packet asks = all_weaker (λ (a : AnsweredData). IsBehind d old h a.question) (λ (a : AnsweredData). ComesLater a.question q) by earlier (holds.behind d gives)
+    comes_later old earlier h t q holds packet asks = all_weaker (λ (a : AnsweredData). WasAsked d old h a.question) (λ (a : AnsweredData). ComesLater a.question q) by earlier (holds.all_asked d gives)
       where
         d : DecisionsData
         d = (some_decisions earlier (asked_once (questions_of earlier) holds.rises)).0
@@ -135,27 +135,27 @@ module _ {S : Type 0} (meaning : S → SuiteData) where
         here : WaitsAfter (asking_setup meaning d old) (holds.after d gives).stands.units x.1 h
         here = waits_here meaning d streams old packet h t (holds.after d gives) x.1 x.2 x.0
 
-        by : (a : AnsweredData) → IsBehind d old h a.question → ComesLater a.question q
+        by : (a : AnsweredData) → WasAsked d old h a.question → ComesLater a.question q
         by a b =
             subst (λ (z : QuestionData). ComesLater z q) b.is (subst (λ (z : QuestionData). ComesLater b.w.question z) x.3
             (asks_later streams (asking_setup meaning d old) numbers b.units (holds.after d gives).stands.units b.w x.1 b.front b.more (b.some q asks) b.waits
             (subst (λ (l : List ℕ). WaitsAfter (asking_setup meaning d old) (holds.after d gives).stands.units x.1 l) b.received here)))
 
-    holds_answered : (old new : AskingData S) (earlier : List AnsweredData) (question : QuestionData) (good : Bool) (h t before after : List ℕ) → Holds old earlier h t → AsksByPacket meaning old
-        → asked_by old ≡ Some question → (answered : Answered meaning good old new before after) → Holds new (earlier ++ record { question = question; good = good } ∷ []) h (t ++ answered.added)
-    holds_answered old new earlier question good h t before after holds packet asks answered = record {
+    holds_answered : (old new : AskingData S) (earlier : List AnsweredData) (question : QuestionData) (answer : Bool) (h t before after : List ℕ) → Holds old earlier h t → AsksByPacket meaning old
+        → asked_by old ≡ Some question → (answered : Answered meaning answer old new before after) → Holds new (earlier ++ record { question = question; answer = answer } ∷ []) h (t ++ answered.added)
+    holds_answered old new earlier question answer h t before after holds packet asks answered = record {
       after = λ d gives. let parts = all_front (GivesOne d) earlier last gives in answered.follows d (ap (decided_by d) asks ∙ parts.1) h t (holds.after d parts.0);
-      behind = λ d gives. let parts = all_front (GivesOne d) earlier last gives in
-          all_push (λ (a : AnsweredData). IsBehind d new h a.question) earlier last
-          (all_weaker (λ (a : AnsweredData). IsBehind d old h a.question) (λ (a : AnsweredData). IsBehind d new h a.question)
-          (λ a b. subst (λ (l : List ℕ). IsBehind d new l a.question) (append-nil h) (behind_then d old new answered.same h [] (λ more some r is. absurd (none r is)) a.question b))
-          earlier (holds.behind d parts.0))
+      all_asked = λ d gives. let parts = all_front (GivesOne d) earlier last gives in
+          all_push (λ (a : AnsweredData). WasAsked d new h a.question) earlier last
+          (all_weaker (λ (a : AnsweredData). WasAsked d old h a.question) (λ (a : AnsweredData). WasAsked d new h a.question)
+          (λ a b. subst (λ (l : List ℕ). WasAsked d new l a.question) (append-nil h) (asked_then d old new answered.same h [] (λ more some r is. absurd (none r is)) a.question b))
+          earlier (holds.all_asked d parts.0))
           (now d (holds.after d parts.0));
       rises = rises_push earlier last holds.rises (comes_later old earlier h t question holds packet asks);
     }
       where
         last : AnsweredData
-        last = record { question = question; good = good }
+        last = record { question = question; answer = answer }
 
         none : (r : QuestionData) → asked_by new ≡ Some r → ⊥
         none = asks_nothing new answered.waits_for_none
@@ -163,7 +163,7 @@ module _ {S : Type 0} (meaning : S → SuiteData) where
         x : (asking_end old ≡ Open) × (w : WaitingData) × (old.waiting ≡ Some w) × (w.question ≡ question)
         x = asked_so (asking_end old) old.waiting question asks
 
-        now : (d : DecisionsData) → AskingAfter meaning d old h t → IsBehind d new h question
+        now : (d : DecisionsData) → AskingAfter meaning d old h t → WasAsked d new h question
         now d a = record {
           units = a.stands.units;
           w = x.1;
@@ -176,10 +176,10 @@ module _ {S : Type 0} (meaning : S → SuiteData) where
         }
 
     holds : (e : AskingData S) (answers : List AnsweredData) (h s : List ℕ) → Dialogue meaning e answers h s → Holds e answers h s
-    holds e answers h s (Makes role party suite new before after made) = record { after = λ d gives. made.begins d; behind = λ d gives. tt; rises = tt }
+    holds e answers h s (Makes role party suite new before after made) = record { after = λ d gives. made.begins d; all_asked = λ d gives. tt; rises = tt }
     holds e answers h s (Feeds old new given g t taken before after dialogue fed nothing) = holds_fed old new given g t taken before after (holds old given g t dialogue) fed nothing
-    holds e answers h s (Answers old new earlier question good g t before after dialogue packet asks answered) =
-        holds_answered old new earlier question good g t before after (holds old earlier g t dialogue) packet asks answered
+    holds e answers h s (Answers old new earlier question answer g t before after dialogue packet asks answered) =
+        holds_answered old new earlier question answer g t before after (holds old earlier g t dialogue) packet asks answered
     holds e answers h s (Cuts old new given g t dialogue cuts) =
         holds_quiet old new given g t t (holds old given g t dialogue) cuts.same (λ d a. cuts.follows d g t a) (ended_nothing new (Failed fault.Cut) cuts.cut refl)
     holds e answers h s (Leaves old new given reason description g t before after dialogue leaves) =

@@ -37,8 +37,8 @@ IsAskedOnce questions =
 -- a question with the answer that was given
 pub record AnsweredData : Type 0 where
   pub question : QuestionData
-  pub good : Bool
+  pub answer : Bool
 
 -- these decisions give all these answers
 abbrev pub GiveAll : DecisionsData → List AnsweredData → Type 0
-GiveAll d answers = AllByRecursion (λ a. decided d a.question ≡ a.good) answers
+GiveAll d answers = AllByRecursion (λ a. decided d a.question ≡ a.answer) answers

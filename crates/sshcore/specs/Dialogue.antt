@@ -24,9 +24,9 @@ pub data Dialogue {S : Type 0} (meaning : S → SuiteData) : AskingData S → Li
       → Dialogue meaning new [] [] made.added
   Feeds : (old new : AskingData S) (answers : List AnsweredData) (h s taken before after : List ℕ) → Dialogue meaning old answers h s
       → (fed : AskingFed meaning old new taken before after) → (taken ≡ [] → asked_by new ≡ asked_by old) → Dialogue meaning new answers (h ++ taken) (s ++ fed.added)
-  Answers : (old new : AskingData S) (answers : List AnsweredData) (question : QuestionData) (good : Bool) (h s before after : List ℕ) → Dialogue meaning old answers h s
-      → AsksByPacket meaning old → asked_by old ≡ Some question → (answered : Answered meaning good old new before after)
-      → Dialogue meaning new (answers ++ record { question = question; good = good } ∷ []) h (s ++ answered.added)
+  Answers : (old new : AskingData S) (answers : List AnsweredData) (question : QuestionData) (answer : Bool) (h s before after : List ℕ) → Dialogue meaning old answers h s
+      → AsksByPacket meaning old → asked_by old ≡ Some question → (answered : Answered meaning answer old new before after)
+      → Dialogue meaning new (answers ++ record { question = question; answer = answer } ∷ []) h (s ++ answered.added)
   Cuts : (old new : AskingData S) (answers : List AnsweredData) (h s : List ℕ) → Dialogue meaning old answers h s → AskingCuts meaning old new
       → Dialogue meaning new answers h s
   Leaves : (old new : AskingData S) (answers : List AnsweredData) (reason : ℕ) (description h s before after : List ℕ) → Dialogue meaning old answers h s
