@@ -41,11 +41,13 @@ pub mod FeedLemmas
 pub mod ReadLemmas
 pub mod ExchangeLemmas
 pub mod ReadsLemmas
+pub mod AskedLemmas
+pub mod AnsweredLemmas
 pub mod AfterLemmas
 pub mod WorksLemmas
 pub mod BringsLemmas
 pub mod QuestionLemmas
-pub mod AskedLemmas
+pub mod AskedOnceLemmas
 pub mod AttemptLemmas
 pub mod BeginLemmas
 pub mod CallLemmas
@@ -59,3 +61,5 @@ pub mod AnswerLemmas
 pub mod TriesLemmas
 pub mod SessionLemmas
 pub mod EndpointLemmas
+pub mod AskingLawLemmas
+pub mod DialogueLemmas
