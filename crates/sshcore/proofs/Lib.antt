@@ -41,13 +41,13 @@ pub mod FeedLemmas
 pub mod ReadLemmas
 pub mod ExchangeLemmas
 pub mod ReadsLemmas
-pub mod AskedLemmas
+pub mod AskedOnceLemmas
 pub mod AnsweredLemmas
 pub mod AfterLemmas
 pub mod WorksLemmas
 pub mod BringsLemmas
 pub mod QuestionLemmas
-pub mod AskedOnceLemmas
+pub mod AskedLemmas
 pub mod AttemptLemmas
 pub mod BeginLemmas
 pub mod CallLemmas
