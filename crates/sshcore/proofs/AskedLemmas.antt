@@ -1,6 +1,6 @@
 -- What a packet asks, by what the code has found out.
 
-use Rattle.std.proofs.Common.{◌≡◌, ◌≢◌, ℕ, List, Bor, Bool, true, Option, None, Some, is_some, option_map, Result, Ok, Err, refl, sym, ap, ◌∙◌}
+use Rattle.std.proofs.Common.{◌≡◌, ◌≢◌, ℕ, List, Bor, Bool, true, Option, None, Some, is_some, option_map, Result, Ok, Err, refl, sym, ap, subst, ◌∙◌}
 use Rattle.sshmsg.proofs.NumberLemmas.{kind_tells}
 use Rattle.sshmsg.specs.declared.fault.MsgFault.{MsgFault}
 use Rattle.sshmsg.specs.MessageData.{KexEcdhReply, KexdhReply, MessageData, MethodData, NoMethod, OtherMethod, Password, PasswordChange, PublicKey, PublicKeyQuery, UserauthRequest}
@@ -11,11 +11,18 @@ use Rattle.sshneg.specs.declared.side.Side.TheVariants.{Client}
 use Rattle.sshpacket.specs.Suite.{SuiteData}
 use Rattle.sshcore.specs.declared.table.Line.{Line}
 use Rattle.sshcore.specs.declared.table.Line.TheVariants as line
-use Rattle.sshcore.specs.EndpointParts.{ConfigData, ProofData}
+use Rattle.sshcore.specs.Brings.{Brings, Works}
+use Rattle.sshcore.specs.EndpointParts.{ConfigData, ProofData, Setup}
 use Rattle.sshcore.specs.Known.{Known}
 use Rattle.sshcore.specs.Questions.{HostKeyQuestion, QuestionData, always, line_question, message_question, method_question, proof_question, request_question}
+use Rattle.sshcore.specs.Plan.{is_waiting}
+use Rattle.sshcore.specs.Replies.{read_reply}
 use Rattle.sshcore.specs.Requests.{is_successful}
+use Rattle.sshcore.specs.StateData.{StateData}
+use Rattle.sshcore.specs.Table.{line_by}
 use Rattle.sshcore.specs.Tries.{is_decided, proof_in}
+use Rattle.sshcore.specs.Work.{work}
+use Rattle.sshcore.proofs.BringsLemmas.{reads_brings}
 use Rattle.sshcore.proofs.RequestLemmas.{FindsService, had, missed}
 
 module _ (m : SuiteData) (role : Side) (party : ConfigData) (known : Known) where
@@ -89,6 +96,15 @@ module _ (m : SuiteData) (party : ConfigData) (known : Known) (user service : Li
   pub asks_here : (own : Bor (List ℕ)) → found ≡ Some own → method_question m party known user own.now method ≡ request_question m party known user service method
   unfolding request_question
   asks_here own is = let both = had _ service found own e is in rw (both.0, both.1) refl
+
+-- a packet that is read as this message brings what it does
+pub read_brings : (setup : Setup) (old new : StateData) (packet : ℕ) (payload before after : List ℕ)
+    → line_by setup.role old.phase old.known.strict old.guess (is_waiting old.known.left) (kind payload) ≡ line.Reads
+    → (c : MessageData) → message_in old.known.shares payload ≡ Ok c → Works setup old new payload before after (work setup old.known c)
+    → Brings setup old new packet payload before after
+read_brings setup old new packet payload before after reads c e works =
+    reads_brings setup old new packet payload before after reads
+    (subst (λ (r : Result MessageData MsgFault). Works setup old new payload before after (read_reply setup old.known (kind payload) r)) (sym e) works)
 
 -- what was asked, and answered so, is so successful
 proof_given : (number : ℕ) (user service : List ℕ) (o : Option ProofData) (good : Bool) → is_some (proof_question number user service o) ≡ true
