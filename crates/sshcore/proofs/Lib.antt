@@ -41,7 +41,7 @@ pub mod FeedLemmas
 pub mod ReadLemmas
 pub mod ExchangeLemmas
 pub mod ReadsLemmas
-pub mod AskedLemmas
+pub mod AskedOnceLemmas
 pub mod AnsweredLemmas
 pub mod AfterLemmas
 pub mod WorksLemmas
@@ -60,5 +60,6 @@ pub mod AnswerLemmas
 pub mod TriesLemmas
 pub mod SessionLemmas
 pub mod EndpointLemmas
+pub mod AskedNothing
 pub mod AskingLawLemmas
 pub mod DialogueLemmas
