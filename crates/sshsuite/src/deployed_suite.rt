@@ -10,6 +10,7 @@ use crate::curve25519::{BASE_POINT, x25519};
 use crate::ed25519::{is_signature, public_key, signature};
 use crate::group14::{group14_share, group14_shared};
 use crate::mpint::mpint_body;
+use crate::rsa::{is_rsa, rsa_verify};
 use crate::{gcm, sealing};
 use sha2::{Digest, Sha256};
 use sshpacket::{Capability, KeyLens, Keys, Need, Response, ShareForm, Suite, leading_uint32};
@@ -62,7 +63,7 @@ impl Suite for DeployedSuite {
 
     fn can(&self, host_key: &str) -> Capability {
         Capability {
-            signature: is_ed25519(host_key),
+            signature: is_ed25519(host_key) || is_rsa(host_key),
             encryption: false,
         }
     }
@@ -312,12 +313,14 @@ fn is_verified(alloc: Global, blob: &[u8], input: &[u8], found: &[u8]) -> Result
     Ok(is_blob && (is_found && is_signed))
 }
 
-/// Whether the signature is that of the input by the key of this blob, both of ssh-ed25519.
+/// Whether the signature is that of the input by the key of this blob, both of this algorithm.
 #[tactic(auto, unfolding(crate::specs::Deployed::verify))]
 fn verify(alloc: Global, alg: &str, blob: &[u8], input: &[u8], found: &[u8]) -> Result<bool, Memory>
     ensures { IfOk result (λ b. b ≡ verify alg.now blob.now input.now found.now) }
 {
-    if is_ed25519(alg) && blob.len() == 51 && found.len() == 83 {
+    if is_rsa(alg) {
+        rsa_verify(alloc, alg, blob, input, found)
+    } else if is_ed25519(alg) && blob.len() == 51 && found.len() == 83 {
         is_verified(alloc, blob, input, found)
     } else {
         Ok(false)
