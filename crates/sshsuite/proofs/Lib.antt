@@ -18,5 +18,6 @@ pub mod AesSamples
 pub mod LongNumberLemmas
 pub mod MontgomeryLemmas
 pub mod PowerLemmas
+pub mod PublicPowerLemmas
 pub mod ByteNumberLemmas
 pub mod AgreementLemmas

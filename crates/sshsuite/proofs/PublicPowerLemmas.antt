@@ -1,0 +1,96 @@
+-- Powers modulo any odd number, divided by a power of 2^8192.
+
+use Rattle.std.proofs.Common.{◌≡◌, ℕ, zero, suc, ◌+◌, ◌-◌, ◌*◌, ◌/◌, ◌%◌, ◌^◌, ◌<◌, ◌≤◌, refl, sym, ap, ap₂, ◌∙◌, add-one, arith, Bool, true, false, cond, eqb, inl, inr}
+use Rattle.std.proofs.Math.Nat.{add-mul-mod_self_left, div-add-mod, div-div-eq-div-mul, mod-eq_of_lt, mul-mod_right, pow-suc, pow-zero}
+use Rattle.std.proofs.lemmas.Nat.{mul-mod, mul-mod_first, mul-mod_second, mul-pow, pow-add}
+use Rattle.sshsuite.specs.LongNumbers.{weight}
+use Rattle.sshsuite.proofs.PowerLemmas.{cancelled}
+
+-- The inverse of an odd word.
+pub refined_is : (odd y : ℕ) → (odd * (y * ((odd * y % 2 ^ 64 + 2) % 2 ^ 64) % 2 ^ 64) + 1) % 2 ^ 64 ≡ (odd * y + 1) * (odd * y + 1) % 2 ^ 64
+refined_is odd y =
+    let w : ℕ = 2 ^ 64 in
+    let z : ℕ = (odd * y % w + 2) % w in
+    rest odd y (odd * y) (odd * y % w) (odd * y / w) z ((odd * y % w + 2) / w) (y * z % w) (y * z / w) refl (omega arith) (omega arith) (omega arith)
+  where
+    same : (x k y : ℕ) → x + 2 ^ 64 * k ≡ y → x % 2 ^ 64 ≡ y % 2 ^ 64
+    same x k y e = omega arith
+
+    rest : (odd y t t1 q1 z q2 r q3 : ℕ) → t ≡ odd * y → t ≡ 2 ^ 64 * q1 + t1 → t1 + 2 ≡ 2 ^ 64 * q2 + z → y * z ≡ 2 ^ 64 * q3 + r → (odd * r + 1) % 2 ^ 64 ≡ (t + 1) * (t + 1) % 2 ^ 64
+    rest odd y t t1 q1 z q2 r q3 et e1 e2 e3 =
+        let m1 : t * t ≡ t * (2 ^ 64 * q1 + t1) = ap (λ (n : ℕ). t * n) e1 in
+        let m2 : t * (t1 + 2) ≡ t * (2 ^ 64 * q2 + z) = ap (λ (n : ℕ). t * n) e2 in
+        let m3 : odd * (y * z) ≡ odd * (2 ^ 64 * q3 + r) = ap (λ (n : ℕ). odd * n) e3 in
+        let m4 : odd * (y * z) ≡ t * z = rw et (omega arith) in
+        same (odd * r + 1) (odd * q3 + t * q2 + t * q1) ((t + 1) * (t + 1)) (omega (arith, m1, m2, m3, m4))
+
+-- twice as many zeros
+doubled : (k m a b : ℕ) → 2 ^ 64 ≡ k * k * m → a % k ≡ 0 → b % 2 ^ 64 ≡ a * a % 2 ^ 64 → b % (k * k) ≡ 0
+doubled k m a b e h is =
+    let q : ℕ = a / k in
+    let whole : a ≡ k * q = let parts = div-add-mod a k in omega (arith, parts, h) in
+    let u : ℕ = b / 2 ^ 64 in
+    let v : ℕ = a * a / 2 ^ 64 in
+    let f : b + 2 ^ 64 * v ≡ a * a + 2 ^ 64 * u = omega (arith, is) in
+    let g : b + k * k * (m * v) ≡ k * k * (q * q + m * u) = joined k m a b q u v e whole f in
+    sym (add-mul-mod_self_left b (k * k) (m * v)) ∙ ap (λ (n : ℕ). n % (k * k)) g ∙ mul-mod_right (k * k) (q * q + m * u)
+  where
+    joined : (k m a b q u v : ℕ) → 2 ^ 64 ≡ k * k * m → a ≡ k * q → b + 2 ^ 64 * v ≡ a * a + 2 ^ 64 * u → b + k * k * (m * v) ≡ k * k * (q * q + m * u)
+    joined k m a b q u v e w f =
+        let e1 : 2 ^ 64 * v ≡ k * k * m * v = ap (λ (n : ℕ). n * v) e in
+        let e2 : 2 ^ 64 * u ≡ k * k * m * u = ap (λ (n : ℕ). n * u) e in
+        let e3 : a * a ≡ k * q * (k * q) = ap₂ ◌*◌ w w in omega (arith, e1, e2, e3, f)
+
+pub inverted : (odd y1 y2 y3 y4 y5 y6 : ℕ) → odd % 2 ≡ 1
+    → (odd * y1 + 1) % 2 ^ 64 ≡ (odd * 1 + 1) * (odd * 1 + 1) % 2 ^ 64 → (odd * y2 + 1) % 2 ^ 64 ≡ (odd * y1 + 1) * (odd * y1 + 1) % 2 ^ 64
+    → (odd * y3 + 1) % 2 ^ 64 ≡ (odd * y2 + 1) * (odd * y2 + 1) % 2 ^ 64 → (odd * y4 + 1) % 2 ^ 64 ≡ (odd * y3 + 1) * (odd * y3 + 1) % 2 ^ 64
+    → (odd * y5 + 1) % 2 ^ 64 ≡ (odd * y4 + 1) * (odd * y4 + 1) % 2 ^ 64 → (odd * y6 + 1) % 2 ^ 64 ≡ (odd * y5 + 1) * (odd * y5 + 1) % 2 ^ 64
+    → (odd * y6 + 1) % 2 ^ 64 ≡ 0
+inverted odd y1 y2 y3 y4 y5 y6 h e1 e2 e3 e4 e5 e6 =
+    let d1 : (odd * y1 + 1) % 2 ^ 2 ≡ 0 = doubled 2 (2 ^ 62) (odd * 1 + 1) (odd * y1 + 1) refl (omega (arith, h)) e1 in
+    let d2 : (odd * y2 + 1) % 2 ^ 4 ≡ 0 = doubled (2 ^ 2) (2 ^ 60) (odd * y1 + 1) (odd * y2 + 1) refl d1 e2 in
+    let d3 : (odd * y3 + 1) % 2 ^ 8 ≡ 0 = doubled (2 ^ 4) (2 ^ 56) (odd * y2 + 1) (odd * y3 + 1) refl d2 e3 in
+    let d4 : (odd * y4 + 1) % 2 ^ 16 ≡ 0 = doubled (2 ^ 8) (2 ^ 48) (odd * y3 + 1) (odd * y4 + 1) refl d3 e4 in
+    let d5 : (odd * y5 + 1) % 2 ^ 32 ≡ 0 = doubled (2 ^ 16) (2 ^ 32) (odd * y4 + 1) (odd * y5 + 1) refl d4 e5 in
+    doubled (2 ^ 32) 1 (odd * y5 + 1) (odd * y6 + 1) refl d5 e6
+
+-- Steps of a power.
+more : (r x y m : ℕ) → x % m ≡ y % m → r * x % m ≡ r * y % m
+more r x y m e = sym (mul-mod_second r x m) ∙ ap (λ (n : ℕ). r * n % m) e ∙ mul-mod_second r y m
+
+both : (x y u v m : ℕ) → x % m ≡ u % m → y % m ≡ v % m → x * y % m ≡ u * v % m
+both x y u v m e f = mul-mod x y m ∙ ap₂ (λ (a b : ℕ). a * b % m) e f ∙ sym (mul-mod u v m)
+
+pub squared_is : (r n p b q m : ℕ) → r * q % m ≡ p * p % m → r ^ n * p % m ≡ b ^ (n + 1) % m → r ^ (2 * n + 1) * q % m ≡ b ^ (2 * n + 1 + 1) % m
+squared_is r n p b q m e h =
+    let k : ℕ = r ^ n in
+    let split : r ^ (2 * n + 1) ≡ k * k * r = power_twice r n in
+    let turned : k * k * r * q ≡ k * k * (r * q) = omega arith in
+    let paired : k * k * (p * p) ≡ k * p * (k * p) = omega arith in
+    let at : n + 1 + (n + 1) ≡ 2 * n + 1 + 1 = omega arith in
+    ap (λ (x : ℕ). x * q % m) split ∙ ap (λ (x : ℕ). x % m) turned ∙ more (k * k) (r * q) (p * p) m e ∙ ap (λ (x : ℕ). x % m) paired
+    ∙ both (k * p) (k * p) (b ^ (n + 1)) (b ^ (n + 1)) m h h ∙ ap (λ (x : ℕ). x % m) (sym (pow-add b (n + 1) (n + 1))) ∙ ap (λ (x : ℕ). b ^ x % m) at
+  where
+    power_twice : (r n : ℕ) → r ^ (2 * n + 1) ≡ r ^ n * r ^ n * r
+    power_twice r n =
+        let at : 2 * n + 1 ≡ suc (n + n) = omega arith in
+        ap (λ (x : ℕ). r ^ x) at ∙ pow-suc r (n + n) ∙ ap (λ (x : ℕ). x * r) (pow-add r n n)
+
+pub multiplied_is : (r n b q u m : ℕ) → r * u % m ≡ q * b % m → r ^ n * q % m ≡ b ^ (n + 1) % m → r ^ (n + 1) * u % m ≡ b ^ (n + 1 + 1) % m
+multiplied_is r n b q u m e h =
+    let k : ℕ = r ^ n in
+    let split : r ^ (n + 1) ≡ k * r = ap (λ (x : ℕ). r ^ x) (add-one n) ∙ pow-suc r n in
+    let turned : k * r * u ≡ k * (r * u) = omega arith in
+    let moved : k * (q * b) ≡ k * q * b = omega arith in
+    ap (λ (x : ℕ). x * u % m) split ∙ ap (λ (x : ℕ). x % m) turned ∙ more k (r * u) (q * b) m e ∙ ap (λ (x : ℕ). x % m) moved
+    ∙ both (k * q) b (b ^ (n + 1)) b m h refl ∙ ap (λ (x : ℕ). x % m) (sym (pow-suc b (n + 1)) ∙ ap (λ (x : ℕ). b ^ x) (sym (add-one (n + 1))))
+
+pub even_step : (r n p b q m bit : ℕ) → bit ≡ 0 → r * q % m ≡ p * p % m → r ^ n * p % m ≡ b ^ (n + 1) % m → r ^ (2 * n + 1 + bit) * q % m ≡ b ^ (2 * n + 1 + bit + 1) % m
+even_step r n p b q m bit e sq h =
+    let at : 2 * n + 1 + bit ≡ 2 * n + 1 = omega (arith, e) in
+    rw at (squared_is r n p b q m sq h)
+
+pub odd_step : (r n p b q u m bit : ℕ) → bit ≡ 1 → r * q % m ≡ p * p % m → r * u % m ≡ q * b % m → r ^ n * p % m ≡ b ^ (n + 1) % m
+    → r ^ (2 * n + 1 + bit) * u % m ≡ b ^ (2 * n + 1 + bit + 1) % m
+odd_step r n p b q u m bit e sq pr h =
+    rw e (multiplied_is r (2 * n + 1) b q u m pr (squared_is r n p b q m sq h))
