@@ -94,3 +94,54 @@ pub odd_step : (r n p b q u m bit : ℕ) → bit ≡ 1 → r * q % m ≡ p * p %
     → r ^ (2 * n + 1 + bit) * u % m ≡ b ^ (2 * n + 1 + bit + 1) % m
 odd_step r n p b q u m bit e sq pr h =
     rw e (multiplied_is r (2 * n + 1) b q u m pr (squared_is r n p b q m sq h))
+
+-- A power, by the bits of the exponent, the highest first.
+unfoldable pub IsScaled : ℕ → ℕ → ℕ → ℕ → ℕ → ℕ → Type 0
+IsScaled r e b m i p = r ^ (e / 2 ^ (32 - i) - 1) * p % m ≡ b ^ (e / 2 ^ (32 - i) - 1 + 1) % m
+
+pub scaled_by : (r b m n k p : ℕ) → n ≡ k → r ^ n * p % m ≡ b ^ (n + 1) % m → r ^ k * p % m ≡ b ^ (k + 1) % m
+scaled_by r b m n k p e h = rw e at h
+
+itself : (r b m : ℕ) → r ^ 0 * b % m ≡ b ^ (0 + 1) % m
+itself r b m =
+    let one : r ^ 0 * b ≡ b = rw (pow-zero r) (omega arith) in
+    let same : b ^ 1 ≡ b = pow-suc b 0 ∙ rw (pow-zero b) (omega arith) in
+    ap (λ (n : ℕ). n % m) (one ∙ sym same)
+
+front_of : (e i : ℕ) → i < 32 → e / 2 ^ (31 - i) / 2 ≡ e / 2 ^ (32 - i)
+front_of e i h =
+    let at : suc (31 - i) ≡ 32 - i = omega arith in
+    div-div-eq-div-mul e (2 ^ (31 - i)) 2 ∙ ap (λ (n : ℕ). e / n) (sym (pow-suc 2 (31 - i)) ∙ ap (λ (n : ℕ). 2 ^ n) at)
+
+pub scaled_none : (r e b m : ℕ) → e < 2 ^ 32 → IsScaled r e b m 0 b
+unfolding IsScaled
+scaled_none r e b m h =
+    let none : 0 ≡ e / 2 ^ (32 - 0) - 1 = omega arith in
+    scaled_by r b m 0 (e / 2 ^ (32 - 0) - 1) b none (itself r b m)
+
+pub scaled_same : (r e b m i f p : ℕ) → i < 32 → f ≡ e / 2 ^ (31 - i) → f ≤ 1 → IsScaled r e b m i p → IsScaled r e b m (i + 1) p
+unfolding IsScaled
+scaled_same r e b m i f p h is low so =
+    let q = front_of e i h in
+    let at : 31 - i ≡ 32 - (i + 1) = omega arith in
+    let next : f ≡ e / 2 ^ (32 - (i + 1)) = is ∙ ap (λ (n : ℕ). e / 2 ^ n) at in
+    let half : f / 2 ≡ e / 2 ^ (32 - i) = ap (λ (n : ℕ). n / 2) is ∙ q in
+    scaled_by r b m (e / 2 ^ (32 - i) - 1) (e / 2 ^ (32 - (i + 1)) - 1) p (omega (arith, low, next, half)) so
+
+pub scaled_more : (r e b m i f p u : ℕ) → i < 32 → f ≡ e / 2 ^ (31 - i) → 1 < f → IsScaled r e b m i p
+    → ((n : ℕ) → r ^ n * p % m ≡ b ^ (n + 1) % m → r ^ (2 * n + 1 + f % 2) * u % m ≡ b ^ (2 * n + 1 + f % 2 + 1) % m) → IsScaled r e b m (i + 1) u
+unfolding IsScaled
+scaled_more r e b m i f p u h is some so step =
+    let q = front_of e i h in
+    let at : 31 - i ≡ 32 - (i + 1) = omega arith in
+    let next : f ≡ e / 2 ^ (32 - (i + 1)) = is ∙ ap (λ (n : ℕ). e / 2 ^ n) at in
+    let half : f / 2 ≡ e / 2 ^ (32 - i) = ap (λ (n : ℕ). n / 2) is ∙ q in
+    let n : ℕ = e / 2 ^ (32 - i) - 1 in
+    scaled_by r b m (2 * n + 1 + f % 2) (e / 2 ^ (32 - (i + 1)) - 1) u (omega (arith, some, next, half)) (step n so)
+
+pub scaled_all : (r e b m i p : ℕ) → i ≡ 32 → 0 < e → IsScaled r e b m i p → r ^ (e - 1) * p % m ≡ b ^ e % m
+unfolding IsScaled
+scaled_all r e b m i p at some so =
+    let last : e / 2 ^ (32 - i) ≡ e = rw at (omega arith) in
+    let plain = scaled_by r b m (e / 2 ^ (32 - i) - 1) (e - 1) p (ap (λ (n : ℕ). n - 1) last) so in
+    let back : e - 1 + 1 ≡ e = omega arith in plain ∙ ap (λ (n : ℕ). b ^ n % m) back

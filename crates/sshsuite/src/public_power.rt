@@ -93,7 +93,7 @@ fn scaled_power(base: &Number, exponent: u64, modulus: &Number, inverse: u64) ->
     ensures below { number_of result < number_of modulus.now }
 {
     let mut power = *base;
-    for i in 0..32 {
+    for i in 0u64..32 {
         let front = exponent >> (31 - i);
         if front > 1 {
             power = power_step(&power, base, front, modulus, inverse);
