@@ -1,9 +1,13 @@
 -- Powers modulo any odd number, divided by a power of 2^8192.
 
-use Rattle.std.proofs.Common.{◌≡◌, ℕ, zero, suc, ◌+◌, ◌-◌, ◌*◌, ◌/◌, ◌%◌, ◌^◌, ◌<◌, ◌≤◌, refl, sym, ap, ap₂, ◌∙◌, add-one, arith, Bool, true, false, cond, eqb, inl, inr}
+use Rattle.std.proofs.Common.{◌≡◌, ℕ, zero, suc, ◌+◌, ◌-◌, ◌*◌, ◌/◌, ◌%◌, ◌^◌, ◌<◌, ◌≤◌, refl, sym, ap, ap₂, ◌∙◌, add-one, arith, List, Bool, true, false, eqb, length}
+use Rattle.std.proofs.lemmas.Bool.{eq-eqb, eqb-true}
 use Rattle.std.proofs.Math.Nat.{add-mul-mod_self_left, div-add-mod, div-div-eq-div-mul, mod-eq_of_lt, mul-mod_right, pow-suc, pow-zero}
-use Rattle.std.proofs.lemmas.Nat.{mul-mod, mul-mod_first, mul-mod_second, mul-pow, pow-add}
-use Rattle.sshsuite.specs.LongNumbers.{weight}
+use Rattle.std.proofs.lemmas.Nat.{mod-mul-add, mod_below, mul-mod, mul-mod_first, mul-mod_second, mul-pow, pow-add}
+use Rattle.std.specs.Prelude.{slice_index}
+use Rattle.sshsuite.specs.LongNumbers.{number_of, weight}
+use Rattle.sshsuite.proofs.LongNumberLemmas.{number_all}
+use Rattle.sshsuite.proofs.MontgomeryLemmas.{lowest}
 use Rattle.sshsuite.proofs.PowerLemmas.{cancelled}
 
 -- The inverse of an odd word.
@@ -145,3 +149,63 @@ scaled_all r e b m i p at some so =
     let last : e / 2 ^ (32 - i) ≡ e = rw at (omega arith) in
     let plain = scaled_by r b m (e / 2 ^ (32 - i) - 1) (e - 1) p (ap (λ (n : ℕ). n - 1) last) so in
     let back : e - 1 + 1 ≡ e = omega arith in plain ∙ ap (λ (n : ℕ). b ^ n % m) back
+
+-- A power of 2^8192 has an inverse modulo an odd number.
+one_power : (x m j : ℕ) → 1 < m → x % m ≡ 1 → x ^ j % m ≡ 1
+one_power x m zero h e = ap (λ (n : ℕ). n % m) (pow-zero x) ∙ mod-eq_of_lt h
+one_power x m (suc j) h e =
+    let rest : x ^ j % m ≡ 1 % m = one_power x m j h e ∙ sym (mod-eq_of_lt h) in
+    let first : x % m ≡ 1 % m = e ∙ sym (mod-eq_of_lt h) in
+    ap (λ (n : ℕ). n % m) (pow-suc x j) ∙ both (x ^ j) x 1 1 m rest first ∙ mod-eq_of_lt h
+
+inverse_power : (x y m j : ℕ) → 1 < m → x * y % m ≡ 1 → x ^ j * y ^ j % m ≡ 1
+inverse_power x y m j h e = ap (λ (n : ℕ). n % m) (sym (mul-pow x y j)) ∙ one_power (x * y) m j h e
+
+weight_inverse : (n m e : ℕ) → 1 < m → m % 2 ≡ 1 → weight n ^ e * (((m + 1) / 2) ^ (64 * n)) ^ e % m ≡ 1
+unfolding weight
+weight_inverse n m e h odd =
+    let half : 2 * ((m + 1) / 2) ≡ 1 * m + 1 = omega (arith, odd) in
+    let one : 2 * ((m + 1) / 2) % m ≡ 1 = ap (λ (k : ℕ). k % m) half ∙ mod-mul-add 1 m 1 h in
+    inverse_power (2 ^ (64 * n)) (((m + 1) / 2) ^ (64 * n)) m e h (inverse_power 2 ((m + 1) / 2) m (64 * n) h one)
+
+-- Both sides of a comparison.
+by_both : (x y : Bool) → (x ≡ true → y ≡ true) → (y ≡ true → x ≡ true) → x ≡ y
+by_both true y f g = sym (f refl)
+by_both false true f g = g refl
+by_both false false f g = refl
+
+same_test : (a b c d : ℕ) → (a ≡ b → c ≡ d) → (c ≡ d → a ≡ b) → eqb a b ≡ eqb c d
+same_test a b c d f g = by_both (eqb a b) (eqb c d) (λ h. eq-eqb c d (f (eqb-true a b h))) (λ h. eq-eqb a b (g (eqb-true c d h)))
+
+scaled_side : (r e p k own u m : ℕ) → 0 < e → r * own % m ≡ p * k % m → r ^ (e - 1) * p % m ≡ u % m → r ^ e * own % m ≡ u * k % m
+scaled_side r e p k own u m some ho hp =
+    let at : suc (e - 1) ≡ e = omega arith in
+    let w : ℕ = r ^ (e - 1) in
+    let split : r ^ e ≡ w * r = ap (λ (n : ℕ). r ^ n) (sym at) ∙ pow-suc r (e - 1) in
+    let turned : w * r * own ≡ w * (r * own) = omega arith in
+    let moved : w * (p * k) ≡ w * p * k = omega arith in
+    ap (λ (n : ℕ). n * own % m) split ∙ ap (λ (n : ℕ). n % m) turned ∙ more w (r * own) (p * k) m ho ∙ ap (λ (n : ℕ). n % m) moved ∙ both (w * p) k u k m hp refl
+
+pub power_test : (n e b f m p s own other one : ℕ) → 0 < e → 1 < m → m % 2 ≡ 1 → one ≡ 1 → f < m → own < m → other < m
+    → weight n ^ (e - 1) * p % m ≡ b ^ e % m → weight n ^ (e - 1) * s % m ≡ one ^ e % m → weight n * own % m ≡ p * one % m → weight n * other % m ≡ s * f % m
+    → eqb own other ≡ eqb (b ^ e % m) f
+power_test n e b f m p s own other one some big odd is low lo lx hp hs ho hx =
+    let r : ℕ = weight n ^ e in
+    let left : r * own % m ≡ b ^ e % m = scaled_side (weight n) e p one own (b ^ e) m some ho hp ∙ ap (λ (k : ℕ). b ^ e * k % m) is ∙ ap (λ (k : ℕ). k % m) (times_one (b ^ e)) in
+    let right : r * other % m ≡ f =
+    scaled_side (weight n) e s f other (one ^ e) m some hx hs ∙ ap (λ (k : ℕ). k ^ e * f % m) is ∙ sym (mul-mod_first (1 ^ e) f m) ∙ ap (λ (k : ℕ). k * f % m) (one_power 1 m e big (mod-eq_of_lt big)) ∙ ap (λ (k : ℕ). k % m) (one_times f) ∙ mod-eq_of_lt low in
+    same_test own other (b ^ e % m) f
+    (λ h. sym left ∙ ap (λ (k : ℕ). r * k % m) h ∙ right)
+    (λ h. sym (mod-eq_of_lt lo) ∙ cancelled r ((((m + 1) / 2) ^ (64 * n)) ^ e) m own other (weight_inverse n m e big odd) big (left ∙ h ∙ sym right) ∙ mod-eq_of_lt lx)
+  where
+    times_one : (k : ℕ) → k * 1 ≡ k
+    times_one k = omega arith
+
+    one_times : (k : ℕ) → 1 * k ≡ k
+    one_times k = omega arith
+
+-- a number is odd where its lowest word is
+pub odd_number : (words : List ℕ) (n : ℕ) → length words ≡ n + 1 → slice_index words 0 % 2 ≡ 1 → number_of words % 2 ≡ 1
+odd_number words n long odd =
+    let parts = lowest words n in
+    let whole = number_all words (n + 1) (sym long) in omega (arith, parts, whole, odd)
