@@ -159,11 +159,11 @@ unfolding number_high
 zeros_before zero bytes = refl
 zeros_before (suc m) bytes = let e = zeros_before m bytes in omega (arith, e)
 
-pub filled_is : (n : ℕ) (bytes : List ℕ) → n ≤ 256 → put_mid (256 - n) (256 - (256 - n)) (replicate 256 0) bytes ≡ replicate (256 - n) 0 ++ bytes
-filled_is n bytes h =
-    let front : take (256 - n) (replicate 256 0) ≡ replicate (256 - n) 0 = take-replicate (256 - n) 256 0 (omega arith) in
-    let none : drop (256 - (256 - n)) (drop (256 - n) (replicate 256 0)) ≡ [] =
-    drop_all (256 - (256 - n)) (drop (256 - n) (replicate 256 0)) (let e = length-drop {A = ℕ} (256 - n) (replicate 256 0) in let f = length-replicate {A = ℕ} 256 0 in omega (arith, e, f)) in
+pub filled_is : (m n : ℕ) (bytes : List ℕ) → n ≤ m → put_mid (m - n) (m - (m - n)) (replicate m 0) bytes ≡ replicate (m - n) 0 ++ bytes
+filled_is m n bytes h =
+    let front : take (m - n) (replicate m 0) ≡ replicate (m - n) 0 = take-replicate (m - n) m 0 (omega arith) in
+    let none : drop (m - (m - n)) (drop (m - n) (replicate m 0)) ≡ [] =
+    drop_all (m - (m - n)) (drop (m - n) (replicate m 0)) (let e = length-drop {A = ℕ} (m - n) (replicate m 0) in let f = length-replicate {A = ℕ} m 0 in omega (arith, e, f)) in
     ap₂ ◌++◌ front (ap (λ (t : List ℕ). bytes ++ t) none ∙ append-nil bytes)
 
 -- Bodies of mpints.
@@ -204,7 +204,7 @@ not_zero body e some = positive (slice_index body 0) some
     positive zero some = absurd (some refl)
     positive (suc n) some = omega arith
 
-high_below : (bytes : List ℕ) → ((k : ℕ) → slice_index bytes k < 256) → number_high bytes < 256 ^ length bytes
+pub high_below : (bytes : List ℕ) → ((k : ℕ) → slice_index bytes k < 256) → number_high bytes < 256 ^ length bytes
 unfolding number_high
 high_below [] h = let e = pow-zero 256 in omega (arith, e)
 high_below (b ∷ bytes) h =
@@ -213,7 +213,7 @@ high_below (b ∷ bytes) h =
     let at : suc (length bytes) ≡ 1 + length bytes = omega arith in
     let e : 256 ^ suc (length bytes) ≡ 256 * 256 ^ length bytes = ap (λ (n : ℕ). 256 ^ n) at ∙ pow-add 256 1 (length bytes) in omega (arith, rest, first, e)
 
-more_bytes : (m n : ℕ) → m ≤ n → 256 ^ m ≤ 256 ^ n
+pub more_bytes : (m n : ℕ) → m ≤ n → 256 ^ m ≤ 256 ^ n
 more_bytes m n h =
     let at : n ≡ m + (n - m) = omega arith in
     let e : 256 ^ n ≡ 256 ^ m * 256 ^ (n - m) = ap (λ (k : ℕ). 256 ^ k) at ∙ pow-add 256 m (n - m) in

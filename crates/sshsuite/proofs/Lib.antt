@@ -20,4 +20,5 @@ pub mod MontgomeryLemmas
 pub mod PowerLemmas
 pub mod PublicPowerLemmas
 pub mod ByteNumberLemmas
+pub mod RsaLemmas
 pub mod AgreementLemmas

@@ -204,8 +204,19 @@ power_test n e b f m p s own other one some big odd is low lo lx hp hs ho hx =
     one_times : (k : ℕ) → 1 * k ≡ k
     one_times k = omega arith
 
--- a number is odd where its lowest word is
-pub odd_number : (words : List ℕ) (n : ℕ) → length words ≡ n + 1 → slice_index words 0 % 2 ≡ 1 → number_of words % 2 ≡ 1
-odd_number words n long odd =
+-- The lowest word of a number.
+pub odd_word : (words : List ℕ) (n : ℕ) → length words ≡ n + 1 → number_of words % 2 ≡ 1 → slice_index words 0 % 2 ≡ 1
+odd_word words n long odd =
     let parts = lowest words n in
     let whole = number_all words (n + 1) (sym long) in omega (arith, parts, whole, odd)
+
+pub odd_test : (words : List ℕ) (n : ℕ) → length words ≡ n + 1 → eqb (slice_index words 0 % 2) 1 ≡ eqb (number_of words % 2) 1
+odd_test words n long =
+    let parts = lowest words n in
+    let whole = number_all words (n + 1) (sym long) in
+    let same : slice_index words 0 % 2 ≡ number_of words % 2 = omega (arith, parts, whole) in ap (λ (k : ℕ). eqb k 1) same
+
+pub small_is : (words : List ℕ) (n : ℕ) → length words ≡ n + 1 → number_of words < 2 ^ 64 → slice_index words 0 ≡ number_of words
+small_is words n long low =
+    let parts = lowest words n in
+    let whole = number_all words (n + 1) (sym long) in omega (arith, parts, whole, low)

@@ -112,7 +112,7 @@ fn is_same(a: &Number, b: &Number) -> bool
 /// Whether a number to an exponent is another one, modulo an odd number. Both sides are divided by 2^8192 as often as the
 /// exponent tells.
 pub(crate) fn is_power(base: &Number, exponent: u64, found: &Number, modulus: &Number) -> bool
-    requires odd { slice_index modulus.now 0 % 2 ≡ 1 }
+    requires odd { number_of modulus.now % 2 ≡ 1 }
     requires one { 1 < number_of modulus.now }
     requires base { number_of base.now < number_of modulus.now }
     requires some { 0 < exponent }

@@ -1,7 +1,7 @@
 //! Signatures of rsa-sha2-256 and rsa-sha2-512 (RFC 8332), which are RSASSA-PKCS1-v1_5 (RFC 8017 section 8.2): they are
 //! verified, and none is made. All of it is public.
 
-ghost use Rattle.std.specs.Prelude.{◌≡◌, ◌≢◌, ◌<◌, ◌≤◌, ◌^◌, IfErr, IfOk, Some, None, false, if◌then◌else◌, ◌+◌, ◌++◌, ◌%◌, length, option_map, slice_index};
+ghost use Rattle.std.specs.Prelude.{◌≡◌, ◌≢◌, ◌<◌, ◌≤◌, ◌^◌, IfErr, IfOk, Some, None, false, if◌then◌else◌, ◌+◌, ◌++◌, ◌%◌, ◌==◌, length, option_map, slice_index};
 ghost use Rattle.sshwire.specs.TypeReadings.{Gives};
 ghost use Rattle.sshsuite.specs.Group14.{number_high};
 ghost use Rattle.sshsuite.specs.LongNumbers.{number_of};
@@ -163,6 +163,14 @@ fn least_modulus() -> Number
     number
 }
 
+/// The number of at most four bytes.
+fn small_number(bytes: &[u8]) -> u64
+    requires { length bytes.now ≤ 4 }
+    ensures { result ≡ number_high bytes.now }
+{
+    number_in(bytes)[0]
+}
+
 /// The exponent, where it is odd and from 3 to below 2^32.
 #[tactic(auto, unfolding(crate::specs::Rsa::is_exponent))]
 fn exponent_in(digits: &[u8]) -> Option<u64>
@@ -171,12 +179,19 @@ fn exponent_in(digits: &[u8]) -> Option<u64>
     if digits.len() > 4 {
         return None;
     }
-    let exponent = number_in(digits)[0];
+    let exponent = small_number(digits);
     if exponent >= 3 && exponent % 2 == 1 {
         Some(exponent)
     } else {
         None
     }
+}
+
+/// Whether a number is odd.
+fn is_odd(number: &Number) -> bool
+    ensures { result ≡ (number_of number.now % 2 == 1) }
+{
+    number[0] % 2 == 1
 }
 
 /// The modulus, where it is odd and of 2048 to 8192 bits.
@@ -188,7 +203,7 @@ fn modulus_in(digits: &[u8]) -> Option<Number>
         return None;
     }
     let modulus = number_in(digits);
-    if is_below(&modulus, &least_modulus()) == 0 && modulus[0] % 2 == 1 {
+    if is_below(&modulus, &least_modulus()) == 0 && is_odd(&modulus) {
         Some(modulus)
     } else {
         None
@@ -208,7 +223,7 @@ fn is_signed(
     requires some { 0 < exponent }
     requires exponent { exponent < 2 ^ 32 }
     requires same { number_of modulus.now ≡ number_high digits.now }
-    requires odd { slice_index modulus.now 0 % 2 ≡ 1 }
+    requires odd { number_of modulus.now % 2 ≡ 1 }
     requires long { 2 ^ 2047 ≤ number_of modulus.now }
     requires short { length digits.now ≤ 1024 }
     requires info { length info.now ≤ 83 }
