@@ -260,6 +260,7 @@ fn is_signed_with(
 }
 
 /// Whether the signature is that of these bodies of e and n.
+#[tactic(auto, unfolding(crate::specs::Rsa::is_signed_by))]
 fn is_signed_by(
     alloc: Global,
     exponent: &[u8],
