@@ -16,15 +16,26 @@ use std::random::RandomSource;
 /// The one service (RFC 4254).
 const SERVICE: &str = "ssh-connection";
 
-/// The algorithm of keys.
+/// The algorithm of private keys.
 const ALGORITHM: &str = "ssh-ed25519";
 
-/// A client's config.
+/// The algorithms of RSA host keys.
+const RSA_ALGORITHMS: &str = "rsa-sha2-512,rsa-sha2-256";
+
+/// The algorithms of all host keys that can be verified.
+pub(crate) const ALL_ALGORITHMS: &str = "ssh-ed25519,rsa-sha2-512,rsa-sha2-256";
+
+/// How the blob of an RSA key begins (RFC 4253 section 6.6).
+const RSA_BLOB: &[u8] = b"\x00\x00\x00\x07ssh-rsa";
+
+/// A client's config that lists these host key algorithms.
 pub(crate) fn client_config(
     rt: &HostRuntime,
     settings: &Settings<'_>,
+    host_key_algorithms: &str,
 ) -> Result<Box<ClientConfig>, Fault> {
-    let parts = Box::new(rt.alloc(), client_parts(rt, settings)?)?;
+    let parts = client_parts(rt, settings, host_key_algorithms)?;
+    let parts = Box::new(rt.alloc(), parts)?;
     let config = ClientConfig::new(rt.alloc(), Box::into_inner(parts))?;
     Ok(Box::new(rt.alloc(), config)?)
 }
@@ -74,10 +85,30 @@ fn password_of(rt: &HostRuntime, settings: &Settings<'_>) -> Result<Option<Vec<u
     }
 }
 
+/// Whether a public key is one of RSA.
+pub(crate) fn is_rsa_key(blob: &[u8]) -> bool {
+    blob.starts_with(RSA_BLOB)
+}
+
+/// The host key algorithms of the keys that a client trusts, since it takes no other host key.
+pub(crate) fn algorithms_of(keys: &[Vec<u8>]) -> &'static str {
+    let some_rsa = keys.iter().any(|key| is_rsa_key(key));
+    let all_rsa = keys.iter().all(|key| is_rsa_key(key));
+    match (some_rsa, all_rsa) {
+        (false, _) => ALGORITHM,
+        (true, true) => RSA_ALGORITHMS,
+        (true, false) => ALL_ALGORITHMS,
+    }
+}
+
 /// A client's parts.
-fn client_parts(rt: &HostRuntime, settings: &Settings<'_>) -> Result<ClientParts, Fault> {
+fn client_parts(
+    rt: &HostRuntime,
+    settings: &Settings<'_>,
+    host_key_algorithms: &str,
+) -> Result<ClientParts, Fault> {
     let alloc = rt.alloc();
-    let server_host_key_algorithms = names_of(alloc, ALGORITHM)?;
+    let server_host_key_algorithms = names_of(alloc, host_key_algorithms)?;
     let plan = plan_of(rt, settings)?;
     Ok(ClientParts {
         side: side_of(alloc, settings)?,

@@ -7,7 +7,7 @@ use crate::clear_stream::ClearStream;
 use crate::fault::Fault;
 use crate::findings::{Findings, report_of};
 use crate::notices::{Listening, Notices};
-use crate::parts::{client_config, draw};
+use crate::parts::{ALL_ALGORITHMS, client_config, draw};
 use crate::settings::Settings;
 use crate::talk::{CHUNK, receive, send};
 use sshcore::{ClientConfig, Decisions, End, Endpoint, Proof};
@@ -52,7 +52,7 @@ pub(crate) fn probe(rt: &HostRuntime, settings: &Settings<'_>) -> Result<bool, F
     if settings.host.is_none() {
         return Err(Fault::Words);
     }
-    let config = client_config(rt, settings)?;
+    let config = client_config(rt, settings, ALL_ALGORITHMS)?;
     begin(rt, settings, &config)
 }
 
