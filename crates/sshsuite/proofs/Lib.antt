@@ -21,4 +21,5 @@ pub mod PowerLemmas
 pub mod PublicPowerLemmas
 pub mod ByteNumberLemmas
 pub mod RsaLemmas
+pub mod RsaLawLemmas
 pub mod AgreementLemmas

@@ -5,6 +5,7 @@ use Rattle.std.specs.Str.{bytes_eq}
 use Rattle.sha2.specs.Sha256.{sha256}
 use Rattle.sha2.specs.Sha512.{sha512}
 use Rattle.sshwire.specs.TypeReadings.{◌>>=◌, string_at}
+use Rattle.sshwire.specs.Types.{string}
 use Rattle.sshwire.specs.declared.fault.WireFault.{WireFault}
 use Rattle.sshwire.specs.declared.fault.WireFault.TheVariants.{NotCanonical}
 use Rattle.sshsuite.specs.Group14.{is_positive_body, number_high}
@@ -36,7 +37,15 @@ digest_info alg input = if is_rsa_512 alg then info_512 ++ sha512 input else inf
 unfoldable pub encoded : ℕ → List ℕ → List ℕ
 encoded size info = 0 ∷ 1 ∷ replicate (size - length info - 3) 255 ++ 0 ∷ info
 
--- the bodies of e and n in a public key (RFC 4253 section 6.6), after which nothing stands
+-- a public key, of the bodies of e and n (RFC 4253 section 6.6)
+abbrev pub key_blob : List ℕ → List ℕ → List ℕ
+key_blob e n = string (codes "ssh-rsa") ++ string e ++ string n
+
+-- a signature of this algorithm, of s (RFC 8332 section 3)
+abbrev pub signature_blob : List ℕ → List ℕ → List ℕ
+signature_blob alg s = string alg ++ string s
+
+-- the bodies of e and n in a public key, after which nothing stands
 unfoldable pub key_in : List ℕ → Result (List ℕ × List ℕ) WireFault
 key_in blob = do
   name ← string_at blob
@@ -44,7 +53,7 @@ key_in blob = do
   n ← string_at e.1
   if bytes_eq name.0 (codes "ssh-rsa") && (length n.1 == 0) then Ok (e.0, n.0) else Err NotCanonical
 
--- s in a signature of this algorithm (RFC 8332 section 3), after which nothing stands
+-- s in a signature of this algorithm, after which nothing stands
 unfoldable pub signature_in : List ℕ → List ℕ → Result (List ℕ) WireFault
 signature_in alg found = do
   name ← string_at found

@@ -31,5 +31,5 @@ pub use key_pair::KeyPair;
 pub use keyed_suite::KeyedSuite;
 pub use laws::{
     aes_law, deployed_law, ed25519_law, field_law, gcm_law, group14_law, point_law, poly1305_law,
-    x25519_law,
+    rsa_law, x25519_law,
 };
