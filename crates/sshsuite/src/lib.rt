@@ -23,6 +23,7 @@ mod mpint;
 mod poly1305;
 mod public_power;
 mod rsa;
+mod rsa_fields;
 mod scalar;
 mod sealing;
 

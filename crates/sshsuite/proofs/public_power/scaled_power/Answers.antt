@@ -14,13 +14,13 @@ loop-i-preserved c =
     let front : ℕ = c.args.exponent / 2 ^ (31 - c.loop-i.i) in
     elim c.if-front-gt1.branch [
       | then-front-gt1 w ↦ rw w.power-is (
-          scaled_more (weight 128) c.args.exponent base modulus c.loop-i.i front (number_of c.loop-i.power) (number_of w.power_step-power.result) (search rules) refl (search rules) c.loop-i.invariant.0 w.power_step-power.ensures.powers,
-          w.power_step-power.ensures.below
-          )
+        scaled_more (weight 128) c.args.exponent base modulus c.loop-i.i front (number_of c.loop-i.power) (number_of w.power_step-power.result) (search rules) refl (search rules) c.loop-i.invariant.0 w.power_step-power.ensures.powers,
+        w.power_step-power.ensures.below,
+      )
       | else-front-gt1 w ↦ rw w.power-is (
-          scaled_same (weight 128) c.args.exponent base modulus c.loop-i.i front (number_of c.loop-i.power) (search rules) refl (search rules) c.loop-i.invariant.0,
-          c.loop-i.invariant.1
-          )
+        scaled_same (weight 128) c.args.exponent base modulus c.loop-i.i front (number_of c.loop-i.power) (search rules) refl (search rules) c.loop-i.invariant.0,
+        c.loop-i.invariant.1,
+      )
     ]
 
 pub returns-clause-power : goal.returns-clause-power
