@@ -121,7 +121,7 @@ def numbers(calls):
         s = int.from_bytes(right, "big")
         others = [("empty", b""), ("zero", key.bytes(0)), ("one", key.bytes(1)), ("n", key.bytes(key.n)), ("n less one", key.bytes(key.n - 1)),
                   ("the negative", key.bytes(key.n - s)), ("s and n", (s + key.n).to_bytes(key.size + 1, "big")), ("a byte longer", b"\x00" + right),
-                  ("a byte more behind", right + b"\x00"), ("a byte shorter", right[:-1]), ("its first byte left out", right[1:]), ("all ones", b"\xff" * key.size),
+                  ("a byte more after it", right + b"\x00"), ("a byte shorter", right[:-1]), ("its first byte left out", right[1:]), ("all ones", b"\xff" * key.size),
                   ("4096 bytes", b"\x00" * 3840 + right)]
         if s + key.n < 256 ** key.size:
             others.append(("s and n in as many bytes", key.bytes(s + key.n)))
@@ -140,10 +140,10 @@ def paddings(calls):
             digest_name, digest = HASHES[name][0], HASHES[name][1](data).digest()
             own, other = info_of(name, data), info_of(NAMES[name == NAMES[0]], data)
             right = padded(key.size, own)
-            behind = key.size - len(own) - 11
-            bodies = [("with eight bytes ff and garbage behind", b"\x00\x01" + b"\xff" * 8 + b"\x00" + own + calls.bytes(behind)),
-                      ("with no byte ff and garbage behind", b"\x00\x01\x00" + own + calls.bytes(behind + 8)),
-                      ("with a byte behind the digest", padded(key.size, own + b"\x00")),
+            left = key.size - len(own) - 11
+            bodies = [("with eight bytes ff and garbage after it", b"\x00\x01" + b"\xff" * 8 + b"\x00" + own + calls.bytes(left)),
+                      ("with no byte ff and garbage after it", b"\x00\x01\x00" + own + calls.bytes(left + 8)),
+                      ("with a byte after the digest", padded(key.size, own + b"\x00")),
                       ("with a byte of the padding fe", right[:40] + b"\xfe" + right[41:]), ("with a byte of the padding 00", right[:40] + b"\x00" + right[41:]),
                       ("of block type 2", b"\x00\x02" + right[2:]), ("of block type 0", b"\x00\x00" + right[2:]), ("that begins with 01", b"\x01" + right[1:]),
                       ("with no 00 before the digest's name", right.replace(b"\xff\x00\x30", b"\xff\xff\x30", 1)),
@@ -173,12 +173,12 @@ def names(calls):
                             ("by the other name, inside this", (other, blob, data, s, False, name)), ("ssh-rsa inside", (name, blob, data, s, False, "ssh-rsa")),
                             ("by ssh-rsa", ("ssh-rsa", blob, data, s, False)), ("by ssh-ed25519", ("ssh-ed25519", blob, data, s, False)),
                             ("the key's name is the signature's", (name, blob_of(e, n, name), data, s, False)), ("the key's name is shorter", (name, blob_of(e, n, "ssh-rs"), data, s, False)),
-                            ("n before e", (name, blob_of(n, e), data, s, False)), ("a byte behind the key", (name, blob + b"\x00", data, s, False)),
+                            ("n before e", (name, blob_of(n, e), data, s, False)), ("a byte after the key", (name, blob + b"\x00", data, s, False)),
                             ("the key cut", (name, blob[:-1], data, s, False)), ("no key", (name, b"", data, s, False)), ("a key without n", (name, string("ssh-rsa") + string(e), data, s, False)),
                             ("a key of ssh-ed25519", (name, deployed.wrapped(deployed.key_of(b"\x01" * 32)), data, s, False))):
             calls.row("RSA, %s" % what, line(*words))
         found = string(name) + string(s)
-        for what, other_found in (("a byte behind the signature", found + b"\x00"), ("the signature cut", found[:-1]), ("no signature", b""), ("a signature without s", string(name))):
+        for what, other_found in (("a byte after the signature", found + b"\x00"), ("the signature cut", found[:-1]), ("no signature", b""), ("a signature without s", string(name))):
             calls.row("RSA, %s" % what, deployed.verify_line(blob, data, other_found, False, name))
 
 
