@@ -2,7 +2,7 @@
 
 use crate::clear_stream::Sent;
 use crate::fault::Fault;
-use crate::parts::is_rsa_key;
+use crate::host_keys::is_rsa_key;
 use crate::report::Ended;
 use base64::engine::general_purpose::{STANDARD, STANDARD_NO_PAD};
 use sha2::{Digest, Sha256};
@@ -198,7 +198,11 @@ fn put_name(
 
 /// Puts the host key as `ssh-keyscan` does, and its fingerprint as `ssh-keygen -l` does.
 fn put_key(alloc: Global, text: &mut String, host: &str, key: &[u8]) -> Result<(), AllocError> {
-    let kind = if is_rsa_key(key) { "ssh-rsa" } else { "ssh-ed25519" };
+    let kind = if is_rsa_key(key) {
+        "ssh-rsa"
+    } else {
+        "ssh-ed25519"
+    };
     write!(text, "{host} {kind} ")?;
     STANDARD.encode_string(key, text)?;
     text.push_str("\n# fingerprint SHA256:")?;

@@ -11,6 +11,7 @@ use std::alloc::Global;
 
 /// The words in front of a key.
 const ED25519: &[u8] = b"ssh-ed25519";
+
 const RSA: &[u8] = b"ssh-rsa";
 
 /// The word in front of a line of known_hosts that revokes a key.

@@ -1,8 +1,9 @@
 //! An endpoint over standard input and output.
 
 use crate::fault::Fault;
+use crate::host_keys::algorithms_of;
 use crate::notices::{Listening, Notices};
-use crate::parts::{algorithms_of, client_config, client_trust, draw, server_config, server_trust};
+use crate::parts::{client_config, client_trust, draw, server_config, server_trust};
 use crate::settings::Settings;
 use crate::trust::Trust;
 use crate::{channel, report};

@@ -3,7 +3,7 @@
 use Rattle.std.proofs.Common.{◌≡◌, ℕ, zero, suc, ◌+◌, ◌-◌, ◌*◌, ◌/◌, ◌%◌, ◌^◌, ◌<◌, ◌≤◌, refl, sym, ap, ap₂, ◌∙◌, add-one, arith, List, Bool, true, false, eqb, length}
 use Rattle.std.proofs.lemmas.Bool.{eq-eqb, eqb-true}
 use Rattle.std.proofs.Math.Nat.{add-mul-mod_self_left, div-add-mod, div-div-eq-div-mul, mod-eq_of_lt, mul-mod_right, pow-suc, pow-zero}
-use Rattle.std.proofs.lemmas.Nat.{mod-mul-add, mod_below, mul-mod, mul-mod_first, mul-mod_second, mul-pow, pow-add}
+use Rattle.std.proofs.lemmas.Nat.{mod-mul-add, mul-mod, mul-mod_first, mul-mod_second, mul-pow, pow-add}
 use Rattle.std.specs.Prelude.{slice_index}
 use Rattle.sshsuite.specs.LongNumbers.{number_of, weight}
 use Rattle.sshsuite.proofs.LongNumberLemmas.{number_all}

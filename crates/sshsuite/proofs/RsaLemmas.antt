@@ -1,6 +1,6 @@
 -- Keys and signatures by RSA.
 
-use Rattle.std.proofs.Common.{◌≡◌, ℕ, suc, [], ◌∷◌, ◌+◌, ◌*◌, ◌%◌, ◌^◌, ◌<◌, ◌≤◌, List, length, arith, refl, Bool, true, false, cond, eqb, inl, inr, leb}
+use Rattle.std.proofs.Common.{◌≡◌, ℕ, suc, [], ◌∷◌, ◌+◌, ◌%◌, ◌^◌, ◌<◌, ◌≤◌, List, length, arith, refl, Bool, true, false, cond, eqb, inl, inr, leb}
 use Rattle.std.proofs.lemmas.Bool.{cases_lt, cond_both, eqb-true, false≢true, leb-true}
 use Rattle.std.specs.Prelude.{◌&&◌, Option, None, Some, slice_index}
 use Rattle.sshsuite.specs.Group14.{number_high}

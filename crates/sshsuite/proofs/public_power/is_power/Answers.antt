@@ -1,5 +1,5 @@
 use Rattle.std.proofs.Common.{rules, ◌∙◌}
-use Rattle.sshsuite.specs.LongNumbers.{number_of, weight}
+use Rattle.sshsuite.specs.LongNumbers.{number_of}
 use Rattle.sshsuite.proofs.PublicPowerLemmas.{odd_word, power_test}
 use Rattle.sshsuite.proofs.public_power.is_power.Goals as goal
 

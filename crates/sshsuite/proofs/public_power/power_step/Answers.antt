@@ -1,4 +1,4 @@
-use Rattle.std.proofs.Common.{◌≡◌, ℕ, ◌+◌, ◌*◌, ◌%◌, ◌^◌, ap, sym, arith, rules, ◌∙◌}
+use Rattle.std.proofs.Common.{◌%◌, rules}
 use Rattle.sshsuite.specs.LongNumbers.{number_of, weight}
 use Rattle.sshsuite.proofs.PublicPowerLemmas.{even_step, odd_step}
 use Rattle.sshsuite.proofs.public_power.power_step.Goals as goal

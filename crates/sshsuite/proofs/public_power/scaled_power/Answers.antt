@@ -1,4 +1,4 @@
-use Rattle.std.proofs.Common.{◌≡◌, ℕ, ◌/◌, ◌-◌, ◌^◌, ◌<◌, ◌≤◌, arith, refl, rules}
+use Rattle.std.proofs.Common.{ℕ, ◌/◌, ◌-◌, ◌^◌, refl, rules}
 use Rattle.sshsuite.specs.LongNumbers.{number_of, weight}
 use Rattle.sshsuite.proofs.PublicPowerLemmas.{scaled_all, scaled_more, scaled_none, scaled_same}
 use Rattle.sshsuite.proofs.public_power.scaled_power.Goals as goal

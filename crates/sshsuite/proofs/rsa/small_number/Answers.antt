@@ -1,4 +1,4 @@
-use Rattle.std.proofs.Common.{◌≡◌, ◌<◌, ◌^◌, length, rules, sym, ◌∙◌}
+use Rattle.std.proofs.Common.{◌<◌, ◌^◌, rules, ◌∙◌}
 use Rattle.sshsuite.specs.LongNumbers.{number_of}
 use Rattle.sshsuite.proofs.PublicPowerLemmas.{small_is}
 use Rattle.sshsuite.proofs.RsaLemmas.{four_below}
