@@ -44,10 +44,12 @@ pub mod ReadsLemmas
 pub mod AfterLemmas
 pub mod WorksLemmas
 pub mod BringsLemmas
+pub mod QuestionLemmas
 pub mod AttemptLemmas
 pub mod BeginLemmas
 pub mod CallLemmas
 pub mod LineLemmas
+pub mod AskingLemmas
 pub mod LinkLemmas
 pub mod AuthenticatedLemmas
 pub mod UncutLemmas

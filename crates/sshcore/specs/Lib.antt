@@ -36,6 +36,7 @@ pub mod Authenticating
 pub mod StateData
 pub mod Brings
 pub mod Questions
+pub mod QuestionsView
 pub mod Negotiated
 pub mod Exchanged
 pub mod ExchangedView
@@ -43,6 +44,10 @@ pub mod Inputs
 pub mod ReceivesLines
 pub mod EndpointData
 pub mod Endpoints
+pub mod AskingData
+pub mod WaitingView
+pub mod Unread
+pub mod Asking
 pub mod Authenticated
 pub mod Sessions
 pub mod Linked

@@ -136,7 +136,7 @@ pub(crate) enum Received {
 
 impl Received {
     /// The bytes used.
-    fn used(self) -> usize
+    pub(crate) fn used(self) -> usize
         ensures { result ≡ used_by self }
     {
         match self {
@@ -146,7 +146,7 @@ impl Received {
 }
 
 /// Reads on up to the end of the version line; fails as `Version` where a line is refused.
-fn receive_lines(
+pub(crate) fn receive_lines(
     reader: &mut LineReader,
     state: &mut State<'_>,
     piece: &[u8],
@@ -228,7 +228,7 @@ fn receive_packets<S: Suite, D: Decisions>(
 }
 
 /// Fails as a refused packet asks for; running out of memory is answered.
-fn fail_packet<S: Suite>(
+pub(crate) fn fail_packet<S: Suite>(
     state: &mut State<'_>,
     config: &Config<'_>,
     suite: &S,

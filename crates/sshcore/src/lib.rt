@@ -8,6 +8,12 @@
 
 mod agreement;
 mod algorithms;
+mod answering;
+mod asking_answer;
+mod asking_end;
+mod asking_endpoint;
+mod asking_input;
+mod asked;
 mod attempt_payloads;
 mod attempts;
 mod chosen_names;
@@ -32,6 +38,7 @@ mod exchange_keys;
 mod exchange_reply;
 mod failing;
 mod fault_words;
+mod given;
 mod greeting;
 mod input;
 mod kexinit;
@@ -47,6 +54,7 @@ mod packet;
 mod packet_lines;
 mod payloads;
 mod proving;
+mod question;
 mod reaching;
 mod request_answers;
 mod requests;
@@ -56,8 +64,10 @@ mod service;
 mod session;
 mod state;
 mod table;
+mod waiting;
 mod working;
 
+pub use asking_endpoint::{AskingEndpoint, Fed};
 pub use chosen_names::ChosenNames;
 pub use client_config::ClientConfig;
 pub use config_fault::ConfigFault;
@@ -73,6 +83,7 @@ pub use draws::Draws;
 pub use end::{Agreed, End, Fault, ShortFault};
 pub use endpoint::Endpoint;
 pub use endpoint_laws::endpoint_law;
+pub use given::{Listener, Silent};
 pub use law::{
     authentication_law, history_law, reached_law, sending_law, standing_law, strict_law,
 };
@@ -81,6 +92,7 @@ pub use link::{LINK_LIMIT, Link};
 pub use link_fault::LinkFault;
 pub use link_laws::link_law;
 pub use notice::Notice;
+pub use question::Question;
 pub use server_config::ServerConfig;
 pub use session::{Accepted, Direction, Session, UserKey};
 pub use table::{Line, Phase};

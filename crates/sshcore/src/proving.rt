@@ -80,7 +80,7 @@ impl State<'_> {
     /// What a request proves of its user, if its method may be used and its proof holds (RFC 4252
     /// sections 5.2, 7 and 8).
     #[tactic(auto, unfolding(crate::specs::Tries::proof_in))]
-    fn proof_in<'m, S: Suite>(
+    pub(crate) fn proof_in<'m, S: Suite>(
         &self,
         config: &Config<'_>,
         suite: &S,

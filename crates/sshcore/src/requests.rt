@@ -65,7 +65,36 @@ impl State<'_> {
                 config, suite, decisions, user, service, algorithm, key, sent,
             );
         }
-        if self.is_successful(config, suite, decisions, user, service, method)? {
+        let good = self.is_successful(config, suite, decisions, user, service, method)?;
+        self.decide(config, suite, user, service, method, good, sent)
+    }
+
+    /// A server answers a request that is no query, for a service that it has, by whether it is successful: keeps its key
+    /// and its method if it is, else forgets what was reached for others (RFC 4252 section 5.1).
+    pub(crate) fn decide<S: Suite>(
+        &mut self,
+        config: &Config<'_>,
+        suite: &S,
+        user: &str,
+        service: &str,
+        method: &Method<'_>,
+        good: bool,
+        sent: &mut Vec<u8>,
+    ) -> Result<(), Memory>
+        requires open { end_data self.old.end ≡ Open }
+        requires at { self.old.phase ≡ phase.Auth }
+        ensures gives { OnOk result ((strict : Bool) (next : KeysData)
+            → Gives (S.meaning suite.now) (config_data config.now).seed strict next (state_data self.old) (state_data self.new) sent.old.items sent.new.items
+            (tried_reply (config_data config.now) (state_data self.old).known user.now service.now (method_data method.now) good)) }
+        ensures stays { OnOk result (IsOngoing (state_data self.new).end → state_data self.new ≡ record (state_data self.old) {
+          end = (state_data self.new).end;
+          known = counted_request (state_data self.old).known (tried_with user.now service.now (method_data method.now) good);
+          carried = tried_key (state_data self.old).carried (method_data method.now) good;
+          sending = (state_data self.new).sending;
+        }) }
+        ensures kept { OnOk result (end_data self.new.end ≢ Failed fault.Memory) }
+    {
+        if good {
             self.keep_key(method)?;
             return self.receive_successful(config, suite, user, service, method, sent);
         }
@@ -75,7 +104,7 @@ impl State<'_> {
 
     /// A server receives a query whether a key would do, for a service that it has: at the last try it fails as
     /// `TooManyTries`, and nothing is asked; else it is answered by PK_OK or FAILURE (RFC 4252 section 7).
-    fn receive_query<S: Suite, D: Decisions>(
+    pub(crate) fn receive_query<S: Suite, D: Decisions>(
         &mut self,
         config: &Config<'_>,
         suite: &S,

@@ -1,0 +1,301 @@
+-- Calls of an asking endpoint, one after another.
+
+use Rattle.std.proofs.Common.{◌≡◌, ℕ, ◌+◌, ◌-◌, ◌≤◌, Bool, false, List, [], ◌∷◌, ◌++◌, length, take, drop, Option, None, Some, refl, sym, ap, subst, ◌∙◌, append_assoc, arith}
+use Rattle.std.specs.Prelude.{◌%◌, ◌^◌}
+use Rattle.std.proofs.lemmas.Bool.{true≢false}
+use Rattle.std.proofs.lemmas.List.{append-nil, length-drop, length-take-le}
+use Rattle.std.proofs.Math.Seq.{take-add, take-append-add, take-length}
+use Rattle.sshneg.specs.declared.side.Side.{Side}
+use Rattle.sshpacket.specs.declared.reader.PacketReader.{PacketReader}
+use Rattle.sshpacket.specs.KeysData.{KeysData}
+use Rattle.sshpacket.specs.PacketReaderData.{PacketReaderData, ahead, packet_reader_data, protection_at}
+use Rattle.sshpacket.specs.Parse.{parse_packet, whole}
+use Rattle.sshpacket.specs.Stream.{IsIncremental}
+use Rattle.sshpacket.specs.Suite.{SuiteData}
+use Rattle.sshcore.specs.declared.end.Fault.TheVariants as fault
+use Rattle.sshcore.specs.declared.input.Input.{Input}
+use Rattle.sshcore.specs.declared.input.Input.TheVariants as input
+use Rattle.sshcore.specs.declared.state.State.{State}
+use Rattle.sshcore.specs.Asking.{Answered, AskingAfter, AskingBreaks, AskingCuts, AskingFed, AskingLeaves, BrokenBefore, IsSameAsking, asked_at, asking_end}
+use Rattle.sshcore.specs.AskingData.{AskingData, WaitingData, asking_setup}
+use Rattle.sshcore.specs.Brings.{Brings, Gives}
+use Rattle.sshcore.specs.EndData.{EndData, Failed, Open, by_owner, disconnects, end_data, parting}
+use Rattle.sshcore.specs.EndpointParts.{ConfigData, DecisionsData, Setup, setup_with}
+use Rattle.sshcore.specs.Exchanged.{HasForm}
+use Rattle.sshcore.specs.History.{BrokenOff}
+use Rattle.sshcore.specs.Inputs.{CutOff, EndpointStands, Steps}
+use Rattle.sshcore.specs.Output.{sent_from}
+use Rattle.sshcore.specs.Questions.{HostKeyQuestion, QuestionData, UserQuestion, always, decided, decided_by, question_at}
+use Rattle.sshcore.specs.StateData.{StateData, keys_due, state_data}
+use Rattle.sshcore.specs.Unread.{AnswerSteps, AskingStands, AskingSteps, IsTurned, ReadsPacket, reads_with}
+use Rattle.sshcore.proofs.Below.{Below}
+use Rattle.sshcore.proofs.FeedLemmas.{SentMore, failed_over, received_open, sent_last, stands_left}
+use Rattle.sshcore.proofs.HistoryLemmas.{Streams, broken}
+use Rattle.sshcore.proofs.QuestionLemmas.{brings_alike}
+use Rattle.sshcore.proofs.ReadLemmas.{packets_unit, reader_with}
+
+-- what the reader answered is what the packet's own bytes read as
+module _ (m : SuiteData) (r p : PacketReader) (inc : IsIncremental (parse_packet (protection_at m (packet_reader_data r)))) where
+  pub reads_packet : (piece : List ℕ) (used : ℕ) (w : WaitingData) → used ≤ length piece → ahead m (packet_reader_data r) piece ≡ whole w.payload (length (packet_reader_data r).held + used)
+      → w.packet ≡ (packet_reader_data r).seq → packet_reader_data p ≡ record (packet_reader_data r) { held = []; seq = ((packet_reader_data r).seq + 1) % 2 ^ 32 }
+      → ReadsPacket m (input.Packets r) (input.Packets p) w (take used piece)
+  reads_packet piece used w low e number left = record {
+    before = r;
+    behind = p;
+    was = refl;
+    is = refl;
+    reads = sym (ap (parse_packet (protection_at m (packet_reader_data r))) (take-append-add (packet_reader_data r).held piece used))
+        ∙ inc.whole_again ((packet_reader_data r).held ++ piece) w.payload (length (packet_reader_data r).held + used) e
+        ∙ ap (λ (n : ℕ). whole w.payload (length (packet_reader_data r).held + n)) (sym (length-take-le used piece low));
+    number = number;
+    left = left;
+  }
+
+-- An endpoint where no packet waits stands as one that asks at once.
+module _ (setup : Setup) (kept : StateData) (i : Input) (h s : List ℕ) where
+  pub at_once : AskingStands setup kept i None h s → EndpointStands setup kept i h s
+  at_once a = subst (λ (x : Input). EndpointStands setup kept x h s) a.unread.0 (subst (λ (l : List ℕ). EndpointStands setup kept a.reader l s) a.unread.1 a.stands)
+
+  pub at_once_by : (w : Option WaitingData) → w ≡ None → AskingStands setup kept i w h s → EndpointStands setup kept i h s
+  at_once_by w e a = at_once (subst (λ (x : Option WaitingData). AskingStands setup kept i x h s) e a)
+
+  pub asks_none : EndpointStands setup kept i h s → AskingStands setup kept i None h s
+  asks_none a = record { earlier = h; reader = i; stands = a; unread = (refl, refl) }
+
+  broken_at : (w : Option WaitingData) → AskingStands setup kept i w h s → BrokenBefore setup w h s
+  broken_at None a = record {
+    earlier = a.earlier;
+    unread = [];
+    received = sym a.unread.1 ∙ sym (append-nil a.earlier);
+    all = λ e. refl;
+    broken = broken setup a.stands.units a.stands.rest a.stands.refusal a.stands.answers a.stands.received_end a.earlier s a.stands.history;
+  }
+  broken_at (Some w) a = record {
+    earlier = a.earlier;
+    unread = a.unread.0;
+    received = a.unread.1;
+    all = λ e. absurd cc;
+    broken = broken setup a.stands.units a.stands.rest a.stands.refusal a.stands.answers a.stands.received_end a.earlier s a.stands.history;
+  }
+
+-- the decisions that always answer so, and a packet that asks
+always_decides : (good : Bool) (q : QuestionData) → decided (always good) q ≡ good
+always_decides good (HostKeyQuestion algorithm blob) = refl
+always_decides good (UserQuestion number user service proof) = refl
+
+-- a packet that asks nothing is answered alike
+pub alike_unasked : (d : DecisionsData) (q : Option QuestionData) → q ≡ None → decided_by d q ≡ decided_by (always false) q
+alike_unasked d q e = ap (decided_by d) e ∙ sym (ap (decided_by (always false)) e)
+
+alike_asked : (d : DecisionsData) (good : Bool) (q : Option QuestionData) (is : QuestionData) → q ≡ Some is → decided d is ≡ good → decided_by d q ≡ decided_by (always good) q
+alike_asked d good q is e yes = ap (decided_by d) e ∙ yes ∙ sym (always_decides good is) ∙ sym (ap (decided_by (always good)) e)
+
+reads_as : (k : Option KeysData) (strict : Bool) (r : PacketReaderData) → reads_with k strict r ≡ reader_with k strict r
+reads_as None strict r = refl
+reads_as (Some keys) strict r = refl
+
+-- A packet that waited is answered.
+module _ (below : Below) (streams : Streams) (m : SuiteData) (role : Side) (party : ConfigData) (good : Bool) (w : WaitingData) (old new last : StateData) (before after : List ℕ) (is : old.end ≡ Open) where
+  answer_packets : (p q : PacketReader) → question_at m role party old w.payload ≡ Some w.question
+      → (HasForm m old → (packet : ℕ) → Brings (setup_with m (always good) role party) old new packet w.payload before after)
+      → IsTurned new last (input.Packets p) (input.Packets q) → AnswerSteps m role party good w (input.Packets p) old (input.Packets q) last before after
+  answer_packets p q asks brings turned d yes i taken r =
+      let same : p ≡ r.behind = cc in
+      let left = turned.0 in
+      let steps : Steps (setup_with m d role party) (input.Packets r.before) old (input.Packets q) last (take (length taken) taken) before after =
+      packets_unit below streams (setup_with m d role party) r.before q old taken before after is p new last (length taken) w.packet w.payload (omega arith) r.reads r.number
+      (ap (λ (x : PacketReader). packet_reader_data x) same ∙ r.left)
+      (λ form. brings_alike m role party d (always good) old new w.packet w.payload before after (alike_asked d good (question_at m role party old w.payload) w.question asks yes) (brings form w.packet))
+      (ap (λ (k : StateData). k.end) left) (ap (λ (k : StateData). k.phase) left) (ap (λ (k : StateData). k.guess) left) (ap (λ (k : StateData). k.known) left) (ap (λ (k : StateData). k.sending) left) (ap (λ (k : StateData). k.carried) left)
+      (turned.1 ∙ reads_as (keys_due new.phase new.carried.pending) new.known.strict (packet_reader_data p)) in
+      subst (λ (x : Input). Steps (setup_with m d role party) x old (input.Packets q) last taken before after) (sym r.was)
+      (subst (λ (l : List ℕ). Steps (setup_with m d role party) (input.Packets r.before) old (input.Packets q) last l before after) (take-length taken) steps)
+
+  pub answer_steps : (j k : Input) → question_at m role party old w.payload ≡ Some w.question
+      → (HasForm m old → (packet : ℕ) → Brings (setup_with m (always good) role party) old new packet w.payload before after)
+      → IsTurned new last j k → AnswerSteps m role party good w j old k last before after
+  answer_steps (input.Packets p) (input.Packets q) asks brings turned = answer_packets p q asks brings turned
+  answer_steps (input.Packets p) (input.Lines q) asks brings turned = absurd turned
+  answer_steps (input.Lines p) k asks brings turned = absurd turned
+
+module _ {S : Type 0} where
+  pub same_none : (e : AskingData S) → IsSameAsking e e
+  same_none e = record { same_role = refl; same_config = refl; same_suite = refl }
+
+  pub same_then : (old mid new : AskingData S) → IsSameAsking old mid → IsSameAsking mid new → IsSameAsking old new
+  same_then old mid new a b = record {
+    same_role = b.same_role ∙ a.same_role;
+    same_config = b.same_config ∙ a.same_config;
+    same_suite = b.same_suite ∙ a.same_suite;
+  }
+
+module _ {S : Type 0} (meaning : S → SuiteData) where
+  -- the same of an endpoint
+  pub stands_at_once : (d : DecisionsData) (e : AskingData S) (h s : List ℕ) → e.waiting ≡ None → AskingAfter meaning d e h s → EndpointStands (asking_setup meaning d e) (state_data e.state) e.input h s
+  stands_at_once d e h s none a = at_once_by (asking_setup meaning d e) (state_data e.state) e.input h s e.waiting none a
+
+  pub fed_none : (e : AskingData S) (out : List ℕ) → AskingFed meaning e e [] out out
+  fed_none e out = record {
+    added = [];
+    appended = sym (append-nil out);
+    follows = λ d h s a. subst (λ (x : List ℕ). AskingAfter meaning d e x (s ++ [])) (sym (append-nil h)) (subst (λ (x : List ℕ). AskingAfter meaning d e h x) (sym (append-nil s)) a);
+    uncut = λ d h s a owned. refl;
+    same = same_none e;
+  }
+
+  pub fed_then : (old mid new : AskingData S) (t u o0 o1 o2 : List ℕ) → AskingFed meaning old mid t o0 o1 → AskingFed meaning mid new u o1 o2 → AskingFed meaning old new (t ++ u) o0 o2
+  fed_then old mid new t u o0 o1 o2 f g = record {
+    added = f.added ++ g.added;
+    appended = g.appended ∙ ap (λ (x : List ℕ). x ++ g.added) f.appended ∙ append_assoc o0 f.added g.added;
+    follows = λ d h s a. subst (λ (x : List ℕ). AskingAfter meaning d new x (s ++ (f.added ++ g.added))) (append_assoc h t u)
+        (subst (λ (x : List ℕ). AskingAfter meaning d new ((h ++ t) ++ u) x) (append_assoc s f.added g.added) (g.follows d (h ++ t) (s ++ f.added) (f.follows d h s a)));
+    uncut = λ d h s a owned.
+        let stays : asking_end mid ≡ asking_end new = g.uncut d (h ++ t) (s ++ f.added) (f.follows d h s a) owned in
+        f.uncut d h s a (ap by_owner stays ∙ owned) ∙ stays;
+    same = same_then old mid new f.same g.same;
+  }
+
+  pub fed_as : (old new : AskingData S) (t u o0 o1 : List ℕ) → t ≡ u → AskingFed meaning old new t o0 o1 → AskingFed meaning old new u o0 o1
+  fed_as old new t u o0 o1 e f = subst (λ (x : List ℕ). AskingFed meaning old new x o0 o1) e f
+
+  -- memory runs out before anything is sent
+  breaks_none : (e new : AskingData S) (piece out : List ℕ) → IsSameAsking e new → AskingBreaks meaning e new piece out out
+  breaks_none e new piece out same = record {
+    used = 0;
+    within = omega arith;
+    added = [];
+    appended = sym (append-nil out);
+    follows = λ d h s a. subst (λ (x : List ℕ). BrokenBefore (asking_setup meaning d e) e.waiting x (s ++ [])) (sym (append-nil h))
+        (subst (λ (x : List ℕ). BrokenBefore (asking_setup meaning d e) e.waiting h x) (sym (append-nil s))
+        (broken_at (asking_setup meaning d e) (state_data e.state) e.input h s e.waiting a));
+    same = same;
+  }
+
+  pub breaks_same : (e new : AskingData S) (piece before after : List ℕ) → IsSameAsking e new → after ≡ before → AskingBreaks meaning e new piece before after
+  breaks_same e new piece before after same is = subst (λ (l : List ℕ). AskingBreaks meaning e new piece before l) (sym is) (breaks_none e new piece before same)
+
+  broken_as : (m n : SuiteData) (d : DecisionsData) (r q : Side) (p o : ConfigData) (h s t : List ℕ) → m ≡ n → r ≡ q → p ≡ o → s ≡ t → BrokenOff (setup_with m d r p) h s → BrokenOff (setup_with n d q o) h t
+  broken_as m n d r q p o h s t em er ep es x =
+      subst (λ (m : SuiteData). BrokenOff (setup_with m d q o) h t) em (subst (λ (r : Side). BrokenOff (setup_with m d r o) h t) er
+      (subst (λ (p : ConfigData). BrokenOff (setup_with m d r p) h t) ep (subst (λ (s : List ℕ). BrokenOff (setup_with m d r p) h s) es x)))
+
+  -- memory runs out after what went well
+  pub breaks_then : (old mid new : AskingData S) (piece : List ℕ) (n : ℕ) (o0 o1 o2 : List ℕ) → n ≤ length piece → mid.waiting ≡ None → AskingFed meaning old mid (take n piece) o0 o1
+      → AskingBreaks meaning mid new (drop n piece) o1 o2 → AskingBreaks meaning old new piece o0 o2
+  breaks_then old mid new piece n o0 o1 o2 low none f b =
+      let left : b.used ≤ length (drop n piece) = b.within in
+      let size : length (drop n piece) ≡ length piece - n = length-drop n piece in
+      record {
+        used = n + b.used;
+        within = omega arith;
+        added = f.added ++ b.added;
+        appended = b.appended ∙ ap (λ (x : List ℕ). x ++ b.added) f.appended ∙ append_assoc o0 f.added b.added;
+        follows = λ d h s a.
+            let x = b.follows d (h ++ take n piece) (s ++ f.added) (f.follows d h s a) in
+            record {
+              earlier = x.earlier;
+              unread = [];
+              received = ap (λ (l : List ℕ). h ++ l) (take-add n b.used piece) ∙ sym (append_assoc h (take n piece) (take b.used (drop n piece))) ∙ x.received
+                  ∙ ap (λ (l : List ℕ). x.earlier ++ l) (x.all none);
+              all = λ e. refl;
+              broken = broken_as (meaning mid.suite) (meaning old.suite) d mid.role old.role mid.party old.party x.earlier ((s ++ f.added) ++ b.added) (s ++ (f.added ++ b.added))
+                  (ap meaning f.same.same_suite) f.same.same_role f.same.same_config (append_assoc s f.added b.added) x.broken;
+            };
+        same = same_then old mid new f.same b.same;
+      }
+
+  module _ (role : Side) (party : ConfigData) (suite : S) where
+    abbrev asking : Input → State → Option WaitingData → AskingData S
+    asking i x w = record { role = role; party = party; suite = suite; input = i; state = x; waiting = w }
+
+    -- a step of what an endpoint keeps is a call that used these bytes
+    pub fed_by : (i j : Input) (x y : State) (w : Option WaitingData) (taken before after : List ℕ)
+        → (added : List ℕ) × (after ≡ before ++ added) × AskingSteps (meaning suite) role party i (state_data x) j (state_data y) w taken [] added
+        → AskingFed meaning (asking i x None) (asking j y w) taken before after
+    fed_by i j x y None taken before after step = record {
+      added = step.0;
+      appended = step.1;
+      follows = λ d h s a.
+          let setup = setup_with (meaning suite) d role party in
+          let g = step.2 d h s (at_once setup (state_data x) i h s a) in
+          asks_none setup (state_data y) j (h ++ taken) (s ++ step.0) (subst (λ (l : List ℕ). EndpointStands setup (state_data y) j (h ++ taken) (s ++ l)) (sym g.appended) g.stands);
+      uncut = λ d h s a owned. absurd (true≢false (sym owned ∙ (step.2 d h s (at_once (setup_with (meaning suite) d role party) (state_data x) i h s a)).uncut));
+      same = record { same_role = refl; same_config = refl; same_suite = refl };
+    }
+    fed_by i j x y (Some w) taken before after step = record {
+      added = step.0;
+      appended = step.1;
+      follows = λ d h s a.
+          let setup = setup_with (meaning suite) d role party in
+          record {
+            earlier = h;
+            reader = i;
+            stands = subst (λ (k : StateData). EndpointStands setup k i h (s ++ step.0)) (sym step.2.same)
+                (subst (λ (l : List ℕ). EndpointStands setup (state_data x) i h (s ++ l)) (sym step.2.nothing_sent)
+                (subst (λ (l : List ℕ). EndpointStands setup (state_data x) i h l) (sym (append-nil s)) (at_once setup (state_data x) i h s a)));
+            unread = (taken, refl, step.2.reads);
+          };
+      uncut = λ d h s a owned. ap (λ (k : StateData). k.end) (sym step.2.same);
+      same = record { same_role = refl; same_config = refl; same_suite = refl };
+    }
+
+    asked_open : (e : EndData) (w : WaitingData) → e ≡ Open → asked_at e (Some w) ≡ Some w.question
+    asked_open e w is = ap (λ (x : EndData). asked_at x (Some w)) is
+
+    -- a packet that waited is answered by a step that used its bytes
+    pub answered_by : (good : Bool) (w : WaitingData) (i j : Input) (x y : State) (before after : List ℕ) → end_data x.end ≡ Open
+        → (added : List ℕ) × (after ≡ before ++ added) × AnswerSteps (meaning suite) role party good w i (state_data x) j (state_data y) [] added
+        → Answered meaning good (asking i x (Some w)) (asking j y None) before after
+    answered_by good w i j x y before after is step = record {
+      added = step.0;
+      appended = step.1;
+      follows = λ d yes h s a.
+          let setup = setup_with (meaning suite) d role party in
+          let g = step.2 d (sym (ap (decided_by d) (asked_open (end_data x.end) w is)) ∙ yes) a.reader a.unread.0 a.unread.2 a.earlier s a.stands in
+          asks_none setup (state_data y) j h (s ++ step.0)
+          (subst (λ (k : List ℕ). EndpointStands setup (state_data y) j k (s ++ step.0)) (sym a.unread.1)
+          (subst (λ (l : List ℕ). EndpointStands setup (state_data y) j (a.earlier ++ a.unread.0) (s ++ l)) (sym g.appended) g.stands));
+      uncut = λ d yes h s a. (step.2 d (sym (ap (decided_by d) (asked_open (end_data x.end) w is)) ∙ yes) a.reader a.unread.0 a.unread.2 a.earlier s a.stands).uncut;
+      waits_for_none = refl;
+      same = record { same_role = refl; same_config = refl; same_suite = refl };
+    }
+
+    -- the end of input
+    pub cuts_by : (i : Input) (x y : State) (w : Option WaitingData) → end_data x.end ≡ Open → end_data y.end ≡ Failed fault.Cut → AskingCuts meaning (asking i x w) (asking i y w)
+    cuts_by i x y w is ends = record {
+      cut = ends;
+      follows = λ d h s a. record {
+        earlier = a.earlier;
+        reader = a.reader;
+        stands = record {
+          units = a.stands.units;
+          rest = a.stands.rest;
+          refusal = a.stands.refusal;
+          answers = a.stands.answers;
+          received_end = a.stands.received_end;
+          history = a.stands.history;
+          ends = CutOff (received_open a.stands.received_end (end_data x.end) a.stands.ends is) ends;
+          inside = λ o. absurd (failed_over fault.Cut (end_data y.end) ends o);
+        };
+        unread = a.unread;
+      };
+      same = record { same_role = refl; same_config = refl; same_suite = refl };
+    }
+
+    -- what was sent for its owner, at an endpoint that stood open, is a call that ended it
+    pub leaves_by : SentMore → (i : Input) (x y : State) (w : Option WaitingData) (reason : ℕ) (description before after : List ℕ) (strict : Bool) (next : KeysData)
+        → end_data x.end ≡ Open → Gives (meaning suite) party.seed strict next (state_data x) (state_data y) before after (disconnects reason description)
+        → AskingLeaves meaning (asking i x w) (asking i y w) reason description before after
+    leaves_by more i x y w reason description before after strict next is gives = record {
+      left = gives.ends;
+      added = sent_from (meaning suite) party.seed strict next (state_data x).sending (parting reason description ∷ []);
+      appended = gives.output;
+      follows = λ d h s a. record {
+        earlier = a.earlier;
+        reader = a.reader;
+        stands = stands_left (setup_with (meaning suite) d role party) (state_data x) a.reader a.earlier s is a.stands (state_data y) reason gives.ends;
+        unread = a.unread;
+      };
+      sent = λ d h s a. sent_last (setup_with (meaning suite) d role party) (state_data x) a.reader a.earlier s is a.stands more reason description strict next;
+      same = record { same_role = refl; same_config = refl; same_suite = refl };
+    }

@@ -1,0 +1,28 @@
+-- An endpoint that asks and waits, as contracts see it.
+
+use Rattle.std.specs.Prelude.{ℕ, List, Option}
+use Rattle.sshneg.specs.declared.side.Side.{Side}
+use Rattle.sshpacket.specs.Suite.{SuiteData}
+use Rattle.sshcore.specs.declared.input.Input.{Input}
+use Rattle.sshcore.specs.declared.state.State.{State}
+use Rattle.sshcore.specs.EndpointParts.{ConfigData, DecisionsData, Setup, setup_with}
+use Rattle.sshcore.specs.Questions.{QuestionData}
+
+-- a packet that was read and isn't answered yet: its sequence number, its payload, and what it asks
+pub record WaitingData : Type 0 where
+  pub packet : ℕ
+  pub payload : List ℕ
+  pub question : QuestionData
+
+-- its role and its config, and what it keeps, which no layer above opens; and the packet that waits for its answer, where one does
+pub record AskingData (S : Type 0) : Type 0 where
+  pub role : Side
+  pub party : ConfigData
+  pub suite : S
+  pub input : Input
+  pub state : State
+  pub waiting : Option WaitingData
+
+-- its setup, by what its suite means and by these decisions
+abbrev pub asking_setup : {S : Type 0} → (S → SuiteData) → DecisionsData → AskingData S → Setup
+asking_setup meaning d e = setup_with (meaning e.suite) d e.role e.party

@@ -1,0 +1,26 @@
+-- What is asked, without where it lies in memory.
+
+use Rattle.std.specs.Prelude.{string_bytes}
+use Rattle.sshcore.specs.declared.question.Asked.{Asked}
+use Rattle.sshcore.specs.declared.question.Asked.TheVariants as asked
+use Rattle.sshcore.specs.declared.question.AskedProof.{AskedProof}
+use Rattle.sshcore.specs.declared.question.AskedProof.TheVariants as kept
+use Rattle.sshcore.specs.declared.question.Question.{Question}
+use Rattle.sshcore.specs.declared.question.Question.TheVariants as question
+use Rattle.sshcore.specs.EndpointParts.{KeyProof, NoProof, PasswordProof, ProofData}
+use Rattle.sshcore.specs.EndpointPartsView.{proof_data}
+use Rattle.sshcore.specs.Questions.{HostKeyQuestion, QuestionData, UserQuestion}
+
+abbrev pub question_data : Question → QuestionData
+question_data (question.HostKey algorithm blob) = HostKeyQuestion algorithm.now blob.now
+question_data (question.User number user service proof) = UserQuestion number user.now service.now (proof_data proof)
+
+-- the same of a question that is kept
+abbrev pub asked_proof : AskedProof → ProofData
+asked_proof kept.None = NoProof
+asked_proof (kept.Password password) = PasswordProof password.items
+asked_proof (kept.Key algorithm blob) = KeyProof (string_bytes algorithm) blob.items
+
+abbrev pub asked_data : Asked → QuestionData
+asked_data (asked.HostKey algorithm blob) = HostKeyQuestion (string_bytes algorithm) blob.items
+asked_data (asked.User number user service proof) = UserQuestion number (string_bytes user) (string_bytes service) (asked_proof proof)

@@ -1,0 +1,135 @@
+//! What an asking endpoint asks, and how it goes on with the answer.
+
+ghost use Rattle.std.specs.Prelude.{◌≡◌, ◌≢◌, ◌++◌, ℕ, List, [], None, Ok, OnErr, OnOk, Some, is_some, option_map, true};
+ghost use Rattle.sshpacket.specs.Suite.{SuiteData};
+ghost use Rattle.sshcore.specs.declared.end.Fault.TheVariants as fault;
+ghost use Rattle.sshcore.specs.Asking.{Answered, AskingAfter, AskingBreaks, asked_by, asking_end};
+ghost use Rattle.sshcore.specs.AskingData.{WaitingData, asking_setup};
+ghost use Rattle.sshcore.specs.Brings.{IsOngoing};
+ghost use Rattle.sshcore.specs.EndData.{Failed, Open, end_data};
+ghost use Rattle.sshcore.specs.EndpointConfig.{config_data, role_of};
+ghost use Rattle.sshcore.specs.EndpointParts.{DecisionsData};
+ghost use Rattle.sshcore.specs.Inputs.{CanRead, EndpointStands};
+ghost use Rattle.sshcore.specs.QuestionsView.{question_data};
+ghost use Rattle.sshcore.specs.Questions.{question_at};
+ghost use Rattle.sshcore.specs.StateData.{state_data};
+ghost use Rattle.sshcore.specs.Unread.{AnswerSteps, IsAsked, IsIdle, IsTurned};
+ghost use Rattle.sshcore.specs.WaitingView.{waiting_data};
+
+use crate::asking_endpoint::AskingEndpoint;
+use crate::config::Config;
+use crate::end::{End, Fault};
+use crate::given::Listener;
+use crate::input::Input;
+use crate::question::Question;
+use crate::state::State;
+use crate::waiting::Waiting;
+use sshpacket::Suite;
+use sshwire::Memory;
+
+impl<S: Suite, L: Listener> AskingEndpoint<'_, S, L> {
+    /// What is asked: there is a question exactly while the endpoint waits for an answer and is open. Takes no memory.
+    ///
+    /// A client asks once, whether a host key is trusted; a server asks of a request or query of authentication.
+    pub fn question(&self) -> Option<Question<'_>>
+        ensures asks { option_map question_data result ≡ asked_by self.now }
+        // It is what the packet asks that was read last.
+        ensures packet { (w : WaitingData) → self.now.waiting ≡ Some w → asking_end self.now ≡ Open
+            → question_at (S.meaning self.now.suite) self.now.role self.now.party (state_data self.now.state) w.payload ≡ Some w.question }
+        // An endpoint that waits for none has received and sent as one that asks at once.
+        ensures as_at_once { (d : DecisionsData) (h s : List ℕ) → self.now.waiting ≡ None → AskingAfter S.meaning d self.now h s
+            → EndpointStands (asking_setup S.meaning d self.now) (state_data self.now.state) self.now.input h s }
+    {
+        if !self.is_open() {
+            return None;
+        }
+        match &self.waiting {
+            Some(waiting) => Some(waiting.asked.question()),
+            None => None,
+        }
+    }
+
+    /// Answers the question, and appends to `out` what is sent to the packet that asked it: by a yes (`good`) a client
+    /// trusts the host key, and a server takes a request as successful, or the key of a query as one that would do.
+    /// Then go on with what [`feed`](AskingEndpoint::feed) didn't use.
+    ///
+    /// Where nothing is asked the endpoint doesn't change, and nothing is appended. Answers `Memory` where an
+    /// allocation failed: the endpoint has then failed, and `out` is unchanged.
+    pub fn answer(&mut self, good: bool, out: &mut Vec<u8>) -> Result<(), Memory>
+        ensures answered { is_some (asked_by self.old) ≡ true → OnOk result (Answered S.meaning good self.old self.new out.old.items out.new.items) }
+        ensures memory { OnErr result ((asking_end self.new ≡ Failed fault.Memory) × (out.new.items ≡ out.old.items) × AskingBreaks S.meaning self.old self.new [] out.old.items out.new.items) }
+        // Running out of memory is answered, and never found later.
+        ensures kept { OnOk result (asking_end self.new ≡ Failed fault.Memory → asking_end self.old ≡ Failed fault.Memory) }
+        ensures none { asked_by self.old ≡ None → (result ≡ Ok tt) × (self.new ≡ self.old) × (out.new ≡ out.old) }
+    {
+        if !self.is_open() {
+            return Ok(());
+        }
+        let Some(waiting) = self.waiting.take() else {
+            return Ok(());
+        };
+        let answered = answer_packet(
+            &mut self.input,
+            &mut self.state,
+            &self.config,
+            self.suite,
+            self.listener,
+            &waiting,
+            good,
+            out,
+        );
+        match answered {
+            Ok(()) => Ok(()),
+            Err(_) => {
+                self.state.end = End::Failed(Fault::Memory);
+                Err(Memory)
+            }
+        }
+    }
+}
+
+/// Answers a packet that waited; where an allocation failed `out` is unchanged.
+fn answer_packet<S: Suite, L: Listener>(
+    input: &mut Input,
+    state: &mut State<'_>,
+    config: &Config<'_>,
+    suite: &S,
+    listener: &L,
+    waiting: &Waiting,
+    good: bool,
+    out: &mut Vec<u8>,
+) -> Result<(), Memory>
+    requires asked { IsAsked (S.meaning suite.now) (role_of config.now) (config_data config.now) (state_data state.old) input.old (waiting_data waiting.now) }
+    requires reads { CanRead (S.meaning suite.now) input.old }
+    ensures steps { OnOk result ((added : List ℕ) × (out.new.items ≡ out.old.items ++ added)
+        × AnswerSteps (S.meaning suite.now) (role_of config.now) (config_data config.now) good (waiting_data waiting.now) input.old (state_data state.old) input.new (state_data state.new) [] added) }
+    ensures reads { OnOk result (IsOngoing (end_data state.new.end) → CanRead (S.meaning suite.now) input.new) }
+    ensures kept { OnOk result (end_data state.new.end ≢ Failed fault.Memory) }
+    ensures memory { OnErr result (out.new.items ≡ out.old.items) }
+{
+    sshpacket::parser_law();
+    sshpacket::stream_law();
+    sshmsg::numbers_law();
+    sshneg::markers_law();
+    let mut sent = Vec::new(state.alloc);
+    state.answer(config, suite, listener, &waiting.payload, good, &mut sent)?;
+    out.extend_from_slice(&sent)?;
+    turn(input, state);
+    Ok(())
+}
+
+/// Reads on with the keys that are due after a packet.
+fn turn(input: &mut Input, state: &mut State<'_>)
+    requires idle { IsIdle input.old }
+    ensures turned { IsTurned (state_data state.old) (state_data state.new) input.old input.new }
+    ensures reads { (m : SuiteData) → CanRead m input.old → CanRead m input.new }
+{
+    match input {
+        Input::Lines(_) => {}
+        Input::Packets(reader) => {
+            if let Some(keys) = state.take_keys() {
+                reader.use_keys(keys, state.strict);
+            }
+        }
+    }
+}

@@ -1,0 +1,154 @@
+//! How an endpoint that asks reads its bytes: up to a packet that can't be answered before its question is.
+
+ghost use Rattle.std.specs.Prelude.{◌≡◌, ◌≢◌, ◌+◌, ◌*◌, ◌<◌, ◌≤◌, IfOk, OnOk, length, take};
+ghost use Rattle.sshpacket.specs.PacketReaderData.{ReaderWaits};
+ghost use Rattle.sshcore.specs.declared.end.Fault.TheVariants as failed;
+ghost use Rattle.sshcore.specs.declared.input.Input.TheVariants as input;
+ghost use Rattle.sshcore.specs.Brings.{IsOngoing};
+ghost use Rattle.sshcore.specs.EndpointConfig.{config_data, role_of};
+ghost use Rattle.sshcore.specs.EndData.{Failed, Open, end_data};
+ghost use Rattle.sshcore.specs.Inputs.{CanRead, turns_left};
+ghost use Rattle.sshcore.specs.StateData.{state_data};
+ghost use Rattle.sshcore.specs.Unread.{AskingSteps};
+ghost use Rattle.sshcore.specs.WaitingView.{waiting_of};
+
+use crate::config::Config;
+use crate::given::{Given, Listener};
+use crate::input::{Input, Received, fail_packet, receive_lines};
+use crate::notice::{line_of, tell_lines};
+use crate::state::State;
+use crate::waiting::Waiting;
+use sshpacket::{PacketReader, PacketStep, Suite};
+use sshwire::Memory;
+
+/// What came of a piece: how many bytes were used, and the packet that asks, where one was read.
+#[derive(Drop)]
+pub(crate) struct Came {
+    pub(crate) used: usize,
+    pub(crate) waiting: Option<Waiting>,
+}
+
+impl Input {
+    /// Reads on up to the end of one unit, a version line or a packet, and answers how many bytes of the
+    /// piece were used; what is sent to it is appended to `sent`. A packet that asks is read, and nothing more.
+    pub(crate) fn receive_asking<S: Suite, L: Listener>(
+        &mut self,
+        state: &mut State<'_>,
+        config: &Config<'_>,
+        suite: &S,
+        listener: &L,
+        piece: &[u8],
+        sent: &mut Vec<u8>,
+    ) -> Result<Came, Memory>
+        requires open { end_data state.old.end ≡ Open }
+        requires some { 0 < length piece.now }
+        requires reads { CanRead (S.meaning suite.now) self.old }
+        ensures steps { IfOk result (λ came. AskingSteps (S.meaning suite.now) (role_of config.now) (config_data config.now)
+            self.old (state_data state.old) self.new (state_data state.new) (waiting_of came.waiting) (take came.used piece.now) sent.old.items sent.new.items) }
+        ensures used { IfOk result (λ came. came.used ≤ length piece.now) }
+        ensures turns { IfOk result (λ came. turns_left (end_data state.new.end) self.new < turns_left (end_data state.old.end) self.old + 3 * came.used) }
+        ensures reads { OnOk result (IsOngoing (end_data state.new.end) → CanRead (S.meaning suite.now) self.new) }
+        ensures kept { OnOk result (end_data state.new.end ≢ Failed failed.Memory) }
+    {
+        sshpacket::parser_law();
+        sshpacket::stream_law();
+        sshmsg::numbers_law();
+        sshneg::markers_law();
+        let alloc = state.alloc;
+        match self {
+            Input::Lines(reader) => {
+                let begun = line_of(reader.unfinished());
+                let received = receive_lines(reader, state, piece)?;
+                let told = Given {
+                    good: false,
+                    listener,
+                };
+                tell_lines(&told, begun, piece.get(..received.used()).unwrap_or(&[]));
+                match received {
+                    Received::Part(used) => Ok(Came {
+                        used,
+                        waiting: None,
+                    }),
+                    Received::Refused(used) => Ok(Came {
+                        used,
+                        waiting: None,
+                    }),
+                    Received::Whole(used) => {
+                        *self = Input::Packets(PacketReader::new(alloc));
+                        Ok(Came {
+                            used,
+                            waiting: None,
+                        })
+                    }
+                }
+            }
+            Input::Packets(reader) => {
+                ask_packets(reader, state, config, suite, listener, piece, sent)
+            }
+        }
+    }
+}
+
+/// Reads on up to the end of one packet, and answers it, unless it asks; fails where it is refused.
+fn ask_packets<S: Suite, L: Listener>(
+    reader: &mut PacketReader,
+    state: &mut State<'_>,
+    config: &Config<'_>,
+    suite: &S,
+    listener: &L,
+    piece: &[u8],
+    sent: &mut Vec<u8>,
+) -> Result<Came, Memory>
+    requires open { end_data state.old.end ≡ Open }
+    requires some { 0 < length piece.now }
+    requires reads { ReaderWaits (S.meaning suite.now) reader.old }
+    ensures steps { IfOk result (λ came. AskingSteps (S.meaning suite.now) (role_of config.now) (config_data config.now)
+        (input.Packets reader.old) (state_data state.old) (input.Packets reader.new) (state_data state.new) (waiting_of came.waiting) (take came.used piece.now) sent.old.items sent.new.items) }
+    ensures used { IfOk result (λ came. (0 < came.used) × (came.used ≤ length piece.now)) }
+    ensures reads { OnOk result (IsOngoing (end_data state.new.end) → ReaderWaits (S.meaning suite.now) reader.new) }
+    ensures kept { OnOk result (end_data state.new.end ≢ Failed failed.Memory) }
+{
+    sshpacket::parser_law();
+    sshpacket::stream_law();
+    sshmsg::numbers_law();
+    sshneg::markers_law();
+    match reader.next(suite, piece) {
+        Ok(PacketStep::More) => Ok(Came {
+            used: piece.len(),
+            waiting: None,
+        }),
+        Ok(PacketStep::Payload { payload, seq, used }) => {
+            match state.asked(config, suite, payload)? {
+                Some(asked) => {
+                    let waiting = Waiting::new(state.alloc, seq, payload, asked)?;
+                    Ok(Came {
+                        used,
+                        waiting: Some(waiting),
+                    })
+                }
+                None => {
+                    let given = Given {
+                        good: false,
+                        listener,
+                    };
+                    state.receive(config, suite, &given, payload, seq, sent)?;
+                    if let Some(keys) = state.take_keys() {
+                        reader.use_keys(keys, state.strict);
+                    }
+                    Ok(Came {
+                        used,
+                        waiting: None,
+                    })
+                }
+            }
+        }
+        Err(fault) => {
+            let used = reader.taken();
+            fail_packet(state, config, suite, fault, sent)?;
+            Ok(Came {
+                used,
+                waiting: None,
+            })
+        }
+    }
+}

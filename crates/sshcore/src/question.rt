@@ -1,0 +1,97 @@
+//! What is asked of whoever runs an endpoint before a packet can be answered.
+
+use crate::decisions::Proof;
+
+/// What a packet asks before it can be answered.
+///
+/// It has no `Debug`: passwords are never printed.
+#[derive(Clone, Copy)]
+pub enum Question<'q> {
+    /// Whether this public key is trusted as the server's host key (RFC 4253 section 8). A client asks it, once, before the
+    /// server's signature is verified.
+    HostKey {
+        /// The name of the algorithm that was chosen. It isn't compared with the one inside the blob.
+        algorithm: &'q str,
+        /// The public key, as the server sent it.
+        blob: &'q [u8],
+    },
+    /// Whether a request of authentication is successful by what it proves (RFC 4252 section 5), or whether the key of a query
+    /// would do (section 7). A server asks it. A yes to a request accepts the user, unless methods are required that
+    /// aren't reached yet (section 5.1). It is asked of the method `none` too, whatever methods the server lists: answer no
+    /// to `Proof::None` where nobody is accepted without a proof.
+    User {
+        /// The number of the request, of requests and queries counted from 1.
+        number: u32,
+        /// The name of the user, as the request has it.
+        user: &'q str,
+        /// The name of the service, which is one that the server has.
+        service: &'q str,
+        /// What the request proves.
+        proof: Proof<'q>,
+    },
+}
+
+/// A question that is kept until it is answered.
+#[derive(Drop)]
+pub(crate) enum Asked {
+    HostKey {
+        algorithm: String,
+        blob: Vec<u8>,
+    },
+    User {
+        number: u32,
+        user: String,
+        service: String,
+        proof: AskedProof,
+    },
+}
+
+/// What the request of a kept question proves.
+#[derive(Drop)]
+pub(crate) enum AskedProof {
+    None,
+    Password(Vec<u8>),
+    Key { algorithm: String, blob: Vec<u8> },
+}
+
+impl Asked {
+    ghost use Rattle.std.specs.Prelude.{◌≡◌};
+    ghost use Rattle.sshcore.specs.QuestionsView.{asked_data, question_data};
+
+    /// The question.
+    pub(crate) fn question(&self) -> Question<'_>
+        ensures { question_data result ≡ asked_data self.now }
+    {
+        match self {
+            Asked::HostKey { algorithm, blob } => Question::HostKey { algorithm, blob },
+            Asked::User {
+                number,
+                user,
+                service,
+                proof,
+            } => Question::User {
+                number: *number,
+                user,
+                service,
+                proof: proof.proof(),
+            },
+        }
+    }
+}
+
+impl AskedProof {
+    ghost use Rattle.std.specs.Prelude.{◌≡◌};
+    ghost use Rattle.sshcore.specs.EndpointPartsView.{proof_data};
+    ghost use Rattle.sshcore.specs.QuestionsView.{asked_proof};
+
+    /// The proof.
+    fn proof(&self) -> Proof<'_>
+        ensures { proof_data result ≡ asked_proof self.now }
+    {
+        match self {
+            AskedProof::None => Proof::None,
+            AskedProof::Password(password) => Proof::Password(password),
+            AskedProof::Key { algorithm, blob } => Proof::Key { algorithm, blob },
+        }
+    }
+}
