@@ -73,7 +73,7 @@ def client(file):
         a.row("leaves what is behind the question, " + name, part(len(t.s_reply), t.s_reply, t.s_newkeys), asks,
               part(0, t.s_newkeys), asks, yes, last)
         a.row("is answered no, " + name, feed(t.s_reply), asks, answer(False), "question nothing",
-              says(packet(disconnect(9), 2, SEED[CLIENT])), "verified 0", "end failed F10", part(0, t.s_newkeys), "session none")
+              says(packet(disconnect(9), 2, SEED[CLIENT])), "verified 0", part(0, t.s_newkeys), "end failed F10", "session none")
     a = Asking(file, CLIENT)
     t = a.t
     wrong = Half(SERVER)
