@@ -106,10 +106,11 @@ def server(file):
 
 
 def unasked(a, h):
-    """Requests that prove nothing, and what else is answered at once."""
+    """Requests that prove nothing, and what else is answered at once. A wrong signature is looked at again as its request is answered,
+    so how often isn't judged."""
     wrong = request("al", "ssh-connection", "publickey", key_fields("h", signed(bytes(32), "h")))
     name = request("al", "ssh-connection", "publickey", key_fields(NO_NAMES[2], signed(h, NO_NAMES[2])))
-    cases = [("a wrong signature", wrong, FAILURE, 1, "open", []), ("no name", name, FAILURE, 0, "open", []),
+    cases = [("a wrong signature", wrong, FAILURE, None, "open", []), ("no name", name, FAILURE, 0, "open", []),
              ("a change of the password", request("al", "ssh-connection", "password", b"\x01" + string(b"\x00") + string(b"\x01")), FAILURE, 0,
               "open", []),
              ("an unknown method", request("al", "ssh-connection", "hostbased"), FAILURE, 0, "open", []),
@@ -121,8 +122,8 @@ def unasked(a, h):
              ("a message without use", b"\x50", disconnect(2), 0, "failed F6 80", [])]
     for what, payload, says_, verified, end, settings in cases:
         c, s = half(a.peer), half(a.own)
-        a.row("asks nothing at " + what, feed(c.send(payload)), "question nothing", says(s.send(says_)), "verified %d" % verified,
-              "end " + end, settings=settings)
+        a.row("asks nothing at " + what, feed(c.send(payload)), "question nothing", says(s.send(says_)),
+              [] if verified is None else "verified %d" % verified, "end " + end, settings=settings)
 
 
 def both(a, h):
