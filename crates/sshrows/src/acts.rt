@@ -3,7 +3,7 @@
 use crate::worlds::{judge_prediction, judge_world};
 use sshlab::{Scenario, ScenarioFault, TEXT_LIMIT};
 use sshrows_acts::{
-    Generous, Line, Names, Party, Row, Stop, judge_config, judge_endpoint, judge_waiting,
+    Generous, Line, Names, OwnConfig, Row, Stop, judge_config, judge_endpoint, judge_waiting,
     nothing_after, shows, wrong,
 };
 use sshsuite::DeployedSuite;
@@ -73,26 +73,26 @@ fn act_by(
         "begin" => judge_endpoint(
             alloc,
             row,
-            party_of(alloc, row, scenario)?,
+            config_of(alloc, row, scenario)?,
             (&LabSuite, decisions),
         ),
         "waiting" => judge_waiting(
             alloc,
             row,
-            party_of(alloc, row, scenario)?,
+            config_of(alloc, row, scenario)?,
             (&LabSuite, decisions),
         ),
         "generous" => judge_endpoint(
             alloc,
             row,
-            party_of(alloc, row, scenario)?,
+            config_of(alloc, row, scenario)?,
             (&LabSuite, &Generous),
         ),
         "deployed" => {
             judge_endpoint(
                 alloc,
                 row,
-                party_of(alloc, row, scenario)?,
+                config_of(alloc, row, scenario)?,
                 (&DeployedSuite, decisions),
             )
         }
@@ -104,11 +104,15 @@ fn act_by(
 }
 
 /// Whose config the endpoint of the row has.
-fn party_of<'a>(alloc: Global, row: Row<'_>, scenario: &'a Scenario) -> Result<Party<'a>, Stop> {
+fn config_of<'a>(
+    alloc: Global,
+    row: Row<'_>,
+    scenario: &'a Scenario,
+) -> Result<OwnConfig<'a>, Stop> {
     let (_, role) = row.act.head();
     match role {
-        "client" => Ok(Party::Client(&scenario.client)),
-        "server" => Ok(Party::Server(&scenario.server)),
+        "client" => Ok(OwnConfig::Client(&scenario.client)),
+        "server" => Ok(OwnConfig::Server(&scenario.server)),
         _ => wrong(alloc, row.act, "act", "client or server", role),
     }
 }

@@ -50,8 +50,8 @@ pub(crate) fn step<E: Judged>(
             disconnect(alloc, line, talk, reason, &description)
         }
         "answer" => {
-            let good = flag_of(alloc, line, rest)?;
-            answer(alloc, line, talk, good)
+            let decided = flag_of(alloc, line, rest)?;
+            answer(alloc, line, talk, decided)
         }
         _ => look(alloc, line, talk, word, rest),
     }
@@ -133,10 +133,10 @@ fn answer<E: Judged>(
     alloc: Global,
     line: &Line<'_>,
     talk: &mut Subject<'_, E>,
-    good: bool,
+    decided: bool,
 ) -> Result<(), Stop> {
     talk.judged = false;
-    match talk.endpoint.answer(good, &mut talk.out) {
+    match talk.endpoint.answer(decided, &mut talk.out) {
         Ok(true) => Ok(()),
         Ok(false) => wrong(alloc, line, "line", "a word of an endpoint", "answer"),
         Err(_) => Err(refused_call(alloc, line, talk)),

@@ -19,7 +19,7 @@ use std::cell::Cell;
 
 /// Whose config an endpoint has.
 #[derive(Clone, Copy)]
-pub enum Party<'a> {
+pub enum OwnConfig<'a> {
     Client(&'a ClientConfig),
     Server(&'a ServerConfig),
 }
@@ -58,7 +58,7 @@ pub(crate) struct Subject<'a, E: Judged> {
 pub fn judge_endpoint<S: Suite, D: Decisions>(
     alloc: Global,
     row: Row<'_>,
-    party: Party<'_>,
+    config: OwnConfig<'_>,
     (suite, decisions): (&S, &D),
 ) -> Result<(), Stop> {
     let received = &Received::new(alloc, row.lines);
@@ -67,11 +67,11 @@ pub fn judge_endpoint<S: Suite, D: Decisions>(
         received,
     };
     let mut out = Vec::new(alloc);
-    let made = endpoint_of(alloc, party, suite, asking, &mut out);
+    let made = endpoint_of(alloc, config, suite, asking, &mut out);
     let stood = judge(alloc, row, suite, made, out, received)?;
     row.act.told.asks.set(true);
     let mut out = Vec::new(alloc);
-    let made = waiting_of(alloc, party, suite, asking, None, &mut out);
+    let made = waiting_of(alloc, config, suite, asking, None, &mut out);
     let stands = judge(alloc, row, suite, made, out, received)?;
     same_count(alloc, row.act, "how it stood", stood, stands)?;
     row.act.told.asks.set(false);
@@ -83,7 +83,7 @@ pub fn judge_endpoint<S: Suite, D: Decisions>(
 pub fn judge_waiting<S: Suite, D: Decisions>(
     alloc: Global,
     row: Row<'_>,
-    party: Party<'_>,
+    config: OwnConfig<'_>,
     (suite, decisions): (&S, &D),
 ) -> Result<(), Stop> {
     let received = &Received::new(alloc, row.lines);
@@ -94,7 +94,7 @@ pub fn judge_waiting<S: Suite, D: Decisions>(
     let verified = &Cell::new(0);
     let suite = &CountedSuite { suite, verified };
     let mut out = Vec::new(alloc);
-    let made = waiting_of(alloc, party, suite, asking, Some(verified), &mut out);
+    let made = waiting_of(alloc, config, suite, asking, Some(verified), &mut out);
     judge(alloc, row, suite, made, out, received)?;
     Ok(())
 }
@@ -102,31 +102,31 @@ pub fn judge_waiting<S: Suite, D: Decisions>(
 /// An endpoint of this config that asks these decisions by itself.
 fn endpoint_of<'a, S: Suite, D: Decisions>(
     alloc: Global,
-    party: Party<'a>,
+    config: OwnConfig<'a>,
     suite: &'a S,
     asking: &'a Asking<'a, D>,
     out: &mut Vec<u8>,
 ) -> Result<Endpoint<'a, S, Asking<'a, D>>, Memory> {
-    match party {
-        Party::Client(config) => Endpoint::client(alloc, config, suite, asking, out),
-        Party::Server(config) => Endpoint::server(alloc, config, suite, asking, out),
+    match config {
+        OwnConfig::Client(config) => Endpoint::client(alloc, config, suite, asking, out),
+        OwnConfig::Server(config) => Endpoint::server(alloc, config, suite, asking, out),
     }
 }
 
 /// An endpoint of this config that asks and waits.
 fn waiting_of<'a, S: Suite, D: Decisions>(
     alloc: Global,
-    party: Party<'a>,
+    config: OwnConfig<'a>,
     suite: &'a S,
     asking: &'a Asking<'a, D>,
     by_row: Option<&'a Cell<u32>>,
     out: &mut Vec<u8>,
 ) -> Result<Waiting<'a, S, D>, Memory> {
-    let endpoint = match party {
-        Party::Client(config) => {
+    let endpoint = match config {
+        OwnConfig::Client(config) => {
             AskingEndpoint::client(alloc, config, config.draws(), suite, asking, out)?
         }
-        Party::Server(config) => {
+        OwnConfig::Server(config) => {
             AskingEndpoint::server(alloc, config, config.draws(), suite, asking, out)?
         }
     };

@@ -38,8 +38,8 @@ pub(crate) trait Judged {
     }
 
     /// Gives it an answer of a line, and tells whether it takes one.
-    fn answer(&mut self, good: bool, out: &mut Vec<u8>) -> Result<bool, Memory> {
-        let _ = (good, out);
+    fn answer(&mut self, decided: bool, out: &mut Vec<u8>) -> Result<bool, Memory> {
+        let _ = (decided, out);
         Ok(false)
     }
 
@@ -103,11 +103,11 @@ impl<S: Suite, D: Decisions> Waiting<'_, S, D> {
 
     /// Answers what it asks by the decisions.
     fn decide(&mut self, out: &mut Vec<u8>) -> Result<(), Memory> {
-        let good = match self.endpoint.question() {
+        let answer = match self.endpoint.question() {
             Some(question) => decided(self.asking, &question),
             None => false,
         };
-        self.endpoint.answer(good, out)
+        self.endpoint.answer(answer, out)
     }
 }
 
@@ -172,11 +172,11 @@ impl<S: Suite, D: Decisions> Judged for Waiting<'_, S, D> {
         self.endpoint.question()
     }
 
-    fn answer(&mut self, good: bool, out: &mut Vec<u8>) -> Result<bool, Memory> {
+    fn answer(&mut self, decided: bool, out: &mut Vec<u8>) -> Result<bool, Memory> {
         if self.by_row.is_none() {
             return Ok(false);
         }
-        self.endpoint.answer(good, out)?;
+        self.endpoint.answer(decided, out)?;
         Ok(true)
     }
 
