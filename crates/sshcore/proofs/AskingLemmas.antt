@@ -27,7 +27,7 @@ use Rattle.sshcore.specs.Inputs.{CutOff, EndpointStands, Steps}
 use Rattle.sshcore.specs.Output.{sent_from}
 use Rattle.sshcore.specs.Questions.{HostKeyQuestion, QuestionData, UserQuestion, always, decided, decided_by, question_at}
 use Rattle.sshcore.specs.StateData.{StateData, keys_due, state_data}
-use Rattle.sshcore.specs.Unread.{AnswerSteps, AskingStands, AskingSteps, IsTurned, ReadsPacket, reads_with}
+use Rattle.sshcore.specs.Unread.{AnswerSteps, AskingStands, AskingSteps, IsTurned, ReadsPacket, Turns, reads_with}
 use Rattle.sshcore.proofs.Below.{Below}
 use Rattle.sshcore.proofs.FeedLemmas.{SentMore, failed_over, received_open, sent_last, stands_left}
 use Rattle.sshcore.proofs.HistoryLemmas.{Streams, broken}
@@ -88,28 +88,39 @@ pub alike_unasked : (d : DecisionsData) (q : Option QuestionData) → q ≡ None
 alike_unasked d q e = ap (decided_by d) e ∙ sym (ap (decided_by (always false)) e)
 
 alike_asked : (d : DecisionsData) (good : Bool) (q : Option QuestionData) (is : QuestionData) → q ≡ Some is → decided d is ≡ good → decided_by d q ≡ decided_by (always good) q
-alike_asked d good q is e yes = ap (decided_by d) e ∙ yes ∙ sym (always_decides good is) ∙ sym (ap (decided_by (always good)) e)
+alike_asked d good q is e agrees = ap (decided_by d) e ∙ agrees ∙ sym (always_decides good is) ∙ sym (ap (decided_by (always good)) e)
 
 reads_as : (k : Option KeysData) (strict : Bool) (r : PacketReaderData) → reads_with k strict r ≡ reader_with k strict r
 reads_as None strict r = refl
 reads_as (Some keys) strict r = refl
 
+-- A packet was answered, and holds for all decisions that answer alike what it asks.
+module _ (below : Below) (streams : Streams) (m : SuiteData) (role : Side) (party : ConfigData) (given : DecisionsData) (old new last : StateData) (before after : List ℕ) (is : old.end ≡ Open) where
+  pub unit_steps : (r p q : PacketReader) (piece payload : List ℕ) (used packet : ℕ) → used ≤ length piece
+      → ahead m (packet_reader_data r) piece ≡ whole payload (length (packet_reader_data r).held + used) → packet ≡ (packet_reader_data r).seq
+      → packet_reader_data p ≡ record (packet_reader_data r) { held = []; seq = ((packet_reader_data r).seq + 1) % 2 ^ 32 }
+      → (HasForm m old → Brings (setup_with m given role party) old new packet payload before after) → Turns new last p q
+      → (d : DecisionsData) → decided_by d (question_at m role party old payload) ≡ decided_by given (question_at m role party old payload)
+      → Steps (setup_with m d role party) (input.Packets r) old (input.Packets q) last (take used piece) before after
+  unit_steps r p q piece payload used packet low reads number left brings turns d alike =
+      packets_unit below streams (setup_with m d role party) r q old piece before after is p new last used packet payload low reads number left
+      (λ form. brings_alike m role party d given old new packet payload before after alike (brings form))
+      (ap (λ (k : StateData). k.end) turns.left) (ap (λ (k : StateData). k.phase) turns.left) (ap (λ (k : StateData). k.guess) turns.left) (ap (λ (k : StateData). k.known) turns.left)
+      (ap (λ (k : StateData). k.sending) turns.left) (ap (λ (k : StateData). k.carried) turns.left)
+      (turns.reads ∙ reads_as (keys_due new.phase new.carried.pending) new.known.strict (packet_reader_data p))
+
 -- A packet that waited is answered.
 module _ (below : Below) (streams : Streams) (m : SuiteData) (role : Side) (party : ConfigData) (good : Bool) (w : WaitingData) (old new last : StateData) (before after : List ℕ) (is : old.end ≡ Open) where
   answer_packets : (p q : PacketReader) → question_at m role party old w.payload ≡ Some w.question
       → (HasForm m old → (packet : ℕ) → Brings (setup_with m (always good) role party) old new packet w.payload before after)
-      → IsTurned new last (input.Packets p) (input.Packets q) → AnswerSteps m role party good w (input.Packets p) old (input.Packets q) last before after
-  answer_packets p q asks brings turned d yes i taken r =
+      → Turns new last p q → AnswerSteps m role party good w (input.Packets p) old (input.Packets q) last before after
+  answer_packets p q asks brings turns d agrees i taken r =
       let same : p ≡ r.behind = cc in
-      let left = turned.0 in
-      let steps : Steps (setup_with m d role party) (input.Packets r.before) old (input.Packets q) last (take (length taken) taken) before after =
-      packets_unit below streams (setup_with m d role party) r.before q old taken before after is p new last (length taken) w.packet w.payload (omega arith) r.reads r.number
-      (ap (λ (x : PacketReader). packet_reader_data x) same ∙ r.left)
-      (λ form. brings_alike m role party d (always good) old new w.packet w.payload before after (alike_asked d good (question_at m role party old w.payload) w.question asks yes) (brings form w.packet))
-      (ap (λ (k : StateData). k.end) left) (ap (λ (k : StateData). k.phase) left) (ap (λ (k : StateData). k.guess) left) (ap (λ (k : StateData). k.known) left) (ap (λ (k : StateData). k.sending) left) (ap (λ (k : StateData). k.carried) left)
-      (turned.1 ∙ reads_as (keys_due new.phase new.carried.pending) new.known.strict (packet_reader_data p)) in
       subst (λ (x : Input). Steps (setup_with m d role party) x old (input.Packets q) last taken before after) (sym r.was)
-      (subst (λ (l : List ℕ). Steps (setup_with m d role party) (input.Packets r.before) old (input.Packets q) last l before after) (take-length taken) steps)
+      (subst (λ (l : List ℕ). Steps (setup_with m d role party) (input.Packets r.before) old (input.Packets q) last l before after) (take-length taken)
+      (unit_steps below streams m role party (always good) old new last before after is r.before p q taken w.payload (length taken) w.packet (omega arith) r.reads r.number
+      (ap (λ (x : PacketReader). packet_reader_data x) same ∙ r.left) (λ form. brings form w.packet) turns d
+      (alike_asked d good (question_at m role party old w.payload) w.question asks agrees)))
 
   pub answer_steps : (j k : Input) → question_at m role party old w.payload ≡ Some w.question
       → (HasForm m old → (packet : ℕ) → Brings (setup_with m (always good) role party) old new packet w.payload before after)
@@ -249,13 +260,13 @@ module _ {S : Type 0} (meaning : S → SuiteData) where
     answered_by good w i j x y before after is step = record {
       added = step.0;
       appended = step.1;
-      follows = λ d yes h s a.
+      follows = λ d agrees h s a.
           let setup = setup_with (meaning suite) d role party in
-          let g = step.2 d (sym (ap (decided_by d) (asked_open (end_data x.end) w is)) ∙ yes) a.reader a.unread.0 a.unread.2 a.earlier s a.stands in
+          let g = step.2 d (sym (ap (decided_by d) (asked_open (end_data x.end) w is)) ∙ agrees) a.reader a.unread.0 a.unread.2 a.earlier s a.stands in
           asks_none setup (state_data y) j h (s ++ step.0)
           (subst (λ (k : List ℕ). EndpointStands setup (state_data y) j k (s ++ step.0)) (sym a.unread.1)
           (subst (λ (l : List ℕ). EndpointStands setup (state_data y) j (a.earlier ++ a.unread.0) (s ++ l)) (sym g.appended) g.stands));
-      uncut = λ d yes h s a. (step.2 d (sym (ap (decided_by d) (asked_open (end_data x.end) w is)) ∙ yes) a.reader a.unread.0 a.unread.2 a.earlier s a.stands).uncut;
+      uncut = λ d agrees h s a. (step.2 d (sym (ap (decided_by d) (asked_open (end_data x.end) w is)) ∙ agrees) a.reader a.unread.0 a.unread.2 a.earlier s a.stands).uncut;
       waits_for_none = refl;
       same = record { same_role = refl; same_config = refl; same_suite = refl };
     }

@@ -1,14 +1,256 @@
 -- A packet is answered alike by all decisions that answer alike what it asks.
 
-use Rattle.std.proofs.Common.{◌≡◌, ℕ, List}
+use Rattle.std.proofs.Common.{◌≡◌, ◌⊎◌, inl, inr, ℕ, ◌==◌, Bool, true, false, List, [], ◌∷◌, length, Option, None, Some, Result, Ok, Err, refl, sym, ap, ◌∙◌, subst, arith, if◌then◌else◌}
+use Rattle.std.specs.Prelude.{◌&&◌, codes, nat_le}
+use Rattle.std.proofs.lemmas.Bool.{cases_Bool, eqb-true}
+use Rattle.sshwire.specs.TypeReadings.{is_name}
+use Rattle.sshwire.specs.declared.share_form.ShareForm.TheVariants.{Mpint}
+use Rattle.sshmsg.proofs.NumberLemmas.{reads_alike}
+use Rattle.sshmsg.specs.declared.fault.MsgFault.{MsgFault}
+use Rattle.sshmsg.specs.MessageData.{KexEcdhReply, KexdhReply, MessageData, MethodData, NoMethod, OtherMethod, Password, PasswordChange, PublicKey, PublicKeyQuery, UserauthFailure, UserauthPkOk, UserauthRequest}
+use Rattle.sshmsg.specs.Messages.{message_in}
+use Rattle.sshmsg.specs.Numbers.{kind}
+use Rattle.sshmsg.specs.Written.{written_message}
 use Rattle.sshneg.specs.declared.side.Side.{Side}
+use Rattle.sshneg.specs.declared.side.Side.TheVariants.{Client, Server}
+use Rattle.sshneg.specs.ChoiceReadings.{is_in}
+use Rattle.sshneg.specs.ExchangeEnd.{exchange_by}
+use Rattle.sshpacket.specs.declared.limits.TheConstants.{BLOB_LIMIT}
 use Rattle.sshpacket.specs.Suite.{SuiteData}
-use Rattle.sshcore.specs.Brings.{Brings}
-use Rattle.sshcore.specs.EndpointParts.{ConfigData, DecisionsData, setup_with}
-use Rattle.sshcore.specs.Questions.{decided_by, question_at}
-use Rattle.sshcore.specs.StateData.{StateData}
+use Rattle.sshcore.specs.declared.end.Fault.{Fault}
+use Rattle.sshcore.specs.declared.end.Fault.TheVariants as fault
+use Rattle.sshcore.specs.declared.table.Line.{Line}
+use Rattle.sshcore.specs.declared.table.Line.TheVariants as line
+use Rattle.sshcore.specs.declared.table.Phase.{Phase}
+use Rattle.sshcore.specs.declared.table.Phase.TheVariants as phase
+use Rattle.sshcore.specs.Brings.{Brings, Drops, Exchanges, Gives, IsOngoing, Leaves, Moves, Offers, StandsAt, Stays, Works, carried_after}
+use Rattle.sshcore.specs.EndData.{Failed, Reply, fails, goes}
+use Rattle.sshcore.specs.EndpointParts.{ConfigData, DecisionsData, KeyProof, ProofData, setup_with}
+use Rattle.sshcore.specs.Exchange.{answer_with, exchange_with, host_key_by, keys_by}
+use Rattle.sshcore.specs.Known.{Known}
+use Rattle.sshcore.specs.Phases.{next_phase}
+use Rattle.sshcore.specs.Plan.{is_waiting}
+use Rattle.sshcore.specs.Questions.{HostKeyQuestion, QuestionData, UserQuestion, decided, decided_by, line_question, message_question, method_question, proof_question, query_question, question_at, request_question}
+use Rattle.sshcore.specs.Replies.{line_reply, read_reply}
+use Rattle.sshcore.specs.Requests.{is_last_try, is_successful, method_reply, more_reply, query_answer, request_reply, tried_reply}
+use Rattle.sshcore.specs.Standing.{after_payload, exchange_received}
+use Rattle.sshcore.specs.StateData.{Carried, StateData}
+use Rattle.sshcore.specs.Table.{line_by}
+use Rattle.sshcore.specs.Tries.{is_decided, key_of, proof_in, successful_key_by, successful_key_in, tried_by, tried_in, tried_with}
+use Rattle.sshcore.specs.Work.{reply_reply, signed_by, work}
+use Rattle.sshcore.proofs.WorksLemmas.{failed_ends}
+
+-- a line that reads, or that fails the endpoint
+abbrev ReadsOrFails : Line → Type 0
+ReadsOrFails l = (l ≡ line.Reads) ⊎ ((l ≡ line.Deviates) ⊎ (l ≡ line.Unexpected))
+
+-- where no guess is due, a request has such a line
+request_line : (role : Side) (p : Phase) (strict waits : Bool) → ReadsOrFails (line_by role p strict false waits 50)
+unfolding line_by
+request_line Client phase.KexInit strict waits = inr (inr refl)
+request_line Client phase.Exchange true waits = inr (inl refl)
+request_line Client phase.Exchange false waits = inr (inr refl)
+request_line Client phase.NewKeys true waits = inr (inl refl)
+request_line Client phase.NewKeys false waits = inr (inr refl)
+request_line Client phase.Service strict waits = inr (inr refl)
+request_line Client phase.Auth strict true = inr (inr refl)
+request_line Client phase.Auth strict false = inr (inr refl)
+request_line Server phase.KexInit strict waits = inr (inr refl)
+request_line Server phase.Exchange true waits = inr (inl refl)
+request_line Server phase.Exchange false waits = inr (inr refl)
+request_line Server phase.NewKeys true waits = inr (inl refl)
+request_line Server phase.NewKeys false waits = inr (inr refl)
+request_line Server phase.Service strict waits = inr (inr refl)
+request_line Server phase.Auth strict waits = inl refl
+
+module _ (m : SuiteData) (role : Side) (party : ConfigData) (d e : DecisionsData) where
+  -- they answer alike what is asked
+  abbrev Alike : Option QuestionData → Type 0
+  Alike q = decided_by d q ≡ decided_by e q
+
+  proof_alike : (number : ℕ) (user service : List ℕ) (o : Option ProofData) → Alike (proof_question number user service o)
+      → is_decided d number user service o ≡ is_decided e number user service o
+  proof_alike number user service None alike = refl
+  proof_alike number user service (Some proof) alike = alike
+
+  successful_alike : (known : Known) (user service : List ℕ) (method : MethodData) → Alike (method_question m party known user service method)
+      → is_successful m d party known user service method ≡ is_successful m e party known user service method
+  unfolding proof_in
+  successful_alike known user service NoMethod alike = proof_alike known.request user service (proof_in m party known.session user service NoMethod) alike
+  successful_alike known user service (Password password) alike = proof_alike known.request user service (proof_in m party known.session user service (Password password)) alike
+  successful_alike known user service (PasswordChange old new) alike = refl
+  successful_alike known user service (PublicKey algorithm key signature) alike = proof_alike known.request user service (proof_in m party known.session user service (PublicKey algorithm key signature)) alike
+  successful_alike known user service (PublicKeyQuery algorithm key) alike = refl
+  successful_alike known user service (OtherMethod name fields) alike = refl
+
+  -- what is answered to a query, by what decides whether it asks
+  would_alike : (last listed named short : Bool) (q : QuestionData) (f : Reply) (g : Bool → Reply)
+      → Alike (if last then None else if listed && (named && short) then Some q else None)
+      → (if last then f else g (listed && (named && (short && decided d q)))) ≡ (if last then f else g (listed && (named && (short && decided e q))))
+  would_alike true listed named short q f g alike = refl
+  would_alike false true true true q f g alike = ap g alike
+  would_alike false true true false q f g alike = refl
+  would_alike false true false short q f g alike = refl
+  would_alike false false named short q f g alike = refl
+
+  query_alike : (known : Known) (user service algorithm key : List ℕ) → Alike (query_question party known user service algorithm key)
+      → more_reply party known (query_answer d party known user service algorithm key) ≡ more_reply party known (query_answer e party known user service algorithm key)
+  query_alike known user service algorithm key alike =
+      would_alike (is_last_try party known) (is_in party.methods (codes "publickey")) (is_name algorithm) (nat_le (length key) BLOB_LIMIT)
+      (UserQuestion known.request user service (KeyProof algorithm key)) (fails fault.TooManyTries)
+      (λ b. goes (written_message (if b then UserauthPkOk algorithm key else UserauthFailure party.methods false) ∷ [])) alike
+
+  method_alike : (known : Known) (user service : List ℕ) (method : MethodData) → Alike (method_question m party known user service method)
+      → method_reply m d party known user service method ≡ method_reply m e party known user service method
+  method_alike known user service NoMethod alike = ap (tried_reply party known user service NoMethod) (successful_alike known user service NoMethod alike)
+  method_alike known user service (Password password) alike = ap (tried_reply party known user service (Password password)) (successful_alike known user service (Password password) alike)
+  method_alike known user service (PasswordChange old new) alike = ap (tried_reply party known user service (PasswordChange old new)) (successful_alike known user service (PasswordChange old new) alike)
+  method_alike known user service (PublicKey algorithm key signature) alike =
+      ap (tried_reply party known user service (PublicKey algorithm key signature)) (successful_alike known user service (PublicKey algorithm key signature) alike)
+  method_alike known user service (PublicKeyQuery algorithm key) alike = query_alike known user service algorithm key alike
+  method_alike known user service (OtherMethod name fields) alike = ap (tried_reply party known user service (OtherMethod name fields)) (successful_alike known user service (OtherMethod name fields) alike)
+
+  -- by whether the server has the service
+  in_service : (has : Bool) (q : Option QuestionData) (x y f : Reply) → Alike (if has then q else None) → (Alike q → x ≡ y) → (if has then x else f) ≡ (if has then y else f)
+  in_service true q x y f alike same = same alike
+  in_service false q x y f alike same = refl
+
+  request_alike : (known : Known) (user service : List ℕ) (method : MethodData) → Alike (request_question m party known user service method)
+      → request_reply m d party known user service method ≡ request_reply m e party known user service method
+  unfolding request_question request_reply
+  request_alike known user service method alike =
+      in_service (is_in party.services service) (method_question m party known user service method) (method_reply m d party known user service method)
+      (method_reply m e party known user service method) (fails fault.Service) alike (method_alike known user service method)
+
+  reply_alike : (known : Known) (c : MessageData) (signature : List ℕ) → Alike (Some (HostKeyQuestion known.algorithms.host_key (host_key_by m role party known.algorithms.host_key (Ok c))))
+      → reply_reply (setup_with m d role party) known c signature ≡ reply_reply (setup_with m e role party) known c signature
+  unfolding reply_reply exchange_with exchange_by
+  reply_alike known c signature alike =
+      ap (λ (b : Bool). if b then signed_by m known (exchange_with m role party known.algorithms known.version known.kexinit (Ok c)) signature (answer_with m role party known.algorithms (Ok c)) else fails fault.HostKey) alike
+
+  work_alike : (known : Known) (c : MessageData) → Alike (message_question m role party known (Ok c))
+      → work (setup_with m d role party) known c ≡ work (setup_with m e role party) known c
+  unfolding work
+  work_alike known (KexdhReply host_key f signature) alike = reply_alike known (KexdhReply host_key f signature) signature alike
+  work_alike known (KexEcdhReply host_key share signature) alike = reply_alike known (KexEcdhReply host_key share signature) signature alike
+  work_alike known (UserauthRequest user service method) alike = request_alike known user service method alike
+  work_alike known _ alike = refl
+
+  read_alike : (known : Known) (n : ℕ) (r : Result MessageData MsgFault) → Alike (message_question m role party known r)
+      → read_reply (setup_with m d role party) known n r ≡ read_reply (setup_with m e role party) known n r
+  read_alike known n (Ok c) alike = work_alike known c alike
+  read_alike known n (Err f) alike = refl
+
+  line_alike : (known : Known) (packet : ℕ) (l : Line) (payload : List ℕ) → Alike (line_question m role party known l payload)
+      → line_reply (setup_with m d role party) known packet l payload ≡ line_reply (setup_with m e role party) known packet l payload
+  unfolding line_question line_reply
+  line_alike known packet line.Reads payload alike = read_alike known (kind payload) (message_in known.shares payload) alike
+  line_alike known packet line.Drops payload alike = refl
+  line_alike known packet line.Deviates payload alike = refl
+  line_alike known packet line.Unknown payload alike = refl
+  line_alike known packet line.Unexpected payload alike = refl
+
+  -- what a request came to, where the session goes on after it
+  has_service : (has : Bool) (q : Option QuestionData) (r : Reply) → Alike (if has then q else None) → IsOngoing (if has then r else fails fault.Service).end → Alike q
+  has_service true q r alike goes_on = alike
+  has_service false q r alike goes_on = absurd (failed_ends (Failed fault.Service) fault.Service refl goes_on)
+
+  came_alike : (known : Known) (user service : List ℕ) (method : MethodData) → Alike (request_question m party known user service method)
+      → IsOngoing (request_reply m e party known user service method).end
+      → is_successful m d party known user service method ≡ is_successful m e party known user service method
+  unfolding request_question request_reply
+  came_alike known user service method alike goes_on =
+      successful_alike known user service method
+      (has_service (is_in party.services service) (method_question m party known user service method) (method_reply m e party known user service method) alike goes_on)
+
+  -- so it is tried alike, and its key is kept alike
+  abbrev TriedAlike : Known → List ℕ → Type 0
+  TriedAlike known payload = (tried_in m d party known.session known.request payload ≡ tried_in m e party known.session known.request payload)
+      × (successful_key_in m d party known.session known.request payload ≡ successful_key_in m e party known.session known.request payload)
+
+  tried_work : (known : Known) (c : MessageData) → Alike (message_question m role party known (Ok c)) → IsOngoing (work (setup_with m e role party) known c).end
+      → tried_by m d party known.session known.request (Ok c) ≡ tried_by m e party known.session known.request (Ok c)
+  unfolding work
+  tried_work known (UserauthRequest user service method) alike goes_on = ap (λ (b : Bool). tried_with user service method b ∷ []) (came_alike known user service method alike goes_on)
+  tried_work known _ alike goes_on = refl
+
+  key_work : (known : Known) (c : MessageData) → Alike (message_question m role party known (Ok c)) → IsOngoing (work (setup_with m e role party) known c).end
+      → successful_key_by m d party known.session known.request (Ok c) ≡ successful_key_by m e party known.session known.request (Ok c)
+  unfolding work
+  key_work known (UserauthRequest user service method) alike goes_on = ap (λ (b : Bool). if b then key_of method else []) (came_alike known user service method alike goes_on)
+  key_work known _ alike goes_on = refl
+
+  tried_read : (known : Known) (n : ℕ) (r : Result MessageData MsgFault) → Alike (message_question m role party known r) → IsOngoing (read_reply (setup_with m e role party) known n r).end
+      → (tried_by m d party known.session known.request r ≡ tried_by m e party known.session known.request r)
+      × (successful_key_by m d party known.session known.request r ≡ successful_key_by m e party known.session known.request r)
+  tried_read known n (Ok c) alike goes_on = (tried_work known c alike goes_on, key_work known c alike goes_on)
+  tried_read known n (Err f) alike goes_on = (refl, refl)
+
+  -- read in whatever form
+  tried_form : (known : Known) (payload : List ℕ) → kind payload ≡ 50 → Alike (message_question m role party known (message_in known.shares payload))
+      → IsOngoing (read_reply (setup_with m e role party) known (kind payload) (message_in known.shares payload)).end → TriedAlike known payload
+  unfolding tried_in successful_key_in
+  tried_form known payload is alike goes_on =
+      let same : message_in known.shares payload ≡ message_in Mpint payload = reads_alike known.shares Mpint payload (λ q. omega (arith, q, is)) (λ q. omega (arith, q, is)) in
+      subst (λ (r : Result MessageData MsgFault). (tried_by m d party known.session known.request r ≡ tried_by m e party known.session known.request r)
+      × (successful_key_by m d party known.session known.request r ≡ successful_key_by m e party known.session known.request r)) same
+      (tried_read known (kind payload) (message_in known.shares payload) alike goes_on)
+
+  tried_line : (known : Known) (packet : ℕ) (l : Line) (payload : List ℕ) → ReadsOrFails l → kind payload ≡ 50 → Alike (line_question m role party known l payload)
+      → IsOngoing (line_reply (setup_with m e role party) known packet l payload).end → TriedAlike known payload
+  unfolding line_question line_reply
+  tried_line known packet line.Reads payload side is alike goes_on = tried_form known payload is alike goes_on
+  tried_line known packet line.Deviates payload side is alike goes_on = absurd (failed_ends (Failed (fault.Strict (kind payload))) (fault.Strict (kind payload)) refl goes_on)
+  tried_line known packet line.Unexpected payload side is alike goes_on = absurd (failed_ends (Failed (fault.Unexpected (kind payload))) (fault.Unexpected (kind payload)) refl goes_on)
+  tried_line known packet line.Drops payload (inl e) is alike goes_on = absurd cc
+  tried_line known packet line.Drops payload (inr (inl e)) is alike goes_on = absurd cc
+  tried_line known packet line.Drops payload (inr (inr e)) is alike goes_on = absurd cc
+  tried_line known packet line.Unknown payload (inl e) is alike goes_on = absurd cc
+  tried_line known packet line.Unknown payload (inr (inl e)) is alike goes_on = absurd cc
+  tried_line known packet line.Unknown payload (inr (inr e)) is alike goes_on = absurd cc
+
+  -- what is known and carried along after a payload
+  after_alike : (known : Known) (payload : List ℕ) → (kind payload ≡ 50 → TriedAlike known payload) → after_payload m d party known payload ≡ after_payload m e party known payload
+  after_alike known payload same = elim (cases_Bool (kind payload == 50)) [
+    | inl is ↦ rw (same (eqb-true (kind payload) 50 is)).0 refl
+    | inr none ↦ rw none refl
+  ]
+
+  carried_alike : (known : Known) (c : Carried) (payload : List ℕ) → (kind payload ≡ 50 → TriedAlike known payload) → carried_after m d party known c payload ≡ carried_after m e party known c payload
+  carried_alike known c payload same = elim (cases_Bool (kind payload == 50)) [
+    | inl is ↦ rw (same (eqb-true (kind payload) 50 is)).1 refl
+    | inr none ↦ rw none refl
+  ]
+
+  module _ (old new : StateData) (payload : List ℕ) where
+    moves_alike : (old.guess ≡ false → kind payload ≡ 50 → TriedAlike old.known payload) → Moves (setup_with m e role party) payload old new → Moves (setup_with m d role party) payload old new
+    moves_alike same (Offers peer at none offers carried form stands) = Offers peer at none offers carried form stands
+    moves_alike same (Drops due other carried stands) = Drops due other carried stands
+    moves_alike same (Exchanges at none is carried stands) = Exchanges at none is carried stands
+    moves_alike same (Leaves none past is carried stands) =
+        Leaves none past is (carried ∙ sym (carried_alike old.known old.carried payload (same none)))
+        (subst (λ (k : Known). StandsAt new (next_phase old.phase) false k) (sym (after_alike old.known payload (same none))) stands)
+    moves_alike same (Stays none leaves carried stands) =
+        Stays none leaves (carried ∙ sym (carried_alike old.known old.carried payload (same none)))
+        (subst (λ (k : Known). StandsAt new old.phase false k) (sym (after_alike old.known payload (same none))) stands)
+
+    -- a request that isn't dropped, after which the session goes on, is tried alike
+    came : (packet : ℕ) → Alike (question_at m role party old payload)
+        → IsOngoing (line_reply (setup_with m e role party) old.known packet (line_by role old.phase old.known.strict old.guess (is_waiting old.known.left) (kind payload)) payload).end
+        → old.guess ≡ false → kind payload ≡ 50 → TriedAlike old.known payload
+    came packet alike goes_on none is =
+        let here : line_by role old.phase old.known.strict false (is_waiting old.known.left) 50 ≡ line_by role old.phase old.known.strict old.guess (is_waiting old.known.left) (kind payload) =
+        ap (λ (b : Bool). line_by role old.phase old.known.strict b (is_waiting old.known.left) 50) (sym none)
+        ∙ ap (λ (n : ℕ). line_by role old.phase old.known.strict old.guess (is_waiting old.known.left) n) (sym is) in
+        tried_line old.known packet _ payload (subst ReadsOrFails here (request_line role old.phase old.known.strict (is_waiting old.known.left))) is alike goes_on
 
 pub brings_alike : (m : SuiteData) (role : Side) (party : ConfigData) (d e : DecisionsData) (old new : StateData) (packet : ℕ) (payload before after : List ℕ)
     → decided_by d (question_at m role party old payload) ≡ decided_by e (question_at m role party old payload)
     → Brings (setup_with m e role party) old new packet payload before after → Brings (setup_with m d role party) old new packet payload before after
-brings_alike m role party d e old new packet payload before after alike brings = ?
+brings_alike m role party d e old new packet payload before after alike brings =
+    let l : Line = line_by role old.phase old.known.strict old.guess (is_waiting old.known.left) (kind payload) in
+    let same : line_reply (setup_with m d role party) old.known packet l payload ≡ line_reply (setup_with m e role party) old.known packet l payload = line_alike m role party d e old.known packet l payload alike in
+    record {
+      gives = subst (λ (r : Reply). Gives m party.seed old.known.strict (keys_by m old.known.algorithms (exchange_received m role party old.known payload) role) old new before after r) (sym same) brings.gives;
+      moves = λ goes_on. moves_alike m role party d e old new payload (came m role party d e old new payload packet alike (subst IsOngoing brings.gives.ends goes_on)) (brings.moves goes_on);
+    }

@@ -85,8 +85,10 @@ abbrev pub reads_with : Option KeysData → Bool → PacketReaderData → Packet
 reads_with None strict r = r
 reads_with (Some keys) strict r = record r { keys = Some keys; seq = if strict then 0 else r.seq }
 
+pub record Turns (old new : StateData) (p q : PacketReader) : Type 0 where
+  pub left : new ≡ record old { carried = record old.carried { pending = keys_left old.phase old.carried.pending } }
+  pub reads : packet_reader_data q ≡ reads_with (keys_due old.phase old.carried.pending) old.known.strict (packet_reader_data p)
+
 abbrev pub IsTurned : StateData → StateData → Input → Input → Type 0
-IsTurned old new (input.Packets p) (input.Packets q) =
-    (new ≡ record old { carried = record old.carried { pending = keys_left old.phase old.carried.pending } })
-    × (packet_reader_data q ≡ reads_with (keys_due old.phase old.carried.pending) old.known.strict (packet_reader_data p))
+IsTurned old new (input.Packets p) (input.Packets q) = Turns old new p q
 IsTurned old new i j = ⊥

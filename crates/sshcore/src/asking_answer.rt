@@ -17,6 +17,7 @@ ghost use Rattle.sshcore.specs.Unread.{AnswerSteps, IsAsked, IsIdle, IsTurned};
 ghost use Rattle.sshcore.specs.WaitingView.{waiting_data};
 
 use crate::asking_endpoint::AskingEndpoint;
+use crate::asking_input::turn;
 use crate::config::Config;
 use crate::end::{End, Fault};
 use crate::given::Listener;
@@ -114,22 +115,19 @@ fn answer_packet<S: Suite, L: Listener>(
     let mut sent = Vec::new(state.alloc);
     state.answer(config, suite, listener, &waiting.payload, good, &mut sent)?;
     out.extend_from_slice(&sent)?;
-    turn(input, state);
+    turn_input(input, state);
     Ok(())
 }
 
 /// Reads on with the keys that are due after a packet.
-fn turn(input: &mut Input, state: &mut State<'_>)
+fn turn_input(input: &mut Input, state: &mut State<'_>)
     requires idle { IsIdle input.old }
     ensures turned { IsTurned (state_data state.old) (state_data state.new) input.old input.new }
     ensures reads { (m : SuiteData) → CanRead m input.old → CanRead m input.new }
+    ensures ends { end_data state.new.end ≡ end_data state.old.end }
 {
     match input {
         Input::Lines(_) => {}
-        Input::Packets(reader) => {
-            if let Some(keys) = state.take_keys() {
-                reader.use_keys(keys, state.strict);
-            }
-        }
+        Input::Packets(reader) => turn(reader, state),
     }
 }

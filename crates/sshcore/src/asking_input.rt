@@ -1,7 +1,8 @@
 //! How an endpoint that asks reads its bytes: up to a packet that can't be answered before its question is.
 
-ghost use Rattle.std.specs.Prelude.{◌≡◌, ◌≢◌, ◌+◌, ◌*◌, ◌<◌, ◌≤◌, IfOk, OnOk, length, take};
-ghost use Rattle.sshpacket.specs.PacketReaderData.{ReaderWaits};
+ghost use Rattle.std.specs.Prelude.{◌≡◌, ◌≢◌, ◌+◌, ◌*◌, ◌<◌, ◌≤◌, IfOk, OnOk, [], length, take};
+ghost use Rattle.sshpacket.specs.PacketReaderData.{ReaderWaits, packet_reader_data};
+ghost use Rattle.sshpacket.specs.Suite.{SuiteData};
 ghost use Rattle.sshcore.specs.declared.end.Fault.TheVariants as failed;
 ghost use Rattle.sshcore.specs.declared.input.Input.TheVariants as input;
 ghost use Rattle.sshcore.specs.Brings.{IsOngoing};
@@ -9,7 +10,7 @@ ghost use Rattle.sshcore.specs.EndpointConfig.{config_data, role_of};
 ghost use Rattle.sshcore.specs.EndData.{Failed, Open, end_data};
 ghost use Rattle.sshcore.specs.Inputs.{CanRead, turns_left};
 ghost use Rattle.sshcore.specs.StateData.{state_data};
-ghost use Rattle.sshcore.specs.Unread.{AskingSteps};
+ghost use Rattle.sshcore.specs.Unread.{AskingSteps, Turns};
 ghost use Rattle.sshcore.specs.WaitingView.{waiting_of};
 
 use crate::config::Config;
@@ -132,9 +133,7 @@ fn ask_packets<S: Suite, L: Listener>(
                         listener,
                     };
                     state.receive(config, suite, &given, payload, seq, sent)?;
-                    if let Some(keys) = state.take_keys() {
-                        reader.use_keys(keys, state.strict);
-                    }
+                    turn(reader, state);
                     Ok(Came {
                         used,
                         waiting: None,
@@ -150,5 +149,17 @@ fn ask_packets<S: Suite, L: Listener>(
                 waiting: None,
             })
         }
+    }
+}
+
+/// Reads on with the keys that are due after a packet.
+pub(crate) fn turn(reader: &mut PacketReader, state: &mut State<'_>)
+    requires idle { (packet_reader_data reader.old).held ≡ [] }
+    ensures turns { Turns (state_data state.old) (state_data state.new) reader.old reader.new }
+    ensures reads { (m : SuiteData) → ReaderWaits m reader.old → ReaderWaits m reader.new }
+    ensures ends { end_data state.new.end ≡ end_data state.old.end }
+{
+    if let Some(keys) = state.take_keys() {
+        reader.use_keys(keys, state.strict);
     }
 }

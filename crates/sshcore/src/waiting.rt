@@ -1,6 +1,7 @@
 //! A packet that waits for its answer.
 
-ghost use Rattle.std.specs.Prelude.{◌≡◌, IfOk};
+ghost use Rattle.std.specs.Prelude.{◌≡◌, ◌≤◌, IfOk, length};
+ghost use Rattle.sshpacket.specs.declared.limits.TheConstants.{PACKET_LIMIT};
 
 use crate::question::Asked;
 use sshwire::Memory;
@@ -27,7 +28,9 @@ impl Waiting {
         payload: &[u8],
         asked: Asked,
     ) -> Result<Waiting, Memory>
-        ensures { IfOk result (λ w. waiting_data w ≡ record { packet = packet; payload = payload.now; question = asked_data asked }) }
+        requires short { length payload.now ≤ PACKET_LIMIT }
+        ensures same { IfOk result (λ w. waiting_data w ≡ record { packet = packet; payload = payload.now; question = asked_data asked }) }
+        ensures short { IfOk result (λ w. length (waiting_data w).payload ≤ PACKET_LIMIT) }
     {
         let payload = Vec::from_slice(alloc, payload)?;
         Ok(Waiting {
