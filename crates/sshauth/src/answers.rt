@@ -4,7 +4,7 @@ use crate::fault::Fault;
 use crate::parts::server_trust;
 use crate::report;
 use crate::settings::Settings;
-use crate::terminal::says_yes;
+use crate::terminal::is_confirmed;
 use crate::trust::Trust;
 use base64::engine::general_purpose::STANDARD_NO_PAD;
 use sha2::{Digest, Sha256};
@@ -45,7 +45,7 @@ impl Answers<'_> {
 fn trusts(rt: &HostRuntime, settings: &Settings<'_>, blob: &[u8]) -> Result<bool, Fault> {
     let host = settings.host.unwrap_or("");
     let question = question_of(rt.alloc(), host, blob)?;
-    Ok(says_yes(rt, &question))
+    Ok(is_confirmed(rt, &question))
 }
 
 /// The question whether a host key is trusted, which it names by its fingerprint, as `ssh-keygen -l` does.

@@ -134,7 +134,7 @@ fn carry(
             Fed::Used(used) => used,
             Fed::Asks { used } => used,
         };
-        *after = Vec::from_slice(rt.alloc(), &after[used..])?;
+        *after = Vec::from_slice(rt.alloc(), after.get(used..).unwrap_or(&[]))?;
     }
     Ok(())
 }

@@ -11,7 +11,7 @@ const LINE: usize = 64;
 
 /// Puts a question at the terminal, which is opened for it, and answers whether the line that comes is `yes`. Where there
 /// is no terminal, or it fails, it isn't.
-pub(crate) fn says_yes(rt: &HostRuntime, question: &str) -> bool {
+pub(crate) fn is_confirmed(rt: &HostRuntime, question: &str) -> bool {
     let opened = OpenOptions::new().read(true).write(true).open(rt, TERMINAL);
     let Ok(mut terminal) = opened else {
         return false;

@@ -196,11 +196,15 @@ fn stood_after(before: usize, (held, phase, strict): (usize, Phase, Option<bool>
     };
     let strict = match strict {
         None => 0,
-        Some(false) => 5,
-        Some(true) => 10,
+        Some(false) => 1,
+        Some(true) => 2,
     };
-    let stands = held.wrapping_mul(15).wrapping_add(phase + strict);
-    before.wrapping_mul(1_000_003).wrapping_add(stands)
+    folded(folded(folded(before, held), phase), strict)
+}
+
+/// A number, folded into those before.
+fn folded(before: usize, number: usize) -> usize {
+    before.wrapping_mul(1_000_003).wrapping_add(number)
 }
 
 /// A question: `host_key` with the algorithm and the blob, or `user` with the number, the user, the service and the proof; or

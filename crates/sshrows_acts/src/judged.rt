@@ -130,8 +130,7 @@ impl<S: Suite, D: Decisions> Judged for Waiting<'_, S, D> {
             return self.feed_once(piece, out);
         }
         let mut all = 0usize;
-        for _ in 0..=piece.len() {
-            // a packet that asks has at least one byte
+        for _ in 0..u64::MAX {
             let used = self.feed_once(piece.get(all..).unwrap_or(&[]), out)?;
             all = all.saturating_add(used);
             if self.endpoint.question().is_none() {
