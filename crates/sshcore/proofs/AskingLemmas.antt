@@ -1,6 +1,6 @@
 -- Calls of an asking endpoint, one after another.
 
-use Rattle.std.proofs.Common.{◌≡◌, ℕ, ◌+◌, ◌-◌, ◌≤◌, Bool, false, List, [], ◌∷◌, ◌++◌, length, take, drop, Option, None, Some, refl, sym, ap, subst, ◌∙◌, append_assoc, arith}
+use Rattle.std.proofs.Common.{◌≡◌, inl, ℕ, ◌+◌, ◌-◌, ◌≤◌, Bool, false, List, [], ◌∷◌, ◌++◌, length, take, drop, Option, None, Some, refl, sym, ap, subst, ◌∙◌, append_assoc, arith}
 use Rattle.std.specs.Prelude.{◌%◌, ◌^◌}
 use Rattle.std.proofs.lemmas.Bool.{true≢false}
 use Rattle.std.proofs.lemmas.List.{append-nil, length-drop, length-take-le}
@@ -27,7 +27,7 @@ use Rattle.sshcore.specs.Inputs.{CutOff, EndpointStands, Steps}
 use Rattle.sshcore.specs.Output.{sent_from}
 use Rattle.sshcore.specs.Questions.{HostKeyQuestion, QuestionData, UserQuestion, always, decided, decided_by, question_at}
 use Rattle.sshcore.specs.StateData.{StateData, keys_due, state_data}
-use Rattle.sshcore.specs.Unread.{AnswerSteps, AskingStands, AskingSteps, IsTurned, ReadsPacket, Turns, reads_with}
+use Rattle.sshcore.specs.Unread.{AnswerSteps, AskingStands, AskingSteps, IsAskingEndpoint, IsTurned, ReadsPacket, Turns, reads_with}
 use Rattle.sshcore.proofs.Below.{Below}
 use Rattle.sshcore.proofs.FeedLemmas.{SentMore, failed_over, received_open, sent_last, stands_left}
 use Rattle.sshcore.proofs.HistoryLemmas.{Streams, broken}
@@ -129,6 +129,14 @@ module _ (below : Below) (streams : Streams) (m : SuiteData) (role : Side) (part
   answer_steps (input.Packets p) (input.Lines q) asks brings turned = absurd turned
   answer_steps (input.Lines p) k asks brings turned = absurd turned
 
+-- what an open endpoint asks is what the packet asks that waits
+pub asks_packet : (m : SuiteData) (role : Side) (party : ConfigData) (kept : StateData) (j : Input) (w : Option WaitingData) → IsAskingEndpoint m role party kept j w
+    → (x : WaitingData) → w ≡ Some x → kept.end ≡ Open → question_at m role party kept x.payload ≡ Some x.question
+asks_packet m role party kept j None is x e o = absurd cc
+asks_packet m role party kept j (Some w) is x e o =
+    let same : w ≡ x = cc in
+    subst (λ (y : WaitingData). question_at m role party kept y.payload ≡ Some y.question) same (is.asked (inl o)).asks
+
 module _ {S : Type 0} where
   pub same_none : (e : AskingData S) → IsSameAsking e e
   same_none e = record { same_role = refl; same_config = refl; same_suite = refl }
@@ -220,7 +228,7 @@ module _ {S : Type 0} (meaning : S → SuiteData) where
     asking i x w = record { role = role; party = party; suite = suite; input = i; state = x; waiting = w }
 
     -- a step of what an endpoint keeps is a call that used these bytes
-    pub fed_by : (i j : Input) (x y : State) (w : Option WaitingData) (taken before after : List ℕ)
+    fed_by : (i j : Input) (x y : State) (w : Option WaitingData) (taken before after : List ℕ)
         → (added : List ℕ) × (after ≡ before ++ added) × AskingSteps (meaning suite) role party i (state_data x) j (state_data y) w taken [] added
         → AskingFed meaning (asking i x None) (asking j y w) taken before after
     fed_by i j x y None taken before after step = record {
@@ -249,6 +257,12 @@ module _ {S : Type 0} (meaning : S → SuiteData) where
       uncut = λ d h s a owned. ap (λ (k : StateData). k.end) (sym step.2.same);
       same = record { same_role = refl; same_config = refl; same_suite = refl };
     }
+
+    pub fed_from : (i j : Input) (x y : State) (w v : Option WaitingData) (taken before after : List ℕ) → w ≡ None
+        → (added : List ℕ) × (after ≡ before ++ added) × AskingSteps (meaning suite) role party i (state_data x) j (state_data y) v taken [] added
+        → AskingFed meaning (asking i x w) (asking j y v) taken before after
+    fed_from i j x y w v taken before after none step =
+        subst (λ (u : Option WaitingData). AskingFed meaning (asking i x u) (asking j y v) taken before after) (sym none) (fed_by i j x y v taken before after step)
 
     asked_open : (e : EndData) (w : WaitingData) → e ≡ Open → asked_at e (Some w) ≡ Some w.question
     asked_open e w is = ap (λ (x : EndData). asked_at x (Some w)) is

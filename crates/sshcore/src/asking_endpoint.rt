@@ -1,6 +1,6 @@
 //! One endpoint that asks and waits, fed with bytes.
 
-ghost use Rattle.std.specs.Prelude.{◌≡◌, ◌≢◌, ◌<◌, ◌≤◌, ◌+◌, ◌*◌, ◌↔◌, ◌++◌, ℕ, IfOk, IsTrue, List, None, Ok, OnErr, OnOk, Some, is_some, length, take};
+ghost use Rattle.std.specs.Prelude.{◌≡◌, ◌≢◌, ◌<◌, ◌≤◌, ◌+◌, ◌*◌, ◌↔◌, ◌++◌, ℕ, IfOk, IsTrue, List, [], None, Ok, OnErr, OnOk, is_some, length, take, true};
 ghost use Rattle.sshneg.specs.declared.side.Side.TheVariants.{Client, Server};
 ghost use Rattle.sshcore.specs.declared.asking_endpoint.Fed.TheVariants as fed;
 ghost use Rattle.sshcore.specs.declared.end.Fault.TheVariants as fault;
@@ -10,7 +10,6 @@ ghost use Rattle.sshcore.specs.EndData.{Failed, Open, end_data};
 ghost use Rattle.sshcore.specs.EndpointConfig.{config_data, role_of};
 ghost use Rattle.sshcore.specs.EndpointParts.{config_of_client, config_of_server};
 ghost use Rattle.sshcore.specs.Inputs.{CanRead, turns_left};
-ghost use Rattle.sshcore.specs.Questions.{QuestionData};
 ghost use Rattle.sshcore.specs.Redrawn.{redrawn_client, redrawn_server};
 ghost use Rattle.sshcore.specs.StateData.{state_data};
 ghost use Rattle.sshcore.specs.Unread.{AskingSteps};

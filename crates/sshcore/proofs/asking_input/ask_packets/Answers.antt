@@ -1,4 +1,4 @@
-use Rattle.std.proofs.Common.{◌<◌, ◌≤◌, ℕ, true, false, [], Ok, Err, length, take, refl, sym, ap, ◌∙◌, subst, option_map}
+use Rattle.std.proofs.Common.{◌<◌, ◌≤◌, ℕ, true, false, [], Ok, Err, Some, length, take, refl, sym, ap, ◌∙◌, subst, option_map}
 use Rattle.sshpacket.specs.Parse.{OfPacket, parse_packet}
 use Rattle.sshpacket.specs.PacketReaderData.{PacketReaderData, ParseAnswer, ReaderLeaves, last_used, packet_reader_data, protection_at}
 use Rattle.sshcore.specs.declared.input.Input.TheVariants as input

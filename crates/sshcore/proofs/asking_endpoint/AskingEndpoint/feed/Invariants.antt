@@ -1,0 +1,16 @@
+use Rattle.std.proofs.Common.{length, ◌+◌, ◌*◌, ◌-◌, ◌≡◌, ◌≤◌, take}
+use Rattle.sshcore.specs.declared.end.Fault.TheVariants as fault
+use Rattle.sshcore.specs.Asking.{AskingFed, IsReadyForBytes, asking_end, asking_turns}
+use Rattle.sshcore.specs.EndData.{Failed}
+use Rattle.sshcore.proofs.asking_endpoint.AskingEndpoint.feed.Given as goal
+
+abbrev pub invariant-loop-used : goal.invariant-loop-used
+invariant-loop-used g l = record {
+  fed : AskingFed g.S.Suite.meaning l.initial.self l.self (take l.used l.piece) l.initial.out.items l.out.items;
+  within : l.used ≤ length l.piece;
+  kept : asking_end l.self ≡ Failed fault.Memory → asking_end l.initial.self ≡ Failed fault.Memory;
+  stays : (IsReadyForBytes l.initial.self → ⊥) → (l.used ≡ 0) × (l.self ≡ l.initial.self) × (l.out ≡ l.initial.out);
+}
+
+abbrev pub decreases-loop-used : goal.decreases-loop-used
+decreases-loop-used g l = 3 * (length l.piece - l.used) + asking_turns l.self
