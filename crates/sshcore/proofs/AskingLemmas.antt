@@ -1,7 +1,7 @@
 -- Calls of an asking endpoint, one after another.
 
-use Rattle.std.proofs.Common.{◌≡◌, inl, ℕ, ◌+◌, ◌-◌, ◌≤◌, Bool, false, List, [], ◌∷◌, ◌++◌, length, take, drop, Option, None, Some, refl, sym, ap, subst, ◌∙◌, append_assoc, arith}
-use Rattle.std.specs.Prelude.{◌%◌, ◌^◌}
+use Rattle.std.proofs.Common.{◌≡◌, inl, inr, ℕ, ◌+◌, ◌-◌, ◌≤◌, Bool, false, List, [], ◌∷◌, ◌++◌, length, take, drop, Option, None, Some, refl, sym, ap, subst, ◌∙◌, append_assoc, arith}
+use Rattle.std.specs.Prelude.{◌%◌, ◌^◌, is_some, true}
 use Rattle.std.proofs.lemmas.Bool.{true≢false}
 use Rattle.std.proofs.lemmas.List.{append-nil, length-drop, length-take-le}
 use Rattle.std.proofs.Math.Seq.{take-add, take-append-add, take-length}
@@ -12,24 +12,23 @@ use Rattle.sshpacket.specs.PacketReaderData.{PacketReaderData, ahead, packet_rea
 use Rattle.sshpacket.specs.Parse.{parse_packet, whole}
 use Rattle.sshpacket.specs.Stream.{IsIncremental}
 use Rattle.sshpacket.specs.Suite.{SuiteData}
-use Rattle.sshcore.specs.declared.end.Fault.TheVariants as fault
 use Rattle.sshcore.specs.declared.input.Input.{Input}
 use Rattle.sshcore.specs.declared.input.Input.TheVariants as input
 use Rattle.sshcore.specs.declared.state.State.{State}
-use Rattle.sshcore.specs.Asking.{Answered, AskingAfter, AskingBreaks, AskingCuts, AskingFed, AskingLeaves, BrokenBefore, IsSameAsking, asked_at, asking_end}
+use Rattle.sshcore.specs.Asking.{Answered, AskingAfter, AskingBreaks, AskingFed, AskingLeaves, BrokenBefore, IsSameAsking, asked_at, asking_end}
 use Rattle.sshcore.specs.AskingData.{AskingData, WaitingData, asking_setup}
 use Rattle.sshcore.specs.Brings.{Brings, Gives}
-use Rattle.sshcore.specs.EndData.{EndData, Failed, Open, by_owner, disconnects, end_data, parting}
+use Rattle.sshcore.specs.EndData.{AgreedData, Authenticated, Closed, Disconnected, EndData, Failed, Open, by_owner, disconnects, end_data, parting}
 use Rattle.sshcore.specs.EndpointParts.{ConfigData, DecisionsData, Setup, setup_with}
 use Rattle.sshcore.specs.Exchanged.{HasForm}
 use Rattle.sshcore.specs.History.{BrokenOff}
-use Rattle.sshcore.specs.Inputs.{CutOff, EndpointStands, Steps}
+use Rattle.sshcore.specs.Inputs.{EndpointStands, Steps}
 use Rattle.sshcore.specs.Output.{sent_from}
 use Rattle.sshcore.specs.Questions.{HostKeyQuestion, QuestionData, UserQuestion, always, decided, decided_by, question_at}
 use Rattle.sshcore.specs.StateData.{StateData, keys_due, state_data}
-use Rattle.sshcore.specs.Unread.{AnswerSteps, AskingStands, AskingSteps, IsAskingEndpoint, IsTurned, ReadsPacket, Turns, reads_with}
+use Rattle.sshcore.specs.Unread.{AnswerSteps, AskingStands, AskingSteps, IsAskingEndpoint, IsTurned, IsUnread, ReadsPacket, Turns, reads_with}
 use Rattle.sshcore.proofs.Below.{Below}
-use Rattle.sshcore.proofs.FeedLemmas.{SentMore, failed_over, received_open, sent_last, stands_left}
+use Rattle.sshcore.proofs.FeedLemmas.{SentMore, sent_last, stands_left}
 use Rattle.sshcore.proofs.HistoryLemmas.{Streams, broken}
 use Rattle.sshcore.proofs.QuestionLemmas.{brings_alike}
 use Rattle.sshcore.proofs.ReadLemmas.{packets_unit, reader_with}
@@ -136,6 +135,25 @@ asks_packet m role party kept j None is x e o = absurd cc
 asks_packet m role party kept j (Some w) is x e o =
     let same : w ≡ x = cc in
     subst (λ (y : WaitingData). question_at m role party kept y.payload ≡ Some y.question) same (is.asked (inl o)).asks
+
+-- who asks is open
+pub asks_open : (e : EndData) (w : Option WaitingData) → is_some (asked_at e w) ≡ true → e ≡ Open
+asks_open Open w some = refl
+asks_open (Authenticated a) w some = absurd cc
+asks_open (Failed f) w some = absurd cc
+asks_open (Closed reason) w some = absurd cc
+asks_open (Disconnected reason) w some = absurd cc
+
+-- an endpoint that ended authenticated waits for nothing
+pub asks_nothing : (m : SuiteData) (role : Side) (party : ConfigData) (kept : StateData) (j : Input) (w : Option WaitingData) → IsAskingEndpoint m role party kept j w
+    → (a : AgreedData) → kept.end ≡ Authenticated a → w ≡ None
+asks_nothing m role party kept j None is a e = refl
+asks_nothing m role party kept j (Some w) is a e =
+    let o : kept.end ≡ Open = (is.asked (inr (a, e))).is_open in
+    absurd cc
+
+pub unread_none : (m : SuiteData) (i j : Input) (earlier h : List ℕ) (w : Option WaitingData) → w ≡ None → IsUnread m i earlier w j h → (i ≡ j) × (earlier ≡ h)
+unread_none m i j earlier h w none unread = subst (λ (x : Option WaitingData). IsUnread m i earlier x j h) none unread
 
 module _ {S : Type 0} where
   pub same_none : (e : AskingData S) → IsSameAsking e e
@@ -268,7 +286,7 @@ module _ {S : Type 0} (meaning : S → SuiteData) where
     asked_open e w is = ap (λ (x : EndData). asked_at x (Some w)) is
 
     -- a packet that waited is answered by a step that used its bytes
-    pub answered_by : (good : Bool) (w : WaitingData) (i j : Input) (x y : State) (before after : List ℕ) → end_data x.end ≡ Open
+    answered_by : (good : Bool) (w : WaitingData) (i j : Input) (x y : State) (before after : List ℕ) → end_data x.end ≡ Open
         → (added : List ℕ) × (after ≡ before ++ added) × AnswerSteps (meaning suite) role party good w i (state_data x) j (state_data y) [] added
         → Answered meaning good (asking i x (Some w)) (asking j y None) before after
     answered_by good w i j x y before after is step = record {
@@ -285,27 +303,12 @@ module _ {S : Type 0} (meaning : S → SuiteData) where
       same = record { same_role = refl; same_config = refl; same_suite = refl };
     }
 
-    -- the end of input
-    pub cuts_by : (i : Input) (x y : State) (w : Option WaitingData) → end_data x.end ≡ Open → end_data y.end ≡ Failed fault.Cut → AskingCuts meaning (asking i x w) (asking i y w)
-    cuts_by i x y w is ends = record {
-      cut = ends;
-      follows = λ d h s a. record {
-        earlier = a.earlier;
-        reader = a.reader;
-        stands = record {
-          units = a.stands.units;
-          rest = a.stands.rest;
-          refusal = a.stands.refusal;
-          answers = a.stands.answers;
-          received_end = a.stands.received_end;
-          history = a.stands.history;
-          ends = CutOff (received_open a.stands.received_end (end_data x.end) a.stands.ends is) ends;
-          inside = λ o. absurd (failed_over fault.Cut (end_data y.end) ends o);
-        };
-        unread = a.unread;
-      };
-      same = record { same_role = refl; same_config = refl; same_suite = refl };
-    }
+    pub answered_from : (good : Bool) (w : WaitingData) (u v : Option WaitingData) (i j : Input) (x y : State) (before after : List ℕ) → u ≡ Some w → v ≡ None → end_data x.end ≡ Open
+        → (added : List ℕ) × (after ≡ before ++ added) × AnswerSteps (meaning suite) role party good w i (state_data x) j (state_data y) [] added
+        → Answered meaning good (asking i x u) (asking j y v) before after
+    answered_from good w u v i j x y before after some none is step =
+        subst (λ (a : Option WaitingData). Answered meaning good (asking i x a) (asking j y v) before after) (sym some)
+        (subst (λ (b : Option WaitingData). Answered meaning good (asking i x (Some w)) (asking j y b) before after) (sym none) (answered_by good w i j x y before after is step))
 
     -- what was sent for its owner, at an endpoint that stood open, is a call that ended it
     pub leaves_by : SentMore → (i : Input) (x y : State) (w : Option WaitingData) (reason : ℕ) (description before after : List ℕ) (strict : Bool) (next : KeysData)

@@ -45,6 +45,7 @@ pub mod AfterLemmas
 pub mod WorksLemmas
 pub mod BringsLemmas
 pub mod QuestionLemmas
+pub mod AskedLemmas
 pub mod AttemptLemmas
 pub mod BeginLemmas
 pub mod CallLemmas

@@ -17,13 +17,12 @@ use Rattle.sshneg.specs.ChoiceReadings.{is_in}
 use Rattle.sshneg.specs.ExchangeEnd.{exchange_by}
 use Rattle.sshpacket.specs.declared.limits.TheConstants.{BLOB_LIMIT}
 use Rattle.sshpacket.specs.Suite.{SuiteData}
-use Rattle.sshcore.specs.declared.end.Fault.{Fault}
 use Rattle.sshcore.specs.declared.end.Fault.TheVariants as fault
 use Rattle.sshcore.specs.declared.table.Line.{Line}
 use Rattle.sshcore.specs.declared.table.Line.TheVariants as line
 use Rattle.sshcore.specs.declared.table.Phase.{Phase}
 use Rattle.sshcore.specs.declared.table.Phase.TheVariants as phase
-use Rattle.sshcore.specs.Brings.{Brings, Drops, Exchanges, Gives, IsOngoing, Leaves, Moves, Offers, StandsAt, Stays, Works, carried_after}
+use Rattle.sshcore.specs.Brings.{Brings, Drops, Exchanges, Gives, IsOngoing, Leaves, Moves, Offers, StandsAt, Stays, carried_after}
 use Rattle.sshcore.specs.EndData.{Failed, Reply, fails, goes}
 use Rattle.sshcore.specs.EndpointParts.{ConfigData, DecisionsData, KeyProof, ProofData, setup_with}
 use Rattle.sshcore.specs.Exchange.{answer_with, exchange_with, host_key_by, keys_by}

@@ -1,6 +1,6 @@
 //! What a packet asks before it can be answered.
 
-ghost use Rattle.std.specs.Prelude.{◌≡◌, ◌≤◌, IfOk, Ok, Some, length, option_map};
+ghost use Rattle.std.specs.Prelude.{◌≡◌, ◌≤◌, IfOk, List, Ok, Some, length, option_map, ℕ};
 ghost use Rattle.sshwire.specs.declared.limits.TheConstants.{NAME_LIMIT};
 ghost use Rattle.sshmsg.specs.Messages.{Spells, message_in};
 ghost use Rattle.sshmsg.specs.Numbers.{kind};
@@ -113,7 +113,7 @@ impl State<'_> {
 
     /// Whether a host key is trusted is asked.
     fn asked_host_key(&self, host_key: &[u8]) -> Result<Option<Asked>, Memory>
-        requires at { self.now.phase ≡ phase.Exchange }
+        requires { self.now.phase ≡ phase.Exchange }
         ensures { IfOk result (λ q. option_map asked_data q ≡ Some (HostKeyQuestion (state_data self.now).known.algorithms.host_key host_key.now)) }
     {
         let algorithms = self.algorithms.as_ref().unwrap();

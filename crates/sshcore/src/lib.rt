@@ -9,11 +9,11 @@
 mod agreement;
 mod algorithms;
 mod answering;
+mod asked;
 mod asking_answer;
 mod asking_end;
 mod asking_endpoint;
 mod asking_input;
-mod asked;
 mod attempt_payloads;
 mod attempts;
 mod chosen_names;

@@ -1,0 +1,26 @@
+use Rattle.std.proofs.Common.{sym, ◌∙◌}
+use Rattle.std.proofs.lemmas.Result.{IfOk-weaker}
+use Rattle.sshmsg.specs.Numbers.{kind}
+use Rattle.sshcore.specs.declared.table.Line.TheVariants as line
+use Rattle.sshcore.specs.EndpointConfig.{config_data, role_of}
+use Rattle.sshcore.specs.StateData.{state_data}
+use Rattle.sshcore.proofs.AskedLemmas.{line_off, line_on, line_unasked}
+use Rattle.sshcore.proofs.BringsLemmas.{line_is}
+use Rattle.sshcore.proofs.state.State.asked.Goals as goal
+
+pub returns-then-number-ne-SSH_MSG_USERAUTH_REQUEST : goal.returns-then-number-ne-SSH_MSG_USERAUTH_REQUEST
+returns-then-number-ne-SSH_MSG_USERAUTH_REQUEST g c =
+    sym (line_unasked (g.S.Suite.meaning c.args.suite.now) (role_of c.args.config.now) (config_data c.args.config.now) (state_data c.args.self.now).known _ c.args.payload.now
+    (λ q. c.if-number-ne-SSH_MSG_KEXDH_REPLY.true (c.kind-number.ensures ∙ q))
+    (λ q. c.if-number-ne-SSH_MSG_USERAUTH_REQUEST.true (c.kind-number.ensures ∙ q)))
+
+pub returns-in-Reads : goal.returns-in-Reads
+returns-in-Reads g c =
+    let is = line_is line.Reads (role_of c.args.config.now) _ _ _ _ _ _ (kind c.args.payload.now) _ c.role.ensures c.waits-waits.ensures c.kind-number.ensures c.in-Reads.ensures in
+    IfOk-weaker c.asked_reading.result _ _ (λ q same. same
+    ∙ line_on (g.S.Suite.meaning c.args.suite.now) (role_of c.args.config.now) (config_data c.args.config.now) (state_data c.args.self.now).known _ c.args.payload.now is) c.asked_reading.ensures
+
+pub returns-in_default : goal.returns-in_default
+returns-in_default g c =
+    let is = line_is c.line_of.result (role_of c.args.config.now) _ _ _ _ _ _ (kind c.args.payload.now) _ c.role.ensures c.waits-waits.ensures c.kind-number.ensures c.line_of.ensures in
+    sym (line_off (g.S.Suite.meaning c.args.suite.now) (role_of c.args.config.now) (config_data c.args.config.now) (state_data c.args.self.now).known _ c.args.payload.now (λ q. c.in_default.not-Reads (sym is ∙ q)))
