@@ -39,7 +39,7 @@ none_longer rest [] e = refl
 none_longer rest (b ∷ z) e = let size : length (rest ++ b ∷ z) ≡ length rest + length (b ∷ z) = length-append rest (b ∷ z) in absurd (omega (arith, e, size))
 
 -- what stands before the last unit begins with the units of which that isn't one
-before_last : (b c : Units) (l u w : List ℕ) (ws : Units) → b ++ l ∷ [] ≡ c ++ u ∷ w ∷ ws → IsPrefix (c ++ u ∷ []) b
+pub before_last : (b c : Units) (l u w : List ℕ) (ws : Units) → b ++ l ∷ [] ≡ c ++ u ∷ w ∷ ws → IsPrefix (c ++ u ∷ []) b
 before_last [] [] l u w ws e = absurd cc
 before_last (x ∷ b) [] l u w ws e = let first : x ≡ u = cc in record { rest = b; whole_is = cc }
 before_last [] (y ∷ []) l u w ws e = absurd cc
@@ -50,7 +50,7 @@ before_last (x ∷ b) (y ∷ c) l u w ws e =
 
 module _ (parsers : Units → Parser) where
   -- of what was read, the units after the first ones
-  read_after : (before : Units) (bytes : List ℕ) (us w : Units) (x y : List ℕ) → Read parsers before bytes us x → Read parsers before bytes (us ++ w) y → Read parsers (before ++ us) x w y
+  pub read_after : (before : Units) (bytes : List ℕ) (us w : Units) (x y : List ℕ) → Read parsers before bytes us x → Read parsers before bytes (us ++ w) y → Read parsers (before ++ us) x w y
   read_after before bytes [] w x y a b =
       subst (λ (c : Units). Read parsers c x w y) (sym (append-nil before)) (subst (λ (z : List ℕ). Read parsers before z w y) a b)
   read_after before bytes (u ∷ us) w x y (len, e, a) (n, f, b) =

@@ -41,6 +41,8 @@ pub mod FeedLemmas
 pub mod ReadLemmas
 pub mod ExchangeLemmas
 pub mod ReadsLemmas
+pub mod AskedLemmas
+pub mod AnsweredLemmas
 pub mod AfterLemmas
 pub mod WorksLemmas
 pub mod BringsLemmas
@@ -59,3 +61,5 @@ pub mod AnswerLemmas
 pub mod TriesLemmas
 pub mod SessionLemmas
 pub mod EndpointLemmas
+pub mod AskingLawLemmas
+pub mod DialogueLemmas

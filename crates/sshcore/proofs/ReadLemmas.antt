@@ -34,7 +34,7 @@ reader_with None strict r = r
 reader_with (Some keys) strict r = record r { keys = Some keys; seq = if strict then 0 else r.seq }
 
 -- what is read after these units is read as the reader reads
-read_as : (m : SuiteData) (role : Side) (party : ConfigData) (units : Units) (version : List ℕ) (before : Units) (rest piece : List ℕ) (r : PacketReaderData) → units ≡ version ∷ before
+pub read_as : (m : SuiteData) (role : Side) (party : ConfigData) (units : Units) (version : List ℕ) (before : Units) (rest piece : List ℕ) (r : PacketReaderData) → units ≡ version ∷ before
     → r ≡ record { keys = keys_in m role party version before; seq = number_in role party before; held = rest; fault = None }
     → parsers m role party units (rest ++ piece) ≡ ahead m r piece
 read_as m role party units version before rest piece r e f =

@@ -36,6 +36,7 @@ pub mod Authenticating
 pub mod StateData
 pub mod Brings
 pub mod Questions
+pub mod AskedQuestions
 pub mod QuestionsView
 pub mod Negotiated
 pub mod Exchanged
@@ -48,6 +49,8 @@ pub mod AskingData
 pub mod WaitingView
 pub mod Unread
 pub mod Asking
+pub mod AskingBeside
+pub mod Dialogue
 pub mod Authenticated
 pub mod Sessions
 pub mod Linked

@@ -14,6 +14,7 @@ mod asking_answer;
 mod asking_end;
 mod asking_endpoint;
 mod asking_input;
+mod asking_laws;
 mod attempt_payloads;
 mod attempts;
 mod chosen_names;
@@ -68,6 +69,7 @@ mod waiting;
 mod working;
 
 pub use asking_endpoint::{AskingEndpoint, Fed};
+pub use asking_laws::{asking_law, beside_law, dialogue_law, questions_law};
 pub use chosen_names::ChosenNames;
 pub use client_config::ClientConfig;
 pub use config_fault::ConfigFault;

@@ -1,0 +1,95 @@
+-- Of questions that are asked once some decisions give all answers.
+
+use Rattle.std.proofs.Common.{◌≡◌, ◌==◌, Bool, true, false, cond, List, [], ◌∷◌, ◌++◌, map, refl, ap, ◌∙◌, subst, arith}
+use Rattle.std.specs.Prelude.{⊤}
+use Rattle.std.specs.List.{AllByRecursion}
+use Rattle.std.proofs.lemmas.Bool.{eq-eqb, ne_eqb}
+use Rattle.sshcore.specs.AskedQuestions.{AnsweredData, ComesLater, GiveAll, IsAskedOnce}
+use Rattle.sshcore.specs.EndpointParts.{DecisionsData}
+use Rattle.sshcore.specs.Questions.{HostKeyQuestion, QuestionData, UserQuestion, decided}
+
+-- each comes later than those in front
+abbrev pub Rises : List QuestionData → Type 0
+Rises [] = ⊤
+Rises (q ∷ later) = AllByRecursion (ComesLater q) later × Rises later
+
+all_from : (P : QuestionData → Type 0) (questions : List QuestionData)
+    → ((between after : List QuestionData) (other : QuestionData) → questions ≡ between ++ other ∷ after → P other) → AllByRecursion P questions
+all_from P [] f = tt
+all_from P (q ∷ later) f = (f [] later q refl, all_from P later (λ between after other e. f (q ∷ between) after other (ap (λ (l : List QuestionData). q ∷ l) e)))
+
+pub rises : (questions : List QuestionData) → IsAskedOnce questions → Rises questions
+rises [] once = tt
+rises (q ∷ later) once = (
+  all_from (ComesLater q) later (λ between after other e. once [] between after q other (ap (λ (l : List QuestionData). q ∷ l) e)),
+  rises later (λ before between after one other e. once (q ∷ before) between after one other (ap (λ (l : List QuestionData). q ∷ l) e)),
+)
+
+-- and the other way
+pub all_at : (P : QuestionData → Type 0) (questions between after : List QuestionData) (other : QuestionData) → questions ≡ between ++ other ∷ after → AllByRecursion P questions → P other
+all_at P [] [] after other e all = absurd cc
+all_at P [] (b ∷ between) after other e all = absurd cc
+all_at P (q ∷ later) [] after other e all = let same : q ≡ other = cc in subst P same all.0
+all_at P (q ∷ later) (b ∷ between) after other e all = let rest : later ≡ between ++ other ∷ after = cc in all_at P later between after other rest all.1
+
+pub asked_once : (questions : List QuestionData) → Rises questions → IsAskedOnce questions
+asked_once [] r [] between after one other e = absurd cc
+asked_once [] r (b ∷ before) between after one other e = absurd cc
+asked_once (q ∷ later) r [] between after one other e =
+    let same : q ≡ one = cc in
+    let rest : later ≡ between ++ other ∷ after = cc in
+    subst (λ (x : QuestionData). ComesLater x other) same (all_at (ComesLater q) later between after other rest r.0)
+asked_once (q ∷ later) r (b ∷ before) between after one other e = asked_once later r.1 before between after one other cc
+
+-- an answer to one of two questions is one to the other
+abbrev is_about : QuestionData → QuestionData → Bool
+is_about (HostKeyQuestion algorithm blob) (HostKeyQuestion other_algorithm other_blob) = true
+is_about (HostKeyQuestion algorithm blob) (UserQuestion other_number other_user other_service other_proof) = false
+is_about (UserQuestion number user service proof) (HostKeyQuestion other_algorithm other_blob) = false
+is_about (UserQuestion number user service proof) (UserQuestion other_number other_user other_service other_proof) = number == other_number
+
+about_same : (q : QuestionData) → is_about q q ≡ true
+about_same (HostKeyQuestion algorithm blob) = refl
+about_same (UserQuestion number user service proof) = eq-eqb number number refl
+
+about_later : (one other : QuestionData) → ComesLater one other → is_about other one ≡ false
+about_later (HostKeyQuestion algorithm blob) (HostKeyQuestion other_algorithm other_blob) none = absurd none
+about_later (HostKeyQuestion algorithm blob) (UserQuestion other_number other_user other_service other_proof) later = refl
+about_later (UserQuestion number user service proof) (HostKeyQuestion other_algorithm other_blob) later = refl
+about_later (UserQuestion number user service proof) (UserQuestion other_number other_user other_service other_proof) later =
+    ne_eqb other_number number (λ e. omega (arith, e, later))
+
+-- the first answer to it
+abbrev answer_to : List AnsweredData → QuestionData → Bool
+answer_to [] q = false
+answer_to (a ∷ later) q = cond (is_about q a.question) a.answer (answer_to later q)
+
+abbrev by_answers : List AnsweredData → DecisionsData
+by_answers answers = record {
+  host_key = λ algorithm blob. answer_to answers (HostKeyQuestion algorithm blob);
+  user = λ number user service proof. answer_to answers (UserQuestion number user service proof);
+}
+
+decided_so : (answers : List AnsweredData) (q : QuestionData) → decided (by_answers answers) q ≡ answer_to answers q
+decided_so answers (HostKeyQuestion algorithm blob) = refl
+decided_so answers (UserQuestion number user service proof) = refl
+
+abbrev pub questions_of : List AnsweredData → List QuestionData
+questions_of answers = map (λ (a : AnsweredData). a.question) answers
+
+-- an answer in front changes none of those that come later
+passed : (a : AnsweredData) (rest later : List AnsweredData) → AllByRecursion (ComesLater a.question) (questions_of later)
+    → AllByRecursion (λ (b : AnsweredData). answer_to rest b.question ≡ b.answer) later → AllByRecursion (λ (b : AnsweredData). answer_to (a ∷ rest) b.question ≡ b.answer) later
+passed a rest [] rise all = tt
+passed a rest (b ∷ later) rise all = (rw (about_later a.question b.question rise.0) all.0, passed a rest later rise.1 all.1)
+
+found : (answers : List AnsweredData) → Rises (questions_of answers) → AllByRecursion (λ (b : AnsweredData). answer_to answers b.question ≡ b.answer) answers
+found [] r = tt
+found (a ∷ later) r = (rw (about_same a.question) refl, passed a later later r.0 (found later r.1))
+
+given : (answers part : List AnsweredData) → AllByRecursion (λ (b : AnsweredData). answer_to answers b.question ≡ b.answer) part → GiveAll (by_answers answers) part
+given answers [] all = tt
+given answers (b ∷ later) all = (decided_so answers b.question ∙ all.0, given answers later all.1)
+
+pub some_decisions : (answers : List AnsweredData) → IsAskedOnce (map (λ (a : AnsweredData). a.question) answers) → (d : DecisionsData) × GiveAll d answers
+some_decisions answers once = (by_answers answers, given answers answers (found answers (rises (questions_of answers) once)))

@@ -1,0 +1,13 @@
+use Rattle.sshcore.proofs.AnsweredLemmas.{some_decisions}
+use Rattle.sshcore.proofs.AskedLemmas as asked
+use Rattle.sshcore.proofs.asking_laws.questions_law.Goals as goal
+
+pub returns : goal.returns
+returns c = record {
+  once = λ setup version before. asked.once c.numbers_law.ensures.kind setup version before;
+  answers = some_decisions;
+  same = asked.same;
+  nothing = asked.nothing;
+  more = asked.more;
+  stands = asked.stands;
+}
