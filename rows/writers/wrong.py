@@ -20,6 +20,7 @@ def rows(file):
     file.row("a client without attempts is let in", "predict", "client authenticated al ssh-connection")
     file.row("a world stands still", "world", "rounds 9", "client open", "server open")
     questions(file, t)
+    waiting(file, t)
     notices(file, t)
     disconnecting(file, t)
     linked(file, t)
@@ -36,6 +37,33 @@ def questions(file, t):
         file.row("a %s's question isn't judged" % side, lines, "end open")
         for what in wrong:
             file.row("a %s is said to be asked %s" % (side, what), lines, "asked " + what, "end open")
+
+
+def waiting(file, t):
+    """One that asks and waits."""
+    received = [t.c_first, t.c_init, t.c_newkeys, t.c_service]
+    start = ["waiting server", feed(*received), says(t.s_first, t.s_reply, t.s_newkeys, t.s_accept)]
+    by_key_ = feed(half(t.c).send(by_key(t.hash)))
+    asks = "question user 1 al ssh-connection key h " + hexa(BLOB)
+    sent, refused = says(half(t.s).send(SUCCESS)), says(half(t.s).send(failure()))
+    let_in = "end authenticated al ssh-connection"
+    file.row("one that waits asks nothing", start, by_key_, "question nothing", "end open")
+    for what in ("user 2 al ssh-connection key h " + hexa(BLOB), "user 1 bo ssh-connection key h " + hexa(BLOB), "user 1 al odd key h " + hexa(BLOB),
+                 "user 1 al ssh-connection none", "user 1 al ssh-connection key g " + hexa(BLOB), "user 1 al ssh-connection key h 00", "host_key h 00"):
+        file.row("one that waits is said to ask %s" % what, start, by_key_, "question " + what, "end open")
+    file.row("one that waits has answered", start, by_key_, asks, sent, let_in)
+    file.row("a no lets in", start, by_key_, asks, "answer no", sent, let_in)
+    file.row("a yes is refused", start, by_key_, asks, "answer yes", refused, "end open")
+    file.row("the second answer is taken", start, by_key_, asks, "answer no", "answer yes", refused, let_in)
+    file.row("an answer that is no flag", start, by_key_, asks, "answer maybe", "end open")
+    file.row("one that waits uses bytes", start, by_key_, asks, feed(b"\x00"), "end open")
+    file.row("one that waits goes on behind the question", start, feed(half(t.c).send(by_key(t.hash)), b"\x00"), asks, "end open")
+    for count in (0, 2):
+        file.row("a signature is verified %d times" % count, start, by_key_, asks, "verified %d" % count, "end open")
+    file.row("a signature is verified again at its answer", start, by_key_, asks, "verified 1", "answer yes", "verified 1", sent, let_in)
+    file.row("no end behind an answer", start, by_key_, asks, "end open", "answer yes", sent)
+    file.row("no count of one whose decisions answer", "begin" + start[0][7:], start[1:], "verified 0", "end open")
+    file.row("no answer for one whose decisions answer", "begin" + start[0][7:], start[1:], "answer no", "end open")
 
 
 def notices(file, t):

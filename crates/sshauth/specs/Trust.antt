@@ -1,14 +1,21 @@
 -- Whom an endpoint of this program trusts.
 
-use Rattle.std.specs.Prelude.{ℕ, ◌&&◌, Bool, false, true, List, Option, None, Some, option_map, string_bytes}
+use Rattle.std.specs.Prelude.{ℕ, ◌&&◌, ◌==◌, Bool, false, true, List, Option, None, Some, length, not, option_map, string_bytes}
 use Rattle.std.specs.List.{list_any}
 use Rattle.std.specs.Str.{bytes_eq}
 use Rattle.sshcore.specs.EndpointParts.{DecisionsData, KeyProof, NoProof, PasswordProof, ProofData}
 use Rattle.sshauth.specs.declared.trust.Trust.{Trust}
 
 -- the blob is one of the keys
+abbrev pub has_key : List (Vec ℕ Global) → List ℕ → Bool
+has_key keys blob = list_any (λ key. bytes_eq key.items blob) keys
+
 abbrev pub is_trusted : Trust → List ℕ → Bool
-is_trusted trust blob = list_any (λ key. bytes_eq key.items blob) trust.keys.items
+is_trusted trust blob = has_key trust.keys.items blob
+
+-- whether a person may be asked about a host key: no key of the host is known, and this one isn't revoked
+abbrev pub leaves_open : Trust → List ℕ → Bool
+leaves_open trust blob = length trust.keys.items == 0 && not (has_key trust.revoked.items blob)
 
 -- there is a password, and it is this one
 abbrev pub is_own : Option (List ℕ) → List ℕ → Bool

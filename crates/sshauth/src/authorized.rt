@@ -15,13 +15,25 @@ pub(crate) fn authorized_keys(
     keys_in(rt.alloc(), option, KeyLine::Authorized, &bytes)
 }
 
-/// The host keys of a file of known_hosts that are trusted for this host. A file that revokes one of them is refused.
+/// The host keys of a file of known_hosts.
+#[derive(Drop)]
+pub(crate) struct HostKeys {
+    /// Those that are trusted for the host.
+    pub(crate) keys: Vec<Vec<u8>>,
+    /// Those that the file revokes, whatever the host.
+    pub(crate) revoked: Vec<Vec<u8>>,
+}
+
+/// The host keys of a file of known_hosts, of which those of this host are trusted. A file that revokes one of them is
+/// refused.
 pub(crate) fn known_hosts(
     rt: &HostRuntime,
     option: &'static str,
     path: &str,
     host: &str,
-) -> Result<Vec<Vec<u8>>, Fault> {
+) -> Result<HostKeys, Fault> {
     let bytes = bytes_of(rt, option, path)?;
-    known_keys(rt.alloc(), option, &bytes, host.as_bytes())
+    let keys = known_keys(rt.alloc(), option, &bytes, host.as_bytes())?;
+    let revoked = keys_in(rt.alloc(), option, KeyLine::Revoked, &bytes)?;
+    Ok(HostKeys { keys, revoked })
 }

@@ -2,6 +2,7 @@
 //! are deployed, or a client that only looks at a server. What it tells of itself goes to standard error. docs/SSHAUTH.md has its words.
 #![tactic(auto)]
 
+mod answers;
 mod authorized;
 mod channel;
 mod channel_messages;
@@ -19,6 +20,7 @@ mod report;
 mod session_stream;
 mod settings;
 mod talk;
+mod terminal;
 mod trust;
 mod words;
 

@@ -1,6 +1,6 @@
 //! What the peer tells people, kept as text until it is told.
 
-use sshcore::{Decisions, Notice, Proof};
+use sshcore::{Decisions, Listener, Notice, Proof};
 use sshwire::NameList;
 use std::alloc::{AllocError, Global};
 use std::cell::RefCell;
@@ -47,6 +47,12 @@ impl Notices {
             Ok(lines) => lines,
             Err(_) => String::new(self.alloc),
         }
+    }
+}
+
+impl Listener for Notices {
+    fn told(&self, notice: Notice<'_>) {
+        self.keep(notice);
     }
 }
 

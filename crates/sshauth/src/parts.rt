@@ -1,6 +1,6 @@
 //! What the configs are made of.
 
-use crate::authorized::{authorized_keys, known_hosts};
+use crate::authorized::{HostKeys, authorized_keys, known_hosts};
 use crate::fault::Fault;
 use crate::files::{bytes_of, first_line};
 use crate::identity::private_key;
@@ -46,9 +46,10 @@ pub(crate) fn client_trust(rt: &HostRuntime, settings: &Settings<'_>) -> Result<
     let (Some(path), Some(host)) = (settings.known_hosts, settings.host) else {
         return Err(Fault::Words);
     };
-    let keys = known_hosts(rt, "known-hosts", path, host)?;
+    let HostKeys { keys, revoked } = known_hosts(rt, "known-hosts", path, host)?;
     Ok(Trust {
         keys,
+        revoked,
         user: String::from_str(rt.alloc(), settings.user)?,
         password: None,
     })
@@ -63,6 +64,7 @@ pub(crate) fn server_trust(rt: &HostRuntime, settings: &Settings<'_>) -> Result<
     let user = String::from_str(rt.alloc(), settings.user)?;
     Ok(Trust {
         keys,
+        revoked: Vec::new(rt.alloc()),
         user,
         password: password_of(rt, settings)?,
     })

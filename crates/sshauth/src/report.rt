@@ -1,5 +1,6 @@
 //! What is told on standard error. A report that can't be written is left out.
 
+use crate::fault::Fault;
 use crate::notices::Notices;
 use sshcore::{Accepted, End, Session};
 use std::fmt;
@@ -61,6 +62,11 @@ fn methods_of(accepted: &Option<Accepted>) -> &'static str {
             (false, None) => " by none",
         },
     }
+}
+
+/// Prints that a file is refused, by which a request was to be judged.
+pub(crate) fn refused(rt: &HostRuntime, fault: &Fault) {
+    let _ = writeln!(rt.stderr(), "{fault}");
 }
 
 /// Prints a line.

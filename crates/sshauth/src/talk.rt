@@ -1,13 +1,13 @@
-//! An endpoint over standard input and output.
+//! An endpoint over standard input and output, which asks and is answered.
 
+use crate::answers::Answers;
 use crate::fault::Fault;
 use crate::host_keys::algorithms_of;
-use crate::notices::{Listening, Notices};
+use crate::notices::Notices;
 use crate::parts::{client_config, client_trust, draw, server_config, server_trust};
 use crate::settings::Settings;
-use crate::trust::Trust;
 use crate::{channel, report};
-use sshcore::{ClientConfig, End, Endpoint, ServerConfig, Session};
+use sshcore::{AskingEndpoint, ClientConfig, End, Fed, ServerConfig, Session};
 use sshsuite::DeployedSuite;
 use std::io::{Read, Write};
 
@@ -15,16 +15,16 @@ use std::io::{Read, Write};
 pub(crate) const CHUNK: usize = 16384;
 
 /// An endpoint of this program.
-type SuiteEndpoint<'a> = Endpoint<'a, DeployedSuite, Listening<'a, Trust>>;
+type SuiteEndpoint<'a> = AskingEndpoint<'a, DeployedSuite, Notices>;
 
 /// A session, and the bytes that came after the packet that ended the endpoint.
 type Handed = Option<(Box<Session>, Vec<u8>)>;
 
 /// A client, and what it asks for after SUCCESS. Answers whether the user was authenticated.
 pub(crate) fn client(rt: &HostRuntime, settings: &Settings<'_>) -> Result<bool, Fault> {
-    let trust = client_trust(rt, settings)?;
+    let trust = &client_trust(rt, settings)?;
     let config = client_config(rt, settings, algorithms_of(&trust.keys))?;
-    match client_session(rt, &config, &trust)? {
+    match client_session(rt, &config, Answers { settings, trust })? {
         Some((session, after)) => {
             channel::ask(rt, session, after, settings.exec)?;
             Ok(true)
@@ -36,8 +36,8 @@ pub(crate) fn client(rt: &HostRuntime, settings: &Settings<'_>) -> Result<bool, 
 /// A server, and what it answers after SUCCESS. Answers whether the user was authenticated.
 pub(crate) fn server(rt: &HostRuntime, settings: &Settings<'_>) -> Result<bool, Fault> {
     let config = server_config(rt, settings)?;
-    let trust = server_trust(rt, settings)?;
-    match server_session(rt, &config, &trust)? {
+    let trust = &server_trust(rt, settings)?;
+    match server_session(rt, &config, Answers { settings, trust })? {
         Some((session, after)) => {
             channel::answer(rt, session, after)?;
             Ok(true)
@@ -47,43 +47,43 @@ pub(crate) fn server(rt: &HostRuntime, settings: &Settings<'_>) -> Result<bool, 
 }
 
 /// A client's session.
-fn client_session(rt: &HostRuntime, config: &ClientConfig, trust: &Trust) -> Result<Handed, Fault> {
+fn client_session(
+    rt: &HostRuntime,
+    config: &ClientConfig,
+    answers: Answers<'_>,
+) -> Result<Handed, Fault> {
     let draws = draw(rt)?;
     let notices = &Notices::new(rt.alloc());
-    let decisions = &Listening {
-        decisions: trust,
-        notices,
-    };
     let mut out = Vec::new(rt.alloc());
-    let endpoint = Endpoint::client_with(
+    let endpoint = AskingEndpoint::client(
         rt.alloc(),
         config,
         draws,
         &DeployedSuite,
-        decisions,
+        notices,
         &mut out,
     )?;
-    hand_over(rt, endpoint, out, notices)
+    hand_over(rt, endpoint, out, notices, answers)
 }
 
 /// A server's session.
-fn server_session(rt: &HostRuntime, config: &ServerConfig, trust: &Trust) -> Result<Handed, Fault> {
+fn server_session(
+    rt: &HostRuntime,
+    config: &ServerConfig,
+    answers: Answers<'_>,
+) -> Result<Handed, Fault> {
     let draws = draw(rt)?;
     let notices = &Notices::new(rt.alloc());
-    let decisions = &Listening {
-        decisions: trust,
-        notices,
-    };
     let mut out = Vec::new(rt.alloc());
-    let endpoint = Endpoint::server_with(
+    let endpoint = AskingEndpoint::server(
         rt.alloc(),
         config,
         draws,
         &DeployedSuite,
-        decisions,
+        notices,
         &mut out,
     )?;
-    hand_over(rt, endpoint, out, notices)
+    hand_over(rt, endpoint, out, notices, answers)
 }
 
 /// What an endpoint hands over that has sent these bytes so far.
@@ -92,9 +92,10 @@ fn hand_over(
     endpoint: SuiteEndpoint<'_>,
     out: Vec<u8>,
     notices: &Notices,
+    answers: Answers<'_>,
 ) -> Result<Handed, Fault> {
     let (mut endpoint, mut after) = (endpoint, Vec::new(rt.alloc()));
-    carry(rt, &mut endpoint, out, notices, &mut after)?;
+    carry(rt, &mut endpoint, out, notices, answers, &mut after)?;
     report::end(rt, endpoint.end());
     match endpoint.into_session() {
         Some(session) => {
@@ -105,33 +106,48 @@ fn hand_over(
     }
 }
 
-/// Gives the endpoint what comes until it has ended, and tells what the peer tells people.
+/// Gives the endpoint what comes and answers what it asks, until it has ended, and tells what the peer tells people.
 fn carry(
     rt: &HostRuntime,
     endpoint: &mut SuiteEndpoint<'_>,
     out: Vec<u8>,
     notices: &Notices,
+    answers: Answers<'_>,
     after: &mut Vec<u8>,
 ) -> Result<(), Fault> {
     let mut out = out;
-    let mut chunk = [0u8; CHUNK];
     for _ in 0..u64::MAX {
         let sent = send(rt, &out);
         out.clear();
+        report::notices(rt, notices);
         if !matches!(endpoint.end(), End::Open) {
             return Ok(()); // a peer that has gone receives no farewell
         }
         sent?;
-        let count = receive(rt, &mut chunk)?;
-        if count == 0 {
-            endpoint.end_of_input();
+        match endpoint.question() {
+            Some(question) => {
+                let answer = answers.answer(rt, &question)?;
+                endpoint.answer(answer, &mut out)?;
+            }
+            None => *after = more(rt, endpoint)?,
         }
-        let piece = chunk.get(..count).unwrap_or(&[]);
-        let used = endpoint.feed(piece, &mut out)?;
-        after.extend_from_slice(&piece[used..])?;
-        report::notices(rt, notices);
+        let used = match endpoint.feed(after, &mut out)? {
+            Fed::Used(used) => used,
+            Fed::Asks { used } => used,
+        };
+        *after = Vec::from_slice(rt.alloc(), after.get(used..).unwrap_or(&[]))?;
     }
     Ok(())
+}
+
+/// What comes next: nothing where the input has ended, which the endpoint is told.
+fn more(rt: &HostRuntime, endpoint: &mut SuiteEndpoint<'_>) -> Result<Vec<u8>, Fault> {
+    let mut chunk = [0u8; CHUNK];
+    let count = receive(rt, &mut chunk)?;
+    if count == 0 {
+        endpoint.end_of_input();
+    }
+    Ok(Vec::from_slice(rt.alloc(), chunk.get(..count).unwrap_or(&[]))?)
 }
 
 /// Writes the bytes.

@@ -2,16 +2,20 @@
 
 ghost use Rattle.std.specs.Prelude.{◌≡◌, option_map};
 ghost use Rattle.sshcore.specs.EndpointPartsView.{proof_data};
-ghost use Rattle.sshauth.specs.Trust.{is_own, is_trusted, proves, trust_policy};
+ghost use Rattle.sshcore.specs.Questions.{decided};
+ghost use Rattle.sshcore.specs.QuestionsView.{question_data};
+ghost use Rattle.sshauth.specs.Trust.{has_key, is_own, is_trusted, leaves_open, proves, trust_policy};
 
-use sshcore::{Decisions, Proof};
+use sshcore::{Decisions, Proof, Question};
 
-/// The public keys that are trusted, of hosts at a client and of the user at a server; the one user, and a password.
+/// The public keys that are trusted, of hosts at a client and of the user at a server, and those that a client's file revokes;
+/// the one user, and a password.
 ///
 /// It has no `Debug`: passwords are never printed.
 #[derive(Drop)]
 pub(crate) struct Trust {
     pub(crate) keys: Vec<Vec<u8>>,
+    pub(crate) revoked: Vec<Vec<u8>>,
     pub(crate) user: String,
     pub(crate) password: Option<Vec<u8>>,
 }
@@ -32,11 +36,42 @@ impl Decisions for Trust {
     }
 }
 
+impl Trust {
+    /// What is answered, where no person is asked.
+    pub(crate) fn decides(&self, question: &Question<'_>) -> bool
+        ensures { result ≡ decided (trust_policy self.now) (question_data question.now) }
+    {
+        match question {
+            Question::HostKey { algorithm, blob } => self.host_key(algorithm, blob),
+            Question::User {
+                number,
+                user,
+                service,
+                proof,
+            } => self.user(*number, user, service, proof),
+        }
+    }
+
+    /// Whether a person may be asked about this host key: no key of the host is known, and this one isn't revoked.
+    pub(crate) fn leaves_open(&self, blob: &[u8]) -> bool
+        ensures { result ≡ leaves_open self.now blob.now }
+    {
+        self.keys.is_empty() && !has_key(&self.revoked, blob)
+    }
+}
+
 /// Whether the key is trusted.
 fn is_trusted(trust: &Trust, blob: &[u8]) -> bool
     ensures { result ≡ is_trusted trust.now blob.now }
 {
-    trust.keys.iter().any(|key| key.as_slice() == blob)
+    has_key(&trust.keys, blob)
+}
+
+/// Whether the key is one of these.
+fn has_key(keys: &[Vec<u8>], blob: &[u8]) -> bool
+    ensures { result ≡ has_key keys.now blob.now }
+{
+    keys.iter().any(|key| key.as_slice() == blob)
 }
 
 /// Whether the proof is accepted.

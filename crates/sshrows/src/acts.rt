@@ -1,12 +1,10 @@
 //! The acts of rows.
 
 use crate::worlds::{judge_prediction, judge_world};
-use sshcore::Decisions;
 use sshlab::{Scenario, ScenarioFault, TEXT_LIMIT};
-use sshpacket::Suite;
 use sshrows_acts::{
-    Generous, Line, Names, Stop, judge_client, judge_config, judge_server, nothing_after,
-    same_text, shows, wrong,
+    Generous, Line, Names, OwnConfig, Row, Stop, judge_config, judge_endpoint, judge_waiting,
+    nothing_after, shows, wrong,
 };
 use sshsuite::DeployedSuite;
 use sshsuites::LabSuite;
@@ -64,34 +62,40 @@ fn act_by(
     piece_len: usize,
 ) -> Result<(), Stop> {
     let (word, role) = line.head();
+    let row = Row {
+        names,
+        act: line,
+        lines: rest,
+        piece_len,
+    };
+    let decisions = &scenario.decisions;
     match word {
-        "begin" => begin(
+        "begin" => judge_endpoint(
             alloc,
-            names,
-            line,
-            scenario,
-            (&LabSuite, &scenario.decisions),
-            rest,
-            piece_len,
+            row,
+            config_of(alloc, row, scenario)?,
+            (&LabSuite, decisions),
         ),
-        "generous" => begin(
+        "waiting" => judge_waiting(
             alloc,
-            names,
-            line,
-            scenario,
+            row,
+            config_of(alloc, row, scenario)?,
+            (&LabSuite, decisions),
+        ),
+        "generous" => judge_endpoint(
+            alloc,
+            row,
+            config_of(alloc, row, scenario)?,
             (&LabSuite, &Generous),
-            rest,
-            piece_len,
         ),
-        "deployed" => begin(
-            alloc,
-            names,
-            line,
-            scenario,
-            (&DeployedSuite, &scenario.decisions),
-            rest,
-            piece_len,
-        ),
+        "deployed" => {
+            judge_endpoint(
+                alloc,
+                row,
+                config_of(alloc, row, scenario)?,
+                (&DeployedSuite, decisions),
+            )
+        }
         "world" => judge_world(alloc, scenario, rest),
         "predict" => judge_prediction(alloc, scenario, rest),
         "accepted" => nothing_after(alloc, rest),
@@ -99,21 +103,16 @@ fn act_by(
     }
 }
 
-/// Begins an endpoint of the scenario, over the suite and by these decisions, and judges it by these lines.
-fn begin<S: Suite, D: Decisions>(
+/// Whose config the endpoint of the row has.
+fn config_of<'a>(
     alloc: Global,
-    names: &Names,
-    line: &Line<'_>,
-    scenario: &Scenario,
-    by: (&S, &D),
-    lines: &[Line<'_>],
-    piece_len: usize,
-) -> Result<(), Stop> {
-    let (_, role) = line.head();
-    let (client, server) = (&scenario.client, &scenario.server);
+    row: Row<'_>,
+    scenario: &'a Scenario,
+) -> Result<OwnConfig<'a>, Stop> {
+    let (_, role) = row.act.head();
     match role {
-        "client" => judge_client(alloc, names, line, client, by, lines, piece_len),
-        "server" => judge_server(alloc, names, line, server, by, lines, piece_len),
-        _ => same_text(alloc, line, "act", "client or server", role),
+        "client" => Ok(OwnConfig::Client(&scenario.client)),
+        "server" => Ok(OwnConfig::Server(&scenario.server)),
+        _ => wrong(alloc, row.act, "act", "client or server", role),
     }
 }

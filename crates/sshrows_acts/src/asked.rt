@@ -4,7 +4,7 @@ use crate::below_texts::{put_names, text_with};
 use crate::stop::Stop;
 use crate::texts::{put_word, same_text, yes_or_no};
 use crate::words::Line;
-use sshcore::{Decisions, Notice, Proof};
+use sshcore::{Decisions, Listener, Notice, Proof};
 use std::alloc::Global;
 use std::cell::{Cell, RefCell};
 
@@ -154,5 +154,11 @@ impl<D: Decisions> Decisions for Asking<'_, D> {
             notices.note(keep_notice(notices, notice));
         }
         self.decisions.told(notice);
+    }
+}
+
+impl<D: Decisions> Listener for Asking<'_, D> {
+    fn told(&self, notice: Notice<'_>) {
+        Decisions::told(self, notice);
     }
 }

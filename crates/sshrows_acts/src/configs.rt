@@ -1,6 +1,6 @@
 //! Rows of configs whose parts are made one by one.
 
-use crate::endpoints;
+use crate::endpoints::{OwnConfig, Row, judge_endpoint};
 use crate::generous::Generous;
 use crate::names::Names;
 use crate::parts::{client_by, server_by};
@@ -139,8 +139,18 @@ fn accepted_client(
             judge_kexinit(alloc, names, line, rest, &found)
         }
         "generous" => {
-            let by = (&LabSuite, &Generous);
-            endpoints::judge_client(alloc, names, line, config, by, lines, piece_len)
+            let row = Row {
+                names,
+                act: line,
+                lines,
+                piece_len,
+            };
+            judge_endpoint(
+                alloc,
+                row,
+                OwnConfig::Client(config),
+                (&LabSuite, &Generous),
+            )
         }
         _ => wrong(alloc, line, "config", rest, "accepted"),
     }

@@ -1,24 +1,27 @@
 //! What a row of an endpoint does, step by step.
 
-use crate::endpoints::{Subject, talk};
+use crate::below_texts::text_with;
+use crate::endpoints::Subject;
+use crate::judged::Judged;
 use crate::names::Names;
 use crate::refusals::{is_out_of_memory, refused_sending};
 use crate::stop::Stop;
 use crate::terms::{bytes_of, count_of, text_of};
-use crate::texts::{number_of, same_agreed, same_bytes, same_count, same_end, shows, wrong};
+use crate::texts::{
+    flag_of, number_of, same_agreed, same_bytes, same_count, same_end, same_text, shows, wrong,
+};
 use crate::words::{Line, split_word};
-use sshcore::Decisions;
-use sshpacket::Suite;
+use sshcore::{Phase, Proof, Question};
 use sshwire::Memory;
 use std::alloc::Global;
 use std::mem;
 
 /// Judges one line.
-pub(crate) fn step<S: Suite, D: Decisions>(
+pub(crate) fn step<E: Judged>(
     alloc: Global,
     names: &Names,
     line: &Line<'_>,
-    talk: &mut Subject<'_, S, D>,
+    talk: &mut Subject<'_, E>,
 ) -> Result<(), Stop> {
     let (word, rest) = line.head();
     match word {
@@ -46,15 +49,19 @@ pub(crate) fn step<S: Suite, D: Decisions>(
             let description = text_of(alloc, names, line, terms)?;
             disconnect(alloc, line, talk, reason, &description)
         }
+        "answer" => {
+            let decided = flag_of(alloc, line, rest)?;
+            answer(alloc, line, talk, decided)
+        }
         _ => look(alloc, line, talk, word, rest),
     }
 }
 
 /// These bytes have to be what was sent since that was last judged.
-fn judge_sent<S: Suite, D: Decisions>(
+fn judge_sent<E: Judged>(
     alloc: Global,
     line: &Line<'_>,
-    talk: &mut Subject<'_, S, D>,
+    talk: &mut Subject<'_, E>,
     wanted: &[u8],
 ) -> Result<(), Stop> {
     same_bytes(alloc, line, "said", wanted, &talk.out)?;
@@ -63,10 +70,10 @@ fn judge_sent<S: Suite, D: Decisions>(
 }
 
 /// Judges how the endpoint stands.
-fn look<S: Suite, D: Decisions>(
+fn look<E: Judged>(
     alloc: Global,
     line: &Line<'_>,
-    talk: &mut Subject<'_, S, D>,
+    talk: &mut Subject<'_, E>,
     word: &str,
     rest: &str,
 ) -> Result<(), Stop> {
@@ -75,19 +82,27 @@ fn look<S: Suite, D: Decisions>(
             talk.judged = true;
             same_end(alloc, line, "end", rest, talk.endpoint.end())
         }
-        "held" => shows(alloc, line, "held", rest, &talk.endpoint.buffered()),
+        "held" => shows(alloc, line, "held", rest, &talk.endpoint.stands().0),
         "agreed" => same_agreed(alloc, line, rest, talk.endpoint.end()),
         "asked" => talk.received.questions.same(line, "asked", rest),
         "told" => talk.received.notices.same(line, "told", rest),
+        "question" => {
+            let found = text_of_question(alloc, &talk.endpoint.question())?;
+            same_text(alloc, line, "question", rest, &found)
+        }
+        "verified" => match talk.endpoint.verified() {
+            Some(count) => shows(alloc, line, "verified", rest, &count),
+            None => wrong(alloc, line, "line", "a word of an endpoint", word),
+        },
         _ => wrong(alloc, line, "line", "a word of an endpoint", word),
     }
 }
 
 /// Gives the endpoint the bytes, of which it has to use so many.
-fn feed<S: Suite, D: Decisions>(
+fn feed<E: Judged>(
     alloc: Global,
     line: &Line<'_>,
-    talk: &mut Subject<'_, S, D>,
+    talk: &mut Subject<'_, E>,
     piece: &[u8],
     wanted: usize,
 ) -> Result<(), Stop> {
@@ -99,10 +114,10 @@ fn feed<S: Suite, D: Decisions>(
 }
 
 /// Tells the endpoint to disconnect.
-fn disconnect<S: Suite, D: Decisions>(
+fn disconnect<E: Judged>(
     alloc: Global,
     line: &Line<'_>,
-    talk: &mut Subject<'_, S, D>,
+    talk: &mut Subject<'_, E>,
     reason: u32,
     description: &str,
 ) -> Result<(), Stop> {
@@ -113,12 +128,23 @@ fn disconnect<S: Suite, D: Decisions>(
     }
 }
 
-/// What stands after a refused `feed` or `disconnect`: how the endpoint is failed, and what it sent up to there.
-fn refused_call<S: Suite, D: Decisions>(
+/// Gives the endpoint an answer.
+fn answer<E: Judged>(
     alloc: Global,
     line: &Line<'_>,
-    talk: &mut Subject<'_, S, D>,
-) -> Stop {
+    talk: &mut Subject<'_, E>,
+    decided: bool,
+) -> Result<(), Stop> {
+    talk.judged = false;
+    match talk.endpoint.answer(decided, &mut talk.out) {
+        Ok(true) => Ok(()),
+        Ok(false) => wrong(alloc, line, "line", "a word of an endpoint", "answer"),
+        Err(_) => Err(refused_call(alloc, line, talk)),
+    }
+}
+
+/// What stands after a refused `feed`, `answer` or `disconnect`: how the endpoint is failed, and what it sent up to there.
+fn refused_call<E: Judged>(alloc: Global, line: &Line<'_>, talk: &mut Subject<'_, E>) -> Stop {
     let len = talk.out.len();
     let stands = if is_failed_for_good(talk) && talk.out.len() == len {
         "failed F15 for good"
@@ -129,7 +155,7 @@ fn refused_call<S: Suite, D: Decisions>(
 }
 
 /// Whether it ended by running out of memory, and neither a byte more nor the end of its input changes that.
-fn is_failed_for_good<S: Suite, D: Decisions>(talk: &mut Subject<'_, S, D>) -> bool {
+fn is_failed_for_good<E: Judged>(talk: &mut Subject<'_, E>) -> bool {
     let is_failed = is_out_of_memory(talk.endpoint.end());
     let used = talk.endpoint.feed(&[0], &mut talk.out);
     talk.endpoint.end_of_input();
@@ -137,20 +163,84 @@ fn is_failed_for_good<S: Suite, D: Decisions>(talk: &mut Subject<'_, S, D>) -> b
 }
 
 /// Gives the endpoint the bytes in pieces, up to one that it doesn't use whole, and answers how many it used.
-fn used_of<S: Suite, D: Decisions>(
-    talk: &mut Subject<'_, S, D>,
-    piece: &[u8],
-) -> Result<usize, Memory> {
+fn used_of<E: Judged>(talk: &mut Subject<'_, E>, piece: &[u8]) -> Result<usize, Memory> {
     if piece.is_empty() {
-        return talk.endpoint.feed(piece, &mut talk.out);
+        return fed(talk, piece);
     }
     let mut all = 0usize;
     for part in piece.chunks(talk.piece_len.max(1)) {
-        let used = talk.endpoint.feed(part, &mut talk.out)?;
+        let used = fed(talk, part)?;
         all = all.saturating_add(used);
         if used < part.len() {
             return Ok(all);
         }
     }
     Ok(all)
+}
+
+/// Gives the endpoint one piece, and keeps how it stands after that.
+fn fed<E: Judged>(talk: &mut Subject<'_, E>, piece: &[u8]) -> Result<usize, Memory> {
+    let used = talk.endpoint.feed(piece, &mut talk.out)?;
+    talk.stood = stood_after(talk.stood, talk.endpoint.stands());
+    Ok(used)
+}
+
+/// How an endpoint stands, folded into how it stood after the pieces before.
+fn stood_after(before: usize, (held, phase, strict): (usize, Phase, Option<bool>)) -> usize {
+    let phase = match phase {
+        Phase::KexInit => 0,
+        Phase::Exchange => 1,
+        Phase::NewKeys => 2,
+        Phase::Service => 3,
+        Phase::Auth => 4,
+    };
+    let strict = match strict {
+        None => 0,
+        Some(false) => 1,
+        Some(true) => 2,
+    };
+    folded(folded(folded(before, held), phase), strict)
+}
+
+/// A number, folded into those before.
+fn folded(before: usize, number: usize) -> usize {
+    before.wrapping_mul(1_000_003).wrapping_add(number)
+}
+
+/// A question: `host_key` with the algorithm and the blob, or `user` with the number, the user, the service and the proof; or
+/// `nothing`.
+fn text_of_question(alloc: Global, question: &Option<Question<'_>>) -> Result<String, Stop> {
+    match question {
+        None => Ok(String::from_str(alloc, "nothing")?),
+        Some(Question::HostKey { algorithm, blob }) => {
+            let words = format!(in alloc; "host_key {algorithm}")?;
+            text_with(alloc, &words, &[blob])
+        }
+        Some(
+            Question::User {
+                number,
+                user,
+                service,
+                proof,
+            },
+        ) => {
+            let words = format!(in alloc; "user {number} {user} {service}")?;
+            text_of_proof(alloc, &words, proof)
+        }
+    }
+}
+
+/// These words, and a proof: `none`, `password` with its bytes, or `key` with the algorithm and the blob.
+fn text_of_proof(alloc: Global, words: &str, proof: &Proof<'_>) -> Result<String, Stop> {
+    match proof {
+        Proof::None => Ok(format!(in alloc; "{words} none")?),
+        Proof::Password(password) => {
+            let words = format!(in alloc; "{words} password")?;
+            text_with(alloc, &words, &[password])
+        }
+        Proof::Key { algorithm, blob } => {
+            let words = format!(in alloc; "{words} key {algorithm}")?;
+            text_with(alloc, &words, &[blob])
+        }
+    }
 }

@@ -1,22 +1,46 @@
 //! Rows of one endpoint.
 
 use crate::asked::{Asking, Received};
+use crate::counted_suite::CountedSuite;
 use crate::endpoint_steps::step;
 use crate::handed::judge_session;
+use crate::judged::{Judged, Waiting};
 use crate::linked::{judge_link, link_of, seed_of};
 use crate::names::Names;
 use crate::refusals::refused_sending;
 use crate::stop::Stop;
-use crate::texts::{same_bytes, wrong};
+use crate::texts::{same_bytes, same_count, wrong};
 use crate::words::Line;
-use sshcore::{ClientConfig, Decisions, Endpoint, ServerConfig, Session};
+use sshcore::{AskingEndpoint, ClientConfig, Decisions, Endpoint, ServerConfig, Session};
 use sshpacket::Suite;
+use sshwire::Memory;
 use std::alloc::Global;
+use std::cell::Cell;
+
+/// Whose config an endpoint has.
+#[derive(Clone, Copy)]
+pub enum OwnConfig<'a> {
+    Client(&'a ClientConfig),
+    Server(&'a ServerConfig),
+}
+
+/// A row of an endpoint.
+#[derive(Clone, Copy)]
+pub struct Row<'a> {
+    /// What names bytes in it.
+    pub names: &'a Names,
+    /// The line of its act.
+    pub act: &'a Line<'a>,
+    /// The lines after that.
+    pub lines: &'a [Line<'a>],
+    /// How many bytes the endpoint is given at once, at most.
+    pub piece_len: usize,
+}
 
 /// An endpoint that is judged.
 #[derive(Drop)]
-pub(crate) struct Subject<'a, S: Suite, D: Decisions> {
-    pub(crate) endpoint: Endpoint<'a, S, D>,
+pub(crate) struct Subject<'a, E: Judged> {
+    pub(crate) endpoint: E,
     /// What its decisions were asked and told since that was last judged.
     pub(crate) received: &'a Received,
     /// What it has sent since that was last judged.
@@ -25,111 +49,131 @@ pub(crate) struct Subject<'a, S: Suite, D: Decisions> {
     pub(crate) piece_len: usize,
     /// Whether its end was judged since it was last given something.
     pub(crate) judged: bool,
+    /// How it stood after each piece, folded into a number: what it held, its phase, whether both sides were strict.
+    pub(crate) stood: usize,
 }
 
-/// Judges a client of this config by lines, over the suite and by these decisions; what these are asked and told is kept.
-/// It is given pieces of at most so many bytes.
-pub fn judge_client<S: Suite, D: Decisions>(
+/// Judges an endpoint of this config over the suite: first one that asks these decisions by itself, then one that asks and
+/// waits, which they answer. What they are asked and told is kept. The second has to stand as the first after each piece.
+pub fn judge_endpoint<S: Suite, D: Decisions>(
     alloc: Global,
-    names: &Names,
-    row: &Line<'_>,
-    config: &ClientConfig,
+    row: Row<'_>,
+    config: OwnConfig<'_>,
     (suite, decisions): (&S, &D),
-    lines: &[Line<'_>],
-    piece_len: usize,
 ) -> Result<(), Stop> {
-    let received = &Received::new(alloc, lines);
+    let received = &Received::new(alloc, row.lines);
     let asking = &Asking {
         decisions,
         received,
     };
-    let subject = client_of(alloc, row, config, suite, asking, received, piece_len)?;
-    talk(alloc, names, suite, row, subject, lines)
+    let mut out = Vec::new(alloc);
+    let made = endpoint_of(alloc, config, suite, asking, &mut out);
+    let stood = judge(alloc, row, suite, made, out, received)?;
+    row.act.told.asks.set(true);
+    let mut out = Vec::new(alloc);
+    let made = waiting_of(alloc, config, suite, asking, None, &mut out);
+    let stands = judge(alloc, row, suite, made, out, received)?;
+    same_count(alloc, row.act, "how it stood", stood, stands)?;
+    row.act.told.asks.set(false);
+    Ok(())
 }
 
-/// Judges a server of this config in the same way.
-pub fn judge_server<S: Suite, D: Decisions>(
+/// Judges an endpoint of this config that asks and waits, which the lines of the row answer. These decisions are told what the
+/// peer tells people. How many signatures the suite verifies is counted.
+pub fn judge_waiting<S: Suite, D: Decisions>(
     alloc: Global,
-    names: &Names,
-    row: &Line<'_>,
-    config: &ServerConfig,
+    row: Row<'_>,
+    config: OwnConfig<'_>,
     (suite, decisions): (&S, &D),
-    lines: &[Line<'_>],
-    piece_len: usize,
 ) -> Result<(), Stop> {
-    let received = &Received::new(alloc, lines);
+    let received = &Received::new(alloc, row.lines);
     let asking = &Asking {
         decisions,
         received,
     };
-    let subject = server_of(alloc, row, config, suite, asking, received, piece_len)?;
-    talk(alloc, names, suite, row, subject, lines)
+    let verified = &Cell::new(0);
+    let suite = &CountedSuite { suite, verified };
+    let mut out = Vec::new(alloc);
+    let made = waiting_of(alloc, config, suite, asking, Some(verified), &mut out);
+    judge(alloc, row, suite, made, out, received)?;
+    Ok(())
 }
 
-/// A client of this config.
-fn client_of<'a, S: Suite, D: Decisions>(
+/// An endpoint of this config that asks these decisions by itself.
+fn endpoint_of<'a, S: Suite, D: Decisions>(
     alloc: Global,
-    line: &Line<'_>,
-    config: &'a ClientConfig,
+    config: OwnConfig<'a>,
     suite: &'a S,
-    decisions: &'a D,
-    received: &'a Received,
-    piece_len: usize,
-) -> Result<Box<Subject<'a, S, D>>, Stop> {
-    let mut out = Vec::new(alloc);
-    match Endpoint::client(alloc, config, suite, decisions, &mut out) {
-        Ok(endpoint) => subject_of(alloc, endpoint, received, out, piece_len),
-        Err(_) => Err(refused_sending(line, "no endpoint", out)),
+    asking: &'a Asking<'a, D>,
+    out: &mut Vec<u8>,
+) -> Result<Endpoint<'a, S, Asking<'a, D>>, Memory> {
+    match config {
+        OwnConfig::Client(config) => Endpoint::client(alloc, config, suite, asking, out),
+        OwnConfig::Server(config) => Endpoint::server(alloc, config, suite, asking, out),
     }
 }
 
-/// A server of this config.
-fn server_of<'a, S: Suite, D: Decisions>(
+/// An endpoint of this config that asks and waits.
+fn waiting_of<'a, S: Suite, D: Decisions>(
     alloc: Global,
-    line: &Line<'_>,
-    config: &'a ServerConfig,
+    config: OwnConfig<'a>,
     suite: &'a S,
-    decisions: &'a D,
-    received: &'a Received,
-    piece_len: usize,
-) -> Result<Box<Subject<'a, S, D>>, Stop> {
-    let mut out = Vec::new(alloc);
-    match Endpoint::server(alloc, config, suite, decisions, &mut out) {
-        Ok(endpoint) => subject_of(alloc, endpoint, received, out, piece_len),
-        Err(_) => Err(refused_sending(line, "no endpoint", out)),
-    }
+    asking: &'a Asking<'a, D>,
+    by_row: Option<&'a Cell<u32>>,
+    out: &mut Vec<u8>,
+) -> Result<Waiting<'a, S, D>, Memory> {
+    let endpoint = match config {
+        OwnConfig::Client(config) => {
+            AskingEndpoint::client(alloc, config, config.draws(), suite, asking, out)?
+        }
+        OwnConfig::Server(config) => {
+            AskingEndpoint::server(alloc, config, config.draws(), suite, asking, out)?
+        }
+    };
+    Ok(Waiting {
+        endpoint,
+        asking,
+        by_row,
+    })
 }
 
-/// The endpoint and what it sent at its making.
-fn subject_of<'a, S: Suite, D: Decisions>(
+/// Judges an endpoint that was made and has sent these bytes, and answers how it stood.
+fn judge<S: Suite, E: Judged + Drop>(
     alloc: Global,
-    endpoint: Endpoint<'a, S, D>,
-    received: &'a Received,
+    row: Row<'_>,
+    suite: &S,
+    made: Result<E, Memory>,
     out: Vec<u8>,
-    piece_len: usize,
-) -> Result<Box<Subject<'a, S, D>>, Stop> {
-    Ok(Box::new(
-        alloc,
-        Subject {
-            endpoint,
-            received,
-            out,
-            piece_len,
-            judged: false,
-        },
-    )?)
+    received: &Received,
+) -> Result<usize, Stop> {
+    let Ok(endpoint) = made else {
+        return Err(refused_sending(row.act, "no endpoint", out));
+    };
+    let subject = Subject {
+        endpoint,
+        received,
+        out,
+        piece_len: row.piece_len,
+        judged: false,
+        stood: 0,
+    };
+    talk(alloc, row, suite, Box::new(alloc, subject)?)
 }
 
 /// Judges an endpoint by lines, what it hands over by those from the first of a session on, and what goes on with that by
 /// those from the first of a link on.
-pub(crate) fn talk<S: Suite, D: Decisions>(
+fn talk<S: Suite, E: Judged + Drop>(
     alloc: Global,
-    names: &Names,
+    row: Row<'_>,
     suite: &S,
-    row: &Line<'_>,
-    subject: Box<Subject<'_, S, D>>,
-    lines: &[Line<'_>],
-) -> Result<(), Stop> {
+    subject: Box<Subject<'_, E>>,
+) -> Result<usize, Stop> {
+    let Row {
+        names,
+        act,
+        lines,
+        piece_len,
+    } = row;
     let mut subject = subject;
     let place = place_of(lines, "link");
     let linked = lines.get(place..).unwrap_or(&[]);
@@ -137,15 +181,16 @@ pub(crate) fn talk<S: Suite, D: Decisions>(
     let place = place_of(lines, "session");
     let steps = lines.get(..place).unwrap_or(lines);
     let handed = lines.get(place..).unwrap_or(&[]);
-    talk_on(alloc, names, row, &mut subject, steps)?;
-    let piece_len = subject.piece_len;
+    talk_on(alloc, names, act, &mut subject, steps)?;
+    let stood = subject.stood;
     let session = session_of(subject);
     let judged = judge_session(alloc, &session, handed);
     let seed = seed_of(alloc, names, linked);
     let mut link = link_of(alloc, session, seed.unwrap_or([0; 32]));
     let went_on = judge_link(alloc, names, suite, &mut link, linked, piece_len);
     drop(link);
-    judged.and(seed.and(went_on))
+    judged.and(seed.and(went_on))?;
+    Ok(stood)
 }
 
 /// The place of the first line that begins with this word; that after all lines where there is none.
@@ -159,17 +204,17 @@ fn place_of(lines: &[Line<'_>], word: &str) -> usize {
 }
 
 /// What the endpoint hands over.
-fn session_of<S: Suite, D: Decisions>(subject: Box<Subject<'_, S, D>>) -> Option<Session> {
+fn session_of<E: Judged + Drop>(subject: Box<Subject<'_, E>>) -> Option<Session> {
     let Subject { endpoint, .. } = Box::into_inner(subject);
     endpoint.into_session()
 }
 
 /// Judges an endpoint by lines, all that it sent and asked, and its end.
-fn talk_on<S: Suite, D: Decisions>(
+fn talk_on<E: Judged>(
     alloc: Global,
     names: &Names,
     row: &Line<'_>,
-    subject: &mut Subject<'_, S, D>,
+    subject: &mut Subject<'_, E>,
     lines: &[Line<'_>],
 ) -> Result<(), Stop> {
     for line in lines {
@@ -179,11 +224,7 @@ fn talk_on<S: Suite, D: Decisions>(
 }
 
 /// All that was sent and asked has to be judged, and the end; and all that was told, where a line judges some of it.
-fn finish<S: Suite, D: Decisions>(
-    alloc: Global,
-    row: &Line<'_>,
-    talk: &Subject<'_, S, D>,
-) -> Result<(), Stop> {
+fn finish<E: Judged>(alloc: Global, row: &Line<'_>, talk: &Subject<'_, E>) -> Result<(), Stop> {
     same_bytes(alloc, row, "said and not judged", &[], &talk.out)?;
     talk.received
         .questions

@@ -1,0 +1,124 @@
+//! A suite of which is counted what it verifies.
+
+use sshpacket::{Capability, KeyLens, Keys, Need, Response, ShareForm, Suite};
+use sshwire::Memory;
+use std::alloc::Global;
+use std::cell::Cell;
+
+/// A suite that answers as another does, and counts how often it is asked to verify a signature.
+#[derive(Drop)]
+pub(crate) struct CountedSuite<'a, S: Suite> {
+    pub(crate) suite: &'a S,
+    /// How many signatures were verified.
+    pub(crate) verified: &'a Cell<u32>,
+}
+
+impl<S: Suite> Suite for CountedSuite<'_, S> {
+    ghost meaning = { λ counted. S.meaning counted.suite.now };
+
+    fn need(&self, kex: &str) -> Need {
+        self.suite.need(kex)
+    }
+
+    fn can(&self, host_key: &str) -> Capability {
+        self.suite.can(host_key)
+    }
+
+    fn block(&self, cipher: &str) -> u8 {
+        self.suite.block(cipher)
+    }
+
+    fn tag_len(&self, cipher: &str, mac: &str) -> u8 {
+        self.suite.tag_len(cipher, mac)
+    }
+
+    fn counts_length(&self, cipher: &str, mac: &str) -> bool {
+        self.suite.counts_length(cipher, mac)
+    }
+
+    fn key_lens(&self, cipher: &str, mac: &str) -> KeyLens {
+        self.suite.key_lens(cipher, mac)
+    }
+
+    fn seal(&self, alloc: Global, keys: &Keys, seq: u32, packet: &[u8]) -> Result<Vec<u8>, Memory> {
+        self.suite.seal(alloc, keys, seq, packet)
+    }
+
+    fn head(&self, keys: &Keys, seq: u32, first: [u8; 4]) -> u32 {
+        self.suite.head(keys, seq, first)
+    }
+
+    fn unseal(
+        &self,
+        alloc: Global,
+        keys: &Keys,
+        seq: u32,
+        sealed: &[u8],
+    ) -> Result<Option<Vec<u8>>, Memory> {
+        self.suite.unseal(alloc, keys, seq, sealed)
+    }
+
+    fn padding(&self, alloc: Global, seed: &[u8], seq: u32, len: u8) -> Result<Vec<u8>, Memory> {
+        self.suite.padding(alloc, seed, seq, len)
+    }
+
+    fn share_form(&self, kex: &str) -> ShareForm {
+        self.suite.share_form(kex)
+    }
+
+    fn public(&self, alloc: Global, kex: &str, random: &[u8]) -> Result<Vec<u8>, Memory> {
+        self.suite.public(alloc, kex, random)
+    }
+
+    fn shared(
+        &self,
+        alloc: Global,
+        kex: &str,
+        random: &[u8],
+        peer: &[u8],
+    ) -> Result<Option<Vec<u8>>, Memory> {
+        self.suite.shared(alloc, kex, random, peer)
+    }
+
+    fn respond(
+        &self,
+        alloc: Global,
+        kex: &str,
+        random: &[u8],
+        peer: &[u8],
+    ) -> Result<Option<Response>, Memory> {
+        self.suite.respond(alloc, kex, random, peer)
+    }
+
+    fn digest(&self, alloc: Global, kex: &str, input: &[u8]) -> Result<Vec<u8>, Memory> {
+        self.suite.digest(alloc, kex, input)
+    }
+
+    fn blob(&self, alloc: Global, alg: &str, secret: &[u8]) -> Result<Vec<u8>, Memory> {
+        self.suite.blob(alloc, alg, secret)
+    }
+
+    fn sign(
+        &self,
+        alloc: Global,
+        alg: &str,
+        secret: &[u8],
+        input: &[u8],
+    ) -> Result<Vec<u8>, Memory> {
+        self.suite.sign(alloc, alg, secret, input)
+    }
+
+    fn verify(
+        &self,
+        alloc: Global,
+        alg: &str,
+        blob: &[u8],
+        input: &[u8],
+        signature: &[u8],
+    ) -> Result<bool, Memory> {
+        self.verified.set(self.verified.get().saturating_add(1));
+        self.suite.verify(alloc, alg, blob, input, signature)
+    }
+
+    ghost lawful = { λ counted. S.lawful counted.suite.now };
+}

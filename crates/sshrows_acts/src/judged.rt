@@ -1,0 +1,188 @@
+//! Endpoints as rows judge them: one that asks its decisions itself, and one that asks and waits, which decisions or the
+//! lines of its row answer.
+
+use crate::asked::Asking;
+use sshcore::{AskingEndpoint, Decisions, End, Endpoint, Fed, Phase, Question, Session};
+use sshpacket::Suite;
+use sshwire::Memory;
+use std::cell::Cell;
+
+/// An endpoint that is judged.
+pub(crate) trait Judged {
+    /// Gives it bytes, and answers how many it used.
+    fn feed(&mut self, piece: &[u8], out: &mut Vec<u8>) -> Result<usize, Memory>;
+
+    /// Tells it that its input has ended.
+    fn end_of_input(&mut self);
+
+    /// Tells it to disconnect.
+    fn disconnect(
+        &mut self,
+        reason: u32,
+        description: &str,
+        out: &mut Vec<u8>,
+    ) -> Result<(), Memory>;
+
+    /// How it stands.
+    fn end(&self) -> &End;
+
+    /// How many unfinished bytes it holds, what it waits for, and whether both sides are strict.
+    fn stands(&self) -> (usize, Phase, Option<bool>);
+
+    /// What it hands over.
+    fn into_session(self) -> Option<Session>;
+
+    /// What it asks the lines of its row.
+    fn question(&self) -> Option<Question<'_>> {
+        None
+    }
+
+    /// Gives it an answer of a line, and tells whether it takes one.
+    fn answer(&mut self, decided: bool, out: &mut Vec<u8>) -> Result<bool, Memory> {
+        let _ = (decided, out);
+        Ok(false)
+    }
+
+    /// How many signatures were verified since the last call, where that is counted.
+    fn verified(&self) -> Option<u32> {
+        None
+    }
+}
+
+impl<S: Suite, D: Decisions> Judged for Endpoint<'_, S, D> {
+    fn feed(&mut self, piece: &[u8], out: &mut Vec<u8>) -> Result<usize, Memory> {
+        self.feed(piece, out)
+    }
+
+    fn end_of_input(&mut self) {
+        self.end_of_input();
+    }
+
+    fn disconnect(
+        &mut self,
+        reason: u32,
+        description: &str,
+        out: &mut Vec<u8>,
+    ) -> Result<(), Memory> {
+        self.disconnect(reason, description, out)
+    }
+
+    fn end(&self) -> &End {
+        self.end()
+    }
+
+    fn stands(&self) -> (usize, Phase, Option<bool>) {
+        (self.buffered(), self.phase(), self.is_strict())
+    }
+
+    fn into_session(self) -> Option<Session> {
+        self.into_session()
+    }
+}
+
+/// An endpoint that asks and waits.
+#[derive(Drop)]
+pub(crate) struct Waiting<'a, S: Suite, D: Decisions> {
+    pub(crate) endpoint: AskingEndpoint<'a, S, Asking<'a, D>>,
+    /// Who answers, and is told what the peer tells people.
+    pub(crate) asking: &'a Asking<'a, D>,
+    /// Where the lines of its row answer instead: how many signatures were verified.
+    pub(crate) by_row: Option<&'a Cell<u32>>,
+}
+
+impl<S: Suite, D: Decisions> Waiting<'_, S, D> {
+    /// Gives it bytes up to its first question, and answers how many it used: more than there are, where what it
+    /// answers isn't what it waits for.
+    fn feed_once(&mut self, piece: &[u8], out: &mut Vec<u8>) -> Result<usize, Memory> {
+        match (self.endpoint.feed(piece, out)?, self.endpoint.question()) {
+            (Fed::Used(used), None) => Ok(used),
+            (Fed::Asks { used }, Some(_)) => Ok(used),
+            _ => Ok(usize::MAX),
+        }
+    }
+
+    /// Answers what it asks by the decisions.
+    fn decide(&mut self, out: &mut Vec<u8>) -> Result<(), Memory> {
+        let answer = match self.endpoint.question() {
+            Some(question) => decided(self.asking, &question),
+            None => false,
+        };
+        self.endpoint.answer(answer, out)
+    }
+}
+
+/// What the decisions answer.
+fn decided<D: Decisions>(decisions: &D, question: &Question<'_>) -> bool {
+    match question {
+        Question::HostKey { algorithm, blob } => decisions.host_key(algorithm, blob),
+        Question::User {
+            number,
+            user,
+            service,
+            proof,
+        } => decisions.user(*number, user, service, proof),
+    }
+}
+
+impl<S: Suite, D: Decisions> Judged for Waiting<'_, S, D> {
+    fn feed(&mut self, piece: &[u8], out: &mut Vec<u8>) -> Result<usize, Memory> {
+        if self.by_row.is_some() {
+            return self.feed_once(piece, out);
+        }
+        let mut all = 0usize;
+        for _ in 0..u64::MAX {
+            let used = self.feed_once(piece.get(all..).unwrap_or(&[]), out)?;
+            all = all.saturating_add(used);
+            if self.endpoint.question().is_none() {
+                break;
+            }
+            self.decide(out)?;
+        }
+        Ok(all)
+    }
+
+    fn end_of_input(&mut self) {
+        self.endpoint.end_of_input();
+    }
+
+    fn disconnect(
+        &mut self,
+        reason: u32,
+        description: &str,
+        out: &mut Vec<u8>,
+    ) -> Result<(), Memory> {
+        self.endpoint.disconnect(reason, description, out)
+    }
+
+    fn end(&self) -> &End {
+        self.endpoint.end()
+    }
+
+    fn stands(&self) -> (usize, Phase, Option<bool>) {
+        let endpoint = &self.endpoint;
+        (endpoint.buffered(), endpoint.phase(), endpoint.is_strict())
+    }
+
+    fn into_session(self) -> Option<Session> {
+        self.endpoint.into_session()
+    }
+
+    fn question(&self) -> Option<Question<'_>> {
+        self.endpoint.question()
+    }
+
+    fn answer(&mut self, decided: bool, out: &mut Vec<u8>) -> Result<bool, Memory> {
+        if self.by_row.is_none() {
+            return Ok(false);
+        }
+        self.endpoint.answer(decided, out)?;
+        Ok(true)
+    }
+
+    fn verified(&self) -> Option<u32> {
+        match self.by_row {
+            Some(count) => Some(count.replace(0)),
+            None => None,
+        }
+    }
+}
