@@ -4,6 +4,7 @@ ghost use Rattle.std.specs.Prelude.{◌==◌, ◌&&◌, not};
 
 use crate::drawn::{below, byte, flag};
 use crate::fault::Fault;
+use crate::talk::{client_config, server_config};
 use rand_xoshiro::SplitMix64;
 use sshcore::{
     Attempt, ClientConfig, ClientParts, Credential, Decisions, Proof, ServerConfig, ServerParts,
@@ -49,16 +50,14 @@ impl Decisions for Whims {
 pub(crate) fn client_of(alloc: Global, rng: &mut SplitMix64) -> Result<Box<ClientConfig>, Fault> {
     let mut parts = Box::new(alloc, lab_client_parts(alloc)?)?;
     draw_client(alloc, rng, &mut parts)?;
-    let config = ClientConfig::new(alloc, Box::into_inner(parts))?;
-    Ok(Box::new(alloc, config)?)
+    client_config(alloc, parts)
 }
 
 /// A server's config whose lists, flags, methods, tries and banner are drawn.
 pub(crate) fn server_of(alloc: Global, rng: &mut SplitMix64) -> Result<Box<ServerConfig>, Fault> {
     let mut parts = Box::new(alloc, lab_server_parts(alloc)?)?;
     draw_server(alloc, rng, &mut parts)?;
-    let config = ServerConfig::new(alloc, Box::into_inner(parts))?;
-    Ok(Box::new(alloc, config)?)
+    server_config(alloc, parts)
 }
 
 /// Draws a client's parts.

@@ -23,9 +23,7 @@ pub(crate) fn print_row(
     let hundredths = work.saturating_mul(100).checked_div(other).unwrap_or(0);
     let (whole, rest) = (hundredths / 100, hundredths % 100);
     let (name, beside, rounds) = (row.name, row.beside, row.rounds);
-    writeln!(
-        rt.stdout(),
-        "{name:<32} {rounds:>6} {work:>8} {other:>9} {whole:>5}.{rest:02}  {beside}"
-    )?;
+    write!(rt.stdout(), "{name:<32} {rounds:>6} {work:>8} ")?;
+    writeln!(rt.stdout(), "{other:>9} {whole:>5}.{rest:02}  {beside}")?;
     Ok(())
 }

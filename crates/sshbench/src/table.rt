@@ -3,6 +3,7 @@
 use crate::choices::{Offers, Payloads};
 use crate::digests::digest;
 use crate::fault::Fault;
+use crate::kexinit;
 use crate::lent::{Kind, payload};
 use crate::packets::{Load, PIECE_LENS, Stream};
 use crate::row::{Row, print_row};
@@ -42,19 +43,27 @@ const MESSAGES: [(Kind, usize); 5] = [
 ];
 
 /// Times each row and prints the table.
-pub(crate) fn print(rt: &HostRuntime, kexinit: &[u8]) -> Result<(), Fault> {
+pub(crate) fn print(rt: &HostRuntime) -> Result<(), Fault> {
     writeln!(
         rt.stdout(),
         "work                             rounds  work us  other us    ratio  other"
     )?;
-    let row = row("kexinit read and written", "copying", ROUNDS);
-    print_both(rt, row, Work::Kexinit(kexinit), Work::Copy(kexinit))?;
+    print_kexinit(rt)?;
     for (kind, len) in MESSAGES {
         print_message(rt, kind, len)?;
     }
     print_choices(rt)?;
     print_packets(rt)?;
     print_talks(rt)
+}
+
+/// Times reading and writing a KEXINIT beside copying its payload.
+fn print_kexinit(rt: &HostRuntime) -> Result<(), Fault> {
+    let payload = kexinit::payload(rt.alloc())?;
+    let row = row("kexinit read and written", "copying", ROUNDS);
+    let printed = print_both(rt, row, Work::Kexinit(&payload), Work::Copy(&payload));
+    drop(payload);
+    printed
 }
 
 /// A row of this name.
