@@ -11,7 +11,7 @@ const HASH_LEN: usize = 32;
 pub(crate) fn digest(stream: &Stream) -> u8 {
     let mut sum = 0;
     let mut seq: u32 = 0;
-    for sealed in stream.bytes.chunks(packet_len(stream)) {
+    for sealed in stream.bytes.chunks(packet_len(stream).max(1)) {
         let clear = clear_of(sealed);
         sum ^= mask(seq, clear) ^ tag(seq, clear);
         seq = seq.saturating_add(1);
@@ -22,7 +22,7 @@ pub(crate) fn digest(stream: &Stream) -> u8 {
 /// How many bytes each packet has.
 fn packet_len(stream: &Stream) -> usize {
     let len = stream.bytes.len();
-    len.checked_div(stream.count as usize).unwrap_or(1).max(1)
+    len.checked_div(stream.count as usize).unwrap_or(1)
 }
 
 /// A packet without its tag.
