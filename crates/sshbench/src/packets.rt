@@ -5,7 +5,6 @@ use sshpacket::{KeyParts, Keys, PacketReader, PacketStep, write_clear, write_sea
 use sshsuites::LabSuite;
 use sshwire::PAYLOAD_LIMIT;
 use std::alloc::{AllocError, Global};
-use std::fmt;
 
 /// The initialisation vector of sealed packets.
 pub(crate) const IV: [u8; 16] = [1; 16];
@@ -40,14 +39,6 @@ pub(crate) struct Load {
     pub(crate) sealed: bool,
     /// How many bytes each payload has.
     pub(crate) payload_len: usize,
-}
-
-impl fmt::Display for Load {
-    fn fmt<W: fmt::Write>(&self, f: &mut fmt::Formatter<W>) -> fmt::Result {
-        let way = if self.sealed { "sealed" } else { "clear" };
-        let payload_len = self.payload_len;
-        write!(f, "{way} packets of {payload_len}")
-    }
 }
 
 impl Load {

@@ -81,11 +81,7 @@ fn session(alloc: Global, rng: &mut SplitMix64) -> Result<bool, Fault> {
 }
 
 /// The same of this client.
-fn session_of(
-    alloc: Global,
-    rng: &mut SplitMix64,
-    client: &ClientConfig,
-) -> Result<bool, Fault> {
+fn session_of(alloc: Global, rng: &mut SplitMix64, client: &ClientConfig) -> Result<bool, Fault> {
     let server = server_of(alloc, rng)?;
     let whims = Whims::drawn(rng);
     let ended = run(alloc, rng, client, &server, &whims);

@@ -174,12 +174,7 @@ pub(crate) fn talk(alloc: Global, lab: &Lab, piece_len: usize) -> Result<Sent, F
 }
 
 /// Makes the client, and lets it talk with a server.
-fn with_client(
-    alloc: Global,
-    lab: &Lab,
-    piece_len: usize,
-    sent: &mut Sent,
-) -> Result<(), Fault> {
+fn with_client(alloc: Global, lab: &Lab, piece_len: usize, sent: &mut Sent) -> Result<(), Fault> {
     let mut client = endpoint_in(alloc, lab, Side::Client, &mut sent.client)?;
     let talked = with_server(alloc, lab, piece_len, &mut client, sent);
     drop(client);
