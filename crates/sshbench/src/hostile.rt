@@ -3,7 +3,7 @@
 
 use crate::drawn::{below, byte, flag};
 use crate::fault::{Fault, holds};
-use crate::talk::{Lab, LabEndpoint, Reach, Sent, WHOLE, endpoint_in, talk};
+use crate::talk::{Lab, LabEndpoint, Reach, Sent, WHOLE, endpoint_in, feed, talk};
 use rand_xoshiro::SplitMix64;
 use sshcore::End;
 use sshneg::Side;
@@ -197,20 +197,37 @@ fn put_random(rng: &mut SplitMix64, out: &mut Vec<u8>, count: usize) -> Result<(
     Ok(())
 }
 
-/// Gives the endpoint the stream in pieces that are drawn, and then the end of its input. It may never hold more than a packet.
+/// Gives the endpoint the stream in pieces that are drawn, and then the end of its input, and answers whether it was
+/// authenticated.
 fn ends_authenticated(
     alloc: Global,
     rng: &mut SplitMix64,
     endpoint: &mut LabEndpoint<'_>,
     stream: &[u8],
 ) -> Result<bool, Fault> {
+    receive_all(alloc, rng, endpoint, stream)?;
+    endpoint.end_of_input();
+    is_authenticated(endpoint.end())
+}
+
+/// Gives the endpoint the stream in pieces that are drawn. It may never hold more than a packet.
+fn receive_all(
+    alloc: Global,
+    rng: &mut SplitMix64,
+    endpoint: &mut LabEndpoint<'_>,
+    stream: &[u8],
+) -> Result<(), Fault> {
     let mut out = Vec::new(alloc);
     for piece in stream.chunks(place_below(rng, 100).max(1)) {
-        endpoint.feed(piece, &mut out)?;
+        feed(endpoint, piece, &mut out)?;
         holds(endpoint.buffered() <= PACKET_LIMIT)?;
     }
-    endpoint.end_of_input();
-    match endpoint.end() {
+    Ok(())
+}
+
+/// Whether this is the end of an endpoint that was authenticated; it may not be open.
+fn is_authenticated(end: &End) -> Result<bool, Fault> {
+    match end {
         End::Authenticated(_) => Ok(true),
         End::Open => Err(Fault::Otherwise),
         _ => Ok(false),

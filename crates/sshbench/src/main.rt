@@ -61,22 +61,17 @@ fn run(rt: &HostRuntime) -> Result<(), Fault> {
 /// Checks each row.
 fn check(rt: &HostRuntime) -> Result<(), Fault> {
     let alloc = rt.alloc();
-    kexinit::check(alloc)?;
-    print_ok(rt, "kexinit")?;
-    lent::check(alloc)?;
-    print_ok(rt, "messages")?;
-    packets::check(alloc)?;
-    print_ok(rt, "packets")?;
-    choices::check(alloc)?;
-    print_ok(rt, "choice")?;
-    talk::check(alloc, Reach::Service)?;
-    print_ok(rt, "negotiation")?;
-    talk::check(alloc, Reach::User)?;
-    print_ok(rt, "session")
+    print_checked(rt, "kexinit", kexinit::check(alloc))?;
+    print_checked(rt, "messages", lent::check(alloc))?;
+    print_checked(rt, "packets", packets::check(alloc))?;
+    print_checked(rt, "choice", choices::check(alloc))?;
+    print_checked(rt, "negotiation", talk::check(alloc, Reach::Service))?;
+    print_checked(rt, "session", talk::check(alloc, Reach::User))
 }
 
-/// Prints that the row of this name is right.
-fn print_ok(rt: &HostRuntime, name: &str) -> Result<(), Fault> {
+/// Prints that the row of this name is right, where it is.
+fn print_checked(rt: &HostRuntime, name: &str, checked: Result<(), Fault>) -> Result<(), Fault> {
+    checked?;
     writeln!(rt.stdout(), "{name} ok")?;
     Ok(())
 }

@@ -182,22 +182,32 @@ pub(crate) fn read_piece(
     let mut rest = piece;
     let mut count: u32 = 0;
     for _ in 0..piece.len() {
-        match reader.next(&LabSuite, rest) {
-            Ok(PacketStep::More) => return Ok(count),
-            Ok(PacketStep::Payload { payload, used, .. }) => {
-                if payload.len() != payload_len {
-                    return Err(Fault::Otherwise);
-                }
-                count = count.saturating_add(1);
-                rest = rest.get(used..).unwrap_or(&[]);
-            }
-            Err(fault) => return Err(Fault::from(fault)),
-        }
+        let Some(used) = read_payload(reader, rest, payload_len)? else {
+            return Ok(count);
+        };
+        count = count.saturating_add(1);
+        rest = rest.get(used..).unwrap_or(&[]);
         if rest.is_empty() {
             return Ok(count);
         }
     }
     Ok(count)
+}
+
+/// Reads up to the end of a payload, which must have this length, and answers how many bytes that took; None where more
+/// are needed.
+fn read_payload(
+    reader: &mut PacketReader,
+    bytes: &[u8],
+    payload_len: usize,
+) -> Result<Option<usize>, Fault> {
+    match reader.next(&LabSuite, bytes)? {
+        PacketStep::More => Ok(None),
+        PacketStep::Payload { payload, used, .. } => {
+            holds(payload.len() == payload_len)?;
+            Ok(Some(used))
+        }
+    }
 }
 
 /// Reads streams of packets of each length, in clear and sealed, in pieces of each length.

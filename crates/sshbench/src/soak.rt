@@ -129,21 +129,32 @@ fn ends_so(
 ) -> Result<bool, Fault> {
     deliver(rng, world)?;
     world.settle(ROUNDS)?;
-    let ends = world.ends();
-    holds(world.complete() && is_same(ends.0, &wanted.0) && is_same(ends.1, &wanted.1))?;
+    holds(world.complete())?;
+    judge(world.ends(), wanted)
+}
+
+/// Judges how both sides ended, and answers whether the user was authenticated.
+fn judge(ends: (&End, &End), wanted: &(End, End)) -> Result<bool, Fault> {
+    holds(is_same(ends.0, &wanted.0) && is_same(ends.1, &wanted.1))?;
     Ok(matches!(ends.0, End::Authenticated(_)))
 }
 
 /// Delivers by a schedule that is drawn.
 fn deliver(rng: &mut SplitMix64, world: &mut DrawnWorld<'_>) -> Result<(), Fault> {
     for _ in 0..below(rng, DELIVERIES) {
-        let to = if flag(rng) {
-            Side::Client
-        } else {
-            Side::Server
-        };
-        world.deliver(to, below(rng, 60))?;
+        deliver_once(rng, world)?;
     }
+    Ok(())
+}
+
+/// Makes one delivery that is drawn.
+fn deliver_once(rng: &mut SplitMix64, world: &mut DrawnWorld<'_>) -> Result<(), Fault> {
+    let to = if flag(rng) {
+        Side::Client
+    } else {
+        Side::Server
+    };
+    world.deliver(to, below(rng, 60))?;
     Ok(())
 }
 

@@ -223,11 +223,22 @@ fn receive(
 ) -> Result<(), Fault> {
     let rest = other.get(from..).unwrap_or(&[]);
     for piece in rest.chunks(piece_len.max(1)) {
-        if endpoint.feed(piece, sent)? != piece.len() {
-            return Err(Fault::Otherwise);
-        }
+        let used = feed(endpoint, piece, sent)?;
+        holds(used == piece.len())?;
     }
     Ok(())
+}
+
+/// Gives an endpoint a piece, and answers how many bytes of it were used.
+pub(crate) fn feed(
+    endpoint: &mut LabEndpoint<'_>,
+    piece: &[u8],
+    sent: &mut Vec<u8>,
+) -> Result<usize, Fault> {
+    match endpoint.feed(piece, sent) {
+        Ok(used) => Ok(used),
+        Err(_) => Err(Fault::Memory),
+    }
 }
 
 /// Talks whole and by single bytes, which has to be the same.
