@@ -40,7 +40,7 @@ module _ (m : SuiteData) (r p : PacketReader) (inc : IsIncremental (parse_packet
       → ReadsPacket m (input.Packets r) (input.Packets p) w (take used piece)
   reads_packet piece used w low e number left = record {
     before = r;
-    behind = p;
+    after = p;
     was = refl;
     is = refl;
     reads = sym (ap (parse_packet (protection_at m (packet_reader_data r))) (take-append-add (packet_reader_data r).held piece used))
@@ -114,7 +114,7 @@ module _ (below : Below) (streams : Streams) (m : SuiteData) (role : Side) (part
       → (HasForm m old → (packet : ℕ) → Brings (setup_with m (always good) role party) old new packet w.payload before after)
       → Turns new last p q → AnswerSteps m role party good w (input.Packets p) old (input.Packets q) last before after
   answer_packets p q asks brings turns d agrees i taken r =
-      let same : p ≡ r.behind = cc in
+      let same : p ≡ r.after = cc in
       subst (λ (x : Input). Steps (setup_with m d role party) x old (input.Packets q) last taken before after) (sym r.was)
       (subst (λ (l : List ℕ). Steps (setup_with m d role party) (input.Packets r.before) old (input.Packets q) last l before after) (take-length taken)
       (unit_steps below streams m role party (always good) old new last before after is r.before p q taken w.payload (length taken) w.packet (omega arith) r.reads r.number

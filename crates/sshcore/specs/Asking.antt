@@ -1,4 +1,4 @@
--- An endpoint that asks and waits, and its history. What it decides isn't its own: what is said of it holds of all decisions, and of a
+-- An endpoint that asks and waits, and its history. What it decides isn't its own: what is claimed of it holds of all decisions, and of a
 -- call that answers of all that answer so.
 
 use Rattle.std.specs.Prelude.{◌≡◌, ℕ, ◌≤◌, Bool, true, false, List, [], ◌∷◌, ◌++◌, length, take, Option, None, Some}

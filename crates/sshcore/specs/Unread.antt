@@ -22,12 +22,12 @@ use Rattle.sshcore.specs.StateData.{StateData, keys_due, keys_left}
 -- next number (RFC 4253 section 6.4). Nothing more was done with it.
 pub record ReadsPacket (m : SuiteData) (i j : Input) (w : WaitingData) (taken : List ℕ) : Type 0 where
   pub before : PacketReader
-  pub behind : PacketReader
+  pub after : PacketReader
   pub was : i ≡ input.Packets before
-  pub is : j ≡ input.Packets behind
+  pub is : j ≡ input.Packets after
   pub reads : ahead m (packet_reader_data before) taken ≡ whole w.payload (length (packet_reader_data before).held + length taken)
   pub number : w.packet ≡ (packet_reader_data before).seq
-  pub left : packet_reader_data behind ≡ record (packet_reader_data before) { held = []; seq = ((packet_reader_data before).seq + 1) % 2 ^ 32 }
+  pub left : packet_reader_data after ≡ record (packet_reader_data before) { held = []; seq = ((packet_reader_data before).seq + 1) % 2 ^ 32 }
 
 -- What was received is all that was acted upon; or, where a packet waits for its answer, that and the bytes of the packet.
 abbrev pub IsUnread : SuiteData → Input → List ℕ → Option WaitingData → Input → List ℕ → Type 0

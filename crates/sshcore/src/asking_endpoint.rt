@@ -34,7 +34,7 @@ use std::marker::Model;
 /// RFC 4252), which asks what it can't decide, and waits for the answer.
 ///
 /// It is an [`Endpoint`](crate::Endpoint) without [`Decisions`](crate::Decisions): where a packet needs one,
-/// [`feed`](AskingEndpoint::feed) stops behind that packet, [`question`](AskingEndpoint::question) tells what is asked, and
+/// [`feed`](AskingEndpoint::feed) stops after that packet, [`question`](AskingEndpoint::question) tells what is asked, and
 /// [`answer`](AskingEndpoint::answer) goes on, at any later time.
 #[derive(Drop)]
 pub struct AskingEndpoint<'a, S: Suite, L: Listener> {
