@@ -30,8 +30,8 @@ use Rattle.sshcore.specs.Standing.{Sits}
 use Rattle.sshcore.specs.StateData.{StateData, state_data}
 use Rattle.sshcore.specs.Unread.{AskingStands, IsUnread, ReadsPacket}
 use Rattle.sshcore.specs.Work.{making}
-use Rattle.sshcore.proofs.AskedLemmas as asked
-use Rattle.sshcore.proofs.AskedLemmas.{Numbered}
+use Rattle.sshcore.proofs.AskedOnceLemmas as asked
+use Rattle.sshcore.proofs.AskedOnceLemmas.{Numbered}
 use Rattle.sshcore.proofs.AskingLemmas.{stands_at_once}
 use Rattle.sshcore.proofs.EndpointLemmas.{Joined, joined_ends}
 use Rattle.sshcore.proofs.FeedLemmas.{none_refused, received_open}

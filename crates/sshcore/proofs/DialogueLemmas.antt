@@ -14,7 +14,7 @@ use Rattle.sshcore.specs.EndData.{Authenticated, Closed, Disconnected, EndData, 
 use Rattle.sshcore.specs.EndpointParts.{DecisionsData, Setup}
 use Rattle.sshcore.specs.Questions.{QuestionData, decided, decided_by}
 use Rattle.sshcore.proofs.AnsweredLemmas.{Rises, asked_once, questions_of, some_decisions}
-use Rattle.sshcore.proofs.AskedLemmas.{Numbered}
+use Rattle.sshcore.proofs.AskedOnceLemmas.{Numbered}
 use Rattle.sshcore.proofs.AskingLawLemmas.{WaitsAfter, asked_so, asks_later, setup_same, waits_here}
 use Rattle.sshcore.proofs.HistoryLemmas.{Streams}
 

@@ -41,7 +41,7 @@ pub mod FeedLemmas
 pub mod ReadLemmas
 pub mod ExchangeLemmas
 pub mod ReadsLemmas
-pub mod AskedLemmas
+pub mod AskedOnceLemmas
 pub mod AnsweredLemmas
 pub mod AfterLemmas
 pub mod WorksLemmas

@@ -2,7 +2,7 @@
 -- section 8), a server whether a request is successful by what it proves, or whether the key of a query would do (RFC 4252 sections
 -- 5 and 7). A packet that asks nothing is answered alike whatever would be decided.
 
-use Rattle.std.specs.Prelude.{ℕ, ◌&&◌, Bool, false, nat_le, if◌then◌else◌, List, codes, length, Option, None, Some, Result, Ok, Err}
+use Rattle.std.specs.Prelude.{ℕ, ◌&&◌, Bool, false, nat_le, if◌then◌else◌, List, codes, length, Option, None, Some, Result, Ok}
 use Rattle.sshwire.specs.TypeReadings.{is_name}
 use Rattle.sshmsg.specs.declared.fault.MsgFault.{MsgFault}
 use Rattle.sshmsg.specs.MessageData.{KexEcdhReply, KexdhReply, MessageData, MethodData, PublicKeyQuery, UserauthRequest}

@@ -25,7 +25,6 @@ ghost use Rattle.sshcore.specs.Work.{work};
 use crate::config::Config;
 use crate::end::Fault;
 use crate::given::{Given, Listener};
-use crate::packet_lines::kind;
 use crate::state::State;
 use sshmsg::{Message, Method, MsgFault, read_exchange};
 use sshpacket::Suite;
@@ -54,7 +53,7 @@ impl State<'_> {
         match read_exchange(self.alloc, payload, self.shares) {
             Ok(message) => self.answer_message(config, suite, &given, payload, &message, sent),
             Err(MsgFault::Memory) => Err(Memory),
-            Err(_) => self.fail(config, suite, Fault::Malformed(kind(payload)), sent),
+            Err(_) => unreachable!(),
         }
     }
 

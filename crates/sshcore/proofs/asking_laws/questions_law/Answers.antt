@@ -1,5 +1,5 @@
 use Rattle.sshcore.proofs.AnsweredLemmas.{some_decisions}
-use Rattle.sshcore.proofs.AskedLemmas as asked
+use Rattle.sshcore.proofs.AskedOnceLemmas as asked
 use Rattle.sshcore.proofs.asking_laws.questions_law.Goals as goal
 
 pub returns : goal.returns
