@@ -77,10 +77,6 @@ module _ (m : SuiteData) (role : Side) (party : ConfigData) (known : Known) wher
       ap (λ (x : Result MessageData MsgFault). is_some (message_question m role party known x)) (sym e)
       ∙ (ap is_some (line_on l payload (line_asks l payload asks)) ∙ asks)
 
-  -- and never one that can't be read
-  pub unread_asks : (l : Line) (payload : List ℕ) (f : MsgFault) → message_in known.shares payload ≡ Err f → is_some (line_question m role party known l payload) ≡ true → ⊥
-  unread_asks l payload f e asks = let none : is_some (message_question m role party known (Err f)) ≡ true = message_asks l payload (Err f) e asks in absurd cc
-
   -- a client asks for the host key that it has received
   module _ (c : MessageData) (client : role ≡ Client) where
     pub kexdh_asks : (host_key f signature : List ℕ) → c ≡ KexdhReply host_key f signature

@@ -26,7 +26,7 @@ use crate::config::Config;
 use crate::end::Fault;
 use crate::given::{Given, Listener};
 use crate::state::State;
-use sshmsg::{Message, Method, MsgFault, read_exchange};
+use sshmsg::{Message, Method, read_exchange};
 use sshpacket::Suite;
 use sshwire::Memory;
 
@@ -52,8 +52,8 @@ impl State<'_> {
         let given = Given { good, listener };
         match read_exchange(self.alloc, payload, self.shares) {
             Ok(message) => self.answer_message(config, suite, &given, payload, &message, sent),
-            Err(MsgFault::Memory) => Err(Memory),
-            Err(_) => unreachable!(),
+            // What has asked can be read, so an allocation failed.
+            Err(_) => Err(Memory),
         }
     }
 
@@ -120,9 +120,7 @@ impl State<'_> {
             return self.fail(config, suite, Fault::Service, sent);
         };
         if let Method::PublicKeyQuery { algorithm, key } = method {
-            return self.receive_query(
-                config, suite, given, user, service, algorithm, key, sent,
-            );
+            return self.receive_query(config, suite, given, user, service, algorithm, key, sent);
         }
         self.decide(config, suite, user, service, method, given.good, sent)
     }

@@ -218,9 +218,7 @@ fn copy_proof(alloc: Global, proof: &Proof<'_>) -> Result<AskedProof, Memory>
 {
     match proof {
         Proof::None => Ok(AskedProof::None),
-        Proof::Password(password) => {
-            Ok(AskedProof::Password(Vec::from_slice(alloc, password)?))
-        }
+        Proof::Password(password) => { Ok(AskedProof::Password(Vec::from_slice(alloc, password)?)) }
         Proof::Key { algorithm, blob } => {
             let algorithm = String::from_str(alloc, algorithm)?;
             let blob = Vec::from_slice(alloc, blob)?;

@@ -36,13 +36,7 @@ impl<L: Listener> Decisions for Given<'_, L> {
         self.good
     }
 
-    fn user(
-        &self,
-        _request_number: u32,
-        _user: &str,
-        _service: &str,
-        _proof: &Proof<'_>,
-    ) -> bool {
+    fn user(&self, _request_number: u32, _user: &str, _service: &str, _proof: &Proof<'_>) -> bool {
         self.good
     }
 
