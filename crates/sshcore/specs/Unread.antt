@@ -77,8 +77,8 @@ AskingSteps m role party i old j new (Some w) taken before after = StopsAt m rol
 
 -- What an answer did, wherever the packet was read: a step that used the packet's bytes, for all decisions that answer so.
 abbrev pub AnswerSteps : SuiteData → Side → ConfigData → Bool → WaitingData → Input → StateData → Input → StateData → List ℕ → List ℕ → Type 0
-AnswerSteps m role party good w j old k new before after =
-    (d : DecisionsData) → decided d w.question ≡ good → (i : Input) (taken : List ℕ) → ReadsPacket m i j w taken → Steps (setup_with m d role party) i old k new taken before after
+AnswerSteps m role party allowed w j old k new before after =
+    (d : DecisionsData) → decided d w.question ≡ allowed → (i : Input) (taken : List ℕ) → ReadsPacket m i j w taken → Steps (setup_with m d role party) i old k new taken before after
 
 -- The keys that are due after a packet are taken into use (RFC 4253 section 7.3), from number 0 where the endpoint is strict.
 abbrev pub reads_with : Option KeysData → Bool → PacketReaderData → PacketReaderData
