@@ -10,7 +10,7 @@ use Rattle.sshcore.specs.AskedQuestions.{AnsweredData, ComesLater, GiveAll, IsAs
 use Rattle.sshcore.specs.Asking.{Answered, AskingAfter, AskingFed, IsSameAsking, asked_at, asked_by, asking_end}
 use Rattle.sshcore.specs.AskingData.{AskingData, WaitingData, asking_setup}
 use Rattle.sshcore.specs.Dialogue.{Answers, AsksByPacket, Cuts, Dialogue, Feeds, Leaves, Makes}
-use Rattle.sshcore.specs.EndData.{Authenticated, Closed, Disconnected, EndData, Failed, Open}
+use Rattle.sshcore.specs.EndData.{Disconnected, EndData, Failed, Open}
 use Rattle.sshcore.specs.EndpointParts.{DecisionsData, Setup}
 use Rattle.sshcore.specs.Questions.{QuestionData, decided, decided_by}
 use Rattle.sshcore.proofs.AnsweredLemmas.{Rises, asked_once, questions_of, some_decisions}
