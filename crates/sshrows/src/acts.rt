@@ -1,10 +1,12 @@
 //! The acts of rows.
 
 use crate::worlds::{judge_prediction, judge_world};
+use sshcore::Decisions;
 use sshlab::{Scenario, ScenarioFault, TEXT_LIMIT};
+use sshpacket::Suite;
 use sshrows_acts::{
-    Generous, Line, Names, OwnConfig, Row, Stop, judge_config, judge_endpoint, judge_waiting,
-    nothing_after, shows, wrong,
+    Generous, Line, Names, Row, Stop, judge_config, judge_endpoint, judge_waiting, nothing_after,
+    same_text, shows, wrong,
 };
 use sshsuite::DeployedSuite;
 use sshsuites::LabSuite;
@@ -70,32 +72,10 @@ fn act_by(
     };
     let decisions = &scenario.decisions;
     match word {
-        "begin" => judge_endpoint(
-            alloc,
-            row,
-            config_of(alloc, row, scenario)?,
-            (&LabSuite, decisions),
-        ),
-        "waiting" => judge_waiting(
-            alloc,
-            row,
-            config_of(alloc, row, scenario)?,
-            (&LabSuite, decisions),
-        ),
-        "generous" => judge_endpoint(
-            alloc,
-            row,
-            config_of(alloc, row, scenario)?,
-            (&LabSuite, &Generous),
-        ),
-        "deployed" => {
-            judge_endpoint(
-                alloc,
-                row,
-                config_of(alloc, row, scenario)?,
-                (&DeployedSuite, decisions),
-            )
-        }
+        "begin" => begin(alloc, row, scenario, (&LabSuite, decisions)),
+        "generous" => begin(alloc, row, scenario, (&LabSuite, &Generous)),
+        "deployed" => begin(alloc, row, scenario, (&DeployedSuite, decisions)),
+        "waiting" => wait(alloc, row, scenario),
         "world" => judge_world(alloc, scenario, rest),
         "predict" => judge_prediction(alloc, scenario, rest),
         "accepted" => nothing_after(alloc, rest),
@@ -103,16 +83,28 @@ fn act_by(
     }
 }
 
-/// Whose config the endpoint of the row has.
-fn config_of<'a>(
+/// Judges an endpoint of the scenario, over the suite and by these decisions.
+fn begin<S: Suite, D: Decisions>(
     alloc: Global,
     row: Row<'_>,
-    scenario: &'a Scenario,
-) -> Result<OwnConfig<'a>, Stop> {
+    scenario: &Scenario,
+    by: (&S, &D),
+) -> Result<(), Stop> {
     let (_, role) = row.act.head();
     match role {
-        "client" => Ok(OwnConfig::Client(&scenario.client)),
-        "server" => Ok(OwnConfig::Server(&scenario.server)),
-        _ => wrong(alloc, row.act, "act", "client or server", role),
+        "client" => judge_endpoint(alloc, row, &scenario.client, by),
+        "server" => judge_endpoint(alloc, row, &scenario.server, by),
+        _ => same_text(alloc, row.act, "act", "client or server", role),
+    }
+}
+
+/// Judges an endpoint of the scenario that asks and waits, and that the lines of the row answer.
+fn wait(alloc: Global, row: Row<'_>, scenario: &Scenario) -> Result<(), Stop> {
+    let (_, role) = row.act.head();
+    let decisions = &scenario.decisions;
+    match role {
+        "client" => judge_waiting(alloc, row, &scenario.client, LabSuite, decisions),
+        "server" => judge_waiting(alloc, row, &scenario.server, LabSuite, decisions),
+        _ => same_text(alloc, row.act, "act", "client or server", role),
     }
 }

@@ -69,7 +69,7 @@ impl StateData {
 
 /// What decisions were asked and told.
 #[derive(Drop)]
-pub(crate) struct Received {
+pub struct Received {
     /// The questions: `host_key`, or the number of a request.
     pub(crate) questions: StateData,
     /// The notices, each with its kind and its fields; none where no line of the row judges them.
@@ -128,7 +128,7 @@ fn words_of(alloc: Global, notice: Notice<'_>) -> Result<String, Stop> {
 
 /// Decisions of which is kept what they are asked and told.
 #[derive(Drop)]
-pub(crate) struct Asking<'a, D: Decisions> {
+pub struct Asking<'a, D: Decisions> {
     pub(crate) decisions: &'a D,
     pub(crate) received: &'a Received,
 }

@@ -1,6 +1,6 @@
 //! Rows of configs whose parts are made one by one.
 
-use crate::endpoints::{OwnConfig, Row, judge_endpoint};
+use crate::endpoints::{Row, judge_endpoint};
 use crate::generous::Generous;
 use crate::names::Names;
 use crate::parts::{client_by, server_by};
@@ -145,12 +145,7 @@ fn accepted_client(
                 lines,
                 piece_len,
             };
-            judge_endpoint(
-                alloc,
-                row,
-                OwnConfig::Client(config),
-                (&LabSuite, &Generous),
-            )
+            judge_endpoint(alloc, row, config, (&LabSuite, &Generous))
         }
         _ => wrong(alloc, line, "config", rest, "accepted"),
     }

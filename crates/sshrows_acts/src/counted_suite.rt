@@ -7,14 +7,14 @@ use std::cell::Cell;
 
 /// A suite that answers as another does, and counts how often it is asked to verify a signature.
 #[derive(Drop)]
-pub(crate) struct CountedSuite<'a, S: Suite> {
-    pub(crate) suite: &'a S,
+pub(crate) struct CountedSuite<S: Suite> {
+    pub(crate) suite: S,
     /// How many signatures were verified.
-    pub(crate) verified: &'a Cell<u32>,
+    pub(crate) verified: Cell<u32>,
 }
 
-impl<S: Suite> Suite for CountedSuite<'_, S> {
-    ghost meaning = { λ counted. S.meaning counted.suite.now };
+impl<S: Suite> Suite for CountedSuite<S> {
+    ghost meaning = { λ counted. S.meaning counted.suite };
 
     fn need(&self, kex: &str) -> Need {
         self.suite.need(kex)
@@ -120,5 +120,5 @@ impl<S: Suite> Suite for CountedSuite<'_, S> {
         self.suite.verify(alloc, alg, blob, input, signature)
     }
 
-    ghost lawful = { λ counted. S.lawful counted.suite.now };
+    ghost lawful = { λ counted. S.lawful counted.suite };
 }

@@ -4,7 +4,7 @@ use crate::asked::{Asking, Received};
 use crate::counted_suite::CountedSuite;
 use crate::endpoint_steps::step;
 use crate::handed::judge_session;
-use crate::judged::{Judged, Waiting};
+use crate::judged::{Deciding, Judged, Waiting};
 use crate::linked::{judge_link, link_of, seed_of};
 use crate::names::Names;
 use crate::refusals::refused_sending;
@@ -17,11 +17,71 @@ use sshwire::Memory;
 use std::alloc::Global;
 use std::cell::Cell;
 
-/// Whose config an endpoint has.
-#[derive(Clone, Copy)]
-pub enum OwnConfig<'a> {
-    Client(&'a ClientConfig),
-    Server(&'a ServerConfig),
+/// A config of which endpoints are made.
+pub trait Configures {
+    /// An endpoint of this config that asks these decisions itself.
+    fn deciding<'a, S: Suite, D: Decisions>(
+        &'a self,
+        alloc: Global,
+        suite: &'a S,
+        asking: &'a Asking<'a, D>,
+        out: &mut Vec<u8>,
+    ) -> Result<Deciding<'a, S, D>, Memory>;
+
+    /// An endpoint of this config that asks and waits.
+    fn waiting<'a, S: Suite, D: Decisions>(
+        &'a self,
+        alloc: Global,
+        suite: &'a S,
+        asking: &'a Asking<'a, D>,
+        out: &mut Vec<u8>,
+    ) -> Result<AskingEndpoint<'a, S, Asking<'a, D>>, Memory>;
+}
+
+impl Configures for ClientConfig {
+    fn deciding<'a, S: Suite, D: Decisions>(
+        &'a self,
+        alloc: Global,
+        suite: &'a S,
+        asking: &'a Asking<'a, D>,
+        out: &mut Vec<u8>,
+    ) -> Result<Deciding<'a, S, D>, Memory> {
+        let endpoint = Endpoint::client(alloc, self, suite, asking, out)?;
+        Ok(Deciding { endpoint })
+    }
+
+    fn waiting<'a, S: Suite, D: Decisions>(
+        &'a self,
+        alloc: Global,
+        suite: &'a S,
+        asking: &'a Asking<'a, D>,
+        out: &mut Vec<u8>,
+    ) -> Result<AskingEndpoint<'a, S, Asking<'a, D>>, Memory> {
+        AskingEndpoint::client(alloc, self, self.draws(), suite, asking, out)
+    }
+}
+
+impl Configures for ServerConfig {
+    fn deciding<'a, S: Suite, D: Decisions>(
+        &'a self,
+        alloc: Global,
+        suite: &'a S,
+        asking: &'a Asking<'a, D>,
+        out: &mut Vec<u8>,
+    ) -> Result<Deciding<'a, S, D>, Memory> {
+        let endpoint = Endpoint::server(alloc, self, suite, asking, out)?;
+        Ok(Deciding { endpoint })
+    }
+
+    fn waiting<'a, S: Suite, D: Decisions>(
+        &'a self,
+        alloc: Global,
+        suite: &'a S,
+        asking: &'a Asking<'a, D>,
+        out: &mut Vec<u8>,
+    ) -> Result<AskingEndpoint<'a, S, Asking<'a, D>>, Memory> {
+        AskingEndpoint::server(alloc, self, self.draws(), suite, asking, out)
+    }
 }
 
 /// A row of an endpoint.
@@ -55,10 +115,10 @@ pub(crate) struct Subject<'a, E: Judged> {
 
 /// Judges an endpoint of this config over the suite: first one that asks these decisions by itself, then one that asks and
 /// waits, which they answer. What they are asked and told is kept. The second has to stand as the first after each piece.
-pub fn judge_endpoint<S: Suite, D: Decisions>(
+pub fn judge_endpoint<C: Configures, S: Suite, D: Decisions>(
     alloc: Global,
     row: Row<'_>,
-    config: OwnConfig<'_>,
+    config: &C,
     (suite, decisions): (&S, &D),
 ) -> Result<(), Stop> {
     let received = &Received::new(alloc, row.lines);
@@ -66,75 +126,68 @@ pub fn judge_endpoint<S: Suite, D: Decisions>(
         decisions,
         received,
     };
-    let mut out = Vec::new(alloc);
-    let made = endpoint_of(alloc, config, suite, asking, &mut out);
-    let stood = judge(alloc, row, suite, made, out, received)?;
+    let stood = judge_deciding(alloc, row, config, suite, asking)?;
     row.act.told.asks.set(true);
-    let mut out = Vec::new(alloc);
-    let made = waiting_of(alloc, config, suite, asking, None, &mut out);
-    let stands = judge(alloc, row, suite, made, out, received)?;
+    let stands = judge_asking(alloc, row, config, suite, asking, None)?;
     same_count(alloc, row.act, "how it stood", stood, stands)?;
     row.act.told.asks.set(false);
     Ok(())
 }
 
-/// Judges an endpoint of this config that asks and waits, which the lines of the row answer. These decisions are told what the
-/// peer tells people. How many signatures the suite verifies is counted.
-pub fn judge_waiting<S: Suite, D: Decisions>(
+/// Judges an endpoint of this config that asks these decisions by itself, and answers how it stood.
+fn judge_deciding<'a, C: Configures, S: Suite, D: Decisions>(
     alloc: Global,
     row: Row<'_>,
-    config: OwnConfig<'_>,
-    (suite, decisions): (&S, &D),
+    config: &'a C,
+    suite: &'a S,
+    asking: &'a Asking<'a, D>,
+) -> Result<usize, Stop> {
+    let mut out = Vec::new(alloc);
+    let made = config.deciding(alloc, suite, asking, &mut out);
+    judge(alloc, row, suite, made, out, asking.received)
+}
+
+/// The same of one that asks and waits, which these decisions answer, or where a count is given the lines of the row.
+fn judge_asking<'a, C: Configures, S: Suite, D: Decisions>(
+    alloc: Global,
+    row: Row<'_>,
+    config: &'a C,
+    suite: &'a S,
+    asking: &'a Asking<'a, D>,
+    by_row: Option<&'a Cell<u32>>,
+) -> Result<usize, Stop> {
+    let mut out = Vec::new(alloc);
+    let made = match config.waiting(alloc, suite, asking, &mut out) {
+        Ok(endpoint) => Ok(Waiting {
+            endpoint,
+            asking,
+            by_row,
+        }),
+        Err(_) => Err(Memory),
+    };
+    judge(alloc, row, suite, made, out, asking.received)
+}
+
+/// Judges an endpoint of this config that asks and waits, which the lines of the row answer. These decisions are told what the
+/// peer tells people. How many signatures the suite verifies is counted.
+pub fn judge_waiting<C: Configures, S: Suite + Drop, D: Decisions>(
+    alloc: Global,
+    row: Row<'_>,
+    config: &C,
+    suite: S,
+    decisions: &D,
 ) -> Result<(), Stop> {
     let received = &Received::new(alloc, row.lines);
     let asking = &Asking {
         decisions,
         received,
     };
-    let verified = &Cell::new(0);
-    let suite = &CountedSuite { suite, verified };
-    let mut out = Vec::new(alloc);
-    let made = waiting_of(alloc, config, suite, asking, Some(verified), &mut out);
-    judge(alloc, row, suite, made, out, received)?;
-    Ok(())
-}
-
-/// An endpoint of this config that asks these decisions by itself.
-fn endpoint_of<'a, S: Suite, D: Decisions>(
-    alloc: Global,
-    config: OwnConfig<'a>,
-    suite: &'a S,
-    asking: &'a Asking<'a, D>,
-    out: &mut Vec<u8>,
-) -> Result<Endpoint<'a, S, Asking<'a, D>>, Memory> {
-    match config {
-        OwnConfig::Client(config) => Endpoint::client(alloc, config, suite, asking, out),
-        OwnConfig::Server(config) => Endpoint::server(alloc, config, suite, asking, out),
-    }
-}
-
-/// An endpoint of this config that asks and waits.
-fn waiting_of<'a, S: Suite, D: Decisions>(
-    alloc: Global,
-    config: OwnConfig<'a>,
-    suite: &'a S,
-    asking: &'a Asking<'a, D>,
-    by_row: Option<&'a Cell<u32>>,
-    out: &mut Vec<u8>,
-) -> Result<Waiting<'a, S, D>, Memory> {
-    let endpoint = match config {
-        OwnConfig::Client(config) => {
-            AskingEndpoint::client(alloc, config, config.draws(), suite, asking, out)?
-        }
-        OwnConfig::Server(config) => {
-            AskingEndpoint::server(alloc, config, config.draws(), suite, asking, out)?
-        }
+    let suite = &CountedSuite {
+        suite,
+        verified: Cell::new(0),
     };
-    Ok(Waiting {
-        endpoint,
-        asking,
-        by_row,
-    })
+    judge_asking(alloc, row, config, suite, asking, Some(&suite.verified))?;
+    Ok(())
 }
 
 /// Judges an endpoint that was made and has sent these bytes, and answers how it stood.

@@ -38,8 +38,7 @@ pub(crate) trait Judged {
     }
 
     /// Gives it an answer of a line, and tells whether it takes one.
-    fn answer(&mut self, decided: bool, out: &mut Vec<u8>) -> Result<bool, Memory> {
-        let _ = (decided, out);
+    fn answer(&mut self, _decided: bool, _out: &mut Vec<u8>) -> Result<bool, Memory> {
         Ok(false)
     }
 
@@ -49,13 +48,19 @@ pub(crate) trait Judged {
     }
 }
 
-impl<S: Suite, D: Decisions> Judged for Endpoint<'_, S, D> {
+/// An endpoint that asks its decisions itself.
+#[derive(Drop)]
+pub struct Deciding<'a, S: Suite, D: Decisions> {
+    pub(crate) endpoint: Endpoint<'a, S, Asking<'a, D>>,
+}
+
+impl<S: Suite, D: Decisions> Judged for Deciding<'_, S, D> {
     fn feed(&mut self, piece: &[u8], out: &mut Vec<u8>) -> Result<usize, Memory> {
-        self.feed(piece, out)
+        self.endpoint.feed(piece, out)
     }
 
     fn end_of_input(&mut self) {
-        self.end_of_input();
+        self.endpoint.end_of_input();
     }
 
     fn disconnect(
@@ -64,19 +69,20 @@ impl<S: Suite, D: Decisions> Judged for Endpoint<'_, S, D> {
         description: &str,
         out: &mut Vec<u8>,
     ) -> Result<(), Memory> {
-        self.disconnect(reason, description, out)
+        self.endpoint.disconnect(reason, description, out)
     }
 
     fn end(&self) -> &End {
-        self.end()
+        self.endpoint.end()
     }
 
     fn stands(&self) -> (usize, Phase, Option<bool>) {
-        (self.buffered(), self.phase(), self.is_strict())
+        let endpoint = &self.endpoint;
+        (endpoint.buffered(), endpoint.phase(), endpoint.is_strict())
     }
 
     fn into_session(self) -> Option<Session> {
-        self.into_session()
+        self.endpoint.into_session()
     }
 }
 

@@ -34,7 +34,7 @@ mod words;
 
 pub use below::{is_below, judge_below};
 pub use configs::judge_config;
-pub use endpoints::{OwnConfig, Row, judge_endpoint, judge_waiting};
+pub use endpoints::{Configures, Row, judge_endpoint, judge_waiting};
 pub use generous::Generous;
 pub use names::Names;
 pub use refusals::{is_out_of_memory, refused};
