@@ -6,10 +6,11 @@ use crate::fault::Fault;
 use crate::kexinit;
 use crate::lent::{Kind, payload};
 use crate::packets::{Load, PIECE_LENS, Stream};
-use crate::row::Row;
+use crate::row::{Row, print_row};
 use crate::talk::{Lab, Reach, WHOLE};
 use crate::work::{Work, print_both};
 use std::io::Write;
+use std::time::{Duration, Instant};
 
 /// How often the payload of a KEXINIT is read and written.
 const ROUNDS: u32 = 100_000;
@@ -60,7 +61,7 @@ pub(crate) fn print(rt: &HostRuntime) -> Result<(), Fault> {
 fn print_kexinit(rt: &HostRuntime) -> Result<(), Fault> {
     let payload = kexinit::payload(rt.alloc())?;
     let row = row("kexinit read and written", "copying", ROUNDS);
-    let printed = print_both(rt, row, Work::Kexinit(&payload), Work::Copy(&payload));
+    let printed = print_both(rt, row, &Work::Kexinit(&payload), &Work::Copy(&payload));
     drop(payload);
     printed
 }
@@ -79,17 +80,41 @@ fn print_message(rt: &HostRuntime, kind: Kind, len: usize) -> Result<(), Fault> 
     let name = format!(in rt.alloc(); "{kind} with {len} bytes read")?;
     let payload = payload(rt.alloc(), kind, len)?;
     let row = row(&name, "owned copy", QUICK_ROUNDS);
-    print_both(rt, row, Work::Read(&payload, len), Work::Own(&payload))
+    print_both(rt, row, &Work::Read(&payload, len), &Work::Own(&payload))
 }
 
 /// Times choices beside comparisons of the names of eight lists.
 fn print_choices(rt: &HostRuntime) -> Result<(), Fault> {
     let payloads = Payloads::new(rt.alloc())?;
     let offers = Offers::new(rt.alloc(), &payloads)?;
-    let row = row("choice, 50 names a list", "comparing names", CHOICES);
-    let printed = print_both(rt, row, Work::Choose(&offers), Work::Compare(&offers));
+    let printed = print_offers(rt, &offers);
     drop(offers);
     printed
+}
+
+/// The same of these offers.
+fn print_offers(rt: &HostRuntime, offers: &Offers<'_>) -> Result<(), Fault> {
+    let row = row("choice, 50 names a list", "comparing names", CHOICES);
+    let took = time_choices(rt, offers)?;
+    print_row(rt, row, took, time_comparisons(rt, offers)?)
+}
+
+/// Times choices.
+fn time_choices(rt: &HostRuntime, offers: &Offers<'_>) -> Result<Duration, Fault> {
+    let start = Instant::now(rt)?;
+    for _ in 0..CHOICES {
+        offers.choose()?;
+    }
+    Ok(start.elapsed(rt)?)
+}
+
+/// Times comparisons of the names of eight lists.
+fn time_comparisons(rt: &HostRuntime, offers: &Offers<'_>) -> Result<Duration, Fault> {
+    let start = Instant::now(rt)?;
+    for _ in 0..CHOICES {
+        offers.compare()?;
+    }
+    Ok(start.elapsed(rt)?)
 }
 
 /// Times reads of streams of packets, and prints their rows.
@@ -130,9 +155,15 @@ fn print_clear(rt: &HostRuntime, payload_len: usize) -> Result<(), Fault> {
 fn print_pieces(rt: &HostRuntime, stream: &Stream, piece_len: usize) -> Result<(), Fault> {
     let rounds = if piece_len == 1 { SLOW_READS } else { READS };
     let copy = Work::CopyPackets(stream, piece_len);
-    print_read(rt, stream, piece_len, row("", "copying", rounds), copy)?;
+    print_read(rt, stream, piece_len, row("", "copying", rounds), &copy)?;
     let over = Work::CopyOver(stream, piece_len);
-    print_read(rt, stream, piece_len, row("", "copying over", rounds), over)
+    print_read(
+        rt,
+        stream,
+        piece_len,
+        row("", "copying over", rounds),
+        &over,
+    )
 }
 
 /// Times reads of a stream in such pieces beside another work, and prints the row under the stream's name.
@@ -141,7 +172,7 @@ fn print_read(
     stream: &Stream,
     piece_len: usize,
     row: Row<'_>,
-    other: Work<'_>,
+    other: &Work<'_>,
 ) -> Result<(), Fault> {
     let Load {
         sealed,
@@ -150,14 +181,14 @@ fn print_read(
     let way = if sealed { "sealed" } else { "clear" };
     let name = format!(in rt.alloc(); "{way} packets of {payload_len} by {piece_len}")?;
     let row = Row { name: &name, ..row };
-    print_both(rt, row, Work::ReadPackets(stream, piece_len), other)
+    print_both(rt, row, &Work::ReadPackets(stream, piece_len), other)
 }
 
 /// Times reads of sealed packets in large pieces, and prints the row.
 fn print_sealed(rt: &HostRuntime, payload_len: usize) -> Result<(), Fault> {
     let stream = stream(rt, true, payload_len, STREAM_LEN)?;
     let other = Work::Digest(&stream, digest(&stream));
-    print_read(rt, &stream, 65536, row("", "digests", SLOW_READS), other)
+    print_read(rt, &stream, 65536, row("", "digests", SLOW_READS), &other)
 }
 
 /// Times reads of a long stream of packets in clear, and of one with a tenth of its packets.
@@ -169,21 +200,26 @@ fn print_ten_times(rt: &HostRuntime) -> Result<(), Fault> {
         Work::ReadPackets(&long, 1448),
         Work::ReadPackets(&short, 1448),
     );
-    print_both(rt, row, work, other)
+    print_both(rt, row, &work, &other)
 }
 
 /// Times talks by single bytes beside whole ones, and whole sessions beside negotiations.
 fn print_talks(rt: &HostRuntime) -> Result<(), Fault> {
     let negotiation = Lab::new(rt.alloc(), Reach::Service)?;
     let (work, other) = (Work::Talk(&negotiation, 1), Work::Talk(&negotiation, WHOLE));
-    print_both(rt, row("negotiation by 1", "whole", TALKS), work, other)?;
-    print_session(rt, other)
+    print_both(rt, row("negotiation by 1", "whole", TALKS), &work, &other)?;
+    print_session(rt, &other)
 }
 
 /// Times sessions by single bytes beside whole ones, and these beside negotiations.
-fn print_session(rt: &HostRuntime, negotiation: Work<'_>) -> Result<(), Fault> {
+fn print_session(rt: &HostRuntime, negotiation: &Work<'_>) -> Result<(), Fault> {
     let lab = Lab::new(rt.alloc(), Reach::User)?;
     let (work, other) = (Work::Talk(&lab, 1), Work::Talk(&lab, WHOLE));
-    print_both(rt, row("session by 1", "whole", TALKS), work, other)?;
-    print_both(rt, row("session", "negotiation", TALKS), other, negotiation)
+    print_both(rt, row("session by 1", "whole", TALKS), &work, &other)?;
+    print_both(
+        rt,
+        row("session", "negotiation", TALKS),
+        &other,
+        negotiation,
+    )
 }

@@ -1,6 +1,5 @@
 //! What is timed, as data.
 
-use crate::choices::Offers;
 use crate::digests::digest;
 use crate::fault::{Fault, holds};
 use crate::kexinit::{copy, read_and_write};
@@ -22,10 +21,6 @@ pub(crate) enum Work<'a> {
     Read(&'a [u8], usize),
     /// Makes an owned copy of it.
     Own(&'a [u8]),
-    /// Chooses among what both sides offer.
-    Choose(&'a Offers<'a>),
-    /// Compares the names of eight of their lists.
-    Compare(&'a Offers<'a>),
     /// Reads a stream of packets in pieces of so many bytes.
     ReadPackets(&'a Stream, usize),
     /// Copies it in such pieces, each after the one before.
@@ -40,24 +35,22 @@ pub(crate) enum Work<'a> {
 
 impl Work<'_> {
     /// Does it once.
-    fn once(self, alloc: Global, out: &mut Vec<u8>) -> Result<(), Fault> {
+    fn once(&self, alloc: Global, out: &mut Vec<u8>) -> Result<(), Fault> {
         match self {
             Work::Kexinit(payload) => read_and_write(alloc, payload, out),
             Work::Copy(payload) => copy(payload, out),
-            Work::Read(payload, len) => read_only(alloc, payload, len),
+            Work::Read(payload, len) => read_only(alloc, payload, *len),
             Work::Own(payload) => own(alloc, payload),
-            Work::Choose(offers) => offers.choose(),
-            Work::Compare(offers) => offers.compare(),
-            Work::ReadPackets(stream, piece_len) => stream.read(alloc, piece_len),
-            Work::CopyPackets(stream, piece_len) => stream.copy(piece_len, false, out),
-            Work::CopyOver(stream, piece_len) => stream.copy(piece_len, true, out),
-            Work::Digest(stream, first) => holds(digest(stream) == first),
-            Work::Talk(lab, piece_len) => send(alloc, lab, piece_len),
+            Work::ReadPackets(stream, piece_len) => stream.read(alloc, *piece_len),
+            Work::CopyPackets(stream, piece_len) => stream.copy(*piece_len, false, out),
+            Work::CopyOver(stream, piece_len) => stream.copy(*piece_len, true, out),
+            Work::Digest(stream, first) => holds(digest(stream) == *first),
+            Work::Talk(lab, piece_len) => send(alloc, lab, *piece_len),
         }
     }
 
     /// Judges what is left after the last time.
-    fn judge(self, out: &[u8]) -> Result<(), Fault> {
+    fn judge(&self, out: &[u8]) -> Result<(), Fault> {
         match self {
             Work::CopyPackets(stream, _) => holds(stream.bytes.as_slice() == out),
             Work::CopyOver(stream, _) => holds(stream.bytes.ends_with(out)),
@@ -76,15 +69,15 @@ fn send(alloc: Global, lab: &Lab, piece_len: usize) -> Result<(), Fault> {
 pub(crate) fn print_both(
     rt: &HostRuntime,
     row: Row<'_>,
-    work: Work<'_>,
-    other: Work<'_>,
+    work: &Work<'_>,
+    other: &Work<'_>,
 ) -> Result<(), Fault> {
     let took = time(rt, work, row.rounds)?;
     print_row(rt, row, took, time(rt, other, row.rounds)?)
 }
 
 /// Times a work, and judges what is left.
-fn time(rt: &HostRuntime, work: Work<'_>, rounds: u32) -> Result<Duration, Fault> {
+fn time(rt: &HostRuntime, work: &Work<'_>, rounds: u32) -> Result<Duration, Fault> {
     let mut out = Vec::new(rt.alloc());
     let took = time_over(rt, work, rounds, &mut out)?;
     work.judge(&out)?;
@@ -94,7 +87,7 @@ fn time(rt: &HostRuntime, work: Work<'_>, rounds: u32) -> Result<Duration, Fault
 /// Times a work that writes there.
 fn time_over(
     rt: &HostRuntime,
-    work: Work<'_>,
+    work: &Work<'_>,
     rounds: u32,
     out: &mut Vec<u8>,
 ) -> Result<Duration, Fault> {
