@@ -34,9 +34,10 @@ is_mark byte = byte == 64 || byte == 35 || byte == 124 || byte == 33
 abbrev pub is_named : List ℕ → List ℕ → Bool
 is_named names host = not (list_any is_mark names) && list_any (λ name. bytes_eq name host) (slice_split (λ byte. byte == 44) names)
 
--- a key of the one algorithm, `ssh-ed25519 DIGITS`, at the front of a text: its digits
+-- a key, `ssh-ed25519 DIGITS` or `ssh-rsa DIGITS`, at the front of a text: its digits
 abbrev pub digits_after : List ℕ → Option (List ℕ)
-digits_after text = if bytes_eq (first_word text) (codes "ssh-ed25519") then Some (first_word (after_word text)) else None
+digits_after text =
+    if bytes_eq (first_word text) (codes "ssh-ed25519") || bytes_eq (first_word text) (codes "ssh-rsa") then Some (first_word (after_word text)) else None
 
 -- the digits of a line that is looked for: a key alone, a key after names that have the host, or one after `@revoked`
 -- and names

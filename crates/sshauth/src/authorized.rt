@@ -4,8 +4,8 @@ use crate::fault::Fault;
 use crate::files::bytes_of;
 use crate::key_lines::{KeyLine, keys_in, known_keys};
 
-/// The keys of a file of authorized_keys: those of its lines `ssh-ed25519 KEY COMMENT`. A line with options in front
-/// gives none.
+/// The keys of a file of authorized_keys: those of its lines `ssh-ed25519 KEY COMMENT` and `ssh-rsa KEY COMMENT`. A line with
+/// options in front gives none.
 pub(crate) fn authorized_keys(
     rt: &HostRuntime,
     option: &'static str,

@@ -2,6 +2,7 @@
 
 use crate::clear_stream::Sent;
 use crate::fault::Fault;
+use crate::host_keys::is_rsa_key;
 use crate::report::Ended;
 use base64::engine::general_purpose::{STANDARD, STANDARD_NO_PAD};
 use sha2::{Digest, Sha256};
@@ -12,9 +13,6 @@ use sshsuite::DeployedSuite;
 use sshwire::NameList;
 use std::alloc::{AllocError, Global};
 use std::fmt::Write;
-
-/// The algorithm of keys, the only one that a probe lists.
-const ALGORITHM: &str = "ssh-ed25519";
 
 /// What a probe has found.
 #[derive(Clone, Copy)]
@@ -33,7 +31,7 @@ pub(crate) struct Findings<'a> {
     pub(crate) end: &'a End,
 }
 
-/// The report: a line `HOST ssh-ed25519 KEY`, and lines `# WORD VALUE` of all else, so that it is a file of host keys too.
+/// The report: a line `HOST KIND KEY`, of `ssh-ed25519` or `ssh-rsa`, and lines `# WORD VALUE` of all else, so that it is a file of host keys too.
 pub(crate) fn report_of(alloc: Global, findings: &Findings<'_>) -> Result<String, Fault> {
     let mut text = String::new(alloc);
     if let Some(version) = &findings.theirs.version {
@@ -200,7 +198,12 @@ fn put_name(
 
 /// Puts the host key as `ssh-keyscan` does, and its fingerprint as `ssh-keygen -l` does.
 fn put_key(alloc: Global, text: &mut String, host: &str, key: &[u8]) -> Result<(), AllocError> {
-    write!(text, "{host} {ALGORITHM} ")?;
+    let kind = if is_rsa_key(key) {
+        "ssh-rsa"
+    } else {
+        "ssh-ed25519"
+    };
+    write!(text, "{host} {kind} ")?;
     STANDARD.encode_string(key, text)?;
     text.push_str("\n# fingerprint SHA256:")?;
     STANDARD_NO_PAD.encode_string(&Sha256::digest(key), text)?;

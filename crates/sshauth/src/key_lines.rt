@@ -9,8 +9,10 @@ use crate::fault::Fault;
 use crate::identity::base64_of;
 use std::alloc::Global;
 
-/// The word in front of a key of the one algorithm.
-const ALGORITHM: &[u8] = b"ssh-ed25519";
+/// The words in front of a key.
+const ED25519: &[u8] = b"ssh-ed25519";
+
+const RSA: &[u8] = b"ssh-rsa";
 
 /// The word in front of a line of known_hosts that revokes a key.
 const REVOKED: &[u8] = b"@revoked";
@@ -18,11 +20,11 @@ const REVOKED: &[u8] = b"@revoked";
 /// Which lines of a text are looked for.
 #[derive(Clone, Copy)]
 pub(crate) enum KeyLine<'a> {
-    /// `ssh-ed25519 KEY COMMENT`: of authorized_keys, without options.
+    /// `KIND KEY COMMENT`, where the kind is `ssh-ed25519` or `ssh-rsa`: of authorized_keys, without options.
     Authorized,
-    /// `NAME,NAME ssh-ed25519 KEY COMMENT`: of known_hosts, where one of the names is this one.
+    /// `NAME,NAME KIND KEY COMMENT`: of known_hosts, where one of the names is this one.
     Known(&'a [u8]),
-    /// `@revoked NAMES ssh-ed25519 KEY COMMENT`: of known_hosts, whatever the names.
+    /// `@revoked NAMES KIND KEY COMMENT`: of known_hosts, whatever the names.
     Revoked,
 }
 
@@ -109,12 +111,12 @@ fn digits_in<'a>(kind: KeyLine<'_>, line: &'a [u8]) -> Option<&'a [u8]>
     }
 }
 
-/// The digits of a key of the algorithm, where the text begins with such a key.
+/// The digits of a key, where the text begins with one of a kind that is known.
 fn digits_after(text: &[u8]) -> Option<&[u8]>
     ensures { option_map (λ digits. digits.now) result ≡ digits_after text.now }
 {
-    let (algorithm, after) = cut_word(text);
-    if algorithm == ALGORITHM {
+    let (kind, after) = cut_word(text);
+    if kind == ED25519 || kind == RSA {
         Some(cut_word(after).0)
     } else {
         None

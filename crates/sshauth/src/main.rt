@@ -10,6 +10,7 @@ mod clear_stream;
 mod fault;
 mod files;
 mod findings;
+mod host_keys;
 mod identity;
 mod key_lines;
 mod notices;

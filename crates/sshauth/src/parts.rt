@@ -16,15 +16,17 @@ use std::random::RandomSource;
 /// The one service (RFC 4254).
 const SERVICE: &str = "ssh-connection";
 
-/// The algorithm of keys.
-const ALGORITHM: &str = "ssh-ed25519";
+/// The algorithm of private keys.
+pub(crate) const ALGORITHM: &str = "ssh-ed25519";
 
-/// A client's config.
+/// A client's config that lists these host key algorithms.
 pub(crate) fn client_config(
     rt: &HostRuntime,
     settings: &Settings<'_>,
+    host_key_algorithms: &str,
 ) -> Result<Box<ClientConfig>, Fault> {
-    let parts = Box::new(rt.alloc(), client_parts(rt, settings)?)?;
+    let parts = client_parts(rt, settings, host_key_algorithms)?;
+    let parts = Box::new(rt.alloc(), parts)?;
     let config = ClientConfig::new(rt.alloc(), Box::into_inner(parts))?;
     Ok(Box::new(rt.alloc(), config)?)
 }
@@ -77,9 +79,13 @@ fn password_of(rt: &HostRuntime, settings: &Settings<'_>) -> Result<Option<Vec<u
 }
 
 /// A client's parts.
-fn client_parts(rt: &HostRuntime, settings: &Settings<'_>) -> Result<ClientParts, Fault> {
+fn client_parts(
+    rt: &HostRuntime,
+    settings: &Settings<'_>,
+    host_key_algorithms: &str,
+) -> Result<ClientParts, Fault> {
     let alloc = rt.alloc();
-    let server_host_key_algorithms = names_of(alloc, ALGORITHM)?;
+    let server_host_key_algorithms = names_of(alloc, host_key_algorithms)?;
     let plan = plan_of(rt, settings)?;
     Ok(ClientParts {
         side: side_of(alloc, settings)?,

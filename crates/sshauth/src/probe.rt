@@ -6,6 +6,7 @@ ghost use Rattle.sshauth.specs.Trust.{any_host_policy};
 use crate::clear_stream::ClearStream;
 use crate::fault::Fault;
 use crate::findings::{Findings, report_of};
+use crate::host_keys::ALL_ALGORITHMS;
 use crate::notices::{Listening, Notices};
 use crate::parts::{client_config, draw};
 use crate::settings::Settings;
@@ -52,7 +53,7 @@ pub(crate) fn probe(rt: &HostRuntime, settings: &Settings<'_>) -> Result<bool, F
     if settings.host.is_none() {
         return Err(Fault::Words);
     }
-    let config = client_config(rt, settings)?;
+    let config = client_config(rt, settings, ALL_ALGORITHMS)?;
     begin(rt, settings, &config)
 }
 

@@ -2,6 +2,7 @@
 
 use crate::answers::Answers;
 use crate::fault::Fault;
+use crate::host_keys::algorithms_of;
 use crate::notices::Notices;
 use crate::parts::{client_config, client_trust, draw, server_config, server_trust};
 use crate::settings::Settings;
@@ -21,8 +22,8 @@ type Handed = Option<(Box<Session>, Vec<u8>)>;
 
 /// A client, and what it asks for after SUCCESS. Answers whether the user was authenticated.
 pub(crate) fn client(rt: &HostRuntime, settings: &Settings<'_>) -> Result<bool, Fault> {
-    let config = client_config(rt, settings)?;
     let trust = &client_trust(rt, settings)?;
+    let config = client_config(rt, settings, algorithms_of(&trust.keys))?;
     match client_session(rt, &config, Answers { settings, trust })? {
         Some((session, after)) => {
             channel::ask(rt, session, after, settings.exec)?;

@@ -106,9 +106,14 @@ fn kexinit(alloc: Global, first: u32) -> Result<Vec<u8>, Fault> {
 fn body_of(alloc: Global, first: u32) -> Result<String, Fault> {
     let mut body = String::new(alloc);
     for i in 0..49u32 {
-        let number = first.saturating_add(i);
-        write!(body, "name-of-19-bytes-{number:02},")?;
+        put_name(&mut body, first.saturating_add(i))?;
     }
     body.push_str("name-of-19-bytes-99")?;
     Ok(body)
+}
+
+/// Appends the name of this number, and a comma.
+fn put_name(body: &mut String, number: u32) -> Result<(), Fault> {
+    write!(body, "name-of-19-bytes-{number:02},")?;
+    Ok(())
 }

@@ -9,26 +9,35 @@ const HASH_LEN: usize = 32;
 /// Makes the digests of all packets of a stream, which all have the same length, and answers the
 /// XOR of their first bytes.
 pub(crate) fn digest(stream: &Stream) -> u8 {
-    let packet_len = stream
-        .bytes
-        .len()
-        .checked_div(stream.count as usize)
-        .unwrap_or(1);
     let mut sum = 0;
-    for (seq, sealed) in (0..stream.count).zip(stream.bytes.chunks(packet_len.max(1))) {
-        let clear = sealed
-            .get(..sealed.len().saturating_sub(HASH_LEN))
-            .unwrap_or(sealed);
+    let mut seq: u32 = 0;
+    for sealed in stream.bytes.chunks(packet_len(stream).max(1)) {
+        let clear = clear_of(sealed);
         sum ^= mask(seq, clear) ^ tag(seq, clear);
+        seq = seq.saturating_add(1);
     }
     sum
+}
+
+/// How many bytes each packet has.
+fn packet_len(stream: &Stream) -> usize {
+    let len = stream.bytes.len();
+    len.checked_div(stream.count as usize).unwrap_or(1)
+}
+
+/// A packet without its tag.
+fn clear_of(sealed: &[u8]) -> &[u8] {
+    let len = sealed.len().saturating_sub(HASH_LEN);
+    sealed.get(..len).unwrap_or(sealed)
 }
 
 /// One digest for each block of the key stream over as many bytes as the clear packet has.
 fn mask(seq: u32, clear: &[u8]) -> u8 {
     let mut sum = 0;
-    for (index, _) in (0..u32::MAX).zip(clear.chunks(HASH_LEN)) {
+    let mut index: u32 = 0;
+    for _ in clear.chunks(HASH_LEN) {
         sum ^= block(seq, index);
+        index = index.saturating_add(1);
     }
     sum
 }

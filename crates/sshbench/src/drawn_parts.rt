@@ -4,6 +4,7 @@ ghost use Rattle.std.specs.Prelude.{◌==◌, ◌&&◌, not};
 
 use crate::drawn::{below, byte, flag};
 use crate::fault::Fault;
+use crate::talk::{client_config, server_config};
 use rand_xoshiro::SplitMix64;
 use sshcore::{
     Attempt, ClientConfig, ClientParts, Credential, Decisions, Proof, ServerConfig, ServerParts,
@@ -49,16 +50,14 @@ impl Decisions for Whims {
 pub(crate) fn client_of(alloc: Global, rng: &mut SplitMix64) -> Result<Box<ClientConfig>, Fault> {
     let mut parts = Box::new(alloc, lab_client_parts(alloc)?)?;
     draw_client(alloc, rng, &mut parts)?;
-    let config = ClientConfig::new(alloc, Box::into_inner(parts))?;
-    Ok(Box::new(alloc, config)?)
+    client_config(alloc, parts)
 }
 
 /// A server's config whose lists, flags, methods, tries and banner are drawn.
 pub(crate) fn server_of(alloc: Global, rng: &mut SplitMix64) -> Result<Box<ServerConfig>, Fault> {
     let mut parts = Box::new(alloc, lab_server_parts(alloc)?)?;
     draw_server(alloc, rng, &mut parts)?;
-    let config = ServerConfig::new(alloc, Box::into_inner(parts))?;
-    Ok(Box::new(alloc, config)?)
+    server_config(alloc, parts)
 }
 
 /// Draws a client's parts.
@@ -71,27 +70,30 @@ fn draw_client(alloc: Global, rng: &mut SplitMix64, parts: &mut ClientParts) -> 
 /// Draws what both sides have.
 fn draw_side(alloc: Global, rng: &mut SplitMix64, side: &mut SideParts) -> Result<(), Fault> {
     side.strict = flag(rng);
-    draw_list(alloc, rng, &mut side.kex_algorithms, "a", "b")?;
+    draw_list(alloc, rng, &mut side.kex_algorithms, ["a", "b"])?;
     draw_list(
         alloc,
         rng,
         &mut side.encryption_client_to_server,
-        "c",
-        "c16",
+        ["c", "c16"],
     )?;
     draw_list(
         alloc,
         rng,
         &mut side.encryption_server_to_client,
-        "c",
-        "c16",
+        ["c", "c16"],
     )?;
-    draw_list(alloc, rng, &mut side.mac_client_to_server, "m", "m2")?;
-    draw_list(alloc, rng, &mut side.mac_server_to_client, "m", "m2")?;
-    for byte_of_seed in side.exchange_random.iter_mut() {
-        *byte_of_seed = byte(rng);
-    }
+    draw_list(alloc, rng, &mut side.mac_client_to_server, ["m", "m2"])?;
+    draw_list(alloc, rng, &mut side.mac_server_to_client, ["m", "m2"])?;
+    draw_bytes(rng, &mut side.exchange_random);
     Ok(())
+}
+
+/// Draws each of the bytes.
+fn draw_bytes(rng: &mut SplitMix64, bytes: &mut [u8]) {
+    for place in bytes.iter_mut() {
+        *place = byte(rng);
+    }
 }
 
 /// Makes it a list of the first name and, of eight lists, in six of the second too, in either order.
@@ -99,20 +101,25 @@ fn draw_list(
     alloc: Global,
     rng: &mut SplitMix64,
     list: &mut Vec<String>,
-    first: &str,
-    second: &str,
+    names: [&str; 2],
 ) -> Result<(), Fault> {
     list.clear();
     let drawn = below(rng, 8);
     if drawn < 4 {
-        list.push(String::from_str(alloc, first)?)?;
+        put_name(alloc, list, names[0])?;
     }
     if drawn > 0 {
-        list.push(String::from_str(alloc, second)?)?;
+        put_name(alloc, list, names[1])?;
     }
     if drawn > 3 {
-        list.push(String::from_str(alloc, first)?)?;
+        put_name(alloc, list, names[0])?;
     }
+    Ok(())
+}
+
+/// Appends a name.
+fn put_name(alloc: Global, list: &mut Vec<String>, name: &str) -> Result<(), Fault> {
+    list.push(String::from_str(alloc, name)?)?;
     Ok(())
 }
 
@@ -143,13 +150,13 @@ fn attempt_of(alloc: Global, rng: &mut SplitMix64) -> Result<Attempt, Fault> {
 
 /// No proof, a password, or a key that is asked about or not.
 fn credential_of(alloc: Global, rng: &mut SplitMix64) -> Result<Credential, Fault> {
-    let secret = Vec::from_slice(alloc, &[byte(rng)])?;
+    let secret = [byte(rng)];
     match below(rng, 5) {
         0 => Ok(Credential::None),
-        1 | 2 => Ok(Credential::Password(secret)),
+        1 | 2 => Ok(Credential::Password(Vec::from_slice(alloc, &secret)?)),
         _ => Ok(Credential::PublicKey {
             algorithm: String::from_str(alloc, "h")?,
-            private_key: secret,
+            private_key: Vec::from_slice(alloc, &secret)?,
             ask: flag(rng),
         }),
     }
@@ -163,10 +170,13 @@ fn draw_server(alloc: Global, rng: &mut SplitMix64, parts: &mut ServerParts) -> 
     if flag(rng) {
         parts.banner = Some(Vec::from_slice(alloc, b"hello")?);
     }
+    draw_lines(alloc, rng, &mut parts.notice_lines)
+}
+
+/// Draws up to two lines before the version line.
+fn draw_lines(alloc: Global, rng: &mut SplitMix64, lines: &mut Vec<Vec<u8>>) -> Result<(), Fault> {
     for _ in 0..below(rng, 3) {
-        parts
-            .notice_lines
-            .push(Vec::from_slice(alloc, b"a line before")?)?;
+        lines.push(Vec::from_slice(alloc, b"a line before")?)?;
     }
     Ok(())
 }
@@ -176,13 +186,24 @@ fn draw_methods(alloc: Global, rng: &mut SplitMix64, parts: &mut ServerParts) ->
     parts.methods.clear();
     parts.required.clear();
     for method in ["password", "publickey"] {
-        if below(rng, 8) == 0 {
-            continue;
-        }
-        parts.methods.push(String::from_str(alloc, method)?)?;
-        if below(rng, 4) == 0 {
-            parts.required.push(String::from_str(alloc, method)?)?;
-        }
+        draw_method(alloc, rng, parts, method)?;
+    }
+    Ok(())
+}
+
+/// Draws whether this is a method, and whether it is required.
+fn draw_method(
+    alloc: Global,
+    rng: &mut SplitMix64,
+    parts: &mut ServerParts,
+    method: &str,
+) -> Result<(), Fault> {
+    if below(rng, 8) == 0 {
+        return Ok(());
+    }
+    put_name(alloc, &mut parts.methods, method)?;
+    if below(rng, 4) == 0 {
+        put_name(alloc, &mut parts.required, method)?;
     }
     Ok(())
 }

@@ -3,9 +3,10 @@
 
 use crate::drawn::{below, byte, flag};
 use crate::fault::{Fault, holds};
-use crate::talk::{Lab, LabEndpoint, Reach, WHOLE, client_in, server_in, talk};
+use crate::talk::{Lab, LabEndpoint, Reach, Sent, WHOLE, endpoint_in, feed, talk};
 use rand_xoshiro::SplitMix64;
 use sshcore::End;
+use sshneg::Side;
 use sshpacket::PACKET_LIMIT;
 use std::alloc::Global;
 
@@ -42,6 +43,16 @@ impl Change {
             _ => Change::Byte(byte(rng)),
         }
     }
+
+    /// How many bytes of the stream are left out at the place.
+    fn cut_len(self) -> usize {
+        match self {
+            Change::Byte(_) => 1,
+            Change::Cut(count) => count,
+            Change::Put(_) | Change::Again(_) => 0,
+            Change::End => usize::MAX,
+        }
+    }
 }
 
 /// A place below the count.
@@ -53,30 +64,43 @@ fn place_below(rng: &mut SplitMix64, count: usize) -> usize {
 /// Receives so many changed streams, and answers how many were authenticated since what was changed means nothing.
 pub(crate) fn streams(alloc: Global, rng: &mut SplitMix64, count: u32) -> Result<u32, Fault> {
     let lab = Lab::new(alloc, Reach::User)?;
-    let sent = talk(alloc, &lab, WHOLE)?;
+    let unnoticed = streams_in(alloc, rng, &lab, count);
+    drop(lab);
+    unnoticed
+}
+
+/// The same of endpoints that are made of this.
+fn streams_in(alloc: Global, rng: &mut SplitMix64, lab: &Lab, count: u32) -> Result<u32, Fault> {
+    let sent = talk(alloc, lab, WHOLE)?;
+    let unnoticed = count_unnoticed(alloc, rng, lab, &sent, count);
+    drop(sent);
+    unnoticed
+}
+
+/// The same of what was sent.
+fn count_unnoticed(
+    alloc: Global,
+    rng: &mut SplitMix64,
+    lab: &Lab,
+    sent: &Sent,
+    count: u32,
+) -> Result<u32, Fault> {
     let mut unnoticed = 0u32;
     for _ in 0..count {
-        let authenticated = if flag(rng) {
-            at_server(alloc, rng, &lab, &sent.client)?
-        } else {
-            at_client(alloc, rng, &lab, &sent.server)?
-        };
+        let authenticated = at_either(alloc, rng, lab, sent)?;
         unnoticed = unnoticed.saturating_add(u32::from(authenticated));
     }
     Ok(unnoticed)
 }
 
-/// Has a fresh server receive the stream with one change.
-fn at_server(alloc: Global, rng: &mut SplitMix64, lab: &Lab, stream: &[u8]) -> Result<bool, Fault> {
-    let mut endpoint = server_in(alloc, lab, &mut Vec::new(alloc))?;
-    let received = receive(alloc, rng, &mut endpoint, stream);
-    drop(endpoint);
-    received
-}
-
-/// The same of a client.
-fn at_client(alloc: Global, rng: &mut SplitMix64, lab: &Lab, stream: &[u8]) -> Result<bool, Fault> {
-    let mut endpoint = client_in(alloc, lab, &mut Vec::new(alloc))?;
+/// Has a fresh endpoint of either side receive the other's stream with one change.
+fn at_either(alloc: Global, rng: &mut SplitMix64, lab: &Lab, sent: &Sent) -> Result<bool, Fault> {
+    let (side, stream) = if flag(rng) {
+        (Side::Server, &sent.client)
+    } else {
+        (Side::Client, &sent.server)
+    };
+    let mut endpoint = endpoint_in(alloc, lab, side, &mut Vec::new(alloc))?;
     let received = receive(alloc, rng, &mut endpoint, stream);
     drop(endpoint);
     received
@@ -92,12 +116,10 @@ fn receive(
 ) -> Result<bool, Fault> {
     let place = place_below(rng, stream.len().saturating_sub(1)).saturating_add(1);
     let change = Change::drawn(rng);
-    let changed = changed_by(alloc, rng, stream, place, change)?;
-    let ended = ends_authenticated(alloc, rng, endpoint, &changed);
-    let nothing = means_nothing(stream, &changed, place, change);
-    drop(changed);
-    let is_authenticated = ended?;
-    holds(!is_authenticated || nothing)?;
+    let mut changed = Vec::new(alloc);
+    put_changed(rng, stream, place, change, &mut changed)?;
+    let is_authenticated = ends_authenticated(alloc, rng, endpoint, &changed)?;
+    holds(!is_authenticated || means_nothing(stream, &changed, place, change))?;
     Ok(is_authenticated)
 }
 
@@ -132,35 +154,39 @@ fn padding_after(stream: &[u8], begin: usize) -> (usize, usize) {
     (end.saturating_sub(padding), end)
 }
 
-/// The stream with the change at the place.
-fn changed_by(
-    alloc: Global,
+/// Appends the stream with the change at the place.
+fn put_changed(
     rng: &mut SplitMix64,
     stream: &[u8],
     place: usize,
     change: Change,
-) -> Result<Vec<u8>, Fault> {
+    out: &mut Vec<u8>,
+) -> Result<(), Fault> {
     let (front, rest) = stream.split_at(place.min(stream.len()));
-    let mut changed = Vec::from_slice(alloc, front)?;
+    out.extend_from_slice(front)?;
+    put_new(rng, stream, change, out)?;
+    out.extend_from_slice(rest.get(change.cut_len()..).unwrap_or(&[]))?;
+    Ok(())
+}
+
+/// Appends what the change puts in at its place.
+fn put_new(
+    rng: &mut SplitMix64,
+    stream: &[u8],
+    change: Change,
+    out: &mut Vec<u8>,
+) -> Result<(), Fault> {
     match change {
-        Change::Byte(byte) => {
-            changed.push(byte)?;
-            changed.extend_from_slice(rest.get(1..).unwrap_or(&[]))?;
-        }
-        Change::Cut(count) => changed.extend_from_slice(rest.get(count..).unwrap_or(&[]))?,
-        Change::Put(count) => {
-            put_random(rng, &mut changed, count)?;
-            changed.extend_from_slice(rest)?;
-        }
+        Change::Byte(byte) => out.push(byte)?,
+        Change::Put(count) => put_random(rng, out, count)?,
         Change::Again(count) => {
             let from = place_below(rng, stream.len());
             let part = stream.get(from..).unwrap_or(&[]);
-            changed.extend_from_slice(part.get(..count).unwrap_or(part))?;
-            changed.extend_from_slice(rest)?;
+            out.extend_from_slice(part.get(..count).unwrap_or(part))?;
         }
-        Change::End => {}
+        Change::Cut(_) | Change::End => {}
     }
-    Ok(changed)
+    Ok(())
 }
 
 /// Appends so many random bytes.
@@ -171,20 +197,37 @@ fn put_random(rng: &mut SplitMix64, out: &mut Vec<u8>, count: usize) -> Result<(
     Ok(())
 }
 
-/// Gives the endpoint the stream in pieces that are drawn, and then the end of its input. It may never hold more than a packet.
+/// Gives the endpoint the stream in pieces that are drawn, and then the end of its input, and answers whether it was
+/// authenticated.
 fn ends_authenticated(
     alloc: Global,
     rng: &mut SplitMix64,
     endpoint: &mut LabEndpoint<'_>,
     stream: &[u8],
 ) -> Result<bool, Fault> {
+    receive_all(alloc, rng, endpoint, stream)?;
+    endpoint.end_of_input();
+    is_authenticated(endpoint.end())
+}
+
+/// Gives the endpoint the stream in pieces that are drawn. It may never hold more than a packet.
+fn receive_all(
+    alloc: Global,
+    rng: &mut SplitMix64,
+    endpoint: &mut LabEndpoint<'_>,
+    stream: &[u8],
+) -> Result<(), Fault> {
     let mut out = Vec::new(alloc);
     for piece in stream.chunks(place_below(rng, 100).max(1)) {
-        endpoint.feed(piece, &mut out)?;
+        feed(endpoint, piece, &mut out)?;
         holds(endpoint.buffered() <= PACKET_LIMIT)?;
     }
-    endpoint.end_of_input();
-    match endpoint.end() {
+    Ok(())
+}
+
+/// Whether this is the end of an endpoint that was authenticated; it may not be open.
+fn is_authenticated(end: &End) -> Result<bool, Fault> {
+    match end {
         End::Authenticated(_) => Ok(true),
         End::Open => Err(Fault::Otherwise),
         _ => Ok(false),

@@ -75,7 +75,15 @@ pub(crate) fn copy(payload: &[u8], out: &mut Vec<u8>) -> Result<(), Fault> {
 }
 
 /// Whether the payload has 1024 bytes, and is written as it was read.
-pub(crate) fn check(alloc: Global, payload: &[u8]) -> Result<(), Fault> {
+pub(crate) fn check(alloc: Global) -> Result<(), Fault> {
+    let payload = payload(alloc)?;
+    let checked = check_payload(alloc, &payload);
+    drop(payload);
+    checked
+}
+
+/// The same of this payload.
+fn check_payload(alloc: Global, payload: &[u8]) -> Result<(), Fault> {
     let mut out = Vec::new(alloc);
     read_and_write(alloc, payload, &mut out)?;
     holds(payload.len() == 1024 && out.as_slice() == payload)

@@ -51,23 +51,24 @@ fn long_of(alloc: Global, len: usize) -> Result<Vec<u8>, Fault> {
 
 /// Appends such a message with this long field.
 fn put_message(payload: &mut Vec<u8>, kind: Kind, long: &[u8]) -> Result<(), Fault> {
+    payload.extend_from_slice(front_of(kind))?;
+    put_long(payload, long)?;
     match kind {
-        Kind::Ignore => {
-            payload.extend_from_slice(&[2])?;
-            put_long(payload, long)
-        }
-        Kind::KexdhReply => put_reply(payload, long),
+        Kind::Ignore | Kind::Password => Ok(()),
+        Kind::KexdhReply => put_share_and_signature(payload),
+        Kind::Banner => put_long(payload, b"en"),
+    }
+}
+
+/// What stands before the long field.
+fn front_of(kind: Kind) -> &'static [u8] {
+    match kind {
+        Kind::Ignore => &[2],
+        Kind::KexdhReply => &[31],
         Kind::Password => {
-            payload.extend_from_slice(
-                b"\x32\x00\x00\x00\x05alice\x00\x00\x00\x0essh-connection\x00\x00\x00\x08password\x00",
-            )?;
-            put_long(payload, long)
+            b"\x32\x00\x00\x00\x05alice\x00\x00\x00\x0essh-connection\x00\x00\x00\x08password\x00"
         }
-        Kind::Banner => {
-            payload.extend_from_slice(&[53])?;
-            put_long(payload, long)?;
-            put_long(payload, b"en")
-        }
+        Kind::Banner => &[53],
     }
 }
 
@@ -80,10 +81,8 @@ fn put_long(payload: &mut Vec<u8>, bytes: &[u8]) -> Result<(), Fault> {
     Ok(())
 }
 
-/// Appends a KEXDH_REPLY.
-fn put_reply(payload: &mut Vec<u8>, host_key: &[u8]) -> Result<(), Fault> {
-    payload.extend_from_slice(&[31])?;
-    put_long(payload, host_key)?;
+/// Appends a share and a signature.
+fn put_share_and_signature(payload: &mut Vec<u8>) -> Result<(), Fault> {
     put_long(payload, &[0x55; 256])?;
     put_long(payload, &[0x55; 256])
 }

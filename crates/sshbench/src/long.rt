@@ -29,6 +29,13 @@ struct Long {
 
 /// Reads so many MB of packets, and prints how long the reading took.
 pub(crate) fn print(rt: &HostRuntime, megabytes: u32) -> Result<(), Fault> {
+    let micros = read_long(rt, megabytes)?;
+    writeln!(rt.stdout(), "{megabytes} MB read in {micros} us")?;
+    Ok(())
+}
+
+/// Reads so many MB of packets, and answers how many microseconds the reading took.
+fn read_long(rt: &HostRuntime, megabytes: u32) -> Result<u128, Fault> {
     let alloc = rt.alloc();
     let mut long = Long {
         keys: keys(alloc)?,
@@ -38,9 +45,7 @@ pub(crate) fn print(rt: &HostRuntime, megabytes: u32) -> Result<(), Fault> {
     };
     let read = long.read(rt, megabytes);
     drop(long);
-    let micros = read?;
-    writeln!(rt.stdout(), "{megabytes} MB read in {micros} us")?;
-    Ok(())
+    read
 }
 
 impl Long {

@@ -24,8 +24,9 @@ mod work;
 
 use crate::fault::Fault;
 use crate::talk::Reach;
-use std::env;
+use std::env::{self, Args};
 use std::io::Write;
+use std::iter::Skip;
 use std::process::ExitCode;
 
 fn main(rt: HostRuntime) -> ExitCode {
@@ -51,7 +52,7 @@ enum Job {
 fn run(rt: &HostRuntime) -> Result<(), Fault> {
     match read_job(rt)? {
         Job::Check => check(rt),
-        Job::Time => table::print(rt, &kexinit::payload(rt.alloc())?),
+        Job::Time => table::print(rt),
         Job::Stream { megabytes } => long::print(rt, megabytes),
         Job::Soak { count, seed } => soak::print(rt, count, seed),
     }
@@ -60,42 +61,52 @@ fn run(rt: &HostRuntime) -> Result<(), Fault> {
 /// Checks each row.
 fn check(rt: &HostRuntime) -> Result<(), Fault> {
     let alloc = rt.alloc();
-    let payload = kexinit::payload(alloc)?;
-    kexinit::check(alloc, &payload)?;
-    writeln!(rt.stdout(), "kexinit ok")?;
-    lent::check(alloc)?;
-    writeln!(rt.stdout(), "messages ok")?;
-    packets::check(alloc)?;
-    writeln!(rt.stdout(), "packets ok")?;
-    choices::check(alloc)?;
-    writeln!(rt.stdout(), "choice ok")?;
-    talk::check(alloc, Reach::Service)?;
-    writeln!(rt.stdout(), "negotiation ok")?;
-    talk::check(alloc, Reach::User)?;
-    writeln!(rt.stdout(), "session ok")?;
+    print_checked(rt, "kexinit", kexinit::check(alloc))?;
+    print_checked(rt, "messages", lent::check(alloc))?;
+    print_checked(rt, "packets", packets::check(alloc))?;
+    print_checked(rt, "choice", choices::check(alloc))?;
+    print_checked(rt, "negotiation", talk::check(alloc, Reach::Service))?;
+    print_checked(rt, "session", talk::check(alloc, Reach::User))
+}
+
+/// Prints that the row of this name is right, where it is.
+fn print_checked(rt: &HostRuntime, name: &str, checked: Result<(), Fault>) -> Result<(), Fault> {
+    checked?;
+    writeln!(rt.stdout(), "{name} ok")?;
     Ok(())
 }
 
 /// The job that the words name; other words are refused.
 fn read_job(rt: &HostRuntime) -> Result<Job, Fault> {
     let mut words = env::args(rt)?.skip(1);
-    let job = match words.next() {
-        None => Job::Check,
-        Some(word) => match word.as_str() {
-            "time" => Job::Time,
-            "stream" => Job::Stream {
-                megabytes: number(words.next())?,
-            },
-            "soak" => Job::Soak {
-                count: number(words.next())?,
-                seed: number(words.next())?,
-            },
-            _ => return Err(Fault::Words),
-        },
+    let job = job_of(&mut words);
+    let more = words.next().is_some();
+    drop(words);
+    if more { Err(Fault::Words) } else { job }
+}
+
+/// The job that the next words name.
+fn job_of(words: &mut Skip<Args>) -> Result<Job, Fault> {
+    let Some(word) = words.next() else {
+        return Ok(Job::Check);
     };
-    match words.next() {
-        None => Ok(job),
-        Some(_) => Err(Fault::Words),
+    let job = named_job(word.as_str(), words);
+    drop(word);
+    job
+}
+
+/// The job of this name, with the numbers that come next.
+fn named_job(name: &str, words: &mut Skip<Args>) -> Result<Job, Fault> {
+    match name {
+        "time" => Ok(Job::Time),
+        "stream" => Ok(Job::Stream {
+            megabytes: number(words.next())?,
+        }),
+        "soak" => Ok(Job::Soak {
+            count: number(words.next())?,
+            seed: number(words.next())?,
+        }),
+        _ => Err(Fault::Words),
     }
 }
 

@@ -5,7 +5,6 @@ use sshpacket::{KeyParts, Keys, PacketReader, PacketStep, write_clear, write_sea
 use sshsuites::LabSuite;
 use sshwire::PAYLOAD_LIMIT;
 use std::alloc::{AllocError, Global};
-use std::fmt;
 
 /// The initialisation vector of sealed packets.
 pub(crate) const IV: [u8; 16] = [1; 16];
@@ -40,14 +39,6 @@ pub(crate) struct Load {
     pub(crate) sealed: bool,
     /// How many bytes each payload has.
     pub(crate) payload_len: usize,
-}
-
-impl fmt::Display for Load {
-    fn fmt<W: fmt::Write>(&self, f: &mut fmt::Formatter<W>) -> fmt::Result {
-        let way = if self.sealed { "sealed" } else { "clear" };
-        let payload_len = self.payload_len;
-        write!(f, "{way} packets of {payload_len}")
-    }
 }
 
 impl Load {
@@ -191,22 +182,32 @@ pub(crate) fn read_piece(
     let mut rest = piece;
     let mut count: u32 = 0;
     for _ in 0..piece.len() {
-        match reader.next(&LabSuite, rest) {
-            Ok(PacketStep::More) => return Ok(count),
-            Ok(PacketStep::Payload { payload, used, .. }) => {
-                if payload.len() != payload_len {
-                    return Err(Fault::Otherwise);
-                }
-                count = count.saturating_add(1);
-                rest = rest.get(used..).unwrap_or(&[]);
-            }
-            Err(fault) => return Err(Fault::from(fault)),
-        }
+        let Some(used) = read_payload(reader, rest, payload_len)? else {
+            return Ok(count);
+        };
+        count = count.saturating_add(1);
+        rest = rest.get(used..).unwrap_or(&[]);
         if rest.is_empty() {
             return Ok(count);
         }
     }
     Ok(count)
+}
+
+/// Reads up to the end of a payload, which must have this length, and answers how many bytes that took; None where more
+/// are needed.
+fn read_payload(
+    reader: &mut PacketReader,
+    bytes: &[u8],
+    payload_len: usize,
+) -> Result<Option<usize>, Fault> {
+    match reader.next(&LabSuite, bytes)? {
+        PacketStep::More => Ok(None),
+        PacketStep::Payload { payload, used, .. } => {
+            holds(payload.len() == payload_len)?;
+            Ok(Some(used))
+        }
+    }
 }
 
 /// Reads streams of packets of each length, in clear and sealed, in pieces of each length.

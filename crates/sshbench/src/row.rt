@@ -21,6 +21,17 @@ pub(crate) fn print_row(
 ) -> Result<(), Fault> {
     let (work, other) = (work.as_micros(), other.as_micros());
     let hundredths = work.saturating_mul(100).checked_div(other).unwrap_or(0);
+    print_line(rt, row, work, other, hundredths)
+}
+
+/// The same of these microseconds, and so many hundredths as their ratio.
+fn print_line(
+    rt: &HostRuntime,
+    row: Row<'_>,
+    work: u128,
+    other: u128,
+    hundredths: u128,
+) -> Result<(), Fault> {
     let (whole, rest) = (hundredths / 100, hundredths % 100);
     let (name, beside, rounds) = (row.name, row.beside, row.rounds);
     writeln!(

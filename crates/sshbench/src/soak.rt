@@ -30,19 +30,28 @@ struct Tally {
 
 /// Runs so many worlds, and receives ten times as many changed streams, and prints how they ended.
 pub(crate) fn print(rt: &HostRuntime, count: u32, seed: u32) -> Result<(), Fault> {
-    let alloc = rt.alloc();
     let mut rng = SplitMix64::seed_from_u64(u64::from(seed));
-    let tally = sessions(alloc, &mut rng, count)?;
+    print_sessions(rt, &mut rng, count)?;
+    print_streams(rt, &mut rng, count.saturating_mul(STREAMS))
+}
+
+/// Runs so many worlds, and prints how they ended.
+fn print_sessions(rt: &HostRuntime, rng: &mut SplitMix64, count: u32) -> Result<(), Fault> {
+    let tally = sessions(rt.alloc(), rng, count)?;
     let (authenticated, otherwise) = (tally.authenticated, tally.otherwise);
     writeln!(
         rt.stdout(),
         "{count} sessions ended as predicted: {authenticated} authenticated, {otherwise} otherwise"
     )?;
-    let streams = count.saturating_mul(STREAMS);
-    let unnoticed = hostile::streams(alloc, &mut rng, streams)?;
+    Ok(())
+}
+
+/// Receives so many changed streams, and prints how they ended.
+fn print_streams(rt: &HostRuntime, rng: &mut SplitMix64, count: u32) -> Result<(), Fault> {
+    let unnoticed = hostile::streams(rt.alloc(), rng, count)?;
     writeln!(
         rt.stdout(),
-        "{streams} changed streams, none authenticated but {unnoticed} that mean the same"
+        "{count} changed streams, none authenticated but {unnoticed} that mean the same"
     )?;
     Ok(())
 }
@@ -66,10 +75,17 @@ fn sessions(alloc: Global, rng: &mut SplitMix64, count: u32) -> Result<Tally, Fa
 /// Draws both configs, the decisions and a schedule, and answers whether the user was authenticated.
 fn session(alloc: Global, rng: &mut SplitMix64) -> Result<bool, Fault> {
     let client = client_of(alloc, rng)?;
+    let ended = session_of(alloc, rng, &client);
+    drop(client);
+    ended
+}
+
+/// The same of this client.
+fn session_of(alloc: Global, rng: &mut SplitMix64, client: &ClientConfig) -> Result<bool, Fault> {
     let server = server_of(alloc, rng)?;
     let whims = Whims::drawn(rng);
-    let ended = run(alloc, rng, &client, &server, &whims);
-    drop((client, server));
+    let ended = run(alloc, rng, client, &server, &whims);
+    drop(server);
     ended
 }
 
@@ -113,21 +129,32 @@ fn ends_so(
 ) -> Result<bool, Fault> {
     deliver(rng, world)?;
     world.settle(ROUNDS)?;
-    let ends = world.ends();
-    holds(world.complete() && is_same(ends.0, &wanted.0) && is_same(ends.1, &wanted.1))?;
+    holds(world.complete())?;
+    judge(world.ends(), wanted)
+}
+
+/// Judges how both sides ended, and answers whether the user was authenticated.
+fn judge(ends: (&End, &End), wanted: &(End, End)) -> Result<bool, Fault> {
+    holds(is_same(ends.0, &wanted.0) && is_same(ends.1, &wanted.1))?;
     Ok(matches!(ends.0, End::Authenticated(_)))
 }
 
 /// Delivers by a schedule that is drawn.
 fn deliver(rng: &mut SplitMix64, world: &mut DrawnWorld<'_>) -> Result<(), Fault> {
     for _ in 0..below(rng, DELIVERIES) {
-        let to = if flag(rng) {
-            Side::Client
-        } else {
-            Side::Server
-        };
-        world.deliver(to, below(rng, 60))?;
+        deliver_once(rng, world)?;
     }
+    Ok(())
+}
+
+/// Makes one delivery that is drawn.
+fn deliver_once(rng: &mut SplitMix64, world: &mut DrawnWorld<'_>) -> Result<(), Fault> {
+    let to = if flag(rng) {
+        Side::Client
+    } else {
+        Side::Server
+    };
+    world.deliver(to, below(rng, 60))?;
     Ok(())
 }
 

@@ -3,13 +3,13 @@
 use crate::choices::{Offers, Payloads};
 use crate::digests::digest;
 use crate::fault::Fault;
+use crate::kexinit;
 use crate::lent::{Kind, payload};
 use crate::packets::{Load, PIECE_LENS, Stream};
-use crate::row::{Row, print_row};
+use crate::row::Row;
 use crate::talk::{Lab, Reach, WHOLE};
-use crate::work::{Act, Work, print_both};
+use crate::work::{Work, print_both};
 use std::io::Write;
-use std::time::{Duration, Instant};
 
 /// How often the payload of a KEXINIT is read and written.
 const ROUNDS: u32 = 100_000;
@@ -42,19 +42,27 @@ const MESSAGES: [(Kind, usize); 5] = [
 ];
 
 /// Times each row and prints the table.
-pub(crate) fn print(rt: &HostRuntime, kexinit: &[u8]) -> Result<(), Fault> {
+pub(crate) fn print(rt: &HostRuntime) -> Result<(), Fault> {
     writeln!(
         rt.stdout(),
         "work                             rounds  work us  other us    ratio  other"
     )?;
-    let row = row("kexinit read and written", "copying", ROUNDS);
-    print_both(rt, row, Work::Kexinit(kexinit), Work::Copy(kexinit))?;
+    print_kexinit(rt)?;
     for (kind, len) in MESSAGES {
         print_message(rt, kind, len)?;
     }
     print_choices(rt)?;
     print_packets(rt)?;
     print_talks(rt)
+}
+
+/// Times reading and writing a KEXINIT beside copying its payload.
+fn print_kexinit(rt: &HostRuntime) -> Result<(), Fault> {
+    let payload = kexinit::payload(rt.alloc())?;
+    let row = row("kexinit read and written", "copying", ROUNDS);
+    let printed = print_both(rt, row, Work::Kexinit(&payload), Work::Copy(&payload));
+    drop(payload);
+    printed
 }
 
 /// A row of this name.
@@ -78,34 +86,10 @@ fn print_message(rt: &HostRuntime, kind: Kind, len: usize) -> Result<(), Fault> 
 fn print_choices(rt: &HostRuntime) -> Result<(), Fault> {
     let payloads = Payloads::new(rt.alloc())?;
     let offers = Offers::new(rt.alloc(), &payloads)?;
-    let printed = print_offers(rt, &offers);
+    let row = row("choice, 50 names a list", "comparing names", CHOICES);
+    let printed = print_both(rt, row, Work::Choose(&offers), Work::Compare(&offers));
     drop(offers);
     printed
-}
-
-/// The same of these offers.
-fn print_offers(rt: &HostRuntime, offers: &Offers<'_>) -> Result<(), Fault> {
-    let row = row("choice, 50 names a list", "comparing names", CHOICES);
-    let took = time_choices(rt, offers)?;
-    print_row(rt, row, took, time_comparisons(rt, offers)?)
-}
-
-/// Times choices.
-fn time_choices(rt: &HostRuntime, offers: &Offers<'_>) -> Result<Duration, Fault> {
-    let start = Instant::now(rt)?;
-    for _ in 0..CHOICES {
-        offers.choose()?;
-    }
-    Ok(start.elapsed(rt)?)
-}
-
-/// Times comparisons of the names of eight lists.
-fn time_comparisons(rt: &HostRuntime, offers: &Offers<'_>) -> Result<Duration, Fault> {
-    let start = Instant::now(rt)?;
-    for _ in 0..CHOICES {
-        offers.compare()?;
-    }
-    Ok(start.elapsed(rt)?)
 }
 
 /// Times reads of streams of packets, and prints their rows.
@@ -145,31 +129,34 @@ fn print_clear(rt: &HostRuntime, payload_len: usize) -> Result<(), Fault> {
 /// Times reads of a stream in pieces of so many bytes beside both ways of copying it.
 fn print_pieces(rt: &HostRuntime, stream: &Stream, piece_len: usize) -> Result<(), Fault> {
     let rounds = if piece_len == 1 { SLOW_READS } else { READS };
-    let copy = Act::Copy(piece_len);
+    let copy = Work::CopyPackets(stream, piece_len);
     print_read(rt, stream, piece_len, row("", "copying", rounds), copy)?;
-    let over = Act::CopyOver(piece_len);
+    let over = Work::CopyOver(stream, piece_len);
     print_read(rt, stream, piece_len, row("", "copying over", rounds), over)
 }
 
-/// Times reads of a stream in such pieces beside another act, and prints the row under the stream's name.
+/// Times reads of a stream in such pieces beside another work, and prints the row under the stream's name.
 fn print_read(
     rt: &HostRuntime,
     stream: &Stream,
     piece_len: usize,
     row: Row<'_>,
-    other: Act,
+    other: Work<'_>,
 ) -> Result<(), Fault> {
-    let load = stream.load;
-    let name = format!(in rt.alloc(); "{load} by {piece_len}")?;
-    let work = Work::Packets(stream, Act::Read(piece_len));
+    let Load {
+        sealed,
+        payload_len,
+    } = stream.load;
+    let way = if sealed { "sealed" } else { "clear" };
+    let name = format!(in rt.alloc(); "{way} packets of {payload_len} by {piece_len}")?;
     let row = Row { name: &name, ..row };
-    print_both(rt, row, work, Work::Packets(stream, other))
+    print_both(rt, row, Work::ReadPackets(stream, piece_len), other)
 }
 
 /// Times reads of sealed packets in large pieces, and prints the row.
 fn print_sealed(rt: &HostRuntime, payload_len: usize) -> Result<(), Fault> {
     let stream = stream(rt, true, payload_len, STREAM_LEN)?;
-    let other = Act::Digest(digest(&stream));
+    let other = Work::Digest(&stream, digest(&stream));
     print_read(rt, &stream, 65536, row("", "digests", SLOW_READS), other)
 }
 
@@ -178,13 +165,11 @@ fn print_ten_times(rt: &HostRuntime) -> Result<(), Fault> {
     let short = stream(rt, false, 1024, 200_000)?;
     let long = stream(rt, false, 1024, 2_000_000)?;
     let row = row("2 MB of clear packets by 1448", "a tenth of it", READS);
-    let act = Act::Read(1448);
-    print_both(
-        rt,
-        row,
-        Work::Packets(&long, act),
-        Work::Packets(&short, act),
-    )
+    let (work, other) = (
+        Work::ReadPackets(&long, 1448),
+        Work::ReadPackets(&short, 1448),
+    );
+    print_both(rt, row, work, other)
 }
 
 /// Times talks by single bytes beside whole ones, and whole sessions beside negotiations.

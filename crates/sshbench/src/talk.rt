@@ -3,7 +3,9 @@
 use crate::fault::{Fault, holds};
 use sshcore::{
     Attempt, ClientConfig, ClientParts, Credential, End, Endpoint, Fault as Cause, ServerConfig,
+    ServerParts,
 };
+use sshneg::Side;
 use sshsuites::{LabDecisions, LabSuite, lab_client_parts, lab_server_parts};
 use std::alloc::Global;
 
@@ -83,25 +85,36 @@ fn attempt_of(alloc: Global) -> Result<Attempt, Fault> {
     })
 }
 
-/// The client's parts, with one attempt where it has a user.
-fn client_parts(alloc: Global, reach: Reach) -> Result<Box<ClientParts>, Fault> {
-    let mut parts = Box::new(alloc, lab_client_parts(alloc)?)?;
+/// Appends the one attempt where there is a user.
+fn put_attempt(alloc: Global, reach: Reach, plan: &mut Vec<Attempt>) -> Result<(), Fault> {
     if let Reach::User = reach {
-        parts.plan.push(attempt_of(alloc)?)?;
+        plan.push(attempt_of(alloc)?)?;
     }
-    Ok(parts)
+    Ok(())
 }
 
 /// The client's config.
 fn client_of(alloc: Global, reach: Reach) -> Result<Box<ClientConfig>, Fault> {
-    let parts = client_parts(alloc, reach)?;
+    let mut parts = Box::new(alloc, lab_client_parts(alloc)?)?;
+    put_attempt(alloc, reach, &mut parts.plan)?;
+    client_config(alloc, parts)
+}
+
+/// The client's config of these parts.
+pub(crate) fn client_config(
+    alloc: Global,
+    parts: Box<ClientParts>,
+) -> Result<Box<ClientConfig>, Fault> {
     let config = ClientConfig::new(alloc, Box::into_inner(parts))?;
     Ok(Box::new(alloc, config)?)
 }
 
-/// The server's config.
-fn server_of(alloc: Global) -> Result<Box<ServerConfig>, Fault> {
-    let config = ServerConfig::new(alloc, lab_server_parts(alloc)?)?;
+/// The server's config of these parts.
+pub(crate) fn server_config(
+    alloc: Global,
+    parts: Box<ServerParts>,
+) -> Result<Box<ServerConfig>, Fault> {
+    let config = ServerConfig::new(alloc, Box::into_inner(parts))?;
     Ok(Box::new(alloc, config)?)
 }
 
@@ -116,7 +129,7 @@ impl Lab {
     /// The lab whose endpoints come so far.
     pub(crate) fn new(alloc: Global, reach: Reach) -> Result<Lab, Fault> {
         let client = client_of(alloc, reach)?;
-        let server = server_of(alloc)?;
+        let server = server_config(alloc, Box::new(alloc, lab_server_parts(alloc)?)?)?;
         Ok(Lab {
             client,
             server,
@@ -136,88 +149,95 @@ pub(crate) struct Sent {
 /// An endpoint of the lab.
 pub(crate) type LabEndpoint<'a> = Endpoint<'a, LabSuite, LabDecisions>;
 
-/// The client at its making, and what it sends then.
-pub(crate) fn client_in<'a>(
+/// The endpoint of a side at its making, and what it sends then.
+pub(crate) fn endpoint_in<'a>(
     alloc: Global,
     lab: &'a Lab,
+    side: Side,
     sent: &mut Vec<u8>,
 ) -> Result<Box<LabEndpoint<'a>>, Fault> {
-    let endpoint = Endpoint::client(alloc, &lab.client, &LabSuite, &lab.decisions, sent)?;
-    Ok(Box::new(alloc, endpoint)?)
-}
-
-/// The same of the server.
-pub(crate) fn server_in<'a>(
-    alloc: Global,
-    lab: &'a Lab,
-    sent: &mut Vec<u8>,
-) -> Result<Box<LabEndpoint<'a>>, Fault> {
-    let endpoint = Endpoint::server(alloc, &lab.server, &LabSuite, &lab.decisions, sent)?;
-    Ok(Box::new(alloc, endpoint)?)
-}
-
-/// An endpoint, all that it has sent, and how many of the other's bytes it was given.
-#[derive(Drop)]
-struct Talker<'a> {
-    endpoint: Box<LabEndpoint<'a>>,
-    sent: Vec<u8>,
-    given: usize,
-}
-
-impl<'a> Talker<'a> {
-    /// The client at its making.
-    fn client(alloc: Global, lab: &'a Lab) -> Result<Talker<'a>, Fault> {
-        let mut sent = Vec::new(alloc);
-        let endpoint = client_in(alloc, lab, &mut sent)?;
-        Ok(Talker {
-            endpoint,
-            sent,
-            given: 0,
-        })
-    }
-
-    /// The server at its making.
-    fn server(alloc: Global, lab: &'a Lab) -> Result<Talker<'a>, Fault> {
-        let mut sent = Vec::new(alloc);
-        let endpoint = server_in(alloc, lab, &mut sent)?;
-        Ok(Talker {
-            endpoint,
-            sent,
-            given: 0,
-        })
-    }
-
-    /// Gives it what the other has sent since, in pieces of so many bytes; it has to use all.
-    fn receive(&mut self, other: &[u8], piece_len: usize) -> Result<(), Fault> {
-        let rest = other.get(self.given..).unwrap_or(&[]);
-        for piece in rest.chunks(piece_len.max(1)) {
-            if self.endpoint.feed(piece, &mut self.sent)? != piece.len() {
-                return Err(Fault::Otherwise);
-            }
-        }
-        self.given = other.len();
-        Ok(())
-    }
+    let endpoint = match side {
+        Side::Client => Endpoint::client(alloc, &lab.client, &LabSuite, &lab.decisions, sent),
+        Side::Server => Endpoint::server(alloc, &lab.server, &LabSuite, &lab.decisions, sent),
+    };
+    Ok(Box::new(alloc, endpoint?)?)
 }
 
 /// Makes both endpoints and lets them talk, in pieces of so many bytes, as far as the lab has them come.
 pub(crate) fn talk(alloc: Global, lab: &Lab, piece_len: usize) -> Result<Sent, Fault> {
-    let mut client = Talker::client(alloc, lab)?;
-    let mut server = Talker::server(alloc, lab)?;
-    for _ in 0..lab.reach.turns() {
-        server.receive(&client.sent, piece_len)?;
-        client.receive(&server.sent, piece_len)?;
+    let mut sent = Sent {
+        client: Vec::new(alloc),
+        server: Vec::new(alloc),
+    };
+    with_client(alloc, lab, piece_len, &mut sent)?;
+    Ok(sent)
+}
+
+/// Makes the client, and lets it talk with a server.
+fn with_client(alloc: Global, lab: &Lab, piece_len: usize, sent: &mut Sent) -> Result<(), Fault> {
+    let mut client = endpoint_in(alloc, lab, Side::Client, &mut sent.client)?;
+    let talked = with_server(alloc, lab, piece_len, &mut client, sent);
+    drop(client);
+    talked
+}
+
+/// Makes the server, and lets both talk.
+fn with_server(
+    alloc: Global,
+    lab: &Lab,
+    piece_len: usize,
+    client: &mut LabEndpoint<'_>,
+    sent: &mut Sent,
+) -> Result<(), Fault> {
+    let mut server = endpoint_in(alloc, lab, Side::Server, &mut sent.server)?;
+    let talked = take_turns(lab.reach, piece_len, client, &mut server, sent);
+    drop(server);
+    talked
+}
+
+/// Gives each side in turn what the other has sent since, by which both have to come so far.
+fn take_turns(
+    reach: Reach,
+    piece_len: usize,
+    client: &mut LabEndpoint<'_>,
+    server: &mut LabEndpoint<'_>,
+    sent: &mut Sent,
+) -> Result<(), Fault> {
+    let (mut to_server, mut to_client) = (0, 0);
+    for _ in 0..reach.turns() {
+        receive(server, &sent.client, to_server, piece_len, &mut sent.server)?;
+        to_server = sent.client.len();
+        receive(client, &sent.server, to_client, piece_len, &mut sent.client)?;
+        to_client = sent.server.len();
     }
-    if lab
-        .reach
-        .is_reached(client.endpoint.end(), server.endpoint.end())
-    {
-        Ok(Sent {
-            client: client.sent,
-            server: server.sent,
-        })
-    } else {
-        Err(Fault::Otherwise)
+    holds(reach.is_reached(client.end(), server.end()))
+}
+
+/// Gives an endpoint what the other has sent from this place on, in pieces of so many bytes; it has to use all.
+fn receive(
+    endpoint: &mut LabEndpoint<'_>,
+    other: &[u8],
+    from: usize,
+    piece_len: usize,
+    sent: &mut Vec<u8>,
+) -> Result<(), Fault> {
+    let rest = other.get(from..).unwrap_or(&[]);
+    for piece in rest.chunks(piece_len.max(1)) {
+        let used = feed(endpoint, piece, sent)?;
+        holds(used == piece.len())?;
+    }
+    Ok(())
+}
+
+/// Gives an endpoint a piece, and answers how many bytes of it were used.
+pub(crate) fn feed(
+    endpoint: &mut LabEndpoint<'_>,
+    piece: &[u8],
+    sent: &mut Vec<u8>,
+) -> Result<usize, Fault> {
+    match endpoint.feed(piece, sent) {
+        Ok(used) => Ok(used),
+        Err(_) => Err(Fault::Memory),
     }
 }
 

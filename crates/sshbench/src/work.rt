@@ -1,5 +1,6 @@
 //! What is timed, as data.
 
+use crate::choices::Offers;
 use crate::digests::digest;
 use crate::fault::{Fault, holds};
 use crate::kexinit::{copy, read_and_write};
@@ -21,44 +22,20 @@ pub(crate) enum Work<'a> {
     Read(&'a [u8], usize),
     /// Makes an owned copy of it.
     Own(&'a [u8]),
-    /// What is done with a stream of packets.
-    Packets(&'a Stream, Act),
+    /// Chooses among what both sides offer.
+    Choose(&'a Offers<'a>),
+    /// Compares the names of eight of their lists.
+    Compare(&'a Offers<'a>),
+    /// Reads a stream of packets in pieces of so many bytes.
+    ReadPackets(&'a Stream, usize),
+    /// Copies it in such pieces, each after the one before.
+    CopyPackets(&'a Stream, usize),
+    /// Copies it in such pieces, each over the one before.
+    CopyOver(&'a Stream, usize),
+    /// Makes the digests of its sealed packets, of which this has to come.
+    Digest(&'a Stream, u8),
     /// Two endpoints talk in pieces of so many bytes.
     Talk(&'a Lab, usize),
-}
-
-/// What is done with a stream of packets.
-#[derive(Clone, Copy)]
-pub(crate) enum Act {
-    /// It is read in pieces of so many bytes.
-    Read(usize),
-    /// It is copied in such pieces, each after the one before.
-    Copy(usize),
-    /// It is copied in such pieces, each over the one before.
-    CopyOver(usize),
-    /// The digests of its sealed packets are made, of which this has to come.
-    Digest(u8),
-}
-
-impl Act {
-    /// Does it once.
-    fn once(self, alloc: Global, stream: &Stream, out: &mut Vec<u8>) -> Result<(), Fault> {
-        match self {
-            Act::Read(piece_len) => stream.read(alloc, piece_len),
-            Act::Copy(piece_len) => stream.copy(piece_len, false, out),
-            Act::CopyOver(piece_len) => stream.copy(piece_len, true, out),
-            Act::Digest(first) => holds(digest(stream) == first),
-        }
-    }
-
-    /// Judges what is left after the last time.
-    fn judge(self, stream: &Stream, out: &[u8]) -> Result<(), Fault> {
-        match self {
-            Act::Copy(_) => holds(stream.bytes.as_slice() == out),
-            Act::CopyOver(_) => holds(stream.bytes.ends_with(out)),
-            _ => Ok(()),
-        }
-    }
 }
 
 impl Work<'_> {
@@ -69,7 +46,12 @@ impl Work<'_> {
             Work::Copy(payload) => copy(payload, out),
             Work::Read(payload, len) => read_only(alloc, payload, len),
             Work::Own(payload) => own(alloc, payload),
-            Work::Packets(stream, act) => act.once(alloc, stream, out),
+            Work::Choose(offers) => offers.choose(),
+            Work::Compare(offers) => offers.compare(),
+            Work::ReadPackets(stream, piece_len) => stream.read(alloc, piece_len),
+            Work::CopyPackets(stream, piece_len) => stream.copy(piece_len, false, out),
+            Work::CopyOver(stream, piece_len) => stream.copy(piece_len, true, out),
+            Work::Digest(stream, first) => holds(digest(stream) == first),
             Work::Talk(lab, piece_len) => send(alloc, lab, piece_len),
         }
     }
@@ -77,7 +59,8 @@ impl Work<'_> {
     /// Judges what is left after the last time.
     fn judge(self, out: &[u8]) -> Result<(), Fault> {
         match self {
-            Work::Packets(stream, act) => act.judge(stream, out),
+            Work::CopyPackets(stream, _) => holds(stream.bytes.as_slice() == out),
+            Work::CopyOver(stream, _) => holds(stream.bytes.ends_with(out)),
             _ => Ok(()),
         }
     }

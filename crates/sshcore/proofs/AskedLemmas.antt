@@ -107,21 +107,21 @@ read_brings setup old new packet payload before after reads c e works =
     (subst (λ (r : Result MessageData MsgFault). Works setup old new payload before after (read_reply setup old.known (kind payload) r)) (sym e) works)
 
 -- what was asked, and answered so, is so successful
-proof_given : (number : ℕ) (user service : List ℕ) (o : Option ProofData) (good : Bool) → is_some (proof_question number user service o) ≡ true
-    → is_decided (always good) number user service o ≡ good
-proof_given number user service None good asks = absurd cc
-proof_given number user service (Some proof) good asks = refl
+proof_given : (number : ℕ) (user service : List ℕ) (o : Option ProofData) (allowed : Bool) → is_some (proof_question number user service o) ≡ true
+    → is_decided (always allowed) number user service o ≡ allowed
+proof_given number user service None allowed asks = absurd cc
+proof_given number user service (Some proof) allowed asks = refl
 
-pub given_successful : (m : SuiteData) (party : ConfigData) (known : Known) (user service : List ℕ) (good : Bool) (method : MethodData)
+pub given_successful : (m : SuiteData) (party : ConfigData) (known : Known) (user service : List ℕ) (allowed : Bool) (method : MethodData)
     → ((algorithm key : List ℕ) → method ≡ PublicKeyQuery algorithm key → ⊥) → is_some (method_question m party known user service method) ≡ true
-    → is_successful m (always good) party known user service method ≡ good
-given_successful m party known user service good NoMethod none asks = proof_given known.request user service (proof_in m party known.session user service NoMethod) good asks
-given_successful m party known user service good (Password password) none asks = proof_given known.request user service (proof_in m party known.session user service (Password password)) good asks
-given_successful m party known user service good (PasswordChange old new) none asks = proof_given known.request user service (proof_in m party known.session user service (PasswordChange old new)) good asks
-given_successful m party known user service good (PublicKey algorithm key signature) none asks =
-    proof_given known.request user service (proof_in m party known.session user service (PublicKey algorithm key signature)) good asks
-given_successful m party known user service good (PublicKeyQuery algorithm key) none asks = absurd (none algorithm key refl)
-given_successful m party known user service good (OtherMethod name fields) none asks = proof_given known.request user service (proof_in m party known.session user service (OtherMethod name fields)) good asks
+    → is_successful m (always allowed) party known user service method ≡ allowed
+given_successful m party known user service allowed NoMethod none asks = proof_given known.request user service (proof_in m party known.session user service NoMethod) allowed asks
+given_successful m party known user service allowed (Password password) none asks = proof_given known.request user service (proof_in m party known.session user service (Password password)) allowed asks
+given_successful m party known user service allowed (PasswordChange old new) none asks = proof_given known.request user service (proof_in m party known.session user service (PasswordChange old new)) allowed asks
+given_successful m party known user service allowed (PublicKey algorithm key signature) none asks =
+    proof_given known.request user service (proof_in m party known.session user service (PublicKey algorithm key signature)) allowed asks
+given_successful m party known user service allowed (PublicKeyQuery algorithm key) none asks = absurd (none algorithm key refl)
+given_successful m party known user service allowed (OtherMethod name fields) none asks = proof_given known.request user service (proof_in m party known.session user service (OtherMethod name fields)) allowed asks
 
 -- what is made of a value, if there is one
 pub none_of : {A B : Type 0} (f : A → B) (o : Option A) (q : Option B) → option_map f o ≡ q → o ≡ None → ◌≡◌ {A = Option B} None q

@@ -91,9 +91,9 @@ module _ (m : SuiteData) (role : Side) (party : ConfigData) where
 
   module _ (numbers : Numbered) (known : Known) (payload : List ℕ) where
     message_asks : (r : Result MessageData MsgFault) (q : QuestionData) → message_in known.shares payload ≡ r → message_question m role party known r ≡ Some q → IsAsked known.request (kind payload) q
-    message_asks (Ok (KexdhReply key f signature)) q e is = 
+    message_asks (Ok (KexdhReply key f signature)) q e is =
         ByReply (numbers known.shares payload (KexdhReply key f signature) e) known.algorithms.host_key (host_key_by m role party known.algorithms.host_key (Ok (KexdhReply key f signature))) cc
-    message_asks (Ok (KexEcdhReply key share signature)) q e is = 
+    message_asks (Ok (KexEcdhReply key share signature)) q e is =
         ByReply (numbers known.shares payload (KexEcdhReply key share signature) e) known.algorithms.host_key (host_key_by m role party known.algorithms.host_key (Ok (KexEcdhReply key share signature))) cc
     message_asks (Ok (UserauthRequest user service method)) q e is =
         ByRequest (numbers known.shares payload (UserauthRequest user service method) e) (request_asks known user service method q is)

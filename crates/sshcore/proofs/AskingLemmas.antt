@@ -40,7 +40,7 @@ module _ (m : SuiteData) (r p : PacketReader) (inc : IsIncremental (parse_packet
       → ReadsPacket m (input.Packets r) (input.Packets p) w (take used piece)
   reads_packet piece used w low e number left = record {
     before = r;
-    behind = p;
+    after = p;
     was = refl;
     is = refl;
     reads = sym (ap (parse_packet (protection_at m (packet_reader_data r))) (take-append-add (packet_reader_data r).held piece used))
@@ -78,16 +78,16 @@ module _ (setup : Setup) (kept : StateData) (i : Input) (h s : List ℕ) where
   }
 
 -- the decisions that always answer so, and a packet that asks
-always_decides : (good : Bool) (q : QuestionData) → decided (always good) q ≡ good
-always_decides good (HostKeyQuestion algorithm blob) = refl
-always_decides good (UserQuestion number user service proof) = refl
+always_decides : (allowed : Bool) (q : QuestionData) → decided (always allowed) q ≡ allowed
+always_decides allowed (HostKeyQuestion algorithm blob) = refl
+always_decides allowed (UserQuestion number user service proof) = refl
 
 -- a packet that asks nothing is answered alike
 pub alike_unasked : (d : DecisionsData) (q : Option QuestionData) → q ≡ None → decided_by d q ≡ decided_by (always false) q
 alike_unasked d q e = ap (decided_by d) e ∙ sym (ap (decided_by (always false)) e)
 
-alike_asked : (d : DecisionsData) (good : Bool) (q : Option QuestionData) (is : QuestionData) → q ≡ Some is → decided d is ≡ good → decided_by d q ≡ decided_by (always good) q
-alike_asked d good q is e agrees = ap (decided_by d) e ∙ agrees ∙ sym (always_decides good is) ∙ sym (ap (decided_by (always good)) e)
+alike_asked : (d : DecisionsData) (allowed : Bool) (q : Option QuestionData) (is : QuestionData) → q ≡ Some is → decided d is ≡ allowed → decided_by d q ≡ decided_by (always allowed) q
+alike_asked d allowed q is e agrees = ap (decided_by d) e ∙ agrees ∙ sym (always_decides allowed is) ∙ sym (ap (decided_by (always allowed)) e)
 
 reads_as : (k : Option KeysData) (strict : Bool) (r : PacketReaderData) → reads_with k strict r ≡ reader_with k strict r
 reads_as None strict r = refl
@@ -109,21 +109,21 @@ module _ (below : Below) (streams : Streams) (m : SuiteData) (role : Side) (part
       (turns.reads ∙ reads_as (keys_due new.phase new.carried.pending) new.known.strict (packet_reader_data p))
 
 -- A packet that waited is answered.
-module _ (below : Below) (streams : Streams) (m : SuiteData) (role : Side) (party : ConfigData) (good : Bool) (w : WaitingData) (old new last : StateData) (before after : List ℕ) (is : old.end ≡ Open) where
+module _ (below : Below) (streams : Streams) (m : SuiteData) (role : Side) (party : ConfigData) (allowed : Bool) (w : WaitingData) (old new last : StateData) (before after : List ℕ) (is : old.end ≡ Open) where
   answer_packets : (p q : PacketReader) → question_at m role party old w.payload ≡ Some w.question
-      → (HasForm m old → (packet : ℕ) → Brings (setup_with m (always good) role party) old new packet w.payload before after)
-      → Turns new last p q → AnswerSteps m role party good w (input.Packets p) old (input.Packets q) last before after
+      → (HasForm m old → (packet : ℕ) → Brings (setup_with m (always allowed) role party) old new packet w.payload before after)
+      → Turns new last p q → AnswerSteps m role party allowed w (input.Packets p) old (input.Packets q) last before after
   answer_packets p q asks brings turns d agrees i taken r =
-      let same : p ≡ r.behind = cc in
+      let same : p ≡ r.after = cc in
       subst (λ (x : Input). Steps (setup_with m d role party) x old (input.Packets q) last taken before after) (sym r.was)
       (subst (λ (l : List ℕ). Steps (setup_with m d role party) (input.Packets r.before) old (input.Packets q) last l before after) (take-length taken)
-      (unit_steps below streams m role party (always good) old new last before after is r.before p q taken w.payload (length taken) w.packet (omega arith) r.reads r.number
+      (unit_steps below streams m role party (always allowed) old new last before after is r.before p q taken w.payload (length taken) w.packet (omega arith) r.reads r.number
       (ap (λ (x : PacketReader). packet_reader_data x) same ∙ r.left) (λ form. brings form w.packet) turns d
-      (alike_asked d good (question_at m role party old w.payload) w.question asks agrees)))
+      (alike_asked d allowed (question_at m role party old w.payload) w.question asks agrees)))
 
   pub answer_steps : (j k : Input) → question_at m role party old w.payload ≡ Some w.question
-      → (HasForm m old → (packet : ℕ) → Brings (setup_with m (always good) role party) old new packet w.payload before after)
-      → IsTurned new last j k → AnswerSteps m role party good w j old k last before after
+      → (HasForm m old → (packet : ℕ) → Brings (setup_with m (always allowed) role party) old new packet w.payload before after)
+      → IsTurned new last j k → AnswerSteps m role party allowed w j old k last before after
   answer_steps (input.Packets p) (input.Packets q) asks brings turned = answer_packets p q asks brings turned
   answer_steps (input.Packets p) (input.Lines q) asks brings turned = absurd turned
   answer_steps (input.Lines p) k asks brings turned = absurd turned
@@ -286,10 +286,10 @@ module _ {S : Type 0} (meaning : S → SuiteData) where
     asked_open e w is = ap (λ (x : EndData). asked_at x (Some w)) is
 
     -- a packet that waited is answered by a step that used its bytes
-    answered_by : (good : Bool) (w : WaitingData) (i j : Input) (x y : State) (before after : List ℕ) → end_data x.end ≡ Open
-        → (added : List ℕ) × (after ≡ before ++ added) × AnswerSteps (meaning suite) role party good w i (state_data x) j (state_data y) [] added
-        → Answered meaning good (asking i x (Some w)) (asking j y None) before after
-    answered_by good w i j x y before after is step = record {
+    answered_by : (allowed : Bool) (w : WaitingData) (i j : Input) (x y : State) (before after : List ℕ) → end_data x.end ≡ Open
+        → (added : List ℕ) × (after ≡ before ++ added) × AnswerSteps (meaning suite) role party allowed w i (state_data x) j (state_data y) [] added
+        → Answered meaning allowed (asking i x (Some w)) (asking j y None) before after
+    answered_by allowed w i j x y before after is step = record {
       added = step.0;
       appended = step.1;
       follows = λ d agrees h s a.
@@ -303,12 +303,12 @@ module _ {S : Type 0} (meaning : S → SuiteData) where
       same = record { same_role = refl; same_config = refl; same_suite = refl };
     }
 
-    pub answered_from : (good : Bool) (w : WaitingData) (u v : Option WaitingData) (i j : Input) (x y : State) (before after : List ℕ) → u ≡ Some w → v ≡ None → end_data x.end ≡ Open
-        → (added : List ℕ) × (after ≡ before ++ added) × AnswerSteps (meaning suite) role party good w i (state_data x) j (state_data y) [] added
-        → Answered meaning good (asking i x u) (asking j y v) before after
-    answered_from good w u v i j x y before after some none is step =
-        subst (λ (a : Option WaitingData). Answered meaning good (asking i x a) (asking j y v) before after) (sym some)
-        (subst (λ (b : Option WaitingData). Answered meaning good (asking i x (Some w)) (asking j y b) before after) (sym none) (answered_by good w i j x y before after is step))
+    pub answered_from : (allowed : Bool) (w : WaitingData) (u v : Option WaitingData) (i j : Input) (x y : State) (before after : List ℕ) → u ≡ Some w → v ≡ None → end_data x.end ≡ Open
+        → (added : List ℕ) × (after ≡ before ++ added) × AnswerSteps (meaning suite) role party allowed w i (state_data x) j (state_data y) [] added
+        → Answered meaning allowed (asking i x u) (asking j y v) before after
+    answered_from allowed w u v i j x y before after some none is step =
+        subst (λ (a : Option WaitingData). Answered meaning allowed (asking i x a) (asking j y v) before after) (sym some)
+        (subst (λ (b : Option WaitingData). Answered meaning allowed (asking i x (Some w)) (asking j y b) before after) (sym none) (answered_by allowed w i j x y before after is step))
 
     -- what was sent for its owner, at an endpoint that stood open, is a call that ended it
     pub leaves_by : SentMore → (i : Input) (x y : State) (w : Option WaitingData) (reason : ℕ) (description before after : List ℕ) (strict : Bool) (next : KeysData)

@@ -15,6 +15,7 @@ use Rattle.sshcore.specs.EndpointParts.{DecisionsData, Setup}
 use Rattle.sshcore.specs.Questions.{QuestionData, decided, decided_by}
 use Rattle.sshcore.proofs.AnsweredLemmas.{Rises, asked_once, questions_of, some_decisions}
 use Rattle.sshcore.proofs.AskedOnceLemmas.{Numbered}
+use Rattle.sshcore.proofs.AskedNothing.{asked_none}
 use Rattle.sshcore.proofs.AskingLawLemmas.{WaitsAfter, asked_so, asks_later, setup_same, waits_here}
 use Rattle.sshcore.proofs.HistoryLemmas.{Streams}
 
@@ -46,14 +47,6 @@ longer : (more taken : List ℕ) → (taken ≡ [] → more ≢ []) → more ++ 
 longer [] [] f e = f refl refl
 longer [] (b ∷ taken) f e = absurd cc
 longer (b ∷ more) taken f e = absurd cc
-
--- an endpoint that waits for no answer, or has ended, asks nothing
-asked_none : (end : EndData) → asked_at end None ≡ None
-asked_none Open = refl
-asked_none (Authenticated a) = refl
-asked_none (Failed f) = refl
-asked_none (Closed reason) = refl
-asked_none (Disconnected reason) = refl
 
 module _ {S : Type 0} (meaning : S → SuiteData) where
   asks_nothing : (e : AskingData S) → e.waiting ≡ None → (r : QuestionData) → asked_by e ≡ Some r → ⊥

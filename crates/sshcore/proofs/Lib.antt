@@ -61,5 +61,6 @@ pub mod AnswerLemmas
 pub mod TriesLemmas
 pub mod SessionLemmas
 pub mod EndpointLemmas
+pub mod AskedNothing
 pub mod AskingLawLemmas
 pub mod DialogueLemmas

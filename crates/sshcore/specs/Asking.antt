@@ -1,4 +1,4 @@
--- An endpoint that asks and waits, and its history. What it decides isn't its own: what is said of it holds of all decisions, and of a
+-- An endpoint that asks and waits, and its history. What it decides isn't its own: what is claimed of it holds of all decisions, and of a
 -- call that answers of all that answer so.
 
 use Rattle.std.specs.Prelude.{◌≡◌, ℕ, ◌≤◌, Bool, true, false, List, [], ◌∷◌, ◌++◌, length, take, Option, None, Some}
@@ -69,11 +69,11 @@ pub record AskingFed {S : Type 0} (meaning : S → SuiteData) (old new : AskingD
   pub same : IsSameAsking old new
 
 -- What an answer did: nothing more is received, and the packet is answered as by all decisions that answer its question so.
-pub record Answered {S : Type 0} (meaning : S → SuiteData) (good : Bool) (old new : AskingData S) (before after : List ℕ) : Type 0 where
+pub record Answered {S : Type 0} (meaning : S → SuiteData) (allowed : Bool) (old new : AskingData S) (before after : List ℕ) : Type 0 where
   pub added : List ℕ
   pub appended : after ≡ before ++ added
-  pub follows : (d : DecisionsData) → decided_by d (asked_by old) ≡ good → (h s : List ℕ) → AskingAfter meaning d old h s → AskingAfter meaning d new h (s ++ added)
-  pub uncut : (d : DecisionsData) → decided_by d (asked_by old) ≡ good → (h s : List ℕ) → AskingAfter meaning d old h s → by_owner (asking_end new) ≡ false
+  pub follows : (d : DecisionsData) → decided_by d (asked_by old) ≡ allowed → (h s : List ℕ) → AskingAfter meaning d old h s → AskingAfter meaning d new h (s ++ added)
+  pub uncut : (d : DecisionsData) → decided_by d (asked_by old) ≡ allowed → (h s : List ℕ) → AskingAfter meaning d old h s → by_owner (asking_end new) ≡ false
   pub waits_for_none : new.waiting ≡ None
   pub same : IsSameAsking old new
 

@@ -82,4 +82,4 @@ question_at m role party old payload =
 
 -- the decisions that answer everything so
 abbrev pub always : Bool → DecisionsData
-always good = record { host_key = λ algorithm blob. good; user = λ number user service proof. good }
+always allowed = record { host_key = λ algorithm blob. allowed; user = λ number user service proof. allowed }

@@ -22,12 +22,12 @@ use Rattle.sshcore.specs.StateData.{StateData, keys_due, keys_left}
 -- next number (RFC 4253 section 6.4). Nothing more was done with it.
 pub record ReadsPacket (m : SuiteData) (i j : Input) (w : WaitingData) (taken : List ℕ) : Type 0 where
   pub before : PacketReader
-  pub behind : PacketReader
+  pub after : PacketReader
   pub was : i ≡ input.Packets before
-  pub is : j ≡ input.Packets behind
+  pub is : j ≡ input.Packets after
   pub reads : ahead m (packet_reader_data before) taken ≡ whole w.payload (length (packet_reader_data before).held + length taken)
   pub number : w.packet ≡ (packet_reader_data before).seq
-  pub left : packet_reader_data behind ≡ record (packet_reader_data before) { held = []; seq = ((packet_reader_data before).seq + 1) % 2 ^ 32 }
+  pub left : packet_reader_data after ≡ record (packet_reader_data before) { held = []; seq = ((packet_reader_data before).seq + 1) % 2 ^ 32 }
 
 -- What was received is all that was acted upon; or, where a packet waits for its answer, that and the bytes of the packet.
 abbrev pub IsUnread : SuiteData → Input → List ℕ → Option WaitingData → Input → List ℕ → Type 0
@@ -77,8 +77,8 @@ AskingSteps m role party i old j new (Some w) taken before after = StopsAt m rol
 
 -- What an answer did, wherever the packet was read: a step that used the packet's bytes, for all decisions that answer so.
 abbrev pub AnswerSteps : SuiteData → Side → ConfigData → Bool → WaitingData → Input → StateData → Input → StateData → List ℕ → List ℕ → Type 0
-AnswerSteps m role party good w j old k new before after =
-    (d : DecisionsData) → decided d w.question ≡ good → (i : Input) (taken : List ℕ) → ReadsPacket m i j w taken → Steps (setup_with m d role party) i old k new taken before after
+AnswerSteps m role party allowed w j old k new before after =
+    (d : DecisionsData) → decided d w.question ≡ allowed → (i : Input) (taken : List ℕ) → ReadsPacket m i j w taken → Steps (setup_with m d role party) i old k new taken before after
 
 -- The keys that are due after a packet are taken into use (RFC 4253 section 7.3), from number 0 where the endpoint is strict.
 abbrev pub reads_with : Option KeysData → Bool → PacketReaderData → PacketReaderData

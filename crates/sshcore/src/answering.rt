@@ -39,17 +39,17 @@ impl State<'_> {
         suite: &S,
         listener: &L,
         payload: &[u8],
-        good: bool,
+        allowed: bool,
         sent: &mut Vec<u8>,
     ) -> Result<(), Memory>
         requires open { end_data self.old.end ≡ Open }
         requires short { length payload.now ≤ PACKET_LIMIT }
         requires asks { is_some (question_at (S.meaning suite.now) (role_of config.now) (config_data config.now) (state_data self.old) payload.now) ≡ true }
         ensures brings { OnOk result (HasForm (S.meaning suite.now) (state_data self.old) → (packet : ℕ)
-            → Brings (setup_of (S.meaning suite.now) (always good) config.now) (state_data self.old) (state_data self.new) packet payload.now sent.old.items sent.new.items) }
+            → Brings (setup_of (S.meaning suite.now) (always allowed) config.now) (state_data self.old) (state_data self.new) packet payload.now sent.old.items sent.new.items) }
         ensures kept { OnOk result (end_data self.new.end ≢ Failed fault.Memory) }
     {
-        let given = Given { good, listener };
+        let given = Given { allowed, listener };
         match read_exchange(self.alloc, payload, self.shares) {
             Ok(message) => self.answer_message(config, suite, &given, payload, &message, sent),
             // What has asked can be read, so an allocation failed.
@@ -73,8 +73,8 @@ impl State<'_> {
         requires spelled { Spells self.old.shares (message_data message.now) payload.now }
         requires asks { is_some (message_question (S.meaning suite.now) (role_of config.now) (config_data config.now) (state_data self.old).known (Ok (message_data message.now))) ≡ true }
         ensures works { OnOk result (HasForm (S.meaning suite.now) (state_data self.old)
-            → Works (setup_of (S.meaning suite.now) (always given.now.good) config.now) (state_data self.old) (state_data self.new) payload.now sent.old.items sent.new.items
-            (work (setup_of (S.meaning suite.now) (always given.now.good) config.now) (state_data self.old).known (message_data message.now))) }
+            → Works (setup_of (S.meaning suite.now) (always given.now.allowed) config.now) (state_data self.old) (state_data self.new) payload.now sent.old.items sent.new.items
+            (work (setup_of (S.meaning suite.now) (always given.now.allowed) config.now) (state_data self.old).known (message_data message.now))) }
         ensures kept { OnOk result (end_data self.new.end ≢ Failed fault.Memory) }
     {
         sshmsg::messages_law();
@@ -105,13 +105,13 @@ impl State<'_> {
         requires asks { is_some (request_question (S.meaning suite.now) (config_data config.now) (state_data self.old).known user.now service.now (method_data method.now)) ≡ true }
         ensures gives { OnOk result ((strict : Bool) (next : KeysData)
             → Gives (S.meaning suite.now) (config_data config.now).seed strict next (state_data self.old) (state_data self.new) sent.old.items sent.new.items
-            (request_reply (S.meaning suite.now) (always given.now.good) (config_data config.now) (state_data self.old).known user.now service.now (method_data method.now))) }
+            (request_reply (S.meaning suite.now) (always given.now.allowed) (config_data config.now) (state_data self.old).known user.now service.now (method_data method.now))) }
         ensures stays { OnOk result (IsOngoing (state_data self.new).end → state_data self.new ≡ record (state_data self.old) {
           end = (state_data self.new).end;
           known = counted_request (state_data self.old).known (tried_with user.now service.now (method_data method.now)
-              (is_successful (S.meaning suite.now) (always given.now.good) (config_data config.now) (state_data self.old).known user.now service.now (method_data method.now)));
+              (is_successful (S.meaning suite.now) (always given.now.allowed) (config_data config.now) (state_data self.old).known user.now service.now (method_data method.now)));
           carried = tried_key (state_data self.old).carried (method_data method.now)
-              (is_successful (S.meaning suite.now) (always given.now.good) (config_data config.now) (state_data self.old).known user.now service.now (method_data method.now));
+              (is_successful (S.meaning suite.now) (always given.now.allowed) (config_data config.now) (state_data self.old).known user.now service.now (method_data method.now));
           sending = (state_data self.new).sending;
         }) }
         ensures kept { OnOk result (end_data self.new.end ≢ Failed fault.Memory) }
@@ -122,6 +122,6 @@ impl State<'_> {
         if let Method::PublicKeyQuery { algorithm, key } = method {
             return self.receive_query(config, suite, given, user, service, algorithm, key, sent);
         }
-        self.decide(config, suite, user, service, method, given.good, sent)
+        self.decide(config, suite, user, service, method, given.allowed, sent)
     }
 }

@@ -50,14 +50,14 @@ impl<S: Suite, L: Listener> AskingEndpoint<'_, S, L> {
         }
     }
 
-    /// Answers the question, and appends to `out` what is sent to the packet that asked it: by a yes (`good`) a client
+    /// Answers the question, and appends to `out` what is sent to the packet that asked it: by a yes (`allowed`) a client
     /// trusts the host key, and a server takes a request as successful, or the key of a query as one that would do.
     /// Then go on with what [`feed`](AskingEndpoint::feed) didn't use.
     ///
     /// Where nothing is asked the endpoint doesn't change, and nothing is appended. Answers `Memory` where an
     /// allocation failed: the endpoint has then failed, and `out` is unchanged.
-    pub fn answer(&mut self, good: bool, out: &mut Vec<u8>) -> Result<(), Memory>
-        ensures answered { is_some (asked_by self.old) ≡ true → OnOk result (Answered S.meaning good self.old self.new out.old.items out.new.items) }
+    pub fn answer(&mut self, allowed: bool, out: &mut Vec<u8>) -> Result<(), Memory>
+        ensures answered { is_some (asked_by self.old) ≡ true → OnOk result (Answered S.meaning allowed self.old self.new out.old.items out.new.items) }
         ensures memory { OnErr result ((asking_end self.new ≡ Failed fault.Memory) × (out.new.items ≡ out.old.items) × AskingBreaks S.meaning self.old self.new [] out.old.items out.new.items) }
         // Running out of memory is answered, and never found later.
         ensures kept { OnOk result (asking_end self.new ≡ Failed fault.Memory → asking_end self.old ≡ Failed fault.Memory) }
@@ -76,7 +76,7 @@ impl<S: Suite, L: Listener> AskingEndpoint<'_, S, L> {
             self.suite,
             self.listener,
             &waiting,
-            good,
+            allowed,
             out,
         );
         match answered {
@@ -97,13 +97,13 @@ fn answer_packet<S: Suite, L: Listener>(
     suite: &S,
     listener: &L,
     waiting: &Waiting,
-    good: bool,
+    allowed: bool,
     out: &mut Vec<u8>,
 ) -> Result<(), Memory>
     requires asked { IsAsked (S.meaning suite.now) (role_of config.now) (config_data config.now) (state_data state.old) input.old (waiting_data waiting.now) }
     requires reads { CanRead (S.meaning suite.now) input.old }
     ensures steps { OnOk result ((added : List ℕ) × (out.new.items ≡ out.old.items ++ added)
-        × AnswerSteps (S.meaning suite.now) (role_of config.now) (config_data config.now) good (waiting_data waiting.now) input.old (state_data state.old) input.new (state_data state.new) [] added) }
+        × AnswerSteps (S.meaning suite.now) (role_of config.now) (config_data config.now) allowed (waiting_data waiting.now) input.old (state_data state.old) input.new (state_data state.new) [] added) }
     ensures reads { OnOk result (IsOngoing (end_data state.new.end) → CanRead (S.meaning suite.now) input.new) }
     ensures kept { OnOk result (end_data state.new.end ≢ Failed fault.Memory) }
     ensures memory { OnErr result (out.new.items ≡ out.old.items) }
@@ -113,7 +113,14 @@ fn answer_packet<S: Suite, L: Listener>(
     sshmsg::numbers_law();
     sshneg::markers_law();
     let mut sent = Vec::new(state.alloc);
-    state.answer(config, suite, listener, &waiting.payload, good, &mut sent)?;
+    state.answer(
+        config,
+        suite,
+        listener,
+        &waiting.payload,
+        allowed,
+        &mut sent,
+    )?;
     out.extend_from_slice(&sent)?;
     turn_input(input, state);
     Ok(())

@@ -34,7 +34,7 @@ use std::marker::Model;
 /// RFC 4252), which asks what it can't decide, and waits for the answer.
 ///
 /// It is an [`Endpoint`](crate::Endpoint) without [`Decisions`](crate::Decisions): where a packet needs one,
-/// [`feed`](AskingEndpoint::feed) stops behind that packet, [`question`](AskingEndpoint::question) tells what is asked, and
+/// [`feed`](AskingEndpoint::feed) stops after that packet, [`question`](AskingEndpoint::question) tells what is asked, and
 /// [`answer`](AskingEndpoint::answer) goes on, at any later time.
 #[derive(Drop)]
 pub struct AskingEndpoint<'a, S: Suite, L: Listener> {
@@ -171,6 +171,8 @@ impl<'a, S: Suite, L: Listener> AskingEndpoint<'a, S, L> {
         ensures used { IfOk result (λ f. (bytes_used f ≤ length piece.now) × (asking_end self.new ≡ Open → asked_by self.new ≡ None → bytes_used f ≡ length piece.now)) }
         // It answers so exactly where it asks.
         ensures asks { IfOk result (λ f. is_question f ≡ is_some (asked_by self.new)) }
+        // A call that used nothing asks nothing else.
+        ensures nothing { IfOk result (λ f. bytes_used f ≡ 0 → asked_by self.new ≡ asked_by self.old) }
         ensures memory { OnErr result ((asking_end self.new ≡ Failed fault.Memory) × AskingBreaks S.meaning self.old self.new piece.now out.old.items out.new.items) }
         // Running out of memory is answered, and never found later.
         ensures kept { OnOk result (asking_end self.new ≡ Failed fault.Memory → asking_end self.old ≡ Failed fault.Memory) }
@@ -191,6 +193,7 @@ impl<'a, S: Suite, L: Listener> AskingEndpoint<'a, S, L> {
         ensures fed { IfOk result (λ used. AskingFed S.meaning self.old self.new (take used piece.now) out.old.items out.new.items) }
         ensures used { IfOk result (λ used. used ≤ length piece.now) }
         ensures turns { IfOk result (λ used. asking_turns self.new < asking_turns self.old + 3 * used) }
+        ensures nothing { IfOk result (λ used. used ≡ 0 → asked_by self.new ≡ None) }
         ensures memory { OnErr result ((asking_end self.new ≡ Failed fault.Memory) × AskingBreaks S.meaning self.old self.new piece.now out.old.items out.new.items) }
         ensures kept { OnOk result (asking_end self.new ≢ Failed fault.Memory) }
     {

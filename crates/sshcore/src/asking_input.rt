@@ -61,7 +61,7 @@ impl Input {
                 let begun = line_of(reader.unfinished());
                 let received = receive_lines(reader, state, piece)?;
                 let told = Given {
-                    good: false,
+                    allowed: false,
                     listener,
                 };
                 tell_lines(&told, begun, piece.get(..received.used()).unwrap_or(&[]));
@@ -129,7 +129,7 @@ fn ask_packets<S: Suite, L: Listener>(
                 }
                 None => {
                     let given = Given {
-                        good: false,
+                        allowed: false,
                         listener,
                     };
                     state.receive(config, suite, &given, payload, seq, sent)?;

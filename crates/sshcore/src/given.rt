@@ -23,21 +23,21 @@ impl Listener for Silent {
 /// The decisions that answer all questions so, with the listener that is told.
 #[derive(Drop)]
 pub(crate) struct Given<'g, L: Listener> {
-    pub(crate) good: bool,
+    pub(crate) allowed: bool,
     pub(crate) listener: &'g L,
 }
 
 impl<L: Listener> Decisions for Given<'_, L> {
     ghost use Rattle.sshcore.specs.Questions.{always};
 
-    ghost policy = { λ given. always given.good };
+    ghost policy = { λ given. always given.allowed };
 
     fn host_key(&self, _algorithm: &str, _blob: &[u8]) -> bool {
-        self.good
+        self.allowed
     }
 
     fn user(&self, _request_number: u32, _user: &str, _service: &str, _proof: &Proof<'_>) -> bool {
-        self.good
+        self.allowed
     }
 
     fn told(&self, notice: Notice<'_>) {

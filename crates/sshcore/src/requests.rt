@@ -65,8 +65,8 @@ impl State<'_> {
                 config, suite, decisions, user, service, algorithm, key, sent,
             );
         }
-        let good = self.is_successful(config, suite, decisions, user, service, method)?;
-        self.decide(config, suite, user, service, method, good, sent)
+        let successful = self.is_successful(config, suite, decisions, user, service, method)?;
+        self.decide(config, suite, user, service, method, successful, sent)
     }
 
     /// A server answers a request that is no query, for a service that it has, by whether it is successful: keeps its key
@@ -78,23 +78,23 @@ impl State<'_> {
         user: &str,
         service: &str,
         method: &Method<'_>,
-        good: bool,
+        successful: bool,
         sent: &mut Vec<u8>,
     ) -> Result<(), Memory>
         requires open { end_data self.old.end ≡ Open }
         requires at { self.old.phase ≡ phase.Auth }
         ensures gives { OnOk result ((strict : Bool) (next : KeysData)
             → Gives (S.meaning suite.now) (config_data config.now).seed strict next (state_data self.old) (state_data self.new) sent.old.items sent.new.items
-            (tried_reply (config_data config.now) (state_data self.old).known user.now service.now (method_data method.now) good)) }
+            (tried_reply (config_data config.now) (state_data self.old).known user.now service.now (method_data method.now) successful)) }
         ensures stays { OnOk result (IsOngoing (state_data self.new).end → state_data self.new ≡ record (state_data self.old) {
           end = (state_data self.new).end;
-          known = counted_request (state_data self.old).known (tried_with user.now service.now (method_data method.now) good);
-          carried = tried_key (state_data self.old).carried (method_data method.now) good;
+          known = counted_request (state_data self.old).known (tried_with user.now service.now (method_data method.now) successful);
+          carried = tried_key (state_data self.old).carried (method_data method.now) successful;
           sending = (state_data self.new).sending;
         }) }
         ensures kept { OnOk result (end_data self.new.end ≢ Failed fault.Memory) }
     {
-        if good {
+        if successful {
             self.keep_key(method)?;
             return self.receive_successful(config, suite, user, service, method, sent);
         }

@@ -115,34 +115,33 @@ high_eight b7 b6 b5 b4 b3 b2 b1 b0 rest =
     summed w a7 a6 a5 a4 a3 a2 a1 a0 b7 b6 b5 b4 b3 b2 b1 b0 r e7 e6 e5 e4 e3 e2 e1 e0 = omega (arith, e7, e6, e5, e4, e3, e2, e1, e0)
 
 -- the words before a place have the number of the last bytes
-pub read_none : (words bytes : List ℕ) → length bytes ≡ 256 → number_to words 0 ≡ number_high (drop 256 bytes)
+pub read_none : (words bytes : List ℕ) (n : ℕ) → length bytes ≤ n → number_to words 0 ≡ number_high (drop (n - 0) bytes)
 unfolding number_high
-read_none words bytes long = number_none words ∙ ap number_high (sym (all_dropped 256 bytes (omega (arith, long))))
-  where
-    all_dropped : (n : ℕ) (xs : List ℕ) → length xs ≤ n → drop n xs ≡ []
-    all_dropped n xs h = drop_all n xs h
+read_none words bytes n long = number_none words ∙ ap number_high (sym (drop_all (n - 0) bytes (omega (arith, long))))
 
 eight_then : (xs : List ℕ) (i j : ℕ) → i + 8 ≤ length xs → i + 8 ≡ j
     → drop i xs ≡ slice_index xs i ∷ slice_index xs (i + 1) ∷ slice_index xs (i + 2) ∷ slice_index xs (i + 3) ∷ slice_index xs (i + 4) ∷ slice_index xs (i + 5) ∷ slice_index xs (i + 6) ∷ slice_index xs (i + 7) ∷ drop j xs
 eight_then xs i j h e = rw (sym e) (eight_more xs i h)
 
-pub read_more : (words bytes : List ℕ) (i : ℕ) → length bytes ≡ 256 → i < 32 → length words ≡ 32 → number_to words i ≡ number_high (drop (256 - 8 * i) bytes)
-    → number_to (slice_set words i (high_word_at bytes (248 - 8 * i))) (i + 1) ≡ number_high (drop (256 - 8 * (i + 1)) bytes)
+pub read_more : (words bytes : List ℕ) (m i : ℕ) → length bytes ≡ 8 * m → i < m → length words ≡ m → number_to words i ≡ number_high (drop (8 * m - 8 * i) bytes)
+    → number_to (slice_set words i (high_word_at bytes (8 * (m - 1 - i)))) (i + 1) ≡ number_high (drop (8 * m - 8 * (i + 1)) bytes)
 unfolding high_word_at
-read_more words bytes i long h l so =
-    let at : ℕ = 248 - 8 * i in
-    let rest : List ℕ = drop (256 - 8 * i) bytes in
-    let k : at + 8 ≡ 256 - 8 * i = omega arith in
-    let j : 256 - 8 * (i + 1) ≡ at = omega arith in
-    let more : length rest ≡ 8 * i = length-drop (256 - 8 * i) bytes ∙ omega (arith, long) in
+read_more words bytes m i long h l so =
+    let at : ℕ = 8 * (m - 1 - i) in
+    let rest : List ℕ = drop (8 * m - 8 * i) bytes in
+    let k : at + 8 ≡ 8 * m - 8 * i = omega arith in
+    let j : 8 * m - 8 * (i + 1) ≡ at = omega arith in
+    let more : length rest ≡ 8 * i = length-drop (8 * m - 8 * i) bytes ∙ omega (arith, long) in
     let b : ℕ → ℕ = slice_index bytes in
     number_set words i (high_word_at bytes at) (omega (arith, l)) ∙ ap (λ (n : ℕ). n + weight i * high_word_at bytes at) so
     ∙ ap (λ (n : ℕ). number_high rest + n * high_word_at bytes at) (weight_bytes i ∙ ap (λ (n : ℕ). 256 ^ n) (sym more))
-    ∙ sym (ap (λ (n : ℕ). number_high (drop n bytes)) j ∙ ap number_high (eight_then bytes at (256 - 8 * i) (omega (arith, long)) k)
+    ∙ sym (ap (λ (n : ℕ). number_high (drop n bytes)) j ∙ ap number_high (eight_then bytes at (8 * m - 8 * i) (omega (arith, long)) k)
     ∙ high_eight (b at) (b (at + 1)) (b (at + 2)) (b (at + 3)) (b (at + 4)) (b (at + 5)) (b (at + 6)) (b (at + 7)) rest)
 
-pub read_all : (words bytes : List ℕ) (i : ℕ) → i ≡ 32 → length words ≡ 32 → number_to words i ≡ number_high (drop (256 - 8 * i) bytes) → number_of words ≡ number_high bytes
-read_all words bytes i e long so = number_all words 32 (sym long) ∙ (rw e at so)
+pub read_all : (words bytes : List ℕ) (m i : ℕ) → i ≡ m → length words ≡ m → number_to words i ≡ number_high (drop (8 * m - 8 * i) bytes) → number_of words ≡ number_high bytes
+read_all words bytes m i e long so =
+    let none : 8 * m - 8 * i ≡ 0 = omega (arith, e) in
+    number_all words i (e ∙ sym long) ∙ so ∙ ap (λ (n : ℕ). number_high (drop n bytes)) none
 
 pub written_all : (bytes words : List ℕ) (i : ℕ) → i ≡ 32 → length words ≡ 32 → drop (256 - 8 * i) bytes ≡ bytes_high_first (8 * i) (number_to words i) → bytes ≡ bytes_high (number_of words)
 unfolding bytes_high
@@ -160,11 +159,11 @@ unfolding number_high
 zeros_before zero bytes = refl
 zeros_before (suc m) bytes = let e = zeros_before m bytes in omega (arith, e)
 
-pub filled_is : (n : ℕ) (bytes : List ℕ) → n ≤ 256 → put_mid (256 - n) (256 - (256 - n)) (replicate 256 0) bytes ≡ replicate (256 - n) 0 ++ bytes
-filled_is n bytes h =
-    let front : take (256 - n) (replicate 256 0) ≡ replicate (256 - n) 0 = take-replicate (256 - n) 256 0 (omega arith) in
-    let none : drop (256 - (256 - n)) (drop (256 - n) (replicate 256 0)) ≡ [] =
-    drop_all (256 - (256 - n)) (drop (256 - n) (replicate 256 0)) (let e = length-drop {A = ℕ} (256 - n) (replicate 256 0) in let f = length-replicate {A = ℕ} 256 0 in omega (arith, e, f)) in
+pub filled_is : (m n : ℕ) (bytes : List ℕ) → n ≤ m → put_mid (m - n) (m - (m - n)) (replicate m 0) bytes ≡ replicate (m - n) 0 ++ bytes
+filled_is m n bytes h =
+    let front : take (m - n) (replicate m 0) ≡ replicate (m - n) 0 = take-replicate (m - n) m 0 (omega arith) in
+    let none : drop (m - (m - n)) (drop (m - n) (replicate m 0)) ≡ [] =
+    drop_all (m - (m - n)) (drop (m - n) (replicate m 0)) (let e = length-drop {A = ℕ} (m - n) (replicate m 0) in let f = length-replicate {A = ℕ} m 0 in omega (arith, e, f)) in
     ap₂ ◌++◌ front (ap (λ (t : List ℕ). bytes ++ t) none ∙ append-nil bytes)
 
 -- Bodies of mpints.
@@ -205,7 +204,7 @@ not_zero body e some = positive (slice_index body 0) some
     positive zero some = absurd (some refl)
     positive (suc n) some = omega arith
 
-high_below : (bytes : List ℕ) → ((k : ℕ) → slice_index bytes k < 256) → number_high bytes < 256 ^ length bytes
+pub high_below : (bytes : List ℕ) → ((k : ℕ) → slice_index bytes k < 256) → number_high bytes < 256 ^ length bytes
 unfolding number_high
 high_below [] h = let e = pow-zero 256 in omega (arith, e)
 high_below (b ∷ bytes) h =
@@ -214,7 +213,7 @@ high_below (b ∷ bytes) h =
     let at : suc (length bytes) ≡ 1 + length bytes = omega arith in
     let e : 256 ^ suc (length bytes) ≡ 256 * 256 ^ length bytes = ap (λ (n : ℕ). 256 ^ n) at ∙ pow-add 256 1 (length bytes) in omega (arith, rest, first, e)
 
-more_bytes : (m n : ℕ) → m ≤ n → 256 ^ m ≤ 256 ^ n
+pub more_bytes : (m n : ℕ) → m ≤ n → 256 ^ m ≤ 256 ^ n
 more_bytes m n h =
     let at : n ≡ m + (n - m) = omega arith in
     let e : 256 ^ n ≡ 256 ^ m * 256 ^ (n - m) = ap (λ (k : ℕ). 256 ^ k) at ∙ pow-add 256 m (n - m) in

@@ -18,5 +18,8 @@ pub mod AesSamples
 pub mod LongNumberLemmas
 pub mod MontgomeryLemmas
 pub mod PowerLemmas
+pub mod PublicPowerLemmas
 pub mod ByteNumberLemmas
+pub mod RsaLemmas
+pub mod RsaLawLemmas
 pub mod AgreementLemmas

@@ -58,7 +58,7 @@ pub remainder_below : (n : ℕ) → n % prime < prime
 remainder_below n = let h = prime_big in mod_below n prime (omega (arith, h))
 
 -- a factor that has an inverse is left out
-cancelled : (r k p u v : ℕ) → r * k % p ≡ 1 → 1 < p → r * u % p ≡ r * v % p → u % p ≡ v % p
+pub cancelled : (r k p u v : ℕ) → r * k % p ≡ 1 → 1 < p → r * u % p ≡ r * v % p → u % p ≡ v % p
 cancelled r k p u v one some same = back u ∙ ap (λ (n : ℕ). k * n % p) same ∙ sym (back v)
   where
     back : (n : ℕ) → n % p ≡ k * (r * n % p) % p

@@ -13,6 +13,7 @@ use Rattle.sshsuite.specs.Curve25519.{base_point, x25519}
 use Rattle.sshsuite.specs.Gcm.{seal as gcm_seal, unseal as gcm_unseal}
 use Rattle.sshsuite.specs.Group14.{group14_share, group14_shared}
 use Rattle.sshsuite.specs.MpintBody.{mpint_body}
+use Rattle.sshsuite.specs.Rsa.{is_rsa, rsa_verify}
 use Rattle.sshsuite.specs.Sealing.{head, seal, unseal}
 use Rattle.sshsuite.specs.Ed25519.{is_signature, public_key, signature}
 use Rattle.sshsuite.specs.KeyStream.{stream}
@@ -66,13 +67,16 @@ is_verified blob input found =
     bytes_eq (wrapped (drop 19 blob)) blob && (bytes_eq (wrapped (drop 19 found)) found && is_signature (drop 19 blob) input (drop 19 found))
 
 unfoldable pub verify : List ℕ → List ℕ → List ℕ → List ℕ → Bool
-verify alg blob input found = if is_ed25519 alg && (length blob == 51) && (length found == 83) then is_verified blob input found else false
+verify alg blob input found =
+    if is_rsa alg then rsa_verify alg blob input found
+    else if is_ed25519 alg && (length blob == 51) && (length found == 83) then is_verified blob input found
+    else false
 
 -- the answers of the suite
 abbrev pub deployed : SuiteData
 deployed = record {
   need = λ kex. if is_curve25519 kex || is_group14 kex then Signature else Encryption;
-  can = λ alg. record { signature = is_ed25519 alg; encryption = false };
+  can = λ alg. record { signature = is_ed25519 alg || is_rsa alg; encryption = false };
   block = λ cipher. if is_aes256_gcm cipher then 16 else 8;
   tag_len = λ cipher mac. 16;
   counts_length = λ cipher mac. false;

@@ -19,6 +19,7 @@ pub mod MpintBody
 pub mod LongNumbers
 pub mod Group14
 pub mod Group14Laws
+pub mod Rsa
 pub mod Deployed
 pub mod DeployedLaws
 pub mod FieldValues

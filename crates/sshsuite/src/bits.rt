@@ -1,7 +1,7 @@
 //! Bytes and the bits and words in them.
 
 ghost use Rattle.std.specs.Prelude.{◌≡◌, ◌<◌, ◌≤◌, ◌+◌, ◌*◌, drop, length, take};
-ghost use Rattle.sshsuite.specs.Bits.{bit_at, bytes_of_words, word_at};
+ghost use Rattle.sshsuite.specs.Bits.{bit_at, bytes_of_words, high_word_at, word_at};
 ghost use Rattle.sshsuite.specs.Masks.{xored};
 ghost use Rattle.sshsuite.specs.Sealing.{filled_up};
 
@@ -12,6 +12,24 @@ pub(crate) fn word_at(bytes: &[u8], i: usize) -> u64
     ensures { result ≡ word_at bytes.now i }
 {
     u64::from_le_bytes([
+        bytes[i],
+        bytes[i + 1],
+        bytes[i + 2],
+        bytes[i + 3],
+        bytes[i + 4],
+        bytes[i + 5],
+        bytes[i + 6],
+        bytes[i + 7],
+    ])
+}
+
+/// The word at a place of bytes, the highest byte first.
+#[tactic(auto, unfolding(crate::specs::Bits::high_word_at))]
+pub(crate) fn high_word_at(bytes: &[u8], i: usize) -> u64
+    requires { i + 8 ≤ length bytes.now }
+    ensures { result ≡ high_word_at bytes.now i }
+{
+    u64::from_be_bytes([
         bytes[i],
         bytes[i + 1],
         bytes[i + 2],

@@ -10,6 +10,8 @@ use crate::curve25519::{BASE_POINT, x25519};
 use crate::ed25519::{is_signature, public_key, signature};
 use crate::group14::{group14_share, group14_shared};
 use crate::mpint::mpint_body;
+use crate::rsa::rsa_verify;
+use crate::rsa_fields::is_rsa;
 use crate::{gcm, sealing};
 use sha2::{Digest, Sha256};
 use sshpacket::{Capability, KeyLens, Keys, Need, Response, ShareForm, Suite, leading_uint32};
@@ -21,11 +23,16 @@ const ED25519: &str = "ssh-ed25519";
 
 /// A suite of algorithms that are deployed: the key exchange curve25519-sha256 (RFC 8731), also under the
 /// name curve25519-sha256@libssh.org, and diffie-hellman-group14-sha256 (RFC 8268) for older peers, keys of ssh-ed25519
-/// (RFC 8709), and the ciphers chacha20-poly1305@openssh.com (OpenSSH PROTOCOL.chacha20poly1305) and
-/// aes256-gcm@openssh.com (RFC 5647 as OpenSSH PROTOCOL section 1.6 has it).
+/// (RFC 8709), signatures of rsa-sha2-256 and rsa-sha2-512 (RFC 8332) by others' keys, and the ciphers
+/// chacha20-poly1305@openssh.com (OpenSSH PROTOCOL.chacha20poly1305) and aes256-gcm@openssh.com (RFC 5647 as OpenSSH
+/// PROTOCOL section 1.6 has it).
 ///
-/// A private key is the 32 bytes of RFC 8032 section 5.1.5; other bytes are hashed to one as these are. Of
-/// other names:
+/// A private key is the 32 bytes of RFC 8032 section 5.1.5; other bytes are hashed to one as these are. By RSA it
+/// verifies and doesn't sign: whatever the name, `blob` and `sign` answer as ssh-ed25519, which nobody takes for RSA. So a
+/// client lists the names of RSA among its host key algorithms, and a server has no host key of them, nor a client a
+/// credential. Taken are moduli of 2048 to 8192 bits and odd exponents from 3 to below 2^32.
+///
+/// Of other names:
 ///
 /// - A key exchange method that it doesn't know needs a host key that encrypts, and a host key algorithm that
 ///   it doesn't know can neither sign nor encrypt: so no choice comes to one. A share of such a method is
@@ -38,7 +45,7 @@ const ED25519: &str = "ssh-ed25519";
 /// exchange. Elsewhere the first sealed packet isn't the peer's, and the endpoint fails as F4: so whoever lists
 /// this cipher lists it after another, or for peers that are strict.
 ///
-/// What it computes is proved to be the RFCs' ([`deployed_law`](crate::deployed_law)), down to numbers; SHA-256,
+/// What it computes is proved to be the RFCs' ([`deployed_law`](crate::deployed_law), [`rsa_law`](crate::rsa_law)), down to numbers; SHA-256,
 /// SHA-512 and ChaCha20 are the kit's. That two ends agree is proved of diffie-hellman-group14-sha256 alone
 /// ([`group14_law`](crate::group14_law)), and that a signature is verified by its own key isn't.
 ///
@@ -62,7 +69,7 @@ impl Suite for DeployedSuite {
 
     fn can(&self, host_key: &str) -> Capability {
         Capability {
-            signature: is_ed25519(host_key),
+            signature: is_ed25519(host_key) || is_rsa(host_key),
             encryption: false,
         }
     }
@@ -312,12 +319,14 @@ fn is_verified(alloc: Global, blob: &[u8], input: &[u8], found: &[u8]) -> Result
     Ok(is_blob && (is_found && is_signed))
 }
 
-/// Whether the signature is that of the input by the key of this blob, both of ssh-ed25519.
+/// Whether the signature is that of the input by the key of this blob, both of this algorithm.
 #[tactic(auto, unfolding(crate::specs::Deployed::verify))]
 fn verify(alloc: Global, alg: &str, blob: &[u8], input: &[u8], found: &[u8]) -> Result<bool, Memory>
     ensures { IfOk result (λ b. b ≡ verify alg.now blob.now input.now found.now) }
 {
-    if is_ed25519(alg) && blob.len() == 51 && found.len() == 83 {
+    if is_rsa(alg) {
+        rsa_verify(alloc, alg, blob, input, found)
+    } else if is_ed25519(alg) && blob.len() == 51 && found.len() == 83 {
         is_verified(alloc, blob, input, found)
     } else {
         Ok(false)

@@ -3,10 +3,9 @@
 ghost use Rattle.std.specs.Prelude.{◌≡◌, ◌<◌, ◌≤◌, ◌+◌, ◌*◌, ◌%◌, ◌^◌, ◌==◌, if◌then◌else◌, nat_lt, true, IfOk, Some, None, ℕ, drop, length, option_map, slice_index};
 ghost use Rattle.sshsuite.specs.Group14.{bytes_high, generator, group14_share, group14_shared, is_positive_body, is_within, number_body, number_high, peer_number, power, prime, secret_body, secret_with};
 ghost use Rattle.sshsuite.specs.LongNumbers.{number_of, weight};
-ghost use Rattle.sshsuite.specs.Bits.{high_word_at};
 
 use crate::bits::bit_at;
-use crate::long_numbers::{is_below, select_words};
+use crate::long_numbers::{is_below, read_words, select_words};
 use crate::montgomery::product;
 use crate::mpint::mpint_body;
 use sshwire::Memory;
@@ -233,32 +232,12 @@ fn bytes_high(number: &Number) -> [u8; 256]
     bytes
 }
 
-/// The word at a place of bytes, the highest byte first.
-#[tactic(auto, unfolding(crate::specs::Bits::high_word_at))]
-fn high_word_at(bytes: &[u8; 256], i: usize) -> u64
-    requires { i + 8 ≤ 256 }
-    ensures { result ≡ high_word_at bytes.now i }
-{
-    u64::from_be_bytes([
-        bytes[i],
-        bytes[i + 1],
-        bytes[i + 2],
-        bytes[i + 3],
-        bytes[i + 4],
-        bytes[i + 5],
-        bytes[i + 6],
-        bytes[i + 7],
-    ])
-}
-
 /// The number of 256 bytes, the highest first.
 fn number_of_bytes(bytes: &[u8; 256]) -> Number
     ensures { number_of result ≡ number_high bytes.now }
 {
     let mut number = [0; 32];
-    for i in 0..32 {
-        number[i] = high_word_at(bytes, 248 - 8 * i);
-    }
+    read_words(&mut number, bytes);
     number
 }
 
@@ -282,7 +261,7 @@ fn number_body(alloc: Global, number: &Number) -> Result<Vec<u8>, Memory>
 
 /// Whether these are the body of an mpint of a positive number, and the shortest.
 #[tactic(auto, unfolding(crate::specs::Group14::is_positive_body))]
-fn is_positive_body(body: &[u8]) -> bool
+pub(crate) fn is_positive_body(body: &[u8]) -> bool
     ensures { result ≡ is_positive_body body.now }
 {
     match body {

@@ -1,7 +1,7 @@
 //! What the calls compute, in the RFCs' own words: theorems on their meanings, each of which is the code
 //! written again. No function of the crate calls them.
 
-ghost use Rattle.std.specs.Prelude.{◌≡◌, ◌<◌, ◌+◌, ◌*◌, ◌%◌, ◌^◌, List, Some, true, ℕ, bit_xor, slice_index};
+ghost use Rattle.std.specs.Prelude.{◌≡◌, ◌<◌, ◌+◌, ◌*◌, ◌%◌, ◌^◌, List, Some, true, ℕ, bit_xor, length, slice_index};
 ghost use Rattle.sshwire.specs.Types.{IsBytes};
 ghost use Rattle.sshsuite.specs.Aes.{cipher, number_at, round_keys};
 ghost use Rattle.sshsuite.specs.AesBytes.{IsExpanded, bit_of, block_of, byte_inverse, byte_mapped, byte_product, encrypted_state, key_state, mapped_bit, sample_key, tag_additional, tag_key, tag_sealed};
@@ -21,6 +21,7 @@ ghost use Rattle.sshsuite.specs.Poly1305.{tag_of};
 ghost use Rattle.sshsuite.specs.Ghash.{ghash};
 ghost use Rattle.sshsuite.specs.Group14.{generator, group14_share, group14_shared, is_within, number_body, peer_number, power};
 ghost use Rattle.sshsuite.specs.PolyNumbers.{mac};
+ghost use Rattle.sshsuite.specs.Rsa.{digest_info, is_rsa, is_signed_by, key_blob, signature_blob};
 ghost use Rattle.sshsuite.specs.X25519Numbers.{x25519_number};
 ghost use Rattle.sshsuite.specs.declared.edwards25519.Point.{Point};
 
@@ -100,6 +101,16 @@ pub fn group14_law()
     ensures read { (n : ℕ) → is_within n ≡ true → peer_number (number_body n) ≡ Some n }
     ensures agreed { (client server : List ℕ) → is_within (power generator client) ≡ true → is_within (power generator server) ≡ true
         → group14_shared client (group14_share server) ≡ group14_shared server (group14_share client) }
+{}
+
+/// The law of rsa-sha2-256 and rsa-sha2-512: by a public key of RFC 4253 section 6.6 and a signature of RFC 8332 section 3 what
+/// verifies is told of the bodies of e and n and of s, in numbers (`verified`), and by other bytes nothing verifies
+/// (`nothing_else`).
+pub fn rsa_law()
+    ensures verified { (alg input e n s : List ℕ) → is_rsa alg ≡ true → length e < 2 ^ 32 → length n < 2 ^ 32 → length s < 2 ^ 32
+        → deployed.verify alg (key_blob e n) input (signature_blob alg s) ≡ is_signed_by e n (digest_info alg input) s }
+    ensures nothing_else { (alg blob input found : List ℕ) → is_rsa alg ≡ true → IsBytes blob → IsBytes found → deployed.verify alg blob input found ≡ true
+        → (e n s : List ℕ) × (blob ≡ key_blob e n) × (found ≡ signature_blob alg s) }
 {}
 
 /// The law of the suite: its shares and what both sides share are those of RFC 8731, in numbers modulo 2^255 - 19, and of RFC

@@ -1,5 +1,5 @@
-//! Algorithms that are deployed, as a suite: curve25519-sha256, diffie-hellman-group14-sha256, ssh-ed25519,
-//! chacha20-poly1305@openssh.com and aes256-gcm@openssh.com.
+//! Algorithms that are deployed, as a suite: curve25519-sha256, diffie-hellman-group14-sha256, ssh-ed25519, signatures of
+//! rsa-sha2-256 and rsa-sha2-512 that are verified, chacha20-poly1305@openssh.com and aes256-gcm@openssh.com.
 #![tactic(auto)]
 
 mod aes;
@@ -21,6 +21,9 @@ mod long_numbers;
 mod montgomery;
 mod mpint;
 mod poly1305;
+mod public_power;
+mod rsa;
+mod rsa_fields;
 mod scalar;
 mod sealing;
 
@@ -29,5 +32,5 @@ pub use key_pair::KeyPair;
 pub use keyed_suite::KeyedSuite;
 pub use laws::{
     aes_law, deployed_law, ed25519_law, field_law, gcm_law, group14_law, point_law, poly1305_law,
-    x25519_law,
+    rsa_law, x25519_law,
 };

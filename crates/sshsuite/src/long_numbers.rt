@@ -1,8 +1,10 @@
 //! Numbers of words of 64 bits, as many as one likes, the lowest first. No branch and no index depends on a word.
 
 ghost use Rattle.std.specs.Prelude.{◌≡◌, ◌<◌, ◌+◌, ◌*◌, ◌/◌, ◌%◌, ◌^◌, ◌==◌, if◌then◌else◌, nat_lt, length, slice_index};
+ghost use Rattle.sshsuite.specs.Group14.{number_high};
 ghost use Rattle.sshsuite.specs.LongNumbers.{number_of, weight};
 
+use crate::bits::high_word_at;
 use crate::constant_time::select;
 
 /// 2^64.
@@ -105,5 +107,16 @@ pub(crate) fn select_words(words: &mut [u64], other: &[u64], bit: u64)
 {
     for i in 0..words.len() {
         words[i] = select(words[i], other[i], bit);
+    }
+}
+
+/// Reads the number of bytes, the highest first, eight to a word.
+pub(crate) fn read_words(words: &mut [u64], bytes: &[u8])
+    requires { length bytes.now ≡ 8 * length words.old }
+    ensures { number_of words.new ≡ number_high bytes.now }
+{
+    let count = words.len();
+    for i in 0..count {
+        words[i] = high_word_at(bytes, 8 * (count - 1 - i));
     }
 }

@@ -34,11 +34,11 @@ returns-clause-steps g c =
     let old = state_data c.args.state.now in
     let new = state_data c.answer.new.self in
     let last = state_data c.turn_input.new.state in
-    let brings = subst (λ (l : List ℕ). HasForm m old → (packet : ℕ) → Brings (setup_with m (always c.args.good) role party) old new packet l c.new-sent.result.items c.answer.new.sent.items) c.deref.ensures.value c.in_ok-answer.ensures.brings in (
+    let brings = subst (λ (l : List ℕ). HasForm m old → (packet : ℕ) → Brings (setup_with m (always c.args.allowed) role party) old new packet l c.new-sent.result.items c.answer.new.sent.items) c.deref.ensures.value c.in_ok-answer.ensures.brings in (
       c.answer.new.sent.items,
       search rules,
-      subst (λ (l : List ℕ). AnswerSteps m role party c.args.good w c.args.input.now old c.turn_input.new.input last l c.answer.new.sent.items) c.new-sent.ensures.items
-          (answer_steps below streams m role party c.args.good w old new last c.new-sent.result.items c.answer.new.sent.items c.requires.asked.is_open
+      subst (λ (l : List ℕ). AnswerSteps m role party c.args.allowed w c.args.input.now old c.turn_input.new.input last l c.answer.new.sent.items) c.new-sent.ensures.items
+          (answer_steps below streams m role party c.args.allowed w old new last c.new-sent.result.items c.answer.new.sent.items c.requires.asked.is_open
           c.args.input.now c.turn_input.new.input c.requires.asked.asks brings c.turn_input.ensures.turned),
     )
 

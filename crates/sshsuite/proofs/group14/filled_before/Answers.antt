@@ -5,5 +5,5 @@ use Rattle.sshsuite.proofs.group14.filled_before.Goals as goal
 
 pub returns : goal.returns
 returns c =
-    ap number_high (filled_is (length c.args.bytes.now) c.copy_from_slice.new.self (omega arith))
+    ap number_high (filled_is 256 (length c.args.bytes.now) c.copy_from_slice.new.self (omega arith))
     ∙ zeros_before (256 - length c.args.bytes.now) c.copy_from_slice.new.self ∙ ap number_high c.copy_from_slice.ensures.after

@@ -8,7 +8,7 @@ use Rattle.sshcore.proofs.asking_endpoint.AskingEndpoint.answer.Goals as goal
 pub returns-in-Ok-clause-answered : goal.returns-in-Ok-clause-answered
 returns-in-Ok-clause-answered g c =
     rw (← c.self.view_is) (λ some. answered_from g.S.Suite.meaning (role_of c.self.inside.config) (config_data c.self.inside.config) c.self.inside.suite.now
-    c.args.good (waiting_data c.in-Some.waiting) (waiting_of c.self.inside.waiting) (waiting_of c.take.new.self) c.self.inside.input c.answer_packet-answered.new.input
+    c.args.allowed (waiting_data c.in-Some.waiting) (waiting_of c.self.inside.waiting) (waiting_of c.take.new.self) c.self.inside.input c.answer_packet-answered.new.input
     c.self.inside.state c.answer_packet-answered.new.state c.args.out.now.items c.answer_packet-answered.new.out.items
     (ap (λ w. waiting_of w) (sym c.take.ensures.value ∙ c.in-Some.is)) (ap (λ w. waiting_of w) c.take.ensures.after)
     (asks_open (end_data c.self.inside.state.end) (waiting_of c.self.inside.waiting) some) c.in-Ok.ensures.steps)

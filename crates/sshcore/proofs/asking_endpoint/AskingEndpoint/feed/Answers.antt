@@ -1,7 +1,8 @@
-use Rattle.std.proofs.Common.{◌≡◌, ◌+◌, ◌≤◌, ◌-◌, length, take, drop, ◌++◌, refl, sym, subst, arith}
+use Rattle.std.proofs.Common.{◌≡◌, ◌+◌, ◌≤◌, ◌-◌, length, take, drop, ◌++◌, refl, sym, ap, ◌∙◌, subst, arith}
 use Rattle.std.proofs.lemmas.List.{length-drop}
 use Rattle.std.proofs.Math.Seq.{take-add}
-use Rattle.sshcore.specs.Asking.{AskingBreaks, AskingFed, IsReadyForBytes}
+use Rattle.sshcore.specs.Asking.{AskingBreaks, AskingFed, IsReadyForBytes, asked_at, asking_end}
+use Rattle.sshcore.proofs.AskedNothing.{asked_none}
 use Rattle.sshcore.proofs.AskingLemmas.{breaks_then, fed_as, fed_none, fed_then}
 use Rattle.sshcore.proofs.CallLemmas.{on_err, tail_is}
 use Rattle.sshcore.proofs.asking_endpoint.AskingEndpoint.feed.Goals as goal
@@ -11,6 +12,7 @@ loop-used-init g c = record {
   fed = fed_none g.S.Suite.meaning c.args.self.now c.args.out.now.items;
   within = omega arith;
   kept = λ e. e;
+  nothing = λ none. refl;
   stays = λ shut. (refl, refl, refl);
 }
 
@@ -33,6 +35,10 @@ loop-used-preserved g c =
           (subst (λ x. AskingFed m mid new (take k x) c.loop-used.out.items c.take.new.out.items) (tail_is n piece) c.in_ok-used.ensures.fed));
       within = omega arith;
       kept = λ e. absurd (c.in_ok-used.ensures.kept e);
+      nothing = λ none.
+          let first : n ≡ 0 = omega (arith, none) in
+          let second : k ≡ 0 = omega (arith, none) in
+          c.in_ok-used.ensures.nothing second ∙ sym (asked_none (asking_end mid)) ∙ ap (asked_at (asking_end mid)) (sym ready.waits_for_none) ∙ c.loop-used.invariant.nothing first;
       stays = λ shut. absurd (shut (subst (λ x. IsReadyForBytes x) (c.loop-used.invariant.stays shut).1 ready));
     }
 

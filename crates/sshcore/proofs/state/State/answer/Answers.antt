@@ -15,6 +15,6 @@ answer_message-requires-clause-asks g c =
 
 pub returns-in-Ok-clause-brings : goal.returns-in-Ok-clause-brings
 returns-in-Ok-clause-brings g c =
-    let setup = setup_of (g.S.Suite.meaning c.args.suite.now) (always c.args.good) c.args.config.now in
+    let setup = setup_of (g.S.Suite.meaning c.args.suite.now) (always c.args.allowed) c.args.config.now in
     let reads = line_asks (g.S.Suite.meaning c.args.suite.now) (role_of c.args.config.now) (config_data c.args.config.now) (state_data c.args.self.now).known _ c.args.payload.now c.requires.asks in
     on_ok_weaker c.answer_message.result (λ works form packet. read_brings setup (state_data c.args.self.now) _ packet c.args.payload.now _ _ reads _ c.in-Ok.ensures.exact (works form)) c.answer_message.ensures.works

@@ -20,7 +20,7 @@ answer_request-requires-clause-asks g c =
 
 pub returns-in-UserauthRequest-clause-works : goal.returns-in-UserauthRequest-clause-works
 returns-in-UserauthRequest-clause-works g c =
-    let setup = setup_of (g.S.Suite.meaning c.args.suite.now) (always c.args.given.now.good) c.args.config.now in
+    let setup = setup_of (g.S.Suite.meaning c.args.suite.now) (always c.args.given.now.allowed) c.args.config.now in
     let has = has_place c.messages_law.ensures.complete c.numbers_law.ensures.kind c.numbers_law.ensures.alike (role_of c.args.config.now) (state_data c.args.self.now) c.args.payload.now (message_data c.args.message.now) c.requires.reads c.requires.spelled in
     on_two c.answer_request.result c.answer_request.ensures.gives c.answer_request.ensures.stays (λ gives stays _.
     works.user_request_works setup _ _ _ _ _ _ has c.in-UserauthRequest.user.now c.in-UserauthRequest.service.now (method_data c.in-UserauthRequest.method) (ap message_data c.in-UserauthRequest.is) gives stays)

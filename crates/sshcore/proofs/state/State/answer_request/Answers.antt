@@ -20,52 +20,52 @@ returns-in_default-clause-gives g c = on_ok_weaker c.fail.result (λ given stric
 
 pub returns-in-PublicKeyQuery-clause-gives : goal.returns-in-PublicKeyQuery-clause-gives
 returns-in-PublicKeyQuery-clause-gives g c = on_ok_weaker c.receive_query.result (λ given strict next.
-    gives_by _ _ strict next _ _ _ _ _ _ (reply_query (g.S.Suite.meaning c.args.suite.now) (always c.args.given.now.good) (config_data c.args.config.now) (state_data c.args.self.now).known c.args.user.now c.args.service.now
+    gives_by _ _ strict next _ _ _ _ _ _ (reply_query (g.S.Suite.meaning c.args.suite.now) (always c.args.given.now.allowed) (config_data c.args.config.now) (state_data c.args.self.now).known c.args.user.now c.args.service.now
     (method_data c.args.method.now) c.service.result c.service.ensures.service c.in-Some.service c.in-Some.is c.in-PublicKeyQuery.algorithm.now c.in-PublicKeyQuery.key.now (ap method_data c.in-PublicKeyQuery.is)) (given strict next)) c.receive_query.ensures.gives
 
 pub returns-in-PublicKeyQuery-clause-stays : goal.returns-in-PublicKeyQuery-clause-stays
 returns-in-PublicKeyQuery-clause-stays g c =
     let known : Known = (state_data c.args.self.now).known in
     let found = had _ c.args.service.now c.service.result c.in-Some.service c.service.ensures.service c.in-Some.is in
-    let successful : Bool = is_successful (g.S.Suite.meaning c.args.suite.now) (always c.args.given.now.good) (config_data c.args.config.now) known c.args.user.now c.args.service.now (method_data c.args.method.now) in
+    let successful : Bool = is_successful (g.S.Suite.meaning c.args.suite.now) (always c.args.given.now.allowed) (config_data c.args.config.now) known c.args.user.now c.args.service.now (method_data c.args.method.now) in
     on_ok_weaker c.receive_query.result (λ stays goes_on.
     with_key (state_data c.args.self.now) (state_data c.receive_query.new.self) _ (tried_key (state_data c.args.self.now).carried (method_data c.args.method.now) successful)
     (sym (unkeyed (state_data c.args.self.now).carried (method_data c.args.method.now) (ap (λ x. key_of (method_data x)) c.in-PublicKeyQuery.is) successful))
     (stays goes_on ∙ ap (λ (t : Tried). record (state_data c.args.self.now) { known = counted_request known t; sending = (state_data c.receive_query.new.self).sending })
-    (query_tried (g.S.Suite.meaning c.args.suite.now) (always c.args.given.now.good) (config_data c.args.config.now) known c.args.user.now c.args.service.now c.in-Some.service.now (method_data c.args.method.now) found.1
+    (query_tried (g.S.Suite.meaning c.args.suite.now) (always c.args.given.now.allowed) (config_data c.args.config.now) known c.args.user.now c.args.service.now c.in-Some.service.now (method_data c.args.method.now) found.1
     c.in-PublicKeyQuery.algorithm.now c.in-PublicKeyQuery.key.now (ap method_data c.in-PublicKeyQuery.is)))) c.receive_query.ensures.stays
 
 pub returns-clause-gives : goal.returns-clause-gives
 returns-clause-gives g c =
     let m = g.S.Suite.meaning c.args.suite.now in
-    let d = always c.args.given.now.good in
+    let d = always c.args.given.now.allowed in
     let party = config_data c.args.config.now in
     let known : Known = (state_data c.args.self.now).known in
     let method = method_data c.args.method.now in
     let other = no_query c.args.method.now c.in_default-method.not-PublicKeyQuery in
-    let given_so : is_successful m d party known c.args.user.now c.in-Some.service.now method ≡ c.args.given.now.good =
-    given_successful m party known c.args.user.now c.in-Some.service.now c.args.given.now.good method other
+    let given_so : is_successful m d party known c.args.user.now c.in-Some.service.now method ≡ c.args.given.now.allowed =
+    given_successful m party known c.args.user.now c.in-Some.service.now c.args.given.now.allowed method other
     (ap is_some (asks_here m party known c.args.user.now c.args.service.now method c.service.result c.service.ensures.service c.in-Some.service c.in-Some.is) ∙ c.requires.asks) in
     on_ok_weaker c.decide.result (λ given strict next.
-    gives_by _ _ strict next _ _ _ _ _ _ (reply_other m d party known c.args.user.now c.args.service.now method c.service.result c.service.ensures.service c.in-Some.service c.in-Some.is c.args.given.now.good
+    gives_by _ _ strict next _ _ _ _ _ _ (reply_other m d party known c.args.user.now c.args.service.now method c.service.result c.service.ensures.service c.in-Some.service c.in-Some.is c.args.given.now.allowed
     (tried_method m d party known c.args.user.now c.args.service.now method other) given_so) (given strict next)) c.decide.ensures.gives
 
 pub returns-clause-stays : goal.returns-clause-stays
 returns-clause-stays g c =
     let m = g.S.Suite.meaning c.args.suite.now in
-    let d = always c.args.given.now.good in
+    let d = always c.args.given.now.allowed in
     let party = config_data c.args.config.now in
     let old : StateData = state_data c.args.self.now in
     let method = method_data c.args.method.now in
-    let good : Bool = c.args.given.now.good in
+    let allowed : Bool = c.args.given.now.allowed in
     let new : StateData = state_data c.decide.new.self in
     let found = had _ c.args.service.now c.service.result c.in-Some.service c.service.ensures.service c.in-Some.is in
-    let given_so : is_successful m d party old.known c.args.user.now c.in-Some.service.now method ≡ good =
-    given_successful m party old.known c.args.user.now c.in-Some.service.now good method (no_query c.args.method.now c.in_default-method.not-PublicKeyQuery)
+    let given_so : is_successful m d party old.known c.args.user.now c.in-Some.service.now method ≡ allowed =
+    given_successful m party old.known c.args.user.now c.in-Some.service.now allowed method (no_query c.args.method.now c.in_default-method.not-PublicKeyQuery)
     (ap is_some (asks_here m party old.known c.args.user.now c.args.service.now method c.service.result c.service.ensures.service c.in-Some.service c.in-Some.is) ∙ c.requires.asks) in
-    let named : is_successful m d party old.known c.args.user.now c.args.service.now method ≡ good =
+    let named : is_successful m d party old.known c.args.user.now c.args.service.now method ≡ allowed =
     ap (λ (s : List ℕ). is_successful m d party old.known c.args.user.now s method) (sym found.1) ∙ given_so in
     on_ok_weaker c.decide.result (λ stays goes_on. stays goes_on
-    ∙ ap (λ (t : Tried). record old { end = new.end; known = counted_request old.known t; carried = tried_key old.carried method good; sending = new.sending })
-    (other_tried m d party old.known c.args.user.now c.args.service.now c.in-Some.service.now method found.1 good given_so)
+    ∙ ap (λ (t : Tried). record old { end = new.end; known = counted_request old.known t; carried = tried_key old.carried method allowed; sending = new.sending })
+    (other_tried m d party old.known c.args.user.now c.args.service.now c.in-Some.service.now method found.1 allowed given_so)
     ∙ ap (λ (b : Bool). record old { end = new.end; known = counted_request old.known (tried_with c.args.user.now c.args.service.now method (is_successful m d party old.known c.args.user.now c.args.service.now method)); carried = tried_key old.carried method b; sending = new.sending }) (sym named)) c.decide.ensures.stays

@@ -42,8 +42,8 @@ returns-clause-gives g c =
     let method = method_data c.args.method.now in
     let other = no_query c.args.method.now c.in_default-method.not-PublicKeyQuery in
     on_ok_weaker c.decide.result (λ given strict next.
-    gives_by _ _ strict next _ _ _ _ _ _ (reply_other m d party known c.args.user.now c.args.service.now method c.service.result c.service.ensures.service c.in-Some.service c.in-Some.is c.in_ok-good.good
-    (tried_method m d party known c.args.user.now c.args.service.now method other) (sym c.in_ok-good.ensures)) (given strict next)) c.decide.ensures.gives
+    gives_by _ _ strict next _ _ _ _ _ _ (reply_other m d party known c.args.user.now c.args.service.now method c.service.result c.service.ensures.service c.in-Some.service c.in-Some.is c.in_ok-successful.successful
+    (tried_method m d party known c.args.user.now c.args.service.now method other) (sym c.in_ok-successful.ensures)) (given strict next)) c.decide.ensures.gives
 
 pub returns-clause-stays : goal.returns-clause-stays
 returns-clause-stays g c =
@@ -54,9 +54,9 @@ returns-clause-stays g c =
     let method = method_data c.args.method.now in
     let new : StateData = state_data c.decide.new.self in
     let found = had _ c.args.service.now c.service.result c.in-Some.service c.service.ensures.service c.in-Some.is in
-    let named : is_successful m d party old.known c.args.user.now c.args.service.now method ≡ c.in_ok-good.good =
-    ap (λ (s : List ℕ). is_successful m d party old.known c.args.user.now s method) (sym found.1) ∙ sym c.in_ok-good.ensures in
+    let named : is_successful m d party old.known c.args.user.now c.args.service.now method ≡ c.in_ok-successful.successful =
+    ap (λ (s : List ℕ). is_successful m d party old.known c.args.user.now s method) (sym found.1) ∙ sym c.in_ok-successful.ensures in
     on_ok_weaker c.decide.result (λ stays goes_on. stays goes_on
-    ∙ ap (λ (t : Tried). record old { end = new.end; known = counted_request old.known t; carried = tried_key old.carried method c.in_ok-good.good; sending = new.sending })
-    (other_tried m d party old.known c.args.user.now c.args.service.now c.in-Some.service.now method found.1 c.in_ok-good.good (sym c.in_ok-good.ensures))
+    ∙ ap (λ (t : Tried). record old { end = new.end; known = counted_request old.known t; carried = tried_key old.carried method c.in_ok-successful.successful; sending = new.sending })
+    (other_tried m d party old.known c.args.user.now c.args.service.now c.in-Some.service.now method found.1 c.in_ok-successful.successful (sym c.in_ok-successful.ensures))
     ∙ ap (λ (b : Bool). record old { end = new.end; known = counted_request old.known (tried_with c.args.user.now c.args.service.now method (is_successful m d party old.known c.args.user.now c.args.service.now method)); carried = tried_key old.carried method b; sending = new.sending }) (sym named)) c.decide.ensures.stays
