@@ -1,13 +1,13 @@
 -- Whom an endpoint of this program trusts.
 
-use Rattle.std.specs.Prelude.{ℕ, ◌&&◌, ◌==◌, Bool, false, true, List, Option, None, Some, length, not, option_map, string_bytes}
+use Rattle.std.specs.Prelude.{ℕ, ◌&&◌, ◌==◌, Bool, false, true, List, Option, None, Some, length, not, option_map, string_bytes, Vec}
 use Rattle.std.specs.List.{list_any}
 use Rattle.std.specs.Str.{bytes_eq}
 use Rattle.sshcore.specs.EndpointParts.{DecisionsData, KeyProof, NoProof, PasswordProof, ProofData}
 use Rattle.sshauth.specs.declared.trust.Trust.{Trust}
 
 -- the blob is one of the keys
-abbrev pub has_key : List (Vec ℕ Global) → List ℕ → Bool
+abbrev pub has_key : {Z : Type 0} → List (Vec ℕ Z) → List ℕ → Bool
 has_key keys blob = list_any (λ key. bytes_eq key.items blob) keys
 
 abbrev pub is_trusted : Trust → List ℕ → Bool
