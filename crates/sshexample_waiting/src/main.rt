@@ -10,7 +10,7 @@
 //! config's own, so that what was recorded is taken again: a real program draws for each connection (sshexample_server).
 #![tactic(auto)]
 
-use anyhow::{Context, bail};
+use anyhow::bail;
 use sshcore::{AskingEndpoint, End, Fed, Proof, Question, ServerConfig, Silent};
 use sshsuites::{LabSuite, lab_server_parts};
 use std::alloc::{AllocError, Global};
@@ -199,28 +199,44 @@ fn at_once(
     digits: &str,
 ) -> anyhow::Result<()> {
     let piece = hex::decode(rt.alloc(), digits.as_bytes())?;
-    let mut out = Vec::new(rt.alloc());
-    let mut server = AskingEndpoint::server(
-        rt.alloc(),
-        config,
-        config.draws(),
-        &LabSuite,
-        &Silent,
-        &mut out,
-    )?;
-    let mut rest = piece.as_slice();
+    let mut connection = accept(rt.alloc(), config, name)?;
+    let told = receive_at_once(rt, &mut connection, directory, &piece);
+    drop(connection);
+    told
+}
+
+/// Gives the server what came, and each answer as soon as it asks.
+fn receive_at_once(
+    rt: &HostRuntime,
+    connection: &mut Connection<'_>,
+    directory: &Directory<'_>,
+    piece: &[u8],
+) -> anyhow::Result<()> {
+    let mut rest = piece;
     for _ in 0..u64::MAX {
-        match server.feed(rest, &mut out)? {
+        match connection.server.feed(rest, &mut connection.out)? {
             Fed::Used(_) => break,
             Fed::Asks { used } => {
                 rest = rest.get(used..).unwrap_or(&[]);
-                let asked = asked_by(rt.alloc(), &server)?.context("nothing is asked")?;
-                server.answer(may_enter(directory, &asked), &mut out)?;
+                let may = may_enter_now(rt.alloc(), &connection.server, directory)?;
+                connection.server.answer(may, &mut connection.out)?;
             }
         }
     }
-    out.clear(); // yours: sends these bytes
-    tell_end(rt, name, server.end())
+    connection.out.clear(); // yours: sends these bytes
+    tell_end(rt, connection.name, connection.server.end())
+}
+
+/// Whether the directory has whom the server asks about.
+fn may_enter_now(
+    alloc: Global,
+    server: &Server<'_>,
+    directory: &Directory<'_>,
+) -> Result<bool, AllocError> {
+    match asked_by(alloc, server)? {
+        Some(asked) => Ok(may_enter(directory, &asked)),
+        None => Ok(false),
+    }
 }
 
 /// Prints how a connection has ended.
