@@ -32,7 +32,6 @@ ROWS = {
     'disconnecting': [(f'a {side} {place}', ENDPOINT) for side in ('client', 'server')
                       for place in ('at its making, strict', 'in authentication, packet by packet')],
     'notices': [(f'a {side} behind the version line, strict: {kind}', ENDPOINT) for side in ('client', 'server') for kind in ('DISCONNECT', 'DEBUG 1')],
-    'asking': [('a client goes on, strict', ENDPOINT), ('a server verifies a signature once', ENDPOINT)],
     'handed': [('a wrong tag at the link of a client, strict', ENDPOINT | {VECTOR, 'P5 for good'})],
     'worlds': [('course 8', WORLD), ('course 12', MOVES), ('course 15', WORLD), ('guessed, rounds 9', WORLD)],
 }
