@@ -63,9 +63,11 @@ begin_part() {
 }
 
 # Adds the counts of a part: one that ended without its last line, or with a bad status and nothing failed, counts as
-# one failed.
+# one failed, and so does each edit that the prover can't read, which `rt ci` counts for nothing.
 end_part() {
-  local counts='^([0-9]+) passed, ([0-9]+) failed$' last
+  local counts='^([0-9]+) passed, ([0-9]+) failed$' last unread
+  unread=$(grep -c ': BAD EDIT: ' "$log") || true
+  failed=$((failed + unread))
   last=$(tail -n 1 "$log")
   if [[ $last =~ $counts ]]; then
     passed=$((passed + BASH_REMATCH[1]))
