@@ -158,6 +158,12 @@ pub record IsExchangePlace (role : Side) (party : ConfigData) (before : Units) (
   pub none_due : expects_guess role party.offer before ≡ false
   pub leaves : kind payload ≡ leaving role phase.Exchange
 
+-- the same of what is kept
+pub record IsExchange (role : Side) (payload : List ℕ) (p : Phase) (guess : Bool) : Type 0 where
+  pub at : p ≡ phase.Exchange
+  pub none_due : guess ≡ false
+  pub leaves : kind payload ≡ leaving role phase.Exchange
+
 module _ (below : Below) (setup : Setup) where
   -- a message that isn't an exchange message is answered without one
   still_work : (known : Known) (c : MessageData) → number_of c ≢ 30 → number_of c ≢ 31 → IsStill (work setup known c).answers
@@ -219,6 +225,33 @@ module _ (below : Below) (setup : Setup) where
       by Server h (inl e) = absurd (omega arith)
       by Server h (inr e) = absurd (omega arith)
 
+  -- the line of a message that is answered with NEWKEYS is the exchange message's
+  pub exchange_line : (known : Known) (packet : ℕ) (payload : List ℕ) (p : Phase) (strict guess : Bool) (l : Line) → Sees setup.role p strict guess (kind payload) l
+      → switched_out (line_reply setup known packet l payload).answers ≡ true → IsExchange setup.role payload p guess
+  unfolding line_reply
+  exchange_line known packet payload p strict guess l (Closing one is) on = absurd (true≢false (sym (rw is at on) ∙ still_read known packet payload (λ q. omega arith) (λ q. omega arith)))
+  exchange_line known packet payload p strict guess l (Dropped one due r is) on = absurd (true≢false (sym (rw is at on) ∙ still_none))
+  exchange_line known packet payload p strict guess l (OffGuess one due r out is) on = absurd (true≢false (sym (rw is at on) ∙ still_fails (fault.Strict (kind payload))))
+  exchange_line known packet payload p strict guess l (OffPhase one none r out is) on = absurd (true≢false (sym (rw is at on) ∙ still_fails (fault.Strict (kind payload))))
+  exchange_line known packet payload p strict guess l (Useless none off out is) on = absurd (true≢false (sym (rw is at on) ∙ still_fails (fault.Unexpected (kind payload))))
+  exchange_line known packet payload p strict guess line.Reads (Staying none off out calm e) on = absurd (true≢false (sym on ∙ still_read known packet payload calm.init calm.reply))
+  exchange_line known packet payload p strict guess line.Drops (Staying none off out calm e) on = absurd (e refl)
+  exchange_line known packet payload p strict guess line.Deviates (Staying none off out calm e) on = absurd (true≢false (sym on ∙ still_fails (fault.Strict (kind payload))))
+  exchange_line known packet payload p strict guess line.Unknown (Staying none off out calm e) on = absurd (true≢false (sym on ∙ still_unknown known packet payload))
+  exchange_line known packet payload p strict guess line.Unexpected (Staying none off out calm e) on = absurd (true≢false (sym on ∙ still_fails (fault.Unexpected (kind payload))))
+  exchange_line known packet payload p strict guess l (Leaving none here is) on = elim (cases_Bool (kind payload == 30)) [
+    | inl a ↦ exchanged (inl (eqb-true (kind payload) 30 a))
+    | inr a ↦ elim (cases_Bool (kind payload == 31)) [
+      | inl b ↦ exchanged (inr (eqb-true (kind payload) 31 b))
+      | inr b ↦ absurd (true≢false (sym (rw is at on) ∙ still_read known packet payload (λ q. true≢false (sym (eq-eqb (kind payload) 30 q) ∙ a)) (λ q. true≢false (sym (eq-eqb (kind payload) 31 q) ∙ b))))
+    ]
+  ]
+    where
+      exchanged : (kind payload ≡ 30) ⊎ (kind payload ≡ 31) → IsExchange setup.role payload p guess
+      exchanged two =
+          let q : p ≡ phase.Exchange = from_exchange setup.role p (kind payload) here two in
+          record { at = q; none_due = none; leaves = here ∙ ap (leaving setup.role) q }
+
   module _ (version : List ℕ) (before : Units) (payload : List ℕ) where
     ready_after : (p : Phase) → Tied setup.role setup.config.offer before p → expects_guess setup.role setup.config.offer before ≡ false → p ≡ phase.Exchange → kind payload ≡ leaving setup.role phase.Exchange
         → IsReady setup.role setup.config (before ++ payload ∷ [])
@@ -239,29 +272,9 @@ module _ (below : Below) (setup : Setup) where
     by_line : (known : Known) (packet : ℕ) (p : Phase) → Tied setup.role setup.config.offer before p → (l : Line)
         → Sees setup.role p (strict_at setup.role setup.config before) (expects_guess setup.role setup.config.offer before) (kind payload) l
         → switched_out (line_reply setup known packet l payload).answers ≡ true → IsExchangePlace setup.role setup.config before payload p
-    unfolding line_reply
-    by_line known packet p t l (Closing one is) on = absurd (true≢false (sym (rw is at on) ∙ still_read known packet payload (λ q. omega arith) (λ q. omega arith)))
-    by_line known packet p t l (Dropped one due r is) on = absurd (true≢false (sym (rw is at on) ∙ still_none))
-    by_line known packet p t l (OffGuess one due r out is) on = absurd (true≢false (sym (rw is at on) ∙ still_fails (fault.Strict (kind payload))))
-    by_line known packet p t l (OffPhase one none r out is) on = absurd (true≢false (sym (rw is at on) ∙ still_fails (fault.Strict (kind payload))))
-    by_line known packet p t l (Useless none off out is) on = absurd (true≢false (sym (rw is at on) ∙ still_fails (fault.Unexpected (kind payload))))
-    by_line known packet p t line.Reads (Staying none off out calm e) on = absurd (true≢false (sym on ∙ still_read known packet payload calm.init calm.reply))
-    by_line known packet p t line.Drops (Staying none off out calm e) on = absurd (e refl)
-    by_line known packet p t line.Deviates (Staying none off out calm e) on = absurd (true≢false (sym on ∙ still_fails (fault.Strict (kind payload))))
-    by_line known packet p t line.Unknown (Staying none off out calm e) on = absurd (true≢false (sym on ∙ still_unknown known packet payload))
-    by_line known packet p t line.Unexpected (Staying none off out calm e) on = absurd (true≢false (sym on ∙ still_fails (fault.Unexpected (kind payload))))
-    by_line known packet p t l (Leaving none here is) on = elim (cases_Bool (kind payload == 30)) [
-      | inl a ↦ exchanged (inl (eqb-true (kind payload) 30 a))
-      | inr a ↦ elim (cases_Bool (kind payload == 31)) [
-        | inl b ↦ exchanged (inr (eqb-true (kind payload) 31 b))
-        | inr b ↦ absurd (true≢false (sym (rw is at on) ∙ still_read known packet payload (λ q. true≢false (sym (eq-eqb (kind payload) 30 q) ∙ a)) (λ q. true≢false (sym (eq-eqb (kind payload) 31 q) ∙ b))))
-      ]
-    ]
-      where
-        exchanged : (kind payload ≡ 30) ⊎ (kind payload ≡ 31) → IsExchangePlace setup.role setup.config before payload p
-        exchanged two =
-            let q : p ≡ phase.Exchange = from_exchange setup.role p (kind payload) here two in
-            record { at = q; none_due = none; leaves = here ∙ ap (leaving setup.role) q }
+    by_line known packet p t l s on =
+        let e = exchange_line known packet payload p (strict_at setup.role setup.config before) (expects_guess setup.role setup.config.offer before) l s on in
+        record { at = e.at; none_due = e.none_due; leaves = e.leaves }
 
     -- NEWKEYS is answered at the exchange message alone
     pub told_at : (p : Phase) → Tied setup.role setup.config.offer before p → switched_out (answers_at setup (version ∷ before) payload) ≡ true → IsExchangePlace setup.role setup.config before payload p

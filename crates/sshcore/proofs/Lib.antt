@@ -53,6 +53,8 @@ pub mod BeginLemmas
 pub mod CallLemmas
 pub mod LineLemmas
 pub mod AskingLemmas
+pub mod KeepingLemmas
+pub mod PausedLemmas
 pub mod LinkLemmas
 pub mod AuthenticatedLemmas
 pub mod UncutLemmas

@@ -47,8 +47,10 @@ pub mod EndpointData
 pub mod Endpoints
 pub mod AskingData
 pub mod WaitingView
+pub mod Keeping
 pub mod Unread
 pub mod Asking
+pub mod Paused
 pub mod AskingBeside
 pub mod Dialogue
 pub mod Authenticated

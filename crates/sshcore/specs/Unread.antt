@@ -15,6 +15,7 @@ use Rattle.sshcore.specs.Brings.{IsOngoing}
 use Rattle.sshcore.specs.EndData.{Open}
 use Rattle.sshcore.specs.EndpointParts.{ConfigData, DecisionsData, Setup, setup_with}
 use Rattle.sshcore.specs.Inputs.{CanRead, EndpointStands, Steps}
+use Rattle.sshcore.specs.Keeping.{FitsConfig}
 use Rattle.sshcore.specs.Questions.{decided, question_at}
 use Rattle.sshcore.specs.StateData.{StateData, keys_due, keys_left}
 
@@ -58,10 +59,12 @@ abbrev pub IsAskedBy : SuiteData → Side → ConfigData → StateData → Input
 IsAskedBy m role party kept j None = Unit {0}
 IsAskedBy m role party kept j (Some w) = IsOngoing kept.end → IsAsked m role party kept j w
 
--- what is true of every asking endpoint: where its session goes on, its reader may be given bytes
+-- what is true of every asking endpoint: where its session goes on, its reader may be given bytes, and what it keeps is of use with
+-- its suite and its config
 pub record IsAskingEndpoint (m : SuiteData) (role : Side) (party : ConfigData) (kept : StateData) (j : Input) (w : Option WaitingData) : Type 0 where
   pub reads : IsOngoing kept.end → CanRead m j
   pub asked : IsAskedBy m role party kept j w
+  pub keeps : IsOngoing kept.end → FitsConfig m party kept
 
 -- A packet was read that asks, with the last of these bytes, and nothing more was done.
 pub record StopsAt (m : SuiteData) (role : Side) (party : ConfigData) (i : Input) (old : StateData) (j : Input) (new : StateData) (w : WaitingData) (taken before after : List ℕ) : Type 0 where

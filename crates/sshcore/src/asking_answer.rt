@@ -12,6 +12,7 @@ ghost use Rattle.sshcore.specs.EndpointParts.{DecisionsData};
 ghost use Rattle.sshcore.specs.Inputs.{CanRead, EndpointStands};
 ghost use Rattle.sshcore.specs.QuestionsView.{question_data};
 ghost use Rattle.sshcore.specs.Questions.{question_at};
+ghost use Rattle.sshcore.specs.Keeping.{StillFits};
 ghost use Rattle.sshcore.specs.StateData.{state_data};
 ghost use Rattle.sshcore.specs.Unread.{AnswerSteps, IsAsked, IsIdle, IsTurned};
 ghost use Rattle.sshcore.specs.WaitingView.{waiting_data};
@@ -105,6 +106,7 @@ fn answer_packet<S: Suite, L: Listener>(
     ensures steps { OnOk result ((added : List ℕ) × (out.new.items ≡ out.old.items ++ added)
         × AnswerSteps (S.meaning suite.now) (role_of config.now) (config_data config.now) allowed (waiting_data waiting.now) input.old (state_data state.old) input.new (state_data state.new) [] added) }
     ensures reads { OnOk result (IsOngoing (end_data state.new.end) → CanRead (S.meaning suite.now) input.new) }
+    ensures keeps { OnOk result (StillFits (S.meaning suite.now) (config_data config.now) (state_data state.old) (state_data state.new)) }
     ensures kept { OnOk result (end_data state.new.end ≢ Failed fault.Memory) }
     ensures memory { OnErr result (out.new.items ≡ out.old.items) }
 {

@@ -11,6 +11,7 @@ ghost use Rattle.sshcore.specs.EndpointConfig.{config_data, role_of};
 ghost use Rattle.sshcore.specs.EndpointParts.{config_of_client, config_of_server};
 ghost use Rattle.sshcore.specs.Inputs.{CanRead, turns_left};
 ghost use Rattle.sshcore.specs.Redrawn.{redrawn_client, redrawn_server};
+ghost use Rattle.sshcore.specs.Keeping.{StillFits};
 ghost use Rattle.sshcore.specs.StateData.{state_data};
 ghost use Rattle.sshcore.specs.Unread.{AskingSteps};
 ghost use Rattle.sshcore.specs.WaitingView.{waiting_of};
@@ -267,6 +268,7 @@ fn receive<S: Suite, L: Listener>(
     ensures used { IfOk result (λ came. came.used ≤ length piece.now) }
     ensures turns { IfOk result (λ came. turns_left (end_data state.new.end) input.new < turns_left (end_data state.old.end) input.old + 3 * came.used) }
     ensures reads { OnOk result (IsOngoing (end_data state.new.end) → CanRead (S.meaning suite.now) input.new) }
+    ensures keeps { OnOk result (StillFits (S.meaning suite.now) (config_data config.now) (state_data state.old) (state_data state.new)) }
     ensures kept { OnOk result (end_data state.new.end ≢ Failed fault.Memory) }
     ensures memory { OnErr result (out.new.items ≡ out.old.items) }
 {

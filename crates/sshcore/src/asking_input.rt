@@ -9,6 +9,7 @@ ghost use Rattle.sshcore.specs.Brings.{IsOngoing};
 ghost use Rattle.sshcore.specs.EndpointConfig.{config_data, role_of};
 ghost use Rattle.sshcore.specs.EndData.{Failed, Open, end_data};
 ghost use Rattle.sshcore.specs.Inputs.{CanRead, turns_left};
+ghost use Rattle.sshcore.specs.Keeping.{StillFits};
 ghost use Rattle.sshcore.specs.StateData.{state_data};
 ghost use Rattle.sshcore.specs.Unread.{AskingSteps, Turns};
 ghost use Rattle.sshcore.specs.WaitingView.{waiting_of};
@@ -49,6 +50,7 @@ impl Input {
         ensures used { IfOk result (λ came. came.used ≤ length piece.now) }
         ensures turns { IfOk result (λ came. turns_left (end_data state.new.end) self.new < turns_left (end_data state.old.end) self.old + 3 * came.used) }
         ensures reads { OnOk result (IsOngoing (end_data state.new.end) → CanRead (S.meaning suite.now) self.new) }
+        ensures keeps { OnOk result (StillFits (S.meaning suite.now) (config_data config.now) (state_data state.old) (state_data state.new)) }
         ensures kept { OnOk result (end_data state.new.end ≢ Failed failed.Memory) }
     {
         sshpacket::parser_law();
@@ -107,6 +109,7 @@ fn ask_packets<S: Suite, L: Listener>(
         (input.Packets reader.old) (state_data state.old) (input.Packets reader.new) (state_data state.new) (waiting_of came.waiting) (take came.used piece.now) sent.old.items sent.new.items) }
     ensures used { IfOk result (λ came. (0 < came.used) × (came.used ≤ length piece.now)) }
     ensures reads { OnOk result (IsOngoing (end_data state.new.end) → ReaderWaits (S.meaning suite.now) reader.new) }
+    ensures keeps { OnOk result (StillFits (S.meaning suite.now) (config_data config.now) (state_data state.old) (state_data state.new)) }
     ensures kept { OnOk result (end_data state.new.end ≢ Failed failed.Memory) }
 {
     sshpacket::parser_law();

@@ -9,7 +9,11 @@ ghost use Rattle.sshmsg.specs.MessageData as content;
 ghost use Rattle.sshmsg.specs.View.{kexinit_data};
 ghost use Rattle.sshmsg.specs.Written.{written_message};
 ghost use Rattle.sshcore.specs.EndpointConfig.{config_data, role_of};
+ghost use Rattle.sshcore.specs.declared.draws.Draws.{Draws};
+ghost use Rattle.sshcore.specs.ConfigParts.{ClientData, ServerData};
 ghost use Rattle.sshcore.specs.ConfigRules.{IsAttempt};
+ghost use Rattle.sshcore.specs.EndpointParts.{config_of_client, config_of_server};
+ghost use Rattle.sshcore.specs.Redrawn.{redrawn_client, redrawn_server};
 ghost use Rattle.sshcore.specs.ConfigView.{attempt_data, host_key_data};
 ghost use Rattle.sshcore.specs.Exchange.{secret_of};
 ghost use Rattle.sshcore.specs.Work.{guessed_method};
@@ -60,6 +64,17 @@ impl<'a> Config<'a> {
     fn draws(&self) -> &Draws
         ensures random { result.now.exchange_random ≡ (config_data self.now).random }
         ensures seed { result.now.padding_seed ≡ (config_data self.now).seed }
+    {
+        match self {
+            Config::Client(_, draws) => draws,
+            Config::Server(_, draws) => draws,
+        }
+    }
+
+    /// What this connection has drawn, of a config that is put aside.
+    pub(crate) fn into_draws(self) -> Draws
+        ensures client { (client : ClientData) (draws : Draws) → config_data self.entry ≡ config_of_client (redrawn_client draws client) → result ≡ draws }
+        ensures server { (server : ServerData) (draws : Draws) → config_data self.entry ≡ config_of_server (redrawn_server draws server) → result ≡ draws }
     {
         match self {
             Config::Client(_, draws) => draws,

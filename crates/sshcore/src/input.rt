@@ -159,6 +159,11 @@ pub(crate) fn receive_lines(
     ensures reads { IfOk result (λ received. MayReadOn received reader.new.progress) }
     ensures used { IfOk result (λ received. used_by received ≤ length piece.now) }
     ensures ends { IfOk result (λ received. EndsBy received (used_by received) (length piece.now) (end_data state.new.end)) }
+    // Nothing changes but how the endpoint stands and the text of the version line.
+    ensures same { OnOk result (state_data state.new ≡ record (state_data state.old) {
+      end = end_data state.new.end;
+      known = record (state_data state.old).known { version = (state_data state.new).known.version };
+    }) }
 {
     match reader.feed(piece) {
         Ok(LineStep::More) => Ok(Received::Part(piece.len())),

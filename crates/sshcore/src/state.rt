@@ -87,7 +87,8 @@ pub(crate) struct State<'a> {
 impl<'a> State<'a> {
     ghost use Rattle.sshcore.specs.EndpointConfig.{config_data};
     ghost use Rattle.sshcore.specs.Directions.{spelled_by};
-    ghost use Rattle.sshcore.specs.StateData.{begun, state_data};
+    ghost use Rattle.sshcore.specs.Paused.{with_left};
+    ghost use Rattle.sshcore.specs.StateData.{begun, left_of, state_data};
     ghost use Rattle.sshcore.specs.Output.{with_packet, with_newkeys};
     ghost use Rattle.sshcore.specs.Plan.{is_waiting};
 
@@ -122,6 +123,37 @@ impl<'a> State<'a> {
             user_key: None,
             keys_out: None,
             number_out: 0,
+        }
+    }
+
+    /// The same with these attempts left, of which the first is confirmed or not.
+    pub(crate) fn with_left<'b>(self, left: &'b [Attempt], confirmed: bool) -> State<'b>
+        requires accepted { AllByRecursion IsAttempt (map attempt_data left.now) }
+        ensures same { state_data result ≡ with_left (left_of confirmed (map attempt_data left.now)) (state_data self.entry) }
+        ensures confirmed { result.confirmed ≡ confirmed }
+    {
+        State {
+            alloc: self.alloc,
+            end: self.end,
+            phase: self.phase,
+            guess: self.guess,
+            strict: self.strict,
+            first: self.first,
+            version: self.version,
+            kexinit: self.kexinit,
+            algorithms: self.algorithms,
+            shares: self.shares,
+            session: self.session,
+            request: self.request,
+            left,
+            confirmed,
+            reached: self.reached,
+            pending: self.pending,
+            own_version: self.own_version,
+            host_key: self.host_key,
+            user_key: self.user_key,
+            keys_out: self.keys_out,
+            number_out: self.number_out,
         }
     }
 
