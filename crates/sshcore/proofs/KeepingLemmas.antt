@@ -1,6 +1,6 @@
 -- What an endpoint keeps stays of use with its suite and its config.
 
-use Rattle.std.proofs.Common.{◌≡◌, ◌⊎◌, inl, inr, ℕ, suc, ◌+◌, ◌-◌, ◌==◌, Bool, true, false, cond, List, [], ◌∷◌, ◌++◌, drop, length, None, Some, refl, sym, ap, ◌∙◌, subst, arith}
+use Rattle.std.proofs.Common.{◌≡◌, ◌⊎◌, inl, inr, ℕ, zero, suc, ◌+◌, ◌-◌, ◌==◌, Bool, true, false, cond, List, [], ◌∷◌, ◌++◌, drop, length, None, Some, refl, sym, ap, ◌∙◌, subst, arith}
 use Rattle.std.specs.Prelude.{not}
 use Rattle.std.proofs.lemmas.Bool.{cases_Bool, eq-eqb, true≢false}
 use Rattle.std.proofs.lemmas.List.{drop-drop, length-drop}
@@ -14,7 +14,6 @@ use Rattle.sshpacket.specs.KeysData.{KeysData}
 use Rattle.sshpacket.specs.Places.{EachPlace}
 use Rattle.sshpacket.specs.Stream.{Units}
 use Rattle.sshpacket.specs.Suite.{SuiteData}
-use Rattle.sshcore.specs.declared.end.Fault.{Fault}
 use Rattle.sshcore.specs.declared.input.Input.{Input}
 use Rattle.sshcore.specs.declared.input.Input.TheVariants as input
 use Rattle.sshcore.specs.declared.table.Line.{Line}
@@ -24,8 +23,9 @@ use Rattle.sshcore.specs.Before.{wrong_guess}
 use Rattle.sshcore.specs.Brings.{Brings, Drops, Exchanges, Gives, IsOngoing, Leaves, Moves, Offers, Stays, received_one}
 use Rattle.sshcore.specs.ConfigParts.{AttemptData, ByKey, ByNothing, ByPassword, CredentialData}
 use Rattle.sshcore.specs.Counting.{switched_out}
-use Rattle.sshcore.specs.EndData.{EndData, Failed, goes}
+use Rattle.sshcore.specs.EndData.{goes}
 use Rattle.sshcore.specs.EndpointParts.{ConfigData, Setup}
+use Rattle.sshcore.specs.Inputs.{Begins, CanRead}
 use Rattle.sshcore.specs.Keeping.{FitsConfig, IsRest, StillFits}
 use Rattle.sshcore.specs.Known.{Known}
 use Rattle.sshcore.specs.Output.{Sending, after_sending, sending_from}
@@ -38,7 +38,7 @@ use Rattle.sshcore.specs.Table.{line_by}
 use Rattle.sshcore.specs.Unread.{IsTurned, Turns}
 use Rattle.sshcore.specs.Work.{making}
 use Rattle.sshcore.proofs.Below.{Below}
-use Rattle.sshcore.proofs.FeedLemmas.{failed_over, none_sent}
+use Rattle.sshcore.proofs.FeedLemmas.{none_sent}
 use Rattle.sshcore.proofs.KeyedLemmas.{exchange_line, still_making}
 use Rattle.sshcore.proofs.OutputLemmas.{after_quiet}
 use Rattle.sshcore.proofs.StandingLemmas.{past_past}
@@ -107,8 +107,8 @@ quiet_keys strict next before (a ∷ us) o (none, rest) =
     quiet_keys strict next (before ++ a ∷ []) us (after_sending strict next o a) rest ∙ ap (λ (p : Sending). p.keys) (after_quiet strict next o a none)
 
 still_by : (b : Bool) → (b ≡ true → ⊥) → b ≡ false
-still_by true no = absurd (no refl)
-still_by false no = refl
+still_by true never = absurd (never refl)
+still_by false never = refl
 
 next_past : (p : Phase) → past_exchange p ≡ true → past_exchange (next_phase p) ≡ true
 next_past phase.KexInit e = absurd (true≢false (sym e))
@@ -214,15 +214,6 @@ module _ (m : SuiteData) (party : ConfigData) where
   fits_input old new last (input.Packets p) (input.Lines q) turned still = absurd turned
   fits_input old new last (input.Lines p) k turned still = absurd turned
 
-  -- the text of the version line is nothing that has to fit
-  pub fits_lines : (old new : StateData) (end : EndData) (version : List ℕ) → new ≡ record old { end = end; known = record old.known { version = version } } → StillFits m party old new
-  fits_lines old new end version e f ongoing =
-      subst (λ (k : StateData). FitsConfig m party k) (sym e) (record { form = record { form = f.form.form; clear = f.form.clear }; rest = f.rest })
-
-  -- one that has failed keeps nothing of use
-  pub fits_failed : (old new : StateData) (f : Fault) → new.end ≡ Failed f → StillFits m party old new
-  fits_failed old new f e fits ongoing = absurd (failed_over f new.end e ongoing)
-
 -- What is kept before any byte.
 pub begun_fits : (m : SuiteData) (role : Side) (party : ConfigData) (new : StateData) (before after : List ℕ) (strict : Bool) (next : KeysData) → new ≡ record (begun party) { sending = new.sending }
     → Gives m party.seed strict next (begun party) new before after (goes (making m role party)) → FitsConfig m party new
@@ -234,13 +225,18 @@ begun_fits m role party new before after strict next is gives =
       rest = rest_begun party.plan;
     })
 
+-- lines may be read then
+pub begins_reading : (m : SuiteData) (role : Side) (i : Input) → Begins role i → CanRead m i
+begins_reading m role (input.Lines reader) b = b.1
+begins_reading m role (input.Packets reader) b = absurd b
+
 -- What is kept of a rest of a plan, once it is paused: how many attempts it has, and whether the first was confirmed.
 drop_none : {X : Type 0} (k : ℕ) → ◌≡◌ {A = List X} (drop k []) []
-drop_none 0 = refl
+drop_none zero = refl
 drop_none (suc k) = refl
 
 drop_back : {X : Type 0} (n : ℕ) (xs : List X) → drop (length xs - (length xs - n)) xs ≡ drop n xs
-drop_back 0 xs = let none : length xs - (length xs - 0) ≡ 0 = omega arith in ap (λ (k : ℕ). drop k xs) none
+drop_back zero xs = let none : length xs - (length xs - 0) ≡ 0 = omega arith in ap (λ (k : ℕ). drop k xs) none
 drop_back (suc n) [] = drop_none (0 - (0 - suc n))
 drop_back (suc n) (x ∷ xs) =
     let one : length (x ∷ xs) ≡ suc (length xs) = refl in

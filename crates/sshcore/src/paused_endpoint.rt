@@ -105,13 +105,13 @@ impl PausedEndpoint {
         suite: &'a S,
         listener: &'a L,
     ) -> AskingEndpoint<'a, S, L>
-        requires fits { FitsPaused (S.meaning suite.now) Client (config_of_client (redrawn_client self.entry.draws config.now)) self.entry }
-        ensures resumes { IsResumed Client (config_of_client (redrawn_client self.entry.draws config.now)) suite.now self.entry result }
+        requires fits { FitsPaused (S.meaning suite.now) Client (config_of_client (redrawn_client self.draws config.now)) self }
+        ensures resumes { IsResumed Client (config_of_client (redrawn_client self.draws config.now)) suite.now self result }
         // It has received and sent the same.
         ensures follows { (d : DecisionsData) (h s : List ℕ)
-            → PausedAfter (setup_with (S.meaning suite.now) d Client (config_of_client (redrawn_client self.entry.draws config.now))) self.entry h s → AskingAfter S.meaning d result h s }
-        ensures end { asking_end result ≡ paused_end self.entry }
-        ensures asks { asked_by result ≡ asked_paused self.entry }
+            → PausedAfter (setup_with (S.meaning suite.now) d Client (config_of_client (redrawn_client self.draws config.now))) self h s → AskingAfter S.meaning d result h s }
+        ensures end { asking_end result ≡ paused_end self }
+        ensures asks { asked_by result ≡ asked_paused self }
     {
         let PausedEndpoint {
             draws,
@@ -139,13 +139,13 @@ impl PausedEndpoint {
         suite: &'a S,
         listener: &'a L,
     ) -> AskingEndpoint<'a, S, L>
-        requires fits { FitsPaused (S.meaning suite.now) Server (config_of_server (redrawn_server self.entry.draws config.now)) self.entry }
-        ensures resumes { IsResumed Server (config_of_server (redrawn_server self.entry.draws config.now)) suite.now self.entry result }
+        requires fits { FitsPaused (S.meaning suite.now) Server (config_of_server (redrawn_server self.draws config.now)) self }
+        ensures resumes { IsResumed Server (config_of_server (redrawn_server self.draws config.now)) suite.now self result }
         // It has received and sent the same.
         ensures follows { (d : DecisionsData) (h s : List ℕ)
-            → PausedAfter (setup_with (S.meaning suite.now) d Server (config_of_server (redrawn_server self.entry.draws config.now))) self.entry h s → AskingAfter S.meaning d result h s }
-        ensures end { asking_end result ≡ paused_end self.entry }
-        ensures asks { asked_by result ≡ asked_paused self.entry }
+            → PausedAfter (setup_with (S.meaning suite.now) d Server (config_of_server (redrawn_server self.draws config.now))) self h s → AskingAfter S.meaning d result h s }
+        ensures end { asking_end result ≡ paused_end self }
+        ensures asks { asked_by result ≡ asked_paused self }
     {
         let PausedEndpoint {
             draws,
@@ -177,7 +177,7 @@ fn resumed<'a, S: Suite, L: Listener>(
     left: usize,
     waiting: Option<Waiting>,
 ) -> AskingEndpoint<'a, S, L>
-    requires fits { IsAskingEndpoint (S.meaning suite.now) (role_of config.entry) (config_data config.entry) (kept_with (config_data config.entry).plan state.entry left) input (waiting_of waiting) }
+    requires fits { IsAskingEndpoint (S.meaning suite.now) (role_of config) (config_data config) (kept_with (config_data config).plan state left) input (waiting_of waiting) }
     ensures same { (result.role ≡ role_of config.entry) × (result.party ≡ config_data config.entry) × (result.suite ≡ suite.now) × (result.input ≡ input) × (result.waiting ≡ waiting_of waiting) }
     ensures kept { state_data result.state ≡ kept_with (config_data config.entry).plan state.entry left }
 {

@@ -10,6 +10,7 @@ use Rattle.sshcore.specs.WaitingView.{waiting_data}
 use Rattle.sshcore.proofs.AskingLemmas.{answer_steps}
 use Rattle.sshcore.proofs.Below.{Below}
 use Rattle.sshcore.proofs.HistoryLemmas.{Streams}
+use Rattle.sshcore.proofs.KeepingLemmas.{fits_after, fits_input}
 use Rattle.sshcore.proofs.asking_answer.answer_packet.Goals as goal
 
 pub returns-clause-steps : goal.returns-clause-steps
@@ -44,3 +45,15 @@ returns-clause-steps g c =
 
 pub returns-clause-reads : goal.returns-clause-reads
 returns-clause-reads g c = λ ongoing. c.turn_input.ensures.reads (g.S.Suite.meaning c.args.suite.now) c.requires.reads
+
+pub returns-clause-keeps : goal.returns-clause-keeps
+returns-clause-keeps g c =
+    let below : Below = record { numbers = c.numbers_law.ensures.kind; alike = c.numbers_law.ensures.alike; right = c.markers_law.ensures.right } in
+    let m = g.S.Suite.meaning c.args.suite.now in
+    let role = role_of c.args.config.now in
+    let party = config_data c.args.config.now in
+    let old = state_data c.args.state.now in
+    let new = state_data c.answer.new.self in
+    let brings = subst (λ (l : List ℕ). HasForm m old → (packet : ℕ) → Brings (setup_with m (always c.args.allowed) role party) old new packet l c.new-sent.result.items c.answer.new.sent.items) c.deref.ensures.value c.in_ok-answer.ensures.brings in
+    fits_input m party old new (state_data c.turn_input.new.state) c.args.input.now c.turn_input.new.input c.turn_input.ensures.turned
+    (fits_after below (setup_with m (always c.args.allowed) role party) (waiting_data c.args.waiting.now).payload old new 0 c.new-sent.result.items c.answer.new.sent.items (λ fits. brings fits.form 0))

@@ -4,6 +4,7 @@ use Rattle.sshpacket.specs.PacketReaderData.{PacketReaderData, ParseAnswer, Read
 use Rattle.sshcore.specs.declared.input.Input.TheVariants as input
 use Rattle.sshcore.specs.AskingData.{WaitingData}
 use Rattle.sshcore.specs.EndpointConfig.{config_data, role_of, setup_of}
+use Rattle.sshcore.specs.EndpointParts.{setup_with}
 use Rattle.sshcore.specs.Exchange.{keys_by}
 use Rattle.sshcore.specs.Inputs.{Steps}
 use Rattle.sshcore.specs.Questions.{always, question_at}
@@ -14,6 +15,7 @@ use Rattle.sshcore.specs.Unread.{ReadsPacket}
 use Rattle.sshcore.proofs.AskingLemmas.{alike_unasked, reads_packet, unit_steps}
 use Rattle.sshcore.proofs.Below.{Below}
 use Rattle.sshcore.proofs.HistoryLemmas.{Streams}
+use Rattle.sshcore.proofs.KeepingLemmas.{fits_after, fits_turned}
 use Rattle.sshcore.proofs.ReadLemmas.{packets_part, packets_refused, refused_some}
 use Rattle.sshcore.proofs.asking_input.ask_packets.Goals as goal
 
@@ -134,3 +136,14 @@ returns-in_ok-fail_packet-in-Err-clause-used g c =
           (refused_some (parse_packet (protection_at m (packet_reader_data r))) (c.parser_law.ensures.packets (protection_at m (packet_reader_data r))) (packet_reader_data r).held c.args.piece.now (last_used q) (OfPacket c.in-Err.fault) c.requires.reads.unfinished_is ahead_is),
       subst (λ (n : ℕ). n ≤ length c.args.piece.now) (sym used_is) leaves.1,
     )
+
+pub returns-in_ok-receive-in-None-clause-keeps : goal.returns-in_ok-receive-in-None-clause-keeps
+returns-in_ok-receive-in-None-clause-keeps g c =
+    let m = g.S.Suite.meaning c.args.suite.now in
+    let below : Below = record { numbers = c.numbers_law.ensures.kind; alike = c.numbers_law.ensures.alike; right = c.markers_law.ensures.right } in
+    let party = config_data c.args.config.now in
+    let old = state_data c.args.state.now in
+    let new = state_data c.receive.new.self in
+    fits_turned m party old new (state_data c.turn.new.state) c.next.follows.lender-at-none c.turn.new.reader c.turn.ensures.turns
+    (fits_after below (setup_with m (always false) (role_of c.args.config.now) party) c.in-Ok-Payload.payload.now old new c.in-Ok-Payload.seq c.args.sent.now.items c.receive.new.sent.items
+    (λ fits. c.in_ok-receive-in-None.ensures.brings fits.form))

@@ -12,6 +12,7 @@ use Rattle.sshcore.proofs.AskingLemmas.{asks_none}
 use Rattle.sshcore.proofs.Below.{Below}
 use Rattle.sshcore.proofs.BeginLemmas.{begins_stands}
 use Rattle.sshcore.proofs.HistoryLemmas.{Streams}
+use Rattle.sshcore.proofs.KeepingLemmas.{begins_reading, begun_fits}
 use Rattle.sshcore.proofs.asking_endpoint.AskingEndpoint.begin.Goals as goal
 
 pub returns-clause-made : goal.returns-clause-made
@@ -47,4 +48,21 @@ returns-clause-made g c =
       is_role = refl;
       is_config = refl;
       is_suite = refl;
+    }
+
+pub invariant_of-result : goal.invariant_of-result
+invariant_of-result g c =
+    let m = g.S.Suite.meaning c.args.suite.now in
+    let role = role_of c.args.config in
+    let party = config_data c.args.config in
+    let new = state_data c.send_greeting.new.self in
+    let first = c.new-state.ensures in
+    let next : KeysData = record { cipher = []; mac = []; iv = []; enc = []; mac_key = [] } in
+    let sent = c.in_ok-send_greeting.ensures.gives in
+    let gives = subst (λ (k : StateData). Gives m party.seed true next k new (preamble_of party) sent.0 (goes (making m role party))) first (sent.2 true next) in
+    let stays : new ≡ record (begun party) { sending = new.sending } = c.in_ok-send_greeting.ensures.stays ∙ ap (λ (k : StateData). record k { sending = new.sending }) first in
+    record {
+      reads = λ ongoing. begins_reading m c.role.result c.new.result c.new.ensures;
+      asked = tt;
+      keeps = λ ongoing. begun_fits m role party new (preamble_of party) sent.0 true next stays gives;
     }

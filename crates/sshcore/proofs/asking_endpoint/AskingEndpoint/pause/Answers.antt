@@ -1,0 +1,50 @@
+use Rattle.std.proofs.Common.{length, refl}
+use Rattle.sshcore.specs.EndpointConfig.{config_data, role_of, setup_of}
+use Rattle.sshcore.specs.Paused.{kept_with}
+use Rattle.sshcore.specs.StateData.{state_data}
+use Rattle.sshcore.specs.WaitingView.{waiting_of}
+use Rattle.sshcore.proofs.PausedLemmas.{asking_as, asking_stands_as, kept_but_plan, kept_end, kept_same, of_client, of_server}
+use Rattle.sshcore.proofs.asking_endpoint.AskingEndpoint.pause.Goals as goal
+
+pub returns-clause-pauses : goal.returns-clause-pauses
+returns-clause-pauses g c =
+    let plan = (config_data c.self.inside.config).plan in
+    let old = c.self.inside.state in
+    rw (← c.self.view_is) (record {
+      same_role = c.role-role.ensures;
+      same_input = refl;
+      same_waiting = refl;
+      same_state = kept_but_plan plan old c.with_left.result (length c.self.inside.state.left.now) refl c.waits-confirmed.result c.waits-confirmed.ensures c.with_left.ensures.confirmed c.with_left.ensures.same;
+      same_plan = λ o. kept_same plan old c.with_left.result (length c.self.inside.state.left.now) refl c.waits-confirmed.result c.waits-confirmed.ensures c.with_left.ensures.confirmed c.with_left.ensures.same
+          ((c.self.invariant.keeps o).rest);
+    })
+
+pub returns-clause-fits : goal.returns-clause-fits
+returns-clause-fits g c =
+    let party = config_data c.self.inside.config in
+    let old = c.self.inside.state in
+    rw (← c.self.view_is) (record {
+      is_role = c.role-role.ensures;
+      fits = asking_as (state_data old) (kept_with party.plan c.with_left.result (length c.self.inside.state.left.now))
+          (kept_end party.plan old c.with_left.result (length c.self.inside.state.left.now) refl c.waits-confirmed.result c.waits-confirmed.ensures c.with_left.ensures.confirmed c.with_left.ensures.same)
+          (λ o. kept_same party.plan old c.with_left.result (length c.self.inside.state.left.now) refl c.waits-confirmed.result c.waits-confirmed.ensures c.with_left.ensures.confirmed c.with_left.ensures.same
+          ((c.self.invariant.keeps o).rest))
+          (g.S.Suite.meaning c.self.inside.suite.now) (role_of c.self.inside.config) party c.self.inside.input (waiting_of c.self.inside.waiting) c.self.invariant;
+    })
+
+pub returns-clause-client : goal.returns-clause-client
+returns-clause-client g c = rw (← c.self.view_is) (λ client draws e. c.into_draws.ensures.client client draws e)
+
+pub returns-clause-server : goal.returns-clause-server
+returns-clause-server g c = rw (← c.self.view_is) (λ server draws e. c.into_draws.ensures.server server draws e)
+
+pub returns-clause-follows : goal.returns-clause-follows
+returns-clause-follows g c =
+    let party = config_data c.self.inside.config in
+    let old = c.self.inside.state in
+    rw (← c.self.view_is) (λ d h s a.
+    asking_stands_as (state_data old) (kept_with party.plan c.with_left.result (length c.self.inside.state.left.now))
+    (kept_end party.plan old c.with_left.result (length c.self.inside.state.left.now) refl c.waits-confirmed.result c.waits-confirmed.ensures c.with_left.ensures.confirmed c.with_left.ensures.same)
+    (λ o. kept_same party.plan old c.with_left.result (length c.self.inside.state.left.now) refl c.waits-confirmed.result c.waits-confirmed.ensures c.with_left.ensures.confirmed c.with_left.ensures.same
+    ((c.self.invariant.keeps o).rest))
+    (setup_of (g.S.Suite.meaning c.self.inside.suite.now) d c.self.inside.config) c.self.inside.input (waiting_of c.self.inside.waiting) h s a)
