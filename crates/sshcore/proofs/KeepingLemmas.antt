@@ -1,6 +1,6 @@
 -- What an endpoint keeps stays of use with its suite and its config.
 
-use Rattle.std.proofs.Common.{◌≡◌, ◌⊎◌, inl, inr, ℕ, zero, suc, ◌+◌, ◌-◌, ◌==◌, Bool, true, false, cond, List, [], ◌∷◌, ◌++◌, drop, length, None, Some, refl, sym, ap, ◌∙◌, subst, arith}
+use Rattle.std.proofs.Common.{◌≡◌, ◌⊎◌, inl, inr, ℕ, zero, suc, ◌+◌, ◌-◌, ◌==◌, Bool, true, false, cond, List, [], ◌∷◌, ◌++◌, drop, length, None, refl, sym, ap, ◌∙◌, subst, arith}
 use Rattle.std.specs.Prelude.{not}
 use Rattle.std.proofs.lemmas.Bool.{cases_Bool, eq-eqb, true≢false}
 use Rattle.std.proofs.lemmas.List.{drop-drop, length-drop}
@@ -19,7 +19,6 @@ use Rattle.sshcore.specs.declared.input.Input.TheVariants as input
 use Rattle.sshcore.specs.declared.table.Line.{Line}
 use Rattle.sshcore.specs.declared.table.Phase.{Phase}
 use Rattle.sshcore.specs.declared.table.Phase.TheVariants as phase
-use Rattle.sshcore.specs.Before.{wrong_guess}
 use Rattle.sshcore.specs.Brings.{Brings, Drops, Exchanges, Gives, IsOngoing, Leaves, Moves, Offers, Stays, received_one}
 use Rattle.sshcore.specs.ConfigParts.{AttemptData, ByKey, ByNothing, ByPassword, CredentialData}
 use Rattle.sshcore.specs.Counting.{switched_out}

@@ -1,28 +1,23 @@
 -- An endpoint that is paused keeps what it is resumed with.
 
-use Rattle.std.proofs.Common.{◌≡◌, ℕ, zero, suc, ◌-◌, Bool, List, [], ◌∷◌, drop, take, length, map, Option, None, Some, refl, sym, ap, ◌∙◌, subst}
+use Rattle.std.proofs.Common.{◌≡◌, ℕ, zero, suc, ◌-◌, Bool, List, [], ◌∷◌, drop, take, length, map, Option, None, Some, sym, ap, ◌∙◌, subst}
 use Rattle.std.specs.List.{AllByRecursion}
 use Rattle.std.specs.Prelude.{not}
 use Rattle.std.proofs.lemmas.List.{drop-map, length-map, take_rest}
 use Rattle.sshneg.specs.declared.side.Side.{Side}
 use Rattle.sshpacket.specs.Suite.{SuiteData}
-use Rattle.sshcore.specs.declared.config.Config.{Config}
-use Rattle.sshcore.specs.declared.config.Config.TheVariants as config
-use Rattle.sshcore.specs.declared.draws.Draws.{Draws}
 use Rattle.sshcore.specs.declared.input.Input.{Input}
 use Rattle.sshcore.specs.declared.state.State.{State}
 use Rattle.sshcore.specs.AskingData.{WaitingData}
 use Rattle.sshcore.specs.Brings.{IsOngoing}
-use Rattle.sshcore.specs.ConfigParts.{AttemptData, ClientData, ServerData}
+use Rattle.sshcore.specs.ConfigParts.{AttemptData}
 use Rattle.sshcore.specs.ConfigView.{attempt_data}
 use Rattle.sshcore.specs.EndData.{EndData}
-use Rattle.sshcore.specs.EndpointConfig.{config_data}
-use Rattle.sshcore.specs.EndpointParts.{ConfigData, Setup, config_of_client, config_of_server}
+use Rattle.sshcore.specs.EndpointParts.{ConfigData, Setup}
 use Rattle.sshcore.specs.Inputs.{EndpointStands, IsInside, StandsSo}
 use Rattle.sshcore.specs.Keeping.{FitsConfig, IsRest}
 use Rattle.sshcore.specs.Paused.{kept_with, with_left}
 use Rattle.sshcore.specs.Plan.{is_waiting}
-use Rattle.sshcore.specs.Redrawn.{redrawn_client, redrawn_server}
 use Rattle.sshcore.specs.StateData.{StateData, left_of, state_data}
 use Rattle.sshcore.specs.Unread.{AskingStands, IsAsked, IsAskedBy, IsAskingEndpoint}
 use Rattle.sshcore.proofs.KeepingLemmas.{length_left, rest_back}
@@ -98,20 +93,3 @@ module _ (plan : List AttemptData) (old kept : State) (left : ℕ) (left_is : le
   -- and but for the plan it always is
   pub kept_but_plan : with_left [] (kept_with plan kept left) ≡ with_left [] (state_data old)
   kept_but_plan = ap (with_left []) kept_as
-
--- The draws of a config.
-same_draws : (a b : Draws) → a.cookie ≡ b.cookie → a.exchange_random ≡ b.exchange_random → a.padding_seed ≡ b.padding_seed → a ≡ b
-same_draws a b e f g =
-    ap (λ x. record a { cookie = x }) e ∙ ap (λ x. record b { exchange_random = x; padding_seed = a.padding_seed }) f ∙ ap (λ x. record b { padding_seed = x }) g
-
-abbrev draws_in : Config → Draws
-draws_in (config.Client client draws) = draws
-draws_in (config.Server server draws) = draws
-
-pub of_client : (c : Config) (client : ClientData) (draws : Draws) → config_data c ≡ config_of_client (redrawn_client draws client) → draws_in c ≡ draws
-of_client (config.Client own drawn) client draws e = same_draws drawn draws (ap (λ (p : ConfigData). p.offer.cookie) e) (ap (λ (p : ConfigData). p.random) e) (ap (λ (p : ConfigData). p.seed) e)
-of_client (config.Server own drawn) client draws e = same_draws drawn draws (ap (λ (p : ConfigData). p.offer.cookie) e) (ap (λ (p : ConfigData). p.random) e) (ap (λ (p : ConfigData). p.seed) e)
-
-pub of_server : (c : Config) (server : ServerData) (draws : Draws) → config_data c ≡ config_of_server (redrawn_server draws server) → draws_in c ≡ draws
-of_server (config.Client own drawn) server draws e = same_draws drawn draws (ap (λ (p : ConfigData). p.offer.cookie) e) (ap (λ (p : ConfigData). p.random) e) (ap (λ (p : ConfigData). p.seed) e)
-of_server (config.Server own drawn) server draws e = same_draws drawn draws (ap (λ (p : ConfigData). p.offer.cookie) e) (ap (λ (p : ConfigData). p.random) e) (ap (λ (p : ConfigData). p.seed) e)

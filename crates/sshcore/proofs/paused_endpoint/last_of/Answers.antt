@@ -1,4 +1,4 @@
-use Rattle.std.proofs.Common.{◌≡◌, ◌-◌, length, map, subst, sym}
+use Rattle.std.proofs.Common.{◌-◌, length, map, subst, sym}
 use Rattle.std.specs.List.{AllByRecursion}
 use Rattle.sshcore.specs.ConfigRules.{IsAttempt}
 use Rattle.sshcore.specs.ConfigView.{attempt_data}

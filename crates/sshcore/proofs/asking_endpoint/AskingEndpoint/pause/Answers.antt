@@ -3,7 +3,7 @@ use Rattle.sshcore.specs.EndpointConfig.{config_data, role_of, setup_of}
 use Rattle.sshcore.specs.Paused.{kept_with}
 use Rattle.sshcore.specs.StateData.{state_data}
 use Rattle.sshcore.specs.WaitingView.{waiting_of}
-use Rattle.sshcore.proofs.PausedLemmas.{asking_as, asking_stands_as, kept_but_plan, kept_end, kept_same, of_client, of_server}
+use Rattle.sshcore.proofs.PausedLemmas.{asking_as, asking_stands_as, kept_but_plan, kept_end, kept_same}
 use Rattle.sshcore.proofs.asking_endpoint.AskingEndpoint.pause.Goals as goal
 
 pub returns-clause-pauses : goal.returns-clause-pauses
