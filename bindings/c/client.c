@@ -14,7 +14,7 @@
 
 static uint8_t received[REZDOLIN_RECEIVED_LIMIT], out[REZDOLIN_PACKET_ROOM], record[REZDOLIN_RECORD_ROOM];
 static size_t len; /* of what was received and isn't done with */
-static uint8_t drawn[112];
+static uint8_t drawn[112], none[1];
 
 /* The bytes of a file, at most `room`. */
 static rezdolin_bytes bytes_of(const char *path, uint8_t *at, size_t room) {
@@ -50,7 +50,7 @@ static bool authenticate(const rezdolin_client_input *client) {
     unsigned calls = 0;
     do {
         do {
-            answer = rezdolin_client(client, received, len, sent, out, sizeof out, record, sizeof record);
+            answer = rezdolin_client(client, received, len, sent, out, sizeof out, record, sizeof record, none, 0);
             if (answer.status != REZDOLIN_ANSWERED) {
                 fprintf(stderr, "no client: status %u, C%u\n", answer.status, answer.config);
                 return false;

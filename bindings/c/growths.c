@@ -1,4 +1,4 @@
-/* A session with the Nth growth of memory refused, for each N: a call that ran out of memory is made again, so each
+/* Two sessions, one by lists and one by questions, with the Nth growth of memory refused, for each N: a call that ran out of memory is made again, so each
  * session ends authenticated, and a packet passes. With a word, a number, only as many as that apart are tried. Link it
  * with -Wl,--wrap=malloc,--wrap=realloc. */
 #include "session.h"
@@ -15,18 +15,25 @@ void *__wrap_malloc(size_t size) { return ++seen == refused_at ? NULL : __real_m
 
 void *__wrap_realloc(void *at, size_t size) { return ++seen == refused_at ? NULL : __real_realloc(at, size); }
 
-/* A session and a packet, with this growth refused: whether it ended as it has to. */
-static bool run(unsigned long n) {
+/* A session and a packet: whether it ended as it has to. */
+static bool passes(bool asks) {
     static session s;
     static uint8_t opened[REZDOLIN_PACKET_ROOM];
     size_t len = 0;
-    refused_at = n;
-    seen = 0;
     begin(&s, 7);
     s.server.required = TEXT("publickey,password");
+    s.client.asks = s.server.asks = asks;
     meet(&s, 65536);
     return are_authenticated(&s) && pass(&s, 0, (const uint8_t *)"hello", 5, opened, &len) == 0 && len == 5
            && memcmp(opened, "hello", 5) == 0;
+}
+
+/* Both, with this growth refused. */
+static bool run(unsigned long n) {
+    refused_at = n;
+    seen = 0;
+    bool by_lists = passes(false), by_questions = passes(true);
+    return by_lists && by_questions;
 }
 
 int main(int argc, char **argv) {

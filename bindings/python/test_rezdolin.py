@@ -58,6 +58,27 @@ class Memory(unittest.TestCase):
         with self.assertRaises(Refused):
             theirs.open(b'\7' * 100)
 
+    def test_asks(self):
+        def decides(question):
+            return question.user == b'al' and question.proof.bytes in (public_key(USER), b'secret')
+
+        for proof, trusts, user in ((Key(USER), True, 'al'), (Password(b'secret'), True, 'al'), (Key(USER), False, 'al'), (Key(USER), True, 'bo')):
+            client, server = Client(user, [Nothing(), proof]), Server(HOST)
+            to_server, to_client = client.feed(b''), server.feed(b'')
+            while to_server or to_client:
+                to_client += server.feed(to_server)
+                while server.question:
+                    to_client += server.answer(decides(server.question))
+                to_server, to_client = client.feed(to_client), b''
+                if client.question:
+                    self.assertEqual((client.question.is_user, client.question.key), (False, public_key(HOST)))
+                    to_server += client.answer(trusts)
+            self.assertEqual(client.is_authenticated and server.is_authenticated, trusts and user == 'al')
+            if not trusts:
+                self.assertEqual((client.end, client.fault), (rezdolin.FAILED, 10))
+        with self.assertRaises(ValueError):
+            client.answer(True)
+
     def test_refusals(self):
         client, server = pair(Password(b'wrong'))
         meet(client, server)

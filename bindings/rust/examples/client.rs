@@ -19,15 +19,15 @@ fn draw<const N: usize>() -> std::io::Result<[u8; N]> {
 
 /// Carries the client over a stream until it has ended, and answers what came after that.
 fn carry(stream: &mut (impl Read + Write), client: &mut Client) -> Result<Vec<u8>, Box<dyn Error>> {
-    let (mut piece, mut count, mut chunk) = (0..0, 0, [0; 4096]);
+    let (mut piece, mut chunk) = (0..0, [0; 4096]);
     loop {
         let mut out = Vec::new();
-        let used = client.feed(&chunk[piece.clone()], &mut out)?;
+        client.feed(&chunk[piece], &mut out)?;
         stream.write_all(&out)?;
         if client.end() != End::Open {
-            return Ok(chunk[used..count].to_vec());
+            return Ok(client.left().to_vec());
         }
-        count = stream.read(&mut chunk)?;
+        let count = stream.read(&mut chunk)?;
         if count == 0 {
             return Err("the server has gone".into());
         }
