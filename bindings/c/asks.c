@@ -17,10 +17,15 @@ static size_t counts[2], lengths[2][16];
 static bool accepts[3], trusts;
 
 /* A field of a question. */
+static rezdolin_bytes part(uint8_t *question, size_t len, unsigned field) {
+    size_t count;
+    uint8_t *at = rezdolin_field(question, len, field, &count);
+    return (rezdolin_bytes){at, count};
+}
+
+/* A field of a question that was kept. */
 static rezdolin_bytes asked(int server, size_t number, unsigned field) {
-    size_t len;
-    uint8_t *at = rezdolin_field(questions[server][number], lengths[server][number], field, &len);
-    return (rezdolin_bytes){at, len};
+    return part(questions[server][number], lengths[server][number], field);
 }
 
 static bool equal(rezdolin_bytes a, rezdolin_bytes b) { return a.at && a.len == b.len && memcmp(a.at, b.at, a.len) == 0; }
@@ -31,26 +36,25 @@ static bool is(rezdolin_bytes a, const char *text) {
 
 static bool is_byte(rezdolin_bytes a, uint8_t byte) { return a.at && a.len == 1 && a.at[0] == byte; }
 
-/* Whether a question is answered yes: the client's by `trusts`; the server's by the method, for `al` with his key or password. */
-static bool decide(uint8_t *question, size_t len) {
-    size_t size[8];
-    uint8_t *at[8];
-    for (unsigned i = 0; i < 8; i++)
-        at[i] = rezdolin_field(question, len, i, &size[i]);
-    if (at[REZDOLIN_QUESTION_KIND][0] == REZDOLIN_ASKS_HOST_KEY)
-        return trusts && size[REZDOLIN_QUESTION_KEY] == s.trusted.len
-               && memcmp(at[REZDOLIN_QUESTION_KEY], s.trusted.at, s.trusted.len) == 0;
-    if (size[REZDOLIN_QUESTION_USER] != 2 || memcmp(at[REZDOLIN_QUESTION_USER], "al", 2) != 0)
+/* What the server's directory says: whether the user is accepted by what the request proves, or would be by the key. */
+static bool is_accepted(uint8_t *question, size_t len) {
+    if (!is(part(question, len, REZDOLIN_QUESTION_USER), "al"))
         return false;
-    switch (at[REZDOLIN_QUESTION_METHOD][0]) {
+    switch (part(question, len, REZDOLIN_QUESTION_METHOD).at[0]) {
     case REZDOLIN_METHOD_PASSWORD:
-        return accepts[1] && size[REZDOLIN_QUESTION_PASSWORD] == 6 && memcmp(at[REZDOLIN_QUESTION_PASSWORD], "secret", 6) == 0;
+        return accepts[1] && is(part(question, len, REZDOLIN_QUESTION_PASSWORD), "secret");
     case REZDOLIN_METHOD_PUBLICKEY:
-        return accepts[2] && size[REZDOLIN_QUESTION_KEY] == s.users[0].proof.len
-               && memcmp(at[REZDOLIN_QUESTION_KEY], s.users[0].proof.at, s.users[0].proof.len) == 0;
+        return accepts[2] && equal(part(question, len, REZDOLIN_QUESTION_KEY), s.users[0].proof);
     default:
         return accepts[0];
     }
+}
+
+/* Whether a question is answered yes. */
+static bool decide(uint8_t *question, size_t len) {
+    if (is_byte(part(question, len, REZDOLIN_QUESTION_KIND), REZDOLIN_ASKS_USER))
+        return is_accepted(question, len);
+    return trusts && equal(part(question, len, REZDOLIN_QUESTION_KEY), s.trusted);
 }
 
 /* The side's answer to all that came, and to each question that it then asks. */

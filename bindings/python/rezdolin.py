@@ -204,25 +204,26 @@ class _Endpoint:
             raise Refused(ROOM)
         return self._go_on(received, self._answers)
 
-    def answer(self, is_good):
+    def answer(self, allowed):
         """Answers the question, goes on with all that came, and answers what is sent. It may ask again."""
         if self.question is None:
             raise ValueError('nothing is asked')
-        return self._go_on(self._received, self._answers + (b'\x01' if is_good else b'\x00'))
+        return self._go_on(self._received, self._answers + (b'\x01' if allowed else b'\x00'))
 
     def _go_on(self, received, answers):
-        said, out, record, question = [], *(ctypes.create_string_buffer(size) for size in (8192, 65536, 36000))
+        said, sent, (out, record, question) = [], self._sent, [ctypes.create_string_buffer(size) for size in (8192, 65536, 36000)]
         self._input.answers = _lent(answers)
         while True:
-            answer = type(self).call(self._input, received, len(received), self._sent, out, len(out), record, len(record),
+            answer = type(self).call(self._input, received, len(received), sent, out, len(out), record, len(record),
                                      question, len(question))
             if answer.status != ANSWERED:
                 raise Refused(answer.status, answer.config)
             said.append(out.raw[:answer.written])
-            self._sent += answer.written
-            if self._sent >= answer.sent:
+            sent += answer.written
+            if sent >= answer.sent:
                 break
-        self._received, self._answers, self.left = received, answers, received[answer.used:]
+        # (a call that isn't answered changes nothing here)
+        self._sent, self._received, self._answers, self.left = sent, received, answers, received[answer.used:]
         self.question = Question(question.raw[:answer.question_len]) if answer.end == ASKS else None
         self.end, self.fault, self.detail = answer.end, answer.fault, answer.detail
         self._record = record.raw[:answer.session_len]

@@ -111,18 +111,18 @@ class Asyncssh(unittest.TestCase):
         async def met():
             server = await asyncssh.listen('127.0.0.1', 0, server_factory=Doors, server_host_keys=[key])
             with socket.create_connection(server.sockets[0].getsockname()) as end:
-                await asyncio.get_running_loop().run_in_executor(None, carry, client, end)
+                await asyncio.get_running_loop().run_in_executor(None, carry, client, end, lambda question: question.key == key.public_data)
             server.close()
 
-        client = Client('al', [Password(b'secret')], [key.public_data])
-        asyncio.run(met())
-        self.assertTrue(client.is_authenticated, (client.end, client.fault, client.detail))
-        self.assertEqual(client.link().host_key, key.public_data)
+        for client in (Client('al', [Password(b'secret')], [key.public_data]), Client('al', [Password(b'secret')])):
+            asyncio.run(met())
+            self.assertTrue(client.is_authenticated, (client.end, client.fault, client.detail))
+            self.assertEqual(client.link().host_key, key.public_data)
 
     def test_server(self):
         def serve():
             with listening.accept()[0] as end:
-                carry(server, end)
+                carry(server, end, lambda question: question.user == b'al' and question.proof.bytes == b'secret')
                 gone.wait(10)
 
         async def met():
@@ -130,14 +130,15 @@ class Asyncssh(unittest.TestCase):
             end = await asyncssh.connect(host, port, username='al', password='secret', known_hosts=None, client_keys=None, config=None)
             end.abort()
 
-        server, gone = Server(HOST, [('al', Password(b'secret'))]), threading.Event()
-        with socket.create_server(('127.0.0.1', 0)) as listening:
-            thread = threading.Thread(target=serve)
-            thread.start()
-            asyncio.run(met())
-            gone.set()
-            thread.join()
-        self.assertTrue(server.is_authenticated, (server.end, server.fault, server.detail))
+        for server in (Server(HOST, [('al', Password(b'secret'))]), Server(HOST)):
+            gone = threading.Event()
+            with socket.create_server(('127.0.0.1', 0)) as listening:
+                thread = threading.Thread(target=serve)
+                thread.start()
+                asyncio.run(met())
+                gone.set()
+                thread.join()
+            self.assertTrue(server.is_authenticated, (server.end, server.fault, server.detail))
         self.assertEqual((server.link().user, server.link().fields[17]), (b'al', b'\x01'))
 
 

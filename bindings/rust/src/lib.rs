@@ -195,11 +195,11 @@ impl Talk {
     }
 
     /// Answers the question, and goes on with what was received.
-    fn answer(&mut self, good: bool, out: &mut Vec<u8>, call: impl Fn(Call<'_>) -> EndpointAnswer) -> Result<Fed, Refused> {
+    fn answer(&mut self, allowed: bool, out: &mut Vec<u8>, call: impl Fn(Call<'_>) -> EndpointAnswer) -> Result<Fed, Refused> {
         if !self.asks {
             return Err(Refused::Unasked);
         }
-        self.answers.push(u8::from(good));
+        self.answers.push(u8::from(allowed));
         let fed = self.go_on(out, call);
         if fed.is_err() {
             self.answers.pop();
@@ -304,14 +304,14 @@ impl Client {
         fed
     }
 
-    /// Answers the question, goes on with what came behind it, and appends to `out` what is sent.
+    /// Answers the question, goes on with what came after it, and appends to `out` what is sent.
     ///
     /// # Errors
     ///
     /// As [`Refused`] says; it still asks then, and what was appended to `out` is good.
-    pub fn answer(&mut self, good: bool, out: &mut Vec<u8>) -> Result<Fed, Refused> {
+    pub fn answer(&mut self, allowed: bool, out: &mut Vec<u8>) -> Result<Fed, Refused> {
         let mut talk = take(&mut self.talk);
-        let fed = talk.answer(good, out, |call| self.call(call));
+        let fed = talk.answer(allowed, out, |call| self.call(call));
         self.talk = talk;
         fed
     }
@@ -411,14 +411,14 @@ impl Server {
         fed
     }
 
-    /// Answers the question, goes on with what came behind it, and appends to `out` what is sent.
+    /// Answers the question, goes on with what came after it, and appends to `out` what is sent.
     ///
     /// # Errors
     ///
     /// As [`Refused`] says; it still asks then, and what was appended to `out` is good.
-    pub fn answer(&mut self, good: bool, out: &mut Vec<u8>) -> Result<Fed, Refused> {
+    pub fn answer(&mut self, allowed: bool, out: &mut Vec<u8>) -> Result<Fed, Refused> {
         let mut talk = take(&mut self.talk);
-        let fed = talk.answer(good, out, |call| self.call(call));
+        let fed = talk.answer(allowed, out, |call| self.call(call));
         self.talk = talk;
         fed
     }

@@ -246,7 +246,9 @@ module _ {S : Type 0} (m : SuiteData) where
       (record { stands = p.stands; hands = λ a x. let found = hands d (take used received) sent p a x in (found.0, found.2, some_spelled session found.0 bytes found.1 is) }) in
       record {
         acted = acted;
-        within = within;
+        waiting = e.waiting;
+        reader = e.input;
+        within = low;
         talk = record {
           state = e.state;
           input = p.reader;
@@ -259,6 +261,7 @@ module _ {S : Type 0} (m : SuiteData) where
           hands = stood.hands;
           none = λ not. none_spelled session bytes (none not) is;
         };
+        unread = subst (λ (h : List ℕ). IsUnread m p.reader h e.waiting e.input (take used received)) (f.front ∙ front_take acted used received f.within) p.unread;
         goes_on = idle;
         hands_over = λ a x. ap length (hands d (take used received) sent p a x).4 ∙ len;
       }
@@ -303,8 +306,8 @@ module _ {S : Type 0} (m : SuiteData) where
   }
 
   no_more : (e : AskingData S) (received : List ℕ) (used : ℕ) (sent : List ℕ) (d : DecisionsData) → AskingAfter (λ (suite : S). m) d e (take used received) sent → used ≤ length received
-      → (asking_end e ≡ Open → asked_by e ≡ None → used ≡ length received) → asked_by e ≡ None → by_owner (asking_end e) ≡ false → AsksNoMore (setup_with m d e.role e.party) received
-  no_more e received used sent d p low whole unasked own =
+      → (asking_end e ≡ Open → asked_by e ≡ None → used ≡ length received) → asked_by e ≡ None → by_owner (asking_end e) ≡ false → asking_end e ≢ Failed fault.Memory → AsksNoMore (setup_with m d e.role e.party) received
+  no_more e received used sent d p low whole unasked own kept =
       let f = front_of m p.reader e.input p.earlier (take used received) e.waiting p.unread in
       let len : length (take used received) ≡ used = length-take-le used received low in
       record {
@@ -316,6 +319,7 @@ module _ {S : Type 0} (m : SuiteData) where
             (f.front ∙ front_take (length p.earlier) used received f.within) p.stands;
         whole = λ o. f.all (open_idle (asking_end e) e.waiting o unasked) ∙ len ∙ whole o unasked;
         own = own;
+        kept = kept;
       }
 
   -- answers are left
@@ -329,5 +333,5 @@ module _ {S : Type 0} (m : SuiteData) where
     in_order = c.in_order;
     answers_are = c.answers_are;
     comes_to = λ d g. over (λ (k : Side) (p : ConfigData). AsksNoMore (setup_with m d k p) received) e.role role e.party party c.same_role c.same_party
-        (no_more e received used sent d (c.follows d g) c.within c.whole unasked (c.own d g));
+        (no_more e received used sent d (c.follows d g) c.within c.whole unasked (c.own d g) c.kept);
   }

@@ -1,18 +1,19 @@
 -- What a call answers of an endpoint that asks, and that a program gave answers.
 
-use Rattle.std.specs.Prelude.{◌≡◌, ◌⊎◌, ◌==◌, ℕ, ◌≤◌, ◌<◌, Bool, false, List, [], ◌∷◌, ◌++◌, map, length, take, Option, None, Some}
+use Rattle.std.specs.Prelude.{◌≡◌, ◌≢◌, ◌⊎◌, ◌==◌, ℕ, ◌≤◌, ◌<◌, Bool, false, List, [], ◌∷◌, ◌++◌, map, length, take, Option, None, Some}
 use Rattle.std.specs.List.{AllByRecursion}
 use Rattle.sshwire.specs.Types.{uint32}
+use Rattle.sshcore.specs.declared.end.Fault.TheVariants as fault
 use Rattle.sshcore.specs.declared.input.Input.{Input}
 use Rattle.sshcore.specs.declared.state.State.{State}
 use Rattle.sshcore.specs.AskedQuestions.{AnsweredData, GiveAll, IsAskedOnce}
 use Rattle.sshcore.specs.AskingData.{WaitingData}
-use Rattle.sshcore.specs.EndData.{AgreedData, Authenticated, EndData, Open, by_owner, end_data}
+use Rattle.sshcore.specs.EndData.{AgreedData, Authenticated, EndData, Failed, Open, by_owner, end_data}
 use Rattle.sshcore.specs.EndpointParts.{DecisionsData, KeyProof, NoProof, PasswordProof, ProofData, Setup}
 use Rattle.sshcore.specs.Inputs.{EndpointStands}
 use Rattle.sshcore.specs.Questions.{HostKeyQuestion, QuestionData, UserQuestion, question_at}
 use Rattle.sshcore.specs.StateData.{state_data}
-use Rattle.sshcore.specs.Unread.{AskingStands}
+use Rattle.sshcore.specs.Unread.{AskingStands, IsUnread}
 use Rattle.rezdolin.specs.declared.answers.EndNumbers.{EndNumbers}
 use Rattle.rezdolin.specs.declared.answers.EndpointAnswer.{EndpointAnswer}
 use Rattle.rezdolin.specs.declared.answers.TheConstants.{ASKS_HOST_KEY, ASKS_USER, END_ASKS}
@@ -72,11 +73,14 @@ pub data WereAsked (setup : DecisionsData → Setup) (received : List ℕ) : Lis
       → WereAsked setup received (met ++ record { question = question; answer = allowed } ∷ []) used
 
 -- An endpoint that asks no more was fed with these bytes, and is one that asks nobody, as IsTalk tells. Of one that failed or was
--- closed it may be that it has used one packet more than it has acted upon.
+-- closed it may be that it has used one packet more than it has acted upon; else it has acted upon all that it has used.
 pub record EndsSo (setup : Setup) (received : List ℕ) (used : ℕ) (sent : List ℕ) (end : EndNumbers) (spelled : List ℕ) : Type 0 where
   pub acted : ℕ
-  pub within : acted ≤ used
+  pub waiting : Option WaitingData
+  pub reader : Input
+  pub within : used ≤ length received
   pub talk : IsTalk setup received acted sent end spelled
+  pub unread : IsUnread setup.suite talk.input (take acted received) waiting reader (take used received)
   pub goes_on : end_data talk.state.end ≡ Open → acted ≡ used
   pub hands_over : (a : AgreedData) → end_data talk.state.end ≡ Authenticated a → acted ≡ used
 
@@ -112,7 +116,7 @@ pub record AsksAnswers (setup : DecisionsData → Setup) (answers received : Lis
   pub recorded : IsRecorded spelled record_room new_record
   pub asked : IsRecorded question question_room new_question
 
--- An endpoint has used all of these bytes, or has ended, and asks nothing more.
+-- An endpoint has used all of these bytes, or has ended, and asks nothing more. Its owner didn't end it, and memory didn't run out.
 pub record AsksNoMore (setup : Setup) (received : List ℕ) : Type 0 where
   pub state : State
   pub input : Input
@@ -121,6 +125,7 @@ pub record AsksNoMore (setup : Setup) (received : List ℕ) : Type 0 where
   pub stands : EndpointStands setup (state_data state) input (take acted received) sent
   pub whole : end_data state.end ≡ Open → acted ≡ length received
   pub own : by_owner (end_data state.end) ≡ false
+  pub kept : end_data state.end ≢ Failed fault.Memory
 
 -- There are more answers than questions: the first of them are those to all questions that were asked, by all decisions that gave them.
 pub record AreTooMany (setup : DecisionsData → Setup) (answers received : List ℕ) : Type 0 where

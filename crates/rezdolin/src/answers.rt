@@ -199,6 +199,7 @@ pub(crate) fn no_config(fault: NoConfig) -> EndpointAnswer
     ensures config { result.status ≡ STATUS_CONFIG → IsPartsFault fault result.config }
     ensures unreadable { result.status ≡ STATUS_UNREADABLE → fault ≡ no.Input input.Unreadable }
     ensures statuses { (1 ≤ result.status) × (result.status ≤ STATUS_UNREADABLE) }
+    ensures unrefused { result.status ≢ STATUS_CONFIG → result.config ≡ 0 }
     ensures written { result.written ≡ 0 }
     ensures unasked { result.question_len ≡ 0 }
 {

@@ -73,7 +73,7 @@ pub(crate) fn asking_client(
 ) -> EndpointAnswer
     ensures asks { result.status ≡ STATUS_ANSWERED → AsksAnswers (λ d. client_setup deployed d config.now) answers.now received.now skip out.old session.old question.old result out.new session.new question.new }
     ensures unreadable { result.status ≡ STATUS_UNREADABLE → AreUnfit (λ d. client_setup deployed d config.now) answers.now received.now }
-    ensures config { result.status ≢ STATUS_CONFIG }
+    ensures config { (result.status ≢ STATUS_CONFIG) × (result.config ≡ 0) }
     ensures statuses { result.status ≤ STATUS_UNREADABLE }
     ensures kept { result.status ≢ STATUS_ANSWERED → (out.new ≡ out.old) × (session.new ≡ session.old) × (question.new ≡ question.old) }
 {
@@ -99,7 +99,7 @@ pub(crate) fn asking_server(
 ) -> EndpointAnswer
     ensures asks { result.status ≡ STATUS_ANSWERED → AsksAnswers (λ d. server_setup deployed d config.now) answers.now received.now skip out.old session.old question.old result out.new session.new question.new }
     ensures unreadable { result.status ≡ STATUS_UNREADABLE → AreUnfit (λ d. server_setup deployed d config.now) answers.now received.now }
-    ensures config { result.status ≢ STATUS_CONFIG }
+    ensures config { (result.status ≢ STATUS_CONFIG) × (result.config ≡ 0) }
     ensures statuses { result.status ≤ STATUS_UNREADABLE }
     ensures kept { result.status ≢ STATUS_ANSWERED → (out.new ≡ out.old) × (session.new ≡ session.old) × (question.new ≡ question.old) }
 {
@@ -122,8 +122,10 @@ fn are_answers(answers: &[u8]) -> bool
 
 /// The answer where no talk came of the answers.
 fn no_talk(fault: AskFault) -> EndpointAnswer
+    ensures many { fault ≡ ask.TooMany → result.status ≡ STATUS_UNREADABLE }
     ensures unreadable { result.status ≡ STATUS_UNREADABLE → fault ≡ ask.TooMany }
-    ensures statuses { (1 ≤ result.status) × (result.status ≢ STATUS_CONFIG) × (result.status ≤ STATUS_UNREADABLE) }
+    ensures config { (result.status ≢ STATUS_CONFIG) × (result.config ≡ 0) }
+    ensures statuses { (1 ≤ result.status) × (result.status ≤ STATUS_UNREADABLE) }
 {
     match fault {
         AskFault::TooMany => unanswered(STATUS_UNREADABLE, 0),
@@ -290,6 +292,7 @@ fn tell(
 ) -> EndpointAnswer
     ensures numbers { (result.status ≡ STATUS_ANSWERED) × (numbers_in result ≡ talk.now.end) × (result.used ≡ talk.now.used)
         × (result.sent ≡ length talk.now.sent.items) × (result.session_len ≡ length talk.now.spelled.items) × (result.question_len ≡ length talk.now.question.items) }
+    ensures config { result.config ≡ 0 }
     ensures written { IsWrittenFrom talk.now.sent.items skip out.old result.written out.new }
     ensures recorded { IsRecorded talk.now.spelled.items session.old session.new }
     ensures asked { IsRecorded talk.now.question.items question.old question.new }

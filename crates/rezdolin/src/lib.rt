@@ -67,6 +67,7 @@ pub extern "C" fn rezdolin_client(
     ensures asks { result.status ≡ STATUS_ANSWERED → client.now.asks ≡ true
         → AsksAnswers (λ d. client_setup deployed d (client_of client.now)) client.now.answers.now received.now skip out.old session.old question.old result out.new session.new question.new }
     ensures refused { result.status ≡ STATUS_CONFIG → IsRefusedClient (client_of client.now) result.config }
+    ensures unrefused { result.status ≢ STATUS_CONFIG → result.config ≡ 0 }
     ensures unreadable { result.status ≡ STATUS_UNREADABLE → AreClientTexts client.now
         → (client.now.asks ≡ true) × AreUnfit (λ d. client_setup deployed d (client_of client.now)) client.now.answers.now received.now }
     ensures statuses { result.status ≤ STATUS_UNREADABLE }
@@ -110,6 +111,7 @@ pub extern "C" fn rezdolin_server(
     ensures asks { result.status ≡ STATUS_ANSWERED → server.now.asks ≡ true
         → AsksAnswers (λ d. server_setup deployed d (server_of server.now)) server.now.answers.now received.now skip out.old session.old question.old result out.new session.new question.new }
     ensures refused { result.status ≡ STATUS_CONFIG → IsRefusedServer (server_of server.now) result.config }
+    ensures unrefused { result.status ≢ STATUS_CONFIG → result.config ≡ 0 }
     ensures unreadable { result.status ≡ STATUS_UNREADABLE → AreServerTexts server.now
         → (server.now.asks ≡ true) × AreUnfit (λ d. server_setup deployed d (server_of server.now)) server.now.answers.now received.now }
     ensures statuses { result.status ≤ STATUS_UNREADABLE }
