@@ -176,7 +176,12 @@ impl Default for Talk {
 
 impl Talk {
     /// Receives a piece, and goes on.
-    fn feed(&mut self, piece: &[u8], out: &mut Vec<u8>, call: impl Fn(Call<'_>) -> EndpointAnswer) -> Result<Fed, Refused> {
+    fn feed(
+        &mut self,
+        piece: &[u8],
+        out: &mut Vec<u8>,
+        call: impl Fn(Call<'_>) -> EndpointAnswer,
+    ) -> Result<Fed, Refused> {
         if self.end != End::Open {
             return Ok(Fed::Used(0));
         }
@@ -195,7 +200,12 @@ impl Talk {
     }
 
     /// Answers the question, and goes on with what was received.
-    fn answer(&mut self, allowed: bool, out: &mut Vec<u8>, call: impl Fn(Call<'_>) -> EndpointAnswer) -> Result<Fed, Refused> {
+    fn answer(
+        &mut self,
+        allowed: bool,
+        out: &mut Vec<u8>,
+        call: impl Fn(Call<'_>) -> EndpointAnswer,
+    ) -> Result<Fed, Refused> {
         if !self.asks {
             return Err(Refused::Unasked);
         }
@@ -217,7 +227,8 @@ impl Talk {
         let (mut room, mut record, mut question) = ([0; 4096], vec![0; 65536], vec![0; 36000]);
         loop {
             let (received, skip, answers) = (&self.received[..], self.sent, &self.answers[..]);
-            let answer = call(Call { received, skip, answers, out: &mut room, record: &mut record, question: &mut question });
+            let answer =
+                call(Call { received, skip, answers, out: &mut room, record: &mut record, question: &mut question });
             match answer.status {
                 0 => {}
                 1..=3 => {

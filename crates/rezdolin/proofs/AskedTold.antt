@@ -11,7 +11,7 @@ use Rattle.sshcore.specs.declared.input.Input.{Input}
 use Rattle.sshcore.specs.declared.question.Question.{Question}
 use Rattle.sshcore.specs.declared.session.Session.{Session}
 use Rattle.sshcore.specs.AskedQuestions.{AnsweredData, GiveAll, IsAskedOnce}
-use Rattle.sshcore.specs.Asking.{AskingAfter, AskingFed, AskingMade, asked_at, asked_by, asking_end}
+use Rattle.sshcore.specs.Asking.{AskingAfter, AskingMade, asked_at, asked_by, asking_end}
 use Rattle.sshcore.specs.AskingData.{AskingData, WaitingData, asking_setup}
 use Rattle.sshcore.specs.Dialogue.{Answers, Dialogue, Feeds, Makes}
 use Rattle.sshcore.specs.EndData.{AgreedData, Authenticated, Closed, Disconnected, EndData, Failed, Open, by_owner}

@@ -1,10 +1,10 @@
 //! The door for programs in C, Rust, Python and other languages: a client or a server of SSH up to the authenticated
 //! user, by the algorithms that are deployed, and the packets of the session that goes on.
 //!
-//! No handle crosses. A program keeps the bytes that it has received; each call answers what the endpoint sends for all
-//! of them, and the program takes what it hasn't sent yet. What stands after authentication is kept by the program too,
-//! as bytes: the record of a session, and in it the state of each direction. So no call leaves anything in memory, and
-//! calls of several threads share nothing.
+//! No handle crosses. A program keeps the bytes that it has received, and its answers to what it was asked; each call
+//! answers what the endpoint sends for all of them, and the program takes what it hasn't sent yet. What stands after
+//! authentication is kept by the program too, as bytes: the record of a session, and in it the state of each direction. So
+//! no call leaves anything in memory, and calls of several threads share nothing.
 //!
 //! `include/rezdolin.h` at the top of the repository declares the calls for C.
 #![tactic(auto)]
