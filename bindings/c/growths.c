@@ -1,6 +1,6 @@
-/* Two sessions, one by lists and one by questions, with the Nth growth of memory refused, for each N: a call that ran out of memory is made again, so each
- * session ends authenticated, and a packet passes. With a word, a number, only as many as that apart are tried. Link it
- * with -Wl,--wrap=malloc,--wrap=realloc. */
+/* Two sessions, one by lists and one by questions, each with its Nth growth of memory refused, for each N: a call that ran
+ * out of memory is made again, so the session ends authenticated, and a packet passes. With a word, a number, only as many
+ * as that apart are tried. Link it with -Wl,--wrap=malloc,--wrap=realloc. */
 #include "session.h"
 #include <stdio.h>
 
@@ -28,25 +28,20 @@ static bool passes(bool asks) {
            && memcmp(opened, "hello", 5) == 0;
 }
 
-/* Both, with this growth refused. */
-static bool run(unsigned long n) {
-    refused_at = n;
-    seen = 0;
-    bool by_lists = passes(false), by_questions = passes(true);
-    return by_lists && by_questions;
-}
-
 int main(int argc, char **argv) {
     unsigned long passed = 0, failed = 0, apart = argc > 1 ? strtoul(argv[1], NULL, 10) : 1;
-    for (unsigned long n = 1;; n += apart > 0 ? apart : 1) {
-        bool is_well = run(n);
-        if (seen < n)
-            break;
-        passed += is_well;
-        failed += !is_well;
-        if (!is_well)
-            printf("FAILED: growth %lu\n", n);
-    }
+    for (int asks = 0; asks < 2; asks++)
+        for (unsigned long n = 1;; n += apart > 0 ? apart : 1) {
+            refused_at = n;
+            seen = 0;
+            bool is_well = passes(asks);
+            if (seen < n)
+                break;
+            passed += is_well;
+            failed += !is_well;
+            if (!is_well)
+                printf("FAILED: growth %lu of a session by %s\n", n, asks ? "questions" : "lists");
+        }
     printf("%lu passed, %lu failed\n", passed, failed);
     return failed != 0 || passed == 0;
 }
