@@ -43,7 +43,7 @@ static bool is_trusted(void) {
     const uint8_t *key = rezdolin_field(question, sizeof question, REZDOLIN_QUESTION_KEY, &count);
     for (person = fopen("/dev/tty", "r+"); person && n < count; n++)
         fprintf(person, "%02x", key[n]);
-    return person && fputs("\nIs this the server's key? (y) ", person) >= 0 && fflush(person) == 0 && getc(person) == 'y';
+    return person && fputs("\nIs this the server's key? yes/no ", person) >= 0 && fflush(person) == 0 && getc(person) == 'y';
 }
 
 /* Authenticates, and leaves the bytes that come after that in `received`. */
