@@ -1,9 +1,9 @@
 /* SSH up to the authenticated user, as a client and as a server, and the packets of the session that goes on.
  *
- * An endpoint is a function of what it is made of, of whom it trusts and of all bytes that it has received: so no
- * handle is needed. The program keeps the bytes that came, hands all of them to each call, and says by `skip` how many
- * of the endpoint's bytes it has already. A call that ran out of memory is made again; no call leaves anything behind.
- * Calls of several threads share nothing.
+ * An endpoint is a function of what it is made of, of whom it trusts (by lists, or by your answers to what it asks) and of
+ * all bytes that it has received: so no handle is needed. The program keeps the bytes that came and its answers, hands all
+ * of them to each call, and says by `skip` how many of the endpoint's bytes it has already. A call that ran out of memory is
+ * made again; no call keeps anything. Calls of several threads share nothing.
  *
  *   - Link librezdolin.a and then liblibc_c.a, which ties it to malloc, realloc and free.
  *   - A pointer is never null, also where its length is 0; memory to write overlaps no other of the same call. Nothing
@@ -14,10 +14,12 @@
  *     what there is before a call, and where that is little wait some milliseconds for more. As measured (docs/BENCH.md):
  *     a session takes 6 calls of each side, 5 to 10 milliseconds of a processor for both; a client that is handed its 906
  *     bytes one by one takes 110 to 230; and a server's call on as many bytes as the limit allows, in the smallest
- *     packets, 10 to 18. So with both limits a connection costs 2.3 seconds, at the most that was tried.
- *   - Nothing is wiped: the secrets that you hand in, and the record, are yours to wipe.
+ *     packets, 10 to 18. So with both limits a connection costs 2.3 seconds, at the most that was tried. An answer to a
+ *     question takes one call more, which counts too: so there are never more answers than REZDOLIN_CALLS_LIMIT.
+ *   - Nothing is wiped: the secrets that you hand in, the record, and a question with a password, are yours to wipe.
  *
- * docs/USING.md has a whole client. Codes (C1, F1, P1 and so on) are those of its tables. */
+ * docs/USING.md has a client that asks a person, and a server that asks a directory. Codes (C1, F1, P1 and so on) are those
+ * of its tables. */
 #ifndef REZDOLIN_H
 #define REZDOLIN_H
 
@@ -39,7 +41,7 @@ typedef struct rezdolin_bytes {
 #define REZDOLIN_TEXT(text) {(const uint8_t *)(text), sizeof(text) - 1}
 
 /* Lists of names that the library and peers in use have. aes256-gcm@openssh.com works only where both sides are
- * strict, so list it behind another cipher. */
+ * strict, so list it after another cipher. */
 #define REZDOLIN_KEX "curve25519-sha256,curve25519-sha256@libssh.org"
 #define REZDOLIN_HOST_KEY "ssh-ed25519"
 #define REZDOLIN_CIPHERS "chacha20-poly1305@openssh.com,aes256-gcm@openssh.com"
@@ -54,12 +56,16 @@ typedef struct rezdolin_bytes {
 #define REZDOLIN_RECORD_ROOM 65536
 #define REZDOLIN_PACKET_ROOM 35000
 
+/* The room that each question fits in. */
+#define REZDOLIN_QUESTION_ROOM 36000
+
 /* What came of a call. */
 enum {
     REZDOLIN_ANSWERED = 0,
     REZDOLIN_MEMORY = 1,     /* memory ran out: the same call may be made again */
     REZDOLIN_CONFIG = 2,     /* the parts make no config; `config` says why */
-    REZDOLIN_UNREADABLE = 3, /* a text isn't UTF-8, a method has no such number, a secret not its length, a state isn't one */
+    REZDOLIN_UNREADABLE = 3, /* a text isn't UTF-8, a method has no such number, a secret not its length, a state isn't one;
+                              * an answer is neither 0 nor 1, or there are more answers than questions */
     REZDOLIN_ROOM = 4,       /* `out` is too small; `len` says what it has to take */
     REZDOLIN_PAYLOAD = 5,    /* a payload has 1 to 32768 bytes */
     REZDOLIN_USED_UP = 6,    /* 2^31 packets went in this direction: end the connection */
@@ -67,12 +73,13 @@ enum {
     REZDOLIN_MORE = 8        /* the packet isn't all there */
 };
 
-/* How an endpoint stands. 4 and 5 are kept for ends that no call answers yet. */
+/* How an endpoint stands. 4 is kept for an end that no call answers yet. */
 enum {
     REZDOLIN_OPEN = 0,
     REZDOLIN_AUTHENTICATED = 1,
     REZDOLIN_FAILED = 2, /* `fault` and `detail` say why */
-    REZDOLIN_CLOSED = 3  /* the peer sent a DISCONNECT; `detail` is its reason */
+    REZDOLIN_CLOSED = 3, /* the peer sent a DISCONNECT; `detail` is its reason */
+    REZDOLIN_ASKS = 5    /* it waits for the answer to its question: call again with one answer more (below, at the calls) */
 };
 
 /* Methods of authentication. */
@@ -116,6 +123,8 @@ typedef struct rezdolin_client_input {
     const rezdolin_bytes *trusted_host_keys; /* public keys, as the server sends them */
     size_t trusted_host_keys_len;
     bool guess; /* sends the share at once */
+    bool asks;  /* you are asked whether the host key is trusted, and `trusted_host_keys` isn't read */
+    rezdolin_bytes answers; /* where it asks: one byte to each question so far, in order, 1 for yes, 0 for no */
 } rezdolin_client_input;
 
 typedef struct rezdolin_host_key {
@@ -143,6 +152,8 @@ typedef struct rezdolin_server_input {
     const rezdolin_user *users;
     size_t users_len;
     uint32_t tries; /* the request at which a failure ends the session, 1 to 20 */
+    bool asks;      /* you are asked who is accepted, and `users` isn't read */
+    rezdolin_bytes answers; /* where it asks: one byte to each question so far, in order, 1 for yes, 0 for no */
 } rezdolin_server_input;
 
 /* What an endpoint answers. Where `status` isn't REZDOLIN_ANSWERED only `config` says something. */
@@ -152,10 +163,12 @@ typedef struct rezdolin_endpoint_answer {
     uint32_t end;    /* REZDOLIN_OPEN and so on */
     uint32_t fault;  /* of REZDOLIN_FAILED: 1 for F1 and so on; else 0 */
     uint32_t detail; /* F5, F6, F7: the message; F8: the field, 1 to 8; of REZDOLIN_CLOSED: the reason; else 0 */
-    size_t used;     /* of the bytes received: all while it is open. What stands after them is for rezdolin_open */
+    size_t used;     /* of the bytes received: all while it is open, and of REZDOLIN_ASKS up to the packet that asks. What
+                      * stands after them where it is authenticated is for rezdolin_open */
     size_t sent;     /* bytes that the endpoint has sent since it began: send them all, also where it has ended */
     size_t written;  /* of these, from `skip` on, to `out`; call again while `skip` + `written` is below `sent` */
     size_t session_len; /* of REZDOLIN_AUTHENTICATED: the length of the record; else 0 */
+    size_t question_len; /* of REZDOLIN_ASKS: the length of the question; else 0 */
 } rezdolin_endpoint_answer;
 
 /* What a call answers that makes bytes. */
@@ -168,13 +181,31 @@ typedef struct rezdolin_bytes_answer {
 
 /* A client that has received these bytes, and a server: what it sends for them. With nothing received it answers what
  * it sends first. `session` is filled with the record of the session where the endpoint ended authenticated and the
- * room takes `session_len` bytes of the answer. */
+ * room takes `session_len` bytes of the answer; `question` with the question where it stands at REZDOLIN_ASKS and the room
+ * takes `question_len` bytes.
+ *
+ * Where no list can say whom it trusts, since a person or a directory has to be asked, set `asks`. At a question a call then
+ * stands at REZDOLIN_ASKS:
+ *   1. Send what it sends, as ever.
+ *   2. Read the question's fields by rezdolin_field (REZDOLIN_QUESTION_KEY and so on), with `question_len` as its length.
+ *      To a person show the key, or its SHA-256 in base64, which OpenSSH calls its fingerprint; look users up by
+ *      REZDOLIN_QUESTION_USER and compare REZDOLIN_QUESTION_PASSWORD or REZDOLIN_QUESTION_KEY.
+ *   3. Take your time: no call has to be made meanwhile, and what comes meanwhile waits in its socket, or in your buffer. The
+ *      peer may not wait for ever, as OpenSSH's server does for two minutes.
+ *   4. Put a byte after your answers so far, 1 for yes or 0 for no, and call again, with all bytes received from the first one
+ *      on. The call comes to the same questions, takes each answer for its own, and goes on after the last; it may stand
+ *      at REZDOLIN_ASKS again.
+ * Keep all answers up to the last call, and put in none that wasn't asked for: that is REZDOLIN_UNREADABLE.
+ *
+ * A client asks once: a yes means that the key is the server's. A server asks of each request that proves something (also of
+ * the method none), and of each key that a client asks about. A yes to a request accepts the user, unless `required` wants
+ * more; a yes to the question about a key accepts nobody: a signed request follows, about which it asks again. */
 rezdolin_endpoint_answer rezdolin_client(const rezdolin_client_input *client, const uint8_t *received,
                                          size_t received_len, size_t skip, uint8_t *out, size_t out_len,
-                                         uint8_t *session, size_t session_len);
+                                         uint8_t *session, size_t session_len, uint8_t *question, size_t question_len);
 rezdolin_endpoint_answer rezdolin_server(const rezdolin_server_input *server, const uint8_t *received,
                                          size_t received_len, size_t skip, uint8_t *out, size_t out_len,
-                                         uint8_t *session, size_t session_len);
+                                         uint8_t *session, size_t session_len, uint8_t *question, size_t question_len);
 
 /* The public key of the 32 bytes of a private key. It has 51 bytes. */
 rezdolin_bytes_answer rezdolin_public_key(const uint8_t *private_key, size_t private_key_len, uint8_t *out,
@@ -214,6 +245,25 @@ enum {
     REZDOLIN_BY_PASSWORD = 17,       /* of a server: one byte, 1 where a password succeeded; of a client no byte */
     REZDOLIN_BY_KEY_ALGORITHM = 18,  /* of a server where a key succeeded: its algorithm; else no byte */
     REZDOLIN_BY_KEY = 19             /* of a server where a key succeeded: the public key; else no byte */
+};
+
+/* What a question asks of: the first field of its record. */
+enum {
+    REZDOLIN_ASKS_HOST_KEY = 0, /* of a client: is this the server's key? */
+    REZDOLIN_ASKS_USER = 1      /* of a server: is this user accepted by this, or would this key do? */
+};
+
+/* The fields of a question, in the form of a record. Any of them may be what the peer wants it to be: show no text of it
+ * without a filter of control characters. */
+enum {
+    REZDOLIN_QUESTION_KIND = 0,      /* one byte, REZDOLIN_ASKS_HOST_KEY or REZDOLIN_ASKS_USER */
+    REZDOLIN_QUESTION_NUMBER = 1,    /* of a user: the number of the request, from 1 on, in 4 bytes, the highest first */
+    REZDOLIN_QUESTION_USER = 2,      /* of a user: the name */
+    REZDOLIN_QUESTION_SERVICE = 3,   /* of a user: the service that is to start */
+    REZDOLIN_QUESTION_METHOD = 4,    /* of a user: one byte, REZDOLIN_METHOD_. With NONE nothing is proved */
+    REZDOLIN_QUESTION_ALGORITHM = 5, /* of a key: the algorithm as the peer names it; decide by the key */
+    REZDOLIN_QUESTION_KEY = 6,       /* the server's public key, or the user's, whose signature is verified where there is one */
+    REZDOLIN_QUESTION_PASSWORD = 7   /* of a password: the password, secret */
 };
 
 /* Where a field of a record of `len` bytes stands, and how many bytes it has; null where there is no such field. */

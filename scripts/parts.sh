@@ -84,12 +84,12 @@ end_part() {
 }
 
 # A line of the table: a part, its time by the wall and of processors, in minutes and seconds, and its counts.
-line_of() { printf '%-32s %9s %9s   %s' "$1" "$(clock "$2")" "$(clock "$3")" "$4"; }
+line_of() { printf '%-48s %9s %9s   %s' "$1" "$(clock "$2")" "$(clock "$3")" "$4"; }
 
 # Prints the times of all parts, then the counts, and ends.
 sum_up() {
   look_at_processors
-  printf '\n%-32s %9s %9s   %s\n' part time processor counts
+  printf '\n%-48s %9s %9s   %s\n' part time processor counts
   printf '%s\n' "${table[@]}" "$(line_of all $SECONDS "$worked" '')"
   echo "$passed passed, $failed failed"
   [ "$failed" -eq 0 ] || exit 1

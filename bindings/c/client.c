@@ -3,8 +3,8 @@
  *
  *     client USER PASSWORD-FILE KEY-FILE COMMAND <&3       (3: a socket, as bash makes one of /dev/tcp/localhost/22)
  *
- * KEY-FILE has the host key's bytes, which `cut -d' ' -f2 host.pub | base64 -d` gives. Its status is 0 where the command
- * was run, 1 where the server didn't let it, and 2 where it can't begin. */
+ * KEY-FILE has the host key's bytes, which `cut -d' ' -f2 host.pub | base64 -d` gives; where it is `-`, a person is asked.
+ * Its status is 0 where the command was run, 1 where the server didn't let it, and 2 where it can't begin. */
 #define _DEFAULT_SOURCE
 #include "rezdolin.h"
 #include <stdio.h>
@@ -14,7 +14,8 @@
 
 static uint8_t received[REZDOLIN_RECEIVED_LIMIT], out[REZDOLIN_PACKET_ROOM], record[REZDOLIN_RECORD_ROOM];
 static size_t len; /* of what was received and isn't done with */
-static uint8_t drawn[112];
+static uint8_t question[REZDOLIN_QUESTION_ROOM], answers[1], drawn[112];
+static FILE *peer, *person;
 
 /* The bytes of a file, at most `room`. */
 static rezdolin_bytes bytes_of(const char *path, uint8_t *at, size_t room) {
@@ -26,14 +27,7 @@ static rezdolin_bytes bytes_of(const char *path, uint8_t *at, size_t room) {
 }
 
 static bool send_all(const uint8_t *at, size_t count) {
-    while (count > 0) {
-        ssize_t n = write(0, at, count);
-        if (n <= 0)
-            return false;
-        at += n;
-        count -= (size_t)n;
-    }
-    return true;
+    return fwrite(at, 1, count, peer) == count && fflush(peer) == 0;
 }
 
 /* Reads what there is after what was received. */
@@ -43,21 +37,32 @@ static bool receive(void) {
     return n > 0;
 }
 
+/* Shows a person at the terminal the key of the question, and asks whether it is the server's. */
+static bool is_trusted(void) {
+    size_t count, n = 0;
+    const uint8_t *key = rezdolin_field(question, sizeof question, REZDOLIN_QUESTION_KEY, &count);
+    for (person = fopen("/dev/tty", "r+"); person && n < count; n++)
+        fprintf(person, "%02x", key[n]);
+    return person && fputs("\nIs this the server's key? yes/no ", person) >= 0 && fflush(person) == 0 && getc(person) == 'y';
+}
+
 /* Authenticates, and leaves the bytes that come after that in `received`. */
-static bool authenticate(const rezdolin_client_input *client) {
+static bool authenticate(rezdolin_client_input *client) {
     rezdolin_endpoint_answer answer;
     size_t sent = 0;
     unsigned calls = 0;
     do {
         do {
-            answer = rezdolin_client(client, received, len, sent, out, sizeof out, record, sizeof record);
+            answer = rezdolin_client(client, received, len, sent, out, sizeof out, record, sizeof record, question, sizeof question);
             if (answer.status != REZDOLIN_ANSWERED) {
                 fprintf(stderr, "no client: status %u, C%u\n", answer.status, answer.config);
                 return false;
             }
             sent += answer.written;
         } while (send_all(out, answer.written) && sent < answer.sent);
-    } while (answer.end == REZDOLIN_OPEN && ++calls < REZDOLIN_CALLS_LIMIT && receive());
+        if (answer.end == REZDOLIN_ASKS) /* once, of a client */
+            answers[client->answers.len++] = is_trusted();
+    } while (++calls < REZDOLIN_CALLS_LIMIT && (answer.end == REZDOLIN_ASKS || (answer.end == REZDOLIN_OPEN && receive())));
     memmove(received, received + answer.used, len -= answer.used);
     if (answer.end != REZDOLIN_AUTHENTICATED)
         fprintf(stderr, "end %u: F%u %u\n", answer.end, answer.fault, answer.detail);
@@ -106,8 +111,7 @@ static bool run(const char *command) {
         return false;
     while (receive_payload(&count)) {
         if (out[0] == 91) { /* CONFIRMATION */
-            memset(message, 0, 5);
-            message[0] = 98; /* CHANNEL_REQUEST */
+            memcpy(message, "\x62\0\0\0", 5); /* CHANNEL_REQUEST */
             count = put(message, 5, "exec");
             message[count] = 1;
             if (!send_payload(message, put(message, count + 1, command)))
@@ -123,7 +127,7 @@ static bool run(const char *command) {
 
 int main(int argc, char **argv) {
     static uint8_t password[1024], key[1024];
-    if (argc != 5 || getentropy(drawn, sizeof drawn) != 0)
+    if (argc != 5 || getentropy(drawn, sizeof drawn) != 0 || !(peer = fdopen(0, "w")))
         return 2;
     rezdolin_bytes trusted = bytes_of(argv[3], key, sizeof key), ciphers = REZDOLIN_TEXT(REZDOLIN_CIPHERS),
                    macs = REZDOLIN_TEXT(REZDOLIN_MACS);
@@ -138,6 +142,7 @@ int main(int argc, char **argv) {
         .side = {REZDOLIN_TEXT("rezdolin"), REZDOLIN_TEXT(""), REZDOLIN_TEXT(REZDOLIN_KEX), ciphers, ciphers, macs, macs,
                  {drawn, 16}, {drawn + 16, 32}, {drawn + 48, 32}, true},
         .server_host_key_algorithms = REZDOLIN_TEXT(REZDOLIN_HOST_KEY),
-        .plan = &attempt, .plan_len = 1, .trusted_host_keys = &trusted, .trusted_host_keys_len = 1};
+        .plan = &attempt, .plan_len = 1, .trusted_host_keys = &trusted, .trusted_host_keys_len = 1,
+        .asks = strcmp(argv[3], "-") == 0, .answers = {answers, 0}};
     return authenticate(&client) && run(argv[4]) ? 0 : 1;
 }

@@ -4,6 +4,8 @@
 #include <stdio.h>
 #include <time.h>
 
+static uint8_t none[1];
+
 /* Of a processor, so what else runs weighs little. */
 static double milliseconds(void) {
     return (double)clock() * 1000 / CLOCKS_PER_SEC;
@@ -13,7 +15,7 @@ static double call(const session *s, size_t n) {
     static uint8_t out[65536], record[REZDOLIN_RECORD_ROOM];
     double from = milliseconds();
     for (int i = 0; i < 100; i++)
-        rezdolin_client(&s->client, s->to_client.at, n, 0, out, sizeof out, record, sizeof record);
+        rezdolin_client(&s->client, s->to_client.at, n, 0, out, sizeof out, record, sizeof record, none, 0);
     return (milliseconds() - from) / 100;
 }
 
@@ -41,7 +43,7 @@ static void flood(unsigned size) {
     double from = milliseconds();
     rezdolin_endpoint_answer answer;
     for (int i = 0; i < 20; i++)
-        answer = rezdolin_server(&s.server, received, len, 0, out, sizeof out, record, sizeof record);
+        answer = rezdolin_server(&s.server, received, len, 0, out, sizeof out, record, sizeof record, none, 0);
     printf("a server's call at %zu bytes, payloads of %u bytes, %s: %.1f ms\n", len, size,
            answer.end == REZDOLIN_OPEN && answer.used == len ? "all read" : "NOT ALL READ", (milliseconds() - from) / 20);
 }
@@ -60,7 +62,7 @@ int main(void) {
         printf("a client's call at %zu bytes: %.3f ms\n", places[i], call(&s, places[i]));
     from = milliseconds();
     for (size_t n = 0; n <= all; n++)
-        rezdolin_client(&s.client, s.to_client.at, n, 0, out, sizeof out, record, sizeof record);
+        rezdolin_client(&s.client, s.to_client.at, n, 0, out, sizeof out, record, sizeof record, none, 0);
     printf("a client byte by byte, %zu calls: %.1f ms\n", all + 1, milliseconds() - from);
     flood(5);
     flood(32768);

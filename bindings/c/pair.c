@@ -87,7 +87,7 @@ static void refusals(void) {
     begin(&s, 13);
     memcpy(s.to_client.at, "SSH-1.0-old\r\n", 13);
     s.to_client.len = 13;
-    s.ends[0] = rezdolin_client(&s.client, s.to_client.at, 13, 0, s.to_server.at, 65536, s.records[0], 16);
+    s.ends[0] = rezdolin_client(&s.client, s.to_client.at, 13, 0, s.to_server.at, 65536, s.records[0], 16, s.questions[0], 0);
     row("a version line that is refused", ended(&s, 0, REZDOLIN_FAILED, 1, 0));
 }
 
@@ -166,7 +166,7 @@ static void records(void) {
     row("strict", field(&s, 0, REZDOLIN_STRICT).len == 1 && field(&s, 0, REZDOLIN_STRICT).at[0] == 1);
     row("there are 20 fields", field(&s, 0, 20).at == NULL);
     uint8_t small[10] = {7, 7, 7, 7, 7, 7, 7, 7, 7, 7}, byte[1];
-    rezdolin_endpoint_answer answer = rezdolin_client(&s.client, s.to_client.at, s.to_client.len, 0, byte, 0, small, 10);
+    rezdolin_endpoint_answer answer = rezdolin_client(&s.client, s.to_client.at, s.to_client.len, 0, byte, 0, small, 10, s.questions[0], 0);
     row("a record that has no room", answer.session_len == s.ends[0].session_len && small[0] == 7 && answer.written == 0);
 }
 
@@ -180,7 +180,7 @@ static void cuts(void) {
                                      && memcmp(s.to_server.at, other.to_server.at, s.to_server.len) == 0);
     bool same = true;
     for (size_t n = 0; n < s.to_client.len; n += 5) {
-        rezdolin_endpoint_answer a = rezdolin_client(&s.client, s.to_client.at, n, 0, other.to_server.at, 65536, other.records[0], 65536);
+        rezdolin_endpoint_answer a = rezdolin_client(&s.client, s.to_client.at, n, 0, other.to_server.at, 65536, other.records[0], 65536, other.questions[0], 0);
         same = same && a.status == 0 && a.end == REZDOLIN_OPEN && a.used == n && a.written == a.sent
                && memcmp(other.to_server.at, s.to_server.at, a.sent) == 0;
     }
@@ -189,7 +189,7 @@ static void cuts(void) {
     s.to_client.len++;
     step(&s, 0, 65536);
     row("a byte that comes after", s.ends[0].end == REZDOLIN_AUTHENTICATED && s.ends[0].used == s.to_client.len - 1);
-    rezdolin_endpoint_answer a = rezdolin_client(&s.client, s.to_client.at, s.to_client.len, 1000000, other.to_server.at, 10, other.records[0], 0);
+    rezdolin_endpoint_answer a = rezdolin_client(&s.client, s.to_client.at, s.to_client.len, 1000000, other.to_server.at, 10, other.records[0], 0, other.questions[0], 0);
     row("more was skipped than is sent", a.status == 0 && a.written == 0);
 }
 

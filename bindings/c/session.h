@@ -15,7 +15,7 @@ typedef struct stream {
 
 /* Both sides: what they are made of, what they have sent, and how they stand. */
 typedef struct session {
-    uint8_t drawn[2][112], host_secret[32], user_secret[32], host_key[64], user_key[64];
+    uint8_t drawn[2][112], yes[16], host_secret[32], user_secret[32], host_key[64], user_key[64];
     rezdolin_bytes trusted;
     rezdolin_attempt plan[2];
     rezdolin_host_key host;
@@ -23,7 +23,7 @@ typedef struct session {
     rezdolin_client_input client;
     rezdolin_server_input server;
     stream to_server, to_client;
-    uint8_t records[2][REZDOLIN_RECORD_ROOM];
+    uint8_t records[2][REZDOLIN_RECORD_ROOM], questions[2][REZDOLIN_QUESTION_ROOM];
     rezdolin_endpoint_answer ends[2];
     unsigned calls;
 } session;
@@ -60,10 +60,12 @@ static inline void begin(session *s, unsigned seed) {
                                     REZDOLIN_METHOD_PUBLICKEY, true};
     s->plan[1] = (rezdolin_attempt){TEXT("al"), TEXT("ssh-connection"), TEXT(""), TEXT("secret"),
                                     REZDOLIN_METHOD_PASSWORD, false};
+    memset(s->yes, 1, sizeof s->yes);
     s->client = (rezdolin_client_input){.side = side_of(s->drawn[0]),
                                         .server_host_key_algorithms = TEXT(REZDOLIN_HOST_KEY),
                                         .plan = s->plan, .plan_len = 2,
-                                        .trusted_host_keys = &s->trusted, .trusted_host_keys_len = 1};
+                                        .trusted_host_keys = &s->trusted, .trusted_host_keys_len = 1,
+                                        .answers = {s->yes, 0}};
     s->host = (rezdolin_host_key){TEXT(REZDOLIN_HOST_KEY), {s->host_secret, 32}};
     s->users[0] = (rezdolin_user){TEXT("al"), {s->user_key, user_len}, REZDOLIN_METHOD_PUBLICKEY};
     s->users[1] = (rezdolin_user){TEXT("al"), TEXT("secret"), REZDOLIN_METHOD_PASSWORD};
@@ -71,7 +73,7 @@ static inline void begin(session *s, unsigned seed) {
                                         .services = TEXT("ssh-connection"), .methods = TEXT("password,publickey"),
                                         .required = TEXT(""), .banner = TEXT("hello\r\n"),
                                         .notice_lines = &s->trusted, .notice_lines_len = 0,
-                                        .users = s->users, .users_len = 2, .tries = 6};
+                                        .users = s->users, .users_len = 2, .tries = 6, .answers = {s->yes, 0}};
 }
 
 /* The side's answer to all that the other has sent, and what it sends behind what it has sent; `room` bytes at a time. */
@@ -83,21 +85,29 @@ static inline void step(session *s, int server, size_t room) {
         if (left > room)
             left = room;
         answer = server ? rezdolin_server(&s->server, in->at, in->len, out->len, out->at + out->len, left, s->records[1],
-                                          sizeof s->records[1])
+                                          sizeof s->records[1], s->questions[1], sizeof s->questions[1])
                         : rezdolin_client(&s->client, in->at, in->len, out->len, out->at + out->len, left, s->records[0],
-                                          sizeof s->records[0]);
+                                          sizeof s->records[0], s->questions[0], sizeof s->questions[0]);
         s->calls++;
         out->len += answer.written;
     } while (answer.status == REZDOLIN_MEMORY || (answer.status == REZDOLIN_ANSWERED && out->len < answer.sent));
     s->ends[server] = answer;
 }
 
+/* The same, with a yes to each question. */
+static inline void step_yes(session *s, int server, size_t room) {
+    rezdolin_bytes *answers = server ? &s->server.answers : &s->client.answers;
+    step(s, server, room);
+    for (; s->ends[server].status == REZDOLIN_ANSWERED && s->ends[server].end == REZDOLIN_ASKS && answers->len < sizeof s->yes; step(s, server, room))
+        answers->len++;
+}
+
 /* Both sides talk until neither has more to say. */
 static inline void meet(session *s, size_t room) {
     for (size_t before = 1; before != s->to_server.len + s->to_client.len;) {
         before = s->to_server.len + s->to_client.len;
-        step(s, 1, room);
-        step(s, 0, room);
+        step_yes(s, 1, room);
+        step_yes(s, 0, room);
         if (s->ends[0].status || s->ends[1].status)
             return;
     }

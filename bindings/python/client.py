@@ -2,29 +2,44 @@
 
     python3 client.py HOST PORT USER PASSWORD KEY-FILE
 
-KEY-FILE has the host key's bytes, which `cut -d' ' -f2 host.pub | base64 -d` gives.
+KEY-FILE has the host key's bytes, which `cut -d' ' -f2 host.pub | base64 -d` gives; where it is `-`, a person is asked.
 """
+import base64
+import hashlib
 import socket
 import sys
 
 from rezdolin import Client, Password
 
 
-def carry(endpoint, end):
-    """Carries an endpoint over a socket until it has ended, or the peer has gone."""
+def carry(endpoint, end, decide=None):
+    """Carries an endpoint over a socket until it has ended, or the peer has gone. What it asks, `decide` answers."""
     end.sendall(endpoint.feed(b''))
     while endpoint.is_open:
+        if endpoint.question:
+            end.sendall(endpoint.answer(decide(endpoint.question)))
+            continue
         piece = end.recv(4096)
         if not piece:
             break
         end.sendall(endpoint.feed(piece))
 
 
-def main(host, port, user, password, path):
+def is_trusted(question):
+    """Shows a person the key as OpenSSH does, and asks whether it is the server's."""
+    digest = base64.b64encode(hashlib.sha256(question.key).digest()).decode().rstrip('=')
+    return input(f"Is SHA256:{digest} the server's key? (y) ") == 'y'
+
+
+def bytes_of(path):
     with open(path, 'rb') as file:
-        client = Client(user, [Password(password.encode())], [file.read()])
+        return file.read()
+
+
+def main(host, port, user, password, path):
+    client = Client(user, [Password(password.encode())], None if path == '-' else [bytes_of(path)])
     with socket.create_connection((host, int(port))) as end:
-        carry(client, end)
+        carry(client, end, is_trusted)
     if client.is_authenticated:
         link = client.link()
         print(link.user.decode(), 'at', link.peer_version.decode())

@@ -6,6 +6,8 @@ proved library rezdolin.
     while client.is_open:
         socket.sendall(client.feed(socket.recv(4096)))
 
+Without the list of host keys, or of users, an endpoint asks: where `question` is one, `answer` goes on.
+
 A Client and a Server open no socket: feed takes what came and answers what is to be sent. Each keeps all bytes that it has
 received, and each call of the library makes all work anew: so feed what there is, rather than byte by byte. It wants
 librezdolin.so, in the folder out at the top of the repository or where the variable REZDOLIN says, and nothing else but
@@ -22,6 +24,7 @@ MACS = 'hmac-sha2-256-etm@openssh.com,hmac-sha2-512-etm@openssh.com,hmac-sha2-25
 HOST_KEY, SERVICE = b'ssh-ed25519', b'ssh-connection'
 ANSWERED, MEMORY, CONFIG, UNREADABLE, ROOM, PAYLOAD, USED_UP, PACKET, MORE = range(9)
 OPEN, AUTHENTICATED, FAILED, CLOSED = range(4)
+ASKS = 5
 
 
 class _Bytes(ctypes.Structure):
@@ -41,22 +44,23 @@ _Attempt = _struct('_Attempt', *[(name, _Bytes) for name in ('user', 'service', 
 _Client = _struct('_Client', ('side', _Side), ('server_host_key_algorithms', _Bytes),
                   ('plan', ctypes.POINTER(_Attempt)), ('plan_len', ctypes.c_size_t),
                   ('trusted_host_keys', ctypes.POINTER(_Bytes)), ('trusted_host_keys_len', ctypes.c_size_t),
-                  ('guess', ctypes.c_bool))
+                  ('guess', ctypes.c_bool), ('asks', ctypes.c_bool), ('answers', _Bytes))
 _HostKey = _struct('_HostKey', ('algorithm', _Bytes), ('private_key', _Bytes))
 _User = _struct('_User', ('user', _Bytes), ('proof', _Bytes), ('method', ctypes.c_uint32))
 _Server = _struct('_Server', ('side', _Side), ('host_keys', ctypes.POINTER(_HostKey)), ('host_keys_len', ctypes.c_size_t),
                   *[(name, _Bytes) for name in ('services', 'methods', 'required', 'banner')],
                   ('notice_lines', ctypes.POINTER(_Bytes)), ('notice_lines_len', ctypes.c_size_t),
-                  ('users', ctypes.POINTER(_User)), ('users_len', ctypes.c_size_t), ('tries', ctypes.c_uint32))
+                  ('users', ctypes.POINTER(_User)), ('users_len', ctypes.c_size_t), ('tries', ctypes.c_uint32),
+                  ('asks', ctypes.c_bool), ('answers', _Bytes))
 _EndpointAnswer = _struct('_EndpointAnswer', *[(name, ctypes.c_uint32) for name in ('status', 'config', 'end', 'fault', 'detail')],
-                          *[(name, ctypes.c_size_t) for name in ('used', 'sent', 'written', 'session_len')])
+                          *[(name, ctypes.c_size_t) for name in ('used', 'sent', 'written', 'session_len', 'question_len')])
 _BytesAnswer = _struct('_BytesAnswer', ('status', ctypes.c_uint32), ('fault', ctypes.c_uint32),
                        ('used', ctypes.c_size_t), ('len', ctypes.c_size_t))
 
 _IN, _OUT, _SIZE = ctypes.c_char_p, ctypes.c_void_p, ctypes.c_size_t
 _CALLS = {
-    'rezdolin_client': (_EndpointAnswer, [ctypes.POINTER(_Client), _IN, _SIZE, _SIZE, _OUT, _SIZE, _OUT, _SIZE]),
-    'rezdolin_server': (_EndpointAnswer, [ctypes.POINTER(_Server), _IN, _SIZE, _SIZE, _OUT, _SIZE, _OUT, _SIZE]),
+    'rezdolin_client': (_EndpointAnswer, [ctypes.POINTER(_Client), _IN, _SIZE, _SIZE, _OUT, _SIZE, _OUT, _SIZE, _OUT, _SIZE]),
+    'rezdolin_server': (_EndpointAnswer, [ctypes.POINTER(_Server), _IN, _SIZE, _SIZE, _OUT, _SIZE, _OUT, _SIZE, _OUT, _SIZE]),
     'rezdolin_public_key': (_BytesAnswer, [_IN, _SIZE, _OUT, _SIZE]),
     'rezdolin_seal': (_BytesAnswer, [_OUT, _SIZE, _IN, _SIZE, _IN, _SIZE, _OUT, _SIZE]),
     'rezdolin_open': (_BytesAnswer, [_OUT, _SIZE, _IN, _SIZE, _OUT, _SIZE]),
@@ -118,15 +122,31 @@ def _text(text):
     return text.encode() if isinstance(text, str) else bytes(text)
 
 
+def _fields(record):
+    fields = []
+    while record:
+        size, = struct.unpack('>I', record[:4])
+        fields.append(record[4:4 + size])
+        record = record[4 + size:]
+    return fields
+
+
+class Question:
+    """What an endpoint asks: of a client whether `key` is the server's; of a server, where `is_user`, whether `user` is
+    accepted by `proof`, or whether the key would do. All of it may be what the peer wants it to be."""
+
+    def __init__(self, record):
+        kind, number, self.user, self.service, method, self.algorithm, self.key, password = _fields(record)
+        self.is_user, self.number = kind == b'\x01', int.from_bytes(number, 'big')
+        proofs = {b'': lambda: None, b'\x00': Nothing, b'\x01': lambda: Password(password), b'\x02': lambda: Key(self.key)}
+        self.proof = proofs[method]()
+
+
 class Link:
     """Both directions of a session, and what was agreed: its fields, numbered as include/rezdolin.h has them."""
 
     def __init__(self, record):
-        self.fields, self._seed = [], os.urandom(32)
-        while record:
-            size, = struct.unpack('>I', record[:4])
-            self.fields.append(record[4:4 + size])
-            record = record[4 + size:]
+        self.fields, self._seed = _fields(record), os.urandom(32)
         self._incoming, self._outgoing = (ctypes.create_string_buffer(state, len(state)) for state in self.fields[:2])
         self.session_identifier, self.user, self.service = self.fields[2:5]
         self.own_version, self.peer_version, self.host_key = self.fields[5:8]
@@ -156,8 +176,8 @@ class _Endpoint:
     call = None
 
     def __init__(self, kex=KEX, ciphers=CIPHERS, macs=MACS, softwareversion='rezdolin', strict=True):
-        self._received, self._sent, self._record = b'', 0, b''
-        self.end, self.fault, self.detail, self.left = OPEN, 0, 0, b''
+        self._received, self._sent, self._record, self._answers = b'', 0, b'', b''
+        self.end, self.fault, self.detail, self.left, self.question = OPEN, 0, 0, b'', None
         texts = [_text(it) for it in (softwareversion, '', kex, ciphers, ciphers, macs, macs)]
         drawn = [os.urandom(size) for size in (16, 32, 32)]
         # (each structure keeps the bytes that were put in alive)
@@ -165,8 +185,8 @@ class _Endpoint:
 
     @property
     def is_open(self):
-        """Whether it goes on."""
-        return self.end == OPEN
+        """Whether it goes on, or asks."""
+        return self.end in (OPEN, ASKS)
 
     @property
     def is_authenticated(self):
@@ -174,23 +194,37 @@ class _Endpoint:
         return self.end == AUTHENTICATED
 
     def feed(self, piece):
-        """Receives a piece, and answers what is sent. What it doesn't use stands in `left`, for a Link."""
+        """Receives a piece, and answers what is sent. What it doesn't use stands in `left`, for a Link. Where it asks,
+        `question` is a Question."""
         if not self.is_open:
             self.left += piece
             return b''
         received = self._received + piece
         if len(received) > RECEIVED_LIMIT:
             raise Refused(ROOM)
-        said, out, record = [], ctypes.create_string_buffer(8192), ctypes.create_string_buffer(65536)
+        return self._go_on(received, self._answers)
+
+    def answer(self, allowed):
+        """Answers the question, goes on with all that came, and answers what is sent. It may ask again."""
+        if self.question is None:
+            raise ValueError('nothing is asked')
+        return self._go_on(self._received, self._answers + (b'\x01' if allowed else b'\x00'))
+
+    def _go_on(self, received, answers):
+        said, sent, (out, record, question) = [], self._sent, [ctypes.create_string_buffer(size) for size in (8192, 65536, 36000)]
+        self._input.answers = _lent(answers)
         while True:
-            answer = type(self).call(self._input, received, len(received), self._sent, out, len(out), record, len(record))
+            answer = type(self).call(self._input, received, len(received), sent, out, len(out), record, len(record),
+                                     question, len(question))
             if answer.status != ANSWERED:
                 raise Refused(answer.status, answer.config)
             said.append(out.raw[:answer.written])
-            self._sent += answer.written
-            if self._sent >= answer.sent:
+            sent += answer.written
+            if sent >= answer.sent:
                 break
-        self._received, self.left = received, received[answer.used:]
+        # (a call that isn't answered changes nothing here)
+        self._sent, self._received, self._answers, self.left = sent, received, answers, received[answer.used:]
+        self.question = Question(question.raw[:answer.question_len]) if answer.end == ASKS else None
         self.end, self.fault, self.detail = answer.end, answer.fault, answer.detail
         self._record = record.raw[:answer.session_len]
         return b''.join(said)
@@ -203,27 +237,28 @@ class _Endpoint:
 
 
 class Client(_Endpoint):
-    """A client: its user, the attempts in order, and the host keys that it trusts, each a public key."""
+    """A client: its user, the attempts in order, and the host keys that it trusts, each a public key. Without these it asks."""
     call = _library.rezdolin_client
 
-    def __init__(self, user, plan, trusted_host_keys, **lists):
+    def __init__(self, user, plan, trusted_host_keys=None, **lists):
         super().__init__(**lists)
         attempts = [_Attempt(_lent(_text(user)), _lent(SERVICE), _lent(HOST_KEY if proof.method == 2 else b''), _lent(proof.bytes),
                              proof.method, proof.method == 2) for proof in plan]
-        plan, trusted = _list(_Attempt, attempts), _list(_Bytes, [_lent(bytes(key)) for key in trusted_host_keys])
-        self._input = _Client(self._side, _lent(HOST_KEY), *plan, *trusted, False)
+        plan, trusted = _list(_Attempt, attempts), _list(_Bytes, [_lent(bytes(key)) for key in trusted_host_keys or []])
+        self._input = _Client(self._side, _lent(HOST_KEY), *plan, *trusted, False, trusted_host_keys is None, _lent(b''))
 
 
 class Server(_Endpoint):
-    """A server: the 32 bytes of its private host key, and who is accepted by what: pairs of a user and a proof."""
+    """A server: the 32 bytes of its private host key, and who is accepted by what: pairs of a user and a proof. Without
+    these it asks."""
     call = _library.rezdolin_server
 
-    def __init__(self, host_key, users, methods='publickey,password', required='', banner=b'', tries=6, **lists):
+    def __init__(self, host_key, users=None, methods='publickey,password', required='', banner=b'', tries=6, **lists):
         super().__init__(**lists)
         keys = _list(_HostKey, [_HostKey(_lent(HOST_KEY), _lent(bytes(host_key)))])
-        users = _list(_User, [_User(_lent(_text(user)), _lent(proof.bytes), proof.method) for user, proof in users])
+        entries = _list(_User, [_User(_lent(_text(user)), _lent(proof.bytes), proof.method) for user, proof in users or []])
         texts = [_lent(_text(it)) for it in (SERVICE, methods, required, banner)]
-        self._input = _Server(self._side, *keys, *texts, *_list(_Bytes, []), *users, tries)
+        self._input = _Server(self._side, *keys, *texts, *_list(_Bytes, []), *entries, tries, users is None, _lent(b''))
 
 
 def public_key(private_key):

@@ -58,6 +58,27 @@ class Memory(unittest.TestCase):
         with self.assertRaises(Refused):
             theirs.open(b'\7' * 100)
 
+    def test_asks(self):
+        def decides(question):
+            return question.user == b'al' and question.proof.bytes in (public_key(USER), b'secret')
+
+        for proof, trusts, user in ((Key(USER), True, 'al'), (Password(b'secret'), True, 'al'), (Key(USER), False, 'al'), (Key(USER), True, 'bo')):
+            client, server = Client(user, [Nothing(), proof]), Server(HOST)
+            to_server, to_client = client.feed(b''), server.feed(b'')
+            while to_server or to_client:
+                to_client += server.feed(to_server)
+                while server.question:
+                    to_client += server.answer(decides(server.question))
+                to_server, to_client = client.feed(to_client), b''
+                if client.question:
+                    self.assertEqual((client.question.is_user, client.question.key), (False, public_key(HOST)))
+                    to_server += client.answer(trusts)
+            self.assertEqual(client.is_authenticated and server.is_authenticated, trusts and user == 'al')
+            if not trusts:
+                self.assertEqual((client.end, client.fault), (rezdolin.FAILED, 10))
+        with self.assertRaises(ValueError):
+            client.answer(True)
+
     def test_refusals(self):
         client, server = pair(Password(b'wrong'))
         meet(client, server)
@@ -90,18 +111,18 @@ class Asyncssh(unittest.TestCase):
         async def met():
             server = await asyncssh.listen('127.0.0.1', 0, server_factory=Doors, server_host_keys=[key])
             with socket.create_connection(server.sockets[0].getsockname()) as end:
-                await asyncio.get_running_loop().run_in_executor(None, carry, client, end)
+                await asyncio.get_running_loop().run_in_executor(None, carry, client, end, lambda question: question.key == key.public_data)
             server.close()
 
-        client = Client('al', [Password(b'secret')], [key.public_data])
-        asyncio.run(met())
-        self.assertTrue(client.is_authenticated, (client.end, client.fault, client.detail))
-        self.assertEqual(client.link().host_key, key.public_data)
+        for client in (Client('al', [Password(b'secret')], [key.public_data]), Client('al', [Password(b'secret')])):
+            asyncio.run(met())
+            self.assertTrue(client.is_authenticated, (client.end, client.fault, client.detail))
+            self.assertEqual(client.link().host_key, key.public_data)
 
     def test_server(self):
         def serve():
             with listening.accept()[0] as end:
-                carry(server, end)
+                carry(server, end, lambda question: question.user == b'al' and question.proof.bytes == b'secret')
                 gone.wait(10)
 
         async def met():
@@ -109,14 +130,15 @@ class Asyncssh(unittest.TestCase):
             end = await asyncssh.connect(host, port, username='al', password='secret', known_hosts=None, client_keys=None, config=None)
             end.abort()
 
-        server, gone = Server(HOST, [('al', Password(b'secret'))]), threading.Event()
-        with socket.create_server(('127.0.0.1', 0)) as listening:
-            thread = threading.Thread(target=serve)
-            thread.start()
-            asyncio.run(met())
-            gone.set()
-            thread.join()
-        self.assertTrue(server.is_authenticated, (server.end, server.fault, server.detail))
+        for server in (Server(HOST, [('al', Password(b'secret'))]), Server(HOST)):
+            gone = threading.Event()
+            with socket.create_server(('127.0.0.1', 0)) as listening:
+                thread = threading.Thread(target=serve)
+                thread.start()
+                asyncio.run(met())
+                gone.set()
+                thread.join()
+            self.assertTrue(server.is_authenticated, (server.end, server.fault, server.detail))
         self.assertEqual((server.link().user, server.link().fields[17]), (b'al', b'\x01'))
 
 

@@ -2,9 +2,9 @@
 //!
 //!     client HOST:PORT USER PASSWORD KEY-FILE
 //!
-//! KEY-FILE has the host key's bytes, which `cut -d' ' -f2 host.pub | base64 -d` gives.
+//! KEY-FILE has the host key's bytes, which `cut -d' ' -f2 host.pub | base64 -d` gives; where it is `-`, a person is asked.
 
-use rezdolin::{Client, Draws, End, Proof};
+use rezdolin::{Client, Draws, End, Fed, Proof, Question};
 use std::error::Error;
 use std::fs::File;
 use std::io::{Read, Write};
@@ -17,17 +17,31 @@ fn draw<const N: usize>() -> std::io::Result<[u8; N]> {
     Ok(bytes)
 }
 
+/// Shows a person the key, and asks whether it is the server's.
+fn is_trusted(question: &Question) -> std::io::Result<bool> {
+    let Question::HostKey { key, .. } = question else { return Ok(false) };
+    eprint!("Is {key:02x?} the server's key? (y) ");
+    let mut line = String::new();
+    std::io::stdin().read_line(&mut line)?;
+    Ok(line.trim() == "y")
+}
+
 /// Carries the client over a stream until it has ended, and answers what came after that.
 fn carry(stream: &mut (impl Read + Write), client: &mut Client) -> Result<Vec<u8>, Box<dyn Error>> {
-    let (mut piece, mut count, mut chunk) = (0..0, 0, [0; 4096]);
+    let (mut piece, mut chunk) = (0..0, [0; 4096]);
     loop {
         let mut out = Vec::new();
-        let used = client.feed(&chunk[piece.clone()], &mut out)?;
+        let mut fed = client.feed(&chunk[piece], &mut out)?;
+        while let Fed::Asks(question) = fed {
+            stream.write_all(&out)?;
+            out.clear();
+            fed = client.answer(is_trusted(&question)?, &mut out)?;
+        }
         stream.write_all(&out)?;
         if client.end() != End::Open {
-            return Ok(chunk[used..count].to_vec());
+            return Ok(client.left().to_vec());
         }
-        count = stream.read(&mut chunk)?;
+        let count = stream.read(&mut chunk)?;
         if count == 0 {
             return Err("the server has gone".into());
         }
@@ -42,7 +56,10 @@ fn main() -> Result<(), Box<dyn Error>> {
     };
     let draws = Draws { cookie: draw()?, exchange_random: draw()?, padding_seed: draw()? };
     let plan = vec![Proof::Password(password.clone().into_bytes())];
-    let mut client = Client::new(draws, user, plan, vec![std::fs::read(key)?]);
+    let mut client = match key.as_str() {
+        "-" => Client::asking(draws, user, plan),
+        path => Client::new(draws, user, plan, vec![std::fs::read(path)?]),
+    };
     carry(&mut TcpStream::connect(address)?, &mut client)?;
     let end = client.end();
     match client.into_link(draw()?) {

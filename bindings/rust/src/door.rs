@@ -67,6 +67,8 @@ pub struct ClientInput<'a> {
     pub plan: List<'a, AttemptInput<'a>>,
     pub trusted_host_keys: List<'a, Bytes<'a>>,
     pub guess: bool,
+    pub asks: bool,
+    pub answers: Bytes<'a>,
 }
 
 #[repr(C)]
@@ -93,6 +95,8 @@ pub struct ServerInput<'a> {
     pub notice_lines: List<'a, Bytes<'a>>,
     pub users: List<'a, UserInput<'a>>,
     pub tries: u32,
+    pub asks: bool,
+    pub answers: Bytes<'a>,
 }
 
 #[repr(C)]
@@ -107,6 +111,7 @@ pub struct EndpointAnswer {
     pub sent: usize,
     pub written: usize,
     pub session_len: usize,
+    pub question_len: usize,
 }
 
 #[repr(C)]
@@ -128,6 +133,8 @@ unsafe extern "C" {
         out_len: usize,
         session: *mut u8,
         session_len: usize,
+        question: *mut u8,
+        question_len: usize,
     ) -> EndpointAnswer;
     fn rezdolin_server(
         server: &ServerInput<'_>,
@@ -138,6 +145,8 @@ unsafe extern "C" {
         out_len: usize,
         session: *mut u8,
         session_len: usize,
+        question: *mut u8,
+        question_len: usize,
     ) -> EndpointAnswer;
     fn rezdolin_public_key(private_key: *const u8, private_key_len: usize, out: *mut u8, out_len: usize)
     -> BytesAnswer;
@@ -170,8 +179,9 @@ pub fn client(
     skip: usize,
     out: &mut [u8],
     session: &mut [u8],
+    question: &mut [u8],
 ) -> EndpointAnswer {
-    let (out_len, session_len) = (out.len(), session.len());
+    let (out_len, session_len, question_len) = (out.len(), session.len(), question.len());
     unsafe {
         rezdolin_client(
             input,
@@ -182,6 +192,8 @@ pub fn client(
             out_len,
             session.as_mut_ptr(),
             session_len,
+            question.as_mut_ptr(),
+            question_len,
         )
     }
 }
@@ -192,8 +204,9 @@ pub fn server(
     skip: usize,
     out: &mut [u8],
     session: &mut [u8],
+    question: &mut [u8],
 ) -> EndpointAnswer {
-    let (out_len, session_len) = (out.len(), session.len());
+    let (out_len, session_len, question_len) = (out.len(), session.len(), question.len());
     unsafe {
         rezdolin_server(
             input,
@@ -204,6 +217,8 @@ pub fn server(
             out_len,
             session.as_mut_ptr(),
             session_len,
+            question.as_mut_ptr(),
+            question_len,
         )
     }
 }

@@ -1,18 +1,22 @@
 //! SSH up to the authenticated user, as a client and as a server, and the packets of the session that goes on: safe Rust
 //! over the proved static library `rezdolin`.
 //!
-//! A [`Client`] and a [`Server`] open no socket: [`feed`](Client::feed) takes what came and appends what is to be sent.
+//! A [`Client`] and a [`Server`] open no socket: [`feed`](Client::feed) takes what came and appends what is to be sent. Whom
+//! they trust they know by a list, or they ask: then `feed` answers a [`Question`], and [`answer`](Client::answer) goes on.
 //! Each keeps all bytes that it has received, and its library call makes all work anew: so feed what there is, rather
 //! than byte by byte.
 #![deny(missing_docs)]
 
 mod door;
 mod link;
+mod question;
 
 use door::{AttemptInput, Bytes, ClientInput, EndpointAnswer, HostKeyInput, List, ServerInput, SideInput, UserInput};
 pub use link::{Link, LinkFault};
+pub use question::{Fed, Question};
 use std::error::Error;
 use std::fmt;
+use std::mem::take;
 
 /// The most bytes that an endpoint receives before it has ended.
 pub const RECEIVED_LIMIT: usize = 262_144;
@@ -75,7 +79,7 @@ impl Side {
 }
 
 /// How a client proves who its user is, or by what a server lets one in.
-#[derive(Clone)]
+#[derive(Clone, PartialEq, Eq)]
 pub enum Proof {
     /// By nothing: the method `none`.
     None,
@@ -130,6 +134,8 @@ pub enum Refused {
     Config(u32),
     /// What was put in can't be read.
     Unreadable,
+    /// It was answered and hadn't asked.
+    Unasked,
     /// More than [`RECEIVED_LIMIT`] bytes came.
     TooMuch,
 }
@@ -140,6 +146,7 @@ impl fmt::Display for Refused {
             Refused::Memory => f.write_str("out of memory"),
             Refused::Config(number) => write!(f, "the parts make no config: C{number}"),
             Refused::Unreadable => f.write_str("what was put in can't be read"),
+            Refused::Unasked => f.write_str("nothing was asked"),
             Refused::TooMuch => f.write_str("the peer sends too much"),
         }
     }
@@ -147,42 +154,84 @@ impl fmt::Display for Refused {
 
 impl Error for Refused {}
 
-/// What an endpoint has received and sent.
+/// What an endpoint has received, sent, and was answered.
 struct Talk {
     received: Vec<u8>,
     sent: usize,
+    answers: Vec<u8>,
+    asks: bool,
     end: End,
     record: Vec<u8>,
+    /// Where the last piece begins, and how many of all bytes were used.
+    last: usize,
+    used: usize,
+}
+
+impl Default for Talk {
+    fn default() -> Talk {
+        let (received, answers, record) = (Vec::new(), Vec::new(), Vec::new());
+        Talk { received, sent: 0, answers, asks: false, end: End::Open, record, last: 0, used: 0 }
+    }
 }
 
 impl Talk {
-    fn new() -> Talk {
-        Talk { received: Vec::new(), sent: 0, end: End::Open, record: Vec::new() }
-    }
-
-    /// Receives a piece, appends to `out` what is sent, and answers how many bytes of the piece were used.
+    /// Receives a piece, and goes on.
     fn feed(
         &mut self,
         piece: &[u8],
         out: &mut Vec<u8>,
-        call: impl Fn(&[u8], usize, &mut [u8], &mut [u8]) -> EndpointAnswer,
-    ) -> Result<usize, Refused> {
+        call: impl Fn(Call<'_>) -> EndpointAnswer,
+    ) -> Result<Fed, Refused> {
         if self.end != End::Open {
-            return Ok(0);
+            return Ok(Fed::Used(0));
         }
         let before = self.received.len();
         if before + piece.len() > RECEIVED_LIMIT {
             return Err(Refused::TooMuch);
         }
         self.received.extend_from_slice(piece);
-        let mut room = [0; 4096];
-        let mut record = vec![0; 65536];
+        let last = std::mem::replace(&mut self.last, before);
+        let fed = self.go_on(out, call);
+        if fed.is_err() {
+            self.received.truncate(before);
+            self.last = last;
+        }
+        fed
+    }
+
+    /// Answers the question, and goes on with what was received.
+    fn answer(
+        &mut self,
+        allowed: bool,
+        out: &mut Vec<u8>,
+        call: impl Fn(Call<'_>) -> EndpointAnswer,
+    ) -> Result<Fed, Refused> {
+        if !self.asks {
+            return Err(Refused::Unasked);
+        }
+        self.answers.push(u8::from(allowed));
+        let fed = self.go_on(out, call);
+        if fed.is_err() {
+            self.answers.pop();
+        }
+        fed
+    }
+
+    /// What it has received and not used, where it has ended.
+    fn left(&self) -> &[u8] {
+        if self.end == End::Open { &[] } else { &self.received[self.used..] }
+    }
+
+    /// What comes of all that was received and answered.
+    fn go_on(&mut self, out: &mut Vec<u8>, call: impl Fn(Call<'_>) -> EndpointAnswer) -> Result<Fed, Refused> {
+        let (mut room, mut record, mut question) = ([0; 4096], vec![0; 65536], vec![0; 36000]);
         loop {
-            let answer = call(&self.received, self.sent, &mut room, &mut record);
+            let (received, skip, answers) = (&self.received[..], self.sent, &self.answers[..]);
+            let answer =
+                call(Call { received, skip, answers, out: &mut room, record: &mut record, question: &mut question });
             match answer.status {
                 0 => {}
                 1..=3 => {
-                    self.received.truncate(before);
                     return Err([Refused::Memory, Refused::Config(answer.config), Refused::Unreadable]
                         [answer.status as usize - 1]);
                 }
@@ -192,17 +241,33 @@ impl Talk {
             self.sent += answer.written;
             if self.sent >= answer.sent {
                 self.end = match answer.end {
-                    0 => End::Open,
+                    0 | 5 => End::Open,
                     1 => End::Authenticated,
                     2 => End::Failed { fault: answer.fault, detail: answer.detail },
                     _ => End::Closed(answer.detail),
                 };
                 record.truncate(answer.session_len);
                 self.record = record;
-                return Ok(answer.used - before);
+                self.asks = answer.end == 5;
+                self.used = answer.used;
+                return Ok(if self.asks {
+                    Fed::Asks(Question::new(&question[..answer.question_len]))
+                } else {
+                    Fed::Used(answer.used.saturating_sub(self.last))
+                });
             }
         }
     }
+}
+
+/// What a call of the library takes beside the parts.
+struct Call<'c> {
+    received: &'c [u8],
+    skip: usize,
+    answers: &'c [u8],
+    out: &'c mut [u8],
+    record: &'c mut [u8],
+    question: &'c mut [u8],
 }
 
 /// A client: its parts, and the host keys that it trusts.
@@ -217,6 +282,8 @@ pub struct Client {
     pub plan: Vec<Proof>,
     /// The host keys that are trusted ([`public_key`]).
     pub trusted_host_keys: Vec<Vec<u8>>,
+    /// Whether it asks if the host key is trusted, and doesn't read the list.
+    pub asks: bool,
     talk: Talk,
 }
 
@@ -224,16 +291,43 @@ impl Client {
     /// A client that has received nothing. Feed it no bytes for what it sends first.
     #[must_use]
     pub fn new(draws: Draws, user: &str, plan: Vec<Proof>, trusted_host_keys: Vec<Vec<u8>>) -> Client {
-        Client { side: Side::default(), draws, user: user.into(), plan, trusted_host_keys, talk: Talk::new() }
+        let (side, talk) = (Side::default(), Talk::default());
+        Client { side, draws, user: user.into(), plan, trusted_host_keys, asks: false, talk }
+    }
+
+    /// A client that has received nothing, and asks whether the host key is trusted.
+    #[must_use]
+    pub fn asking(draws: Draws, user: &str, plan: Vec<Proof>) -> Client {
+        Client { asks: true, ..Client::new(draws, user, plan, Vec::new()) }
     }
 
     /// Receives a piece and appends to `out` what is sent. Answers how many bytes of the piece were used: all while it
-    /// is open. What stands after them is for the [`Link`].
+    /// is open. What stands after them is for the [`Link`]. Or it answers what it asks: then send what was appended, and
+    /// [`answer`](Client::answer).
     ///
     /// # Errors
     ///
     /// As [`Refused`] says; the piece then counts as not received, and what was appended to `out` is good.
-    pub fn feed(&mut self, piece: &[u8], out: &mut Vec<u8>) -> Result<usize, Refused> {
+    pub fn feed(&mut self, piece: &[u8], out: &mut Vec<u8>) -> Result<Fed, Refused> {
+        let mut talk = take(&mut self.talk);
+        let fed = talk.feed(piece, out, |call| self.call(call));
+        self.talk = talk;
+        fed
+    }
+
+    /// Answers the question, goes on with what came after it, and appends to `out` what is sent.
+    ///
+    /// # Errors
+    ///
+    /// As [`Refused`] says; it still asks then, and what was appended to `out` is good.
+    pub fn answer(&mut self, allowed: bool, out: &mut Vec<u8>) -> Result<Fed, Refused> {
+        let mut talk = take(&mut self.talk);
+        let fed = talk.answer(allowed, out, |call| self.call(call));
+        self.talk = talk;
+        fed
+    }
+
+    fn call(&self, call: Call<'_>) -> EndpointAnswer {
         let plan: Vec<_> = self.plan.iter().map(|proof| attempt(&self.user, proof)).collect();
         let trusted: Vec<_> = self.trusted_host_keys.iter().map(|key| Bytes::new(key)).collect();
         let input = ClientInput {
@@ -242,14 +336,22 @@ impl Client {
             plan: List::new(&plan),
             trusted_host_keys: List::new(&trusted),
             guess: false,
+            asks: self.asks,
+            answers: Bytes::new(call.answers),
         };
-        self.talk.feed(piece, out, |received, skip, out, record| door::client(&input, received, skip, out, record))
+        door::client(&input, call.received, call.skip, call.out, call.record, call.question)
     }
 
-    /// How it stands.
+    /// How it stands. It is open while it asks.
     #[must_use]
     pub fn end(&self) -> End {
         self.talk.end
+    }
+
+    /// What it has received and not used, where it has ended: for the [`Link`] of a client that is authenticated.
+    #[must_use]
+    pub fn left(&self) -> &[u8] {
+        self.talk.left()
     }
 
     /// The session of an authenticated client, with 32 random bytes that served nothing else; else none.
@@ -287,6 +389,8 @@ pub struct Server {
     pub banner: Vec<u8>,
     /// The request at which a failure ends the session, 1 to 20.
     pub tries: u32,
+    /// Whether it asks who is accepted, and doesn't read the list.
+    pub asks: bool,
     talk: Talk,
 }
 
@@ -294,17 +398,43 @@ impl Server {
     /// A server that has received nothing. Feed it no bytes for what it sends first.
     #[must_use]
     pub fn new(draws: Draws, host_key: [u8; 32], users: Vec<(String, Proof)>) -> Server {
-        let (required, banner) = (String::new(), Vec::new());
-        Server { side: Side::default(), draws, host_key, users, required, banner, tries: 6, talk: Talk::new() }
+        let (side, required, banner, talk) = (Side::default(), String::new(), Vec::new(), Talk::default());
+        Server { side, draws, host_key, users, required, banner, tries: 6, asks: false, talk }
+    }
+
+    /// A server that has received nothing, and asks who is accepted.
+    #[must_use]
+    pub fn asking(draws: Draws, host_key: [u8; 32]) -> Server {
+        Server { asks: true, ..Server::new(draws, host_key, Vec::new()) }
     }
 
     /// Receives a piece and appends to `out` what is sent. Answers how many bytes of the piece were used: all while it
-    /// is open. What stands after them is for the [`Link`].
+    /// is open. What stands after them is for the [`Link`]. Or it answers what it asks: then send what was appended, and
+    /// [`answer`](Server::answer).
     ///
     /// # Errors
     ///
     /// As [`Refused`] says; the piece then counts as not received, and what was appended to `out` is good.
-    pub fn feed(&mut self, piece: &[u8], out: &mut Vec<u8>) -> Result<usize, Refused> {
+    pub fn feed(&mut self, piece: &[u8], out: &mut Vec<u8>) -> Result<Fed, Refused> {
+        let mut talk = take(&mut self.talk);
+        let fed = talk.feed(piece, out, |call| self.call(call));
+        self.talk = talk;
+        fed
+    }
+
+    /// Answers the question, goes on with what came after it, and appends to `out` what is sent.
+    ///
+    /// # Errors
+    ///
+    /// As [`Refused`] says; it still asks then, and what was appended to `out` is good.
+    pub fn answer(&mut self, allowed: bool, out: &mut Vec<u8>) -> Result<Fed, Refused> {
+        let mut talk = take(&mut self.talk);
+        let fed = talk.answer(allowed, out, |call| self.call(call));
+        self.talk = talk;
+        fed
+    }
+
+    fn call(&self, call: Call<'_>) -> EndpointAnswer {
         let users: Vec<_> = self.users.iter().map(|(user, proof)| user_input(user, proof)).collect();
         let host_keys =
             [HostKeyInput { algorithm: Bytes::new(b"ssh-ed25519"), private_key: Bytes::new(&self.host_key) }];
@@ -318,14 +448,22 @@ impl Server {
             notice_lines: List::new(&[]),
             users: List::new(&users),
             tries: self.tries,
+            asks: self.asks,
+            answers: Bytes::new(call.answers),
         };
-        self.talk.feed(piece, out, |received, skip, out, record| door::server(&input, received, skip, out, record))
+        door::server(&input, call.received, call.skip, call.out, call.record, call.question)
     }
 
-    /// How it stands.
+    /// How it stands. It is open while it asks.
     #[must_use]
     pub fn end(&self) -> End {
         self.talk.end
+    }
+
+    /// What it has received and not used, where it has ended: for the [`Link`] of a server that is authenticated.
+    #[must_use]
+    pub fn left(&self) -> &[u8] {
+        self.talk.left()
     }
 
     /// The session of an authenticated server, with 32 random bytes that served nothing else; else none.

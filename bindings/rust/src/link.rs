@@ -40,12 +40,7 @@ pub struct Link {
 
 impl Link {
     pub(crate) fn new(record: Vec<u8>, padding_seed: [u8; 32]) -> Link {
-        let (mut fields, mut at) = (Vec::new(), 0);
-        while let Some(size) = record.get(at..at + 4) {
-            let start = at + 4;
-            at = start + u32::from_be_bytes([size[0], size[1], size[2], size[3]]) as usize;
-            fields.push(start..at);
-        }
+        let fields = fields_of(&record);
         Link { record, padding_seed, fields }
     }
 
@@ -116,6 +111,17 @@ impl Link {
     pub fn field(&self, number: usize) -> &[u8] {
         self.fields.get(number).map_or(&[], |place| &self.record[place.clone()])
     }
+}
+
+/// Where the fields of a record stand.
+pub(crate) fn fields_of(record: &[u8]) -> Vec<Range<usize>> {
+    let (mut fields, mut at) = (Vec::new(), 0);
+    while let Some(size) = record.get(at..at + 4) {
+        let start = at + 4;
+        at = start + u32::from_be_bytes([size[0], size[1], size[2], size[3]]) as usize;
+        fields.push(start..at);
+    }
+    fields
 }
 
 /// The fault of a status that isn't answered.

@@ -1,6 +1,6 @@
 //! A client and a server meet in memory.
 
-use rezdolin::{Client, Draws, End, LinkFault, Proof, Refused, Server, public_key};
+use rezdolin::{Client, Draws, End, Fed, LinkFault, Proof, Question, Refused, Server, public_key};
 
 const HOST: [u8; 32] = [9; 32];
 const USER: [u8; 32] = [8; 32];
@@ -89,4 +89,44 @@ fn parts_are_refused() {
     let mut server = server();
     server.tries = 21;
     assert_eq!(server.feed(b"", &mut Vec::new()), Err(Refused::Config(9)));
+}
+
+/// Both ask and talk until neither has more to send; the client trusts the host key, the server decides so.
+fn meet_asking(client: &mut Client, server: &mut Server, trusts: bool, decide: impl Fn(&Question) -> bool) {
+    let (mut to_server, mut to_client) = (Vec::new(), Vec::new());
+    client.feed(b"", &mut to_server).unwrap();
+    server.feed(b"", &mut to_client).unwrap();
+    while !(to_server.is_empty() && to_client.is_empty()) {
+        let mut fed = server.feed(&std::mem::take(&mut to_server), &mut to_client).unwrap();
+        while let Fed::Asks(question) = fed {
+            fed = server.answer(decide(&question), &mut to_client).unwrap();
+        }
+        if let Fed::Asks(question) = client.feed(&std::mem::take(&mut to_client), &mut to_server).unwrap() {
+            let key = public_key(&HOST).unwrap();
+            assert_eq!(question, Question::HostKey { algorithm: b"ssh-ed25519".to_vec(), key });
+            client.answer(trusts, &mut to_server).unwrap();
+        }
+    }
+}
+
+#[test]
+fn asks_and_goes_on() {
+    let is_al = |question: &Question| match question {
+        Question::User { user, proof: Proof::Key(key), .. } => user == b"al" && *key == public_key(&USER).unwrap(),
+        Question::User { user, proof: Proof::Password(password), .. } => user == b"al" && password == b"secret",
+        _ => false,
+    };
+    for proof in [Proof::Key(USER.to_vec()), Proof::Password(b"secret".to_vec())] {
+        let mut client = Client::asking(draws(1), "al", vec![Proof::None, proof]);
+        let mut server = Server::asking(draws(5), HOST);
+        meet_asking(&mut client, &mut server, true, is_al);
+        assert_eq!((client.end(), server.end()), (End::Authenticated, End::Authenticated));
+    }
+    let (mut client, mut server) = (Client::asking(draws(1), "al", vec![Proof::None]), Server::asking(draws(5), HOST));
+    meet_asking(&mut client, &mut server, true, |_| false);
+    assert_eq!((client.end(), server.end()), (End::Failed { fault: 14, detail: 0 }, End::Closed(14)));
+    let (mut client, mut server) = (Client::asking(draws(1), "al", vec![]), Server::asking(draws(5), HOST));
+    meet_asking(&mut client, &mut server, false, |_| false);
+    assert_eq!(client.end(), End::Failed { fault: 10, detail: 0 });
+    assert_eq!(client.answer(true, &mut Vec::new()), Err(Refused::Unasked));
 }

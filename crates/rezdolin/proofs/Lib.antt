@@ -1,4 +1,5 @@
 pub mod AnswerLemmas
+pub mod AskedTold
 pub mod DirectionLemmas
 pub mod RecordLemmas
 pub mod Told

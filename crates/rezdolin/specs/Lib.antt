@@ -5,3 +5,5 @@ pub mod Answers
 pub mod Records
 pub mod Directions
 pub mod Talks
+pub mod Asks
+pub mod Carried

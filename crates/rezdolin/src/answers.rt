@@ -52,8 +52,17 @@ pub const END_FAILED: u32 = 2;
 /// The peer sent a DISCONNECT.
 pub const END_CLOSED: u32 = 3;
 
-/// The owner of the endpoint ended it. No call answers it; 5 is kept for an endpoint that asks.
+/// The owner of the endpoint ended it. No call answers it.
 pub const END_DISCONNECTED: u32 = 4;
+
+/// The endpoint waits for the answer to its question.
+pub const END_ASKS: u32 = 5;
+
+/// A question of a client: whether the host key is trusted.
+pub const ASKS_HOST_KEY: u32 = 0;
+
+/// A question of a server: whether a request is successful, or whether the key of a query would do.
+pub const ASKS_USER: u32 = 1;
 
 /// What a client or a server answers.
 #[repr(C)]
@@ -70,7 +79,8 @@ pub struct EndpointAnswer {
     /// Of F5, F6 and F7: the number of the message. Of F8: the field without a choice, 1 to 8 in the order of the
     /// KEXINIT. Of an endpoint that was closed: the reason. Else 0.
     pub detail: u32,
-    /// How many of the bytes received were used: all while it is open.
+    /// How many of the bytes received were used: all while it is open; where it asks, those up to the end of the packet that
+    /// asks.
     pub used: usize,
     /// How many bytes the endpoint sends since it began.
     pub sent: usize,
@@ -78,6 +88,8 @@ pub struct EndpointAnswer {
     pub written: usize,
     /// Of an authenticated endpoint: how many bytes the record of its session has; else 0.
     pub session_len: usize,
+    /// Of an endpoint that asks: how many bytes the record of its question has; else 0.
+    pub question_len: usize,
 }
 
 /// What a call answers that makes bytes.
@@ -140,7 +152,7 @@ fn fault_numbers(fault: &Fault) -> EndNumbers
 }
 
 /// Three numbers.
-fn numbers(end: u32, fault: u32, detail: u32) -> EndNumbers
+pub(crate) fn numbers(end: u32, fault: u32, detail: u32) -> EndNumbers
     ensures { result ≡ record { end = end; fault = fault; detail = detail } }
 {
     EndNumbers { end, fault, detail }
@@ -187,7 +199,9 @@ pub(crate) fn no_config(fault: NoConfig) -> EndpointAnswer
     ensures config { result.status ≡ STATUS_CONFIG → IsPartsFault fault result.config }
     ensures unreadable { result.status ≡ STATUS_UNREADABLE → fault ≡ no.Input input.Unreadable }
     ensures statuses { (1 ≤ result.status) × (result.status ≤ STATUS_UNREADABLE) }
+    ensures unrefused { result.status ≢ STATUS_CONFIG → result.config ≡ 0 }
     ensures written { result.written ≡ 0 }
+    ensures unasked { result.question_len ≡ 0 }
 {
     match fault {
         NoConfig::Input(InputFault::Unreadable) => unanswered(STATUS_UNREADABLE, 0),
@@ -199,7 +213,7 @@ pub(crate) fn no_config(fault: NoConfig) -> EndpointAnswer
 
 /// An answer without an endpoint.
 pub(crate) fn unanswered(status: u32, config: u32) -> EndpointAnswer
-    ensures { result ≡ record { status = status; config = config; end = 0; fault = 0; detail = 0; used = 0; sent = 0; written = 0; session_len = 0 } }
+    ensures { result ≡ record { status = status; config = config; end = 0; fault = 0; detail = 0; used = 0; sent = 0; written = 0; session_len = 0; question_len = 0 } }
 {
     EndpointAnswer {
         status,
@@ -211,6 +225,7 @@ pub(crate) fn unanswered(status: u32, config: u32) -> EndpointAnswer
         sent: 0,
         written: 0,
         session_len: 0,
+        question_len: 0,
     }
 }
 

@@ -58,7 +58,7 @@ pub const METHOD_PASSWORD: u32 = 1;
 /// The method `publickey` (RFC 4252 section 7).
 pub const METHOD_PUBLICKEY: u32 = 2;
 
-/// A client: its config, and the host keys that it trusts.
+/// A client: its config, and the host keys that it trusts, or whether it asks.
 #[repr(C)]
 #[derive(Clone, Copy)]
 pub struct ClientInput<'a> {
@@ -72,6 +72,11 @@ pub struct ClientInput<'a> {
     pub trusted_host_keys: &'a [&'a [u8]],
     /// Whether the client announces a guess (RFC 4253 section 7).
     pub guess: bool,
+    /// Whether the program is asked if the host key is trusted. Then `trusted_host_keys` isn't read.
+    pub asks: bool,
+    /// Of a client that asks: the answer to each question so far, in order, one byte each, 1 for yes and 0 for no. Else not
+    /// read.
+    pub answers: &'a [u8],
 }
 
 /// One host key of a server.
@@ -98,7 +103,7 @@ pub struct UserInput<'a> {
     pub method: u32,
 }
 
-/// A server: its config, and whom it accepts.
+/// A server: its config, and whom it accepts, or whether it asks.
 #[repr(C)]
 #[derive(Clone, Copy)]
 pub struct ServerInput<'a> {
@@ -120,4 +125,9 @@ pub struct ServerInput<'a> {
     pub users: &'a [UserInput<'a>],
     /// The number of the request at which a failure ends the session, 1 to 20.
     pub tries: u32,
+    /// Whether the program is asked who is accepted. Then `users` isn't read.
+    pub asks: bool,
+    /// Of a server that asks: the answer to each question so far, in order, one byte each, 1 for yes and 0 for no. Else not
+    /// read.
+    pub answers: &'a [u8],
 }

@@ -1,28 +1,31 @@
 //! The door for programs in C, Rust, Python and other languages: a client or a server of SSH up to the authenticated
 //! user, by the algorithms that are deployed, and the packets of the session that goes on.
 //!
-//! No handle crosses. A program keeps the bytes that it has received; each call answers what the endpoint sends for all
-//! of them, and the program takes what it hasn't sent yet. What stands after authentication is kept by the program too,
-//! as bytes: the record of a session, and in it the state of each direction. So no call leaves anything in memory, and
-//! calls of several threads share nothing.
+//! No handle crosses. A program keeps the bytes that it has received, and its answers to what it was asked; each call
+//! answers what the endpoint sends for all of them, and the program takes what it hasn't sent yet. What stands after
+//! authentication is kept by the program too, as bytes: the record of a session, and in it the state of each direction. So
+//! no call leaves anything in memory, and calls of several threads share nothing.
 //!
 //! `include/rezdolin.h` at the top of the repository declares the calls for C.
 #![tactic(auto)]
 
 mod answers;
+mod asking;
 mod copying;
 mod directions;
 mod inputs;
 mod parts;
+mod question;
 mod record;
 mod talk;
 mod texts;
 mod trust;
 
-ghost use Rattle.std.specs.Prelude.{◌≡◌, ◌≢◌, ◌≤◌, [], length};
+ghost use Rattle.std.specs.Prelude.{◌≡◌, ◌≢◌, ◌≤◌, [], false, true};
 ghost use Rattle.sshcore.specs.EndpointParts.{client_setup, server_setup};
 ghost use Rattle.sshsuite.specs.Deployed.{deployed};
 ghost use Rattle.rezdolin.specs.declared.answers.TheConstants.{STATUS_CONFIG, STATUS_UNREADABLE};
+ghost use Rattle.rezdolin.specs.Asks.{AreUnfit, AsksAnswers};
 ghost use Rattle.rezdolin.specs.Directions.{IsOpened, IsSealed};
 ghost use Rattle.rezdolin.specs.Inputs.{AreClientTexts, AreServerTexts, client_of, server_of};
 ghost use Rattle.rezdolin.specs.Refusals.{IsRefusedClient, IsRefusedServer};
@@ -32,6 +35,7 @@ ghost use Rattle.rezdolin.specs.Trust.{trust_policy};
 use crate::answers::{
     BytesAnswer, BytesFault, EndpointAnswer, STATUS_ANSWERED, no_bytes, no_config,
 };
+use crate::asking::{asking_client, asking_server};
 use crate::copying::is_copied;
 use crate::directions::{open, seal};
 use crate::inputs::{ClientInput, ServerInput};
@@ -44,7 +48,8 @@ use std::alloc::Global;
 
 /// What a client sends for these bytes, from the byte `skip` of all that it sends; `received` may be empty.
 ///
-/// `session` gets the record of the session of an authenticated client, where it has room for the whole.
+/// `session` gets the record of the session of an authenticated client, where it has room for the whole; and `question` that
+/// of the question of a client that asks, which goes on where the next call has the answer among its data.
 #[tactic(auto, using(crate::proofs::AnswerLemmas::refused_by, crate::proofs::AnswerLemmas::unreadable_by))]
 #[unsafe(no_mangle)]
 pub extern "C" fn rezdolin_client(
@@ -54,17 +59,30 @@ pub extern "C" fn rezdolin_client(
     skip: usize,
     out: &mut [u8],
     session: &mut [u8],
+    question: &mut [u8],
 ) -> EndpointAnswer
-    ensures answers { result.status ≡ STATUS_ANSWERED → Answers (client_setup deployed (trust_policy client.now.trusted_host_keys.now []) (client_of client.now)) received.now skip out.old session.old result out.new session.new }
+    ensures answers { result.status ≡ STATUS_ANSWERED → client.now.asks ≡ false
+        → Answers (client_setup deployed (trust_policy client.now.trusted_host_keys.now []) (client_of client.now)) received.now skip out.old session.old result out.new session.new }
+    ensures unasked { client.now.asks ≡ false → (result.question_len ≡ 0) × (question.new ≡ question.old) }
+    ensures asks { result.status ≡ STATUS_ANSWERED → client.now.asks ≡ true
+        → AsksAnswers (λ d. client_setup deployed d (client_of client.now)) client.now.answers.now received.now skip out.old session.old question.old result out.new session.new question.new }
     ensures refused { result.status ≡ STATUS_CONFIG → IsRefusedClient (client_of client.now) result.config }
-    ensures unreadable { result.status ≡ STATUS_UNREADABLE → AreClientTexts client.now → ⊥ }
+    ensures unrefused { result.status ≢ STATUS_CONFIG → result.config ≡ 0 }
+    ensures unreadable { result.status ≡ STATUS_UNREADABLE → AreClientTexts client.now
+        → (client.now.asks ≡ true) × AreUnfit (λ d. client_setup deployed d (client_of client.now)) client.now.answers.now received.now }
     ensures statuses { result.status ≤ STATUS_UNREADABLE }
-    ensures kept { result.status ≢ STATUS_ANSWERED → (out.new ≡ out.old) × (session.new ≡ session.old) }
+    ensures kept { result.status ≢ STATUS_ANSWERED → (out.new ≡ out.old) × (session.new ≡ session.old) × (question.new ≡ question.old) }
 {
     let config = match client_config(alloc, client) {
         Ok(config) => config,
         Err(fault) => return no_config(fault),
     };
+    if client.asks {
+        let answers = client.answers;
+        return asking_client(
+            alloc, &config, answers, received, skip, out, session, question,
+        );
+    }
     let trust = Trust {
         host_keys: client.trusted_host_keys,
         users: &[],
@@ -74,7 +92,8 @@ pub extern "C" fn rezdolin_client(
 
 /// What a server sends for these bytes, from the byte `skip` of all that it sends; `received` may be empty.
 ///
-/// `session` gets the record of the session of an authenticated server, where it has room for the whole.
+/// `session` gets the record of the session of an authenticated server, where it has room for the whole; and `question` that
+/// of the question of a server that asks, which goes on where the next call has the answer among its data.
 #[tactic(auto, using(crate::proofs::AnswerLemmas::refused_by, crate::proofs::AnswerLemmas::unreadable_by))]
 #[unsafe(no_mangle)]
 pub extern "C" fn rezdolin_server(
@@ -84,17 +103,30 @@ pub extern "C" fn rezdolin_server(
     skip: usize,
     out: &mut [u8],
     session: &mut [u8],
+    question: &mut [u8],
 ) -> EndpointAnswer
-    ensures answers { result.status ≡ STATUS_ANSWERED → Answers (server_setup deployed (trust_policy [] server.now.users.now) (server_of server.now)) received.now skip out.old session.old result out.new session.new }
+    ensures answers { result.status ≡ STATUS_ANSWERED → server.now.asks ≡ false
+        → Answers (server_setup deployed (trust_policy [] server.now.users.now) (server_of server.now)) received.now skip out.old session.old result out.new session.new }
+    ensures unasked { server.now.asks ≡ false → (result.question_len ≡ 0) × (question.new ≡ question.old) }
+    ensures asks { result.status ≡ STATUS_ANSWERED → server.now.asks ≡ true
+        → AsksAnswers (λ d. server_setup deployed d (server_of server.now)) server.now.answers.now received.now skip out.old session.old question.old result out.new session.new question.new }
     ensures refused { result.status ≡ STATUS_CONFIG → IsRefusedServer (server_of server.now) result.config }
-    ensures unreadable { result.status ≡ STATUS_UNREADABLE → AreServerTexts server.now → ⊥ }
+    ensures unrefused { result.status ≢ STATUS_CONFIG → result.config ≡ 0 }
+    ensures unreadable { result.status ≡ STATUS_UNREADABLE → AreServerTexts server.now
+        → (server.now.asks ≡ true) × AreUnfit (λ d. server_setup deployed d (server_of server.now)) server.now.answers.now received.now }
     ensures statuses { result.status ≤ STATUS_UNREADABLE }
-    ensures kept { result.status ≢ STATUS_ANSWERED → (out.new ≡ out.old) × (session.new ≡ session.old) }
+    ensures kept { result.status ≢ STATUS_ANSWERED → (out.new ≡ out.old) × (session.new ≡ session.old) × (question.new ≡ question.old) }
 {
     let config = match server_config(alloc, server) {
         Ok(config) => config,
         Err(fault) => return no_config(fault),
     };
+    if server.asks {
+        let answers = server.answers;
+        return asking_server(
+            alloc, &config, answers, received, skip, out, session, question,
+        );
+    }
     let trust = Trust {
         host_keys: &[],
         users: server.users,

@@ -97,6 +97,8 @@ pub(crate) fn client_answer(
 ) -> EndpointAnswer
     ensures answers { result.status ≡ STATUS_ANSWERED → Answers (client_setup deployed (trust_policy trust.now.host_keys.now trust.now.users.now) config.now) received.now skip out.old session.old result out.new session.new }
     ensures statuses { result.status ≤ STATUS_MEMORY }
+    ensures config { result.config ≡ 0 }
+    ensures unasked { result.question_len ≡ 0 }
     ensures kept { result.status ≢ STATUS_ANSWERED → (out.new ≡ out.old) × (session.new ≡ session.old) }
 {
     match Talk::client(alloc, config, trust, received) {
@@ -118,6 +120,8 @@ pub(crate) fn server_answer(
 ) -> EndpointAnswer
     ensures answers { result.status ≡ STATUS_ANSWERED → Answers (server_setup deployed (trust_policy trust.now.host_keys.now trust.now.users.now) config.now) received.now skip out.old session.old result out.new session.new }
     ensures statuses { result.status ≤ STATUS_MEMORY }
+    ensures config { result.config ≡ 0 }
+    ensures unasked { result.question_len ≡ 0 }
     ensures kept { result.status ≢ STATUS_ANSWERED → (out.new ≡ out.old) × (session.new ≡ session.old) }
 {
     match Talk::server(alloc, config, trust, received) {
@@ -132,6 +136,8 @@ fn tell(talk: &Talk, skip: usize, out: &mut [u8], session: &mut [u8]) -> Endpoin
         × (result.sent ≡ length talk.now.sent.items) × (result.session_len ≡ length talk.now.spelled.items) }
     ensures written { IsWrittenFrom talk.now.sent.items skip out.old result.written out.new }
     ensures recorded { IsRecorded talk.now.spelled.items session.old session.new }
+    ensures config { result.config ≡ 0 }
+    ensures unasked { result.question_len ≡ 0 }
 {
     let written = copied_from(&talk.sent, skip, out);
     is_copied(&talk.spelled, session);
@@ -145,5 +151,6 @@ fn tell(talk: &Talk, skip: usize, out: &mut [u8], session: &mut [u8]) -> Endpoin
         sent: talk.sent.len(),
         written,
         session_len: talk.spelled.len(),
+        question_len: 0,
     }
 }
