@@ -16,7 +16,7 @@ use Rattle.sshcore.specs.EndData.{EndData}
 use Rattle.sshcore.specs.EndpointParts.{ConfigData, Setup}
 use Rattle.sshcore.specs.Inputs.{EndpointStands, IsInside, StandsSo}
 use Rattle.sshcore.specs.Keeping.{FitsConfig, IsRest}
-use Rattle.sshcore.specs.Paused.{kept_with, with_left}
+use Rattle.sshcore.specs.Paused.{FitsPaused, PausedData, kept_with, with_left}
 use Rattle.sshcore.specs.Plan.{is_waiting}
 use Rattle.sshcore.specs.StateData.{StateData, left_of, state_data}
 use Rattle.sshcore.specs.Unread.{AskingStands, IsAsked, IsAskedBy, IsAskingEndpoint}
@@ -69,6 +69,10 @@ module _ (old new : StateData) (same_end : new.end ≡ old.end) (same : IsOngoin
     asked = asked_as m role party j w a.asked;
     keeps = λ o. subst (λ (k : StateData). FitsConfig m party k) (sym (same (goes_on o))) (a.keeps (goes_on o));
   }
+
+-- It may be resumed with what is the same.
+pub fits_as : (m : SuiteData) (role r : Side) (party q : ConfigData) (p : PausedData) → role ≡ r → party ≡ q → FitsPaused m role party p → FitsPaused m r q p
+fits_as m role r party q p same_role same_party fits = subst (λ (x : Side). FitsPaused m x q p) same_role (subst (λ (x : ConfigData). FitsPaused m role x p) same_party fits)
 
 -- A state that is kept without its plan.
 module _ (plan : List AttemptData) (old kept : State) (left : ℕ) (left_is : left ≡ length old.left.now) (waits : Bool) (waits_is : waits ≡ is_waiting (state_data old).known.left)

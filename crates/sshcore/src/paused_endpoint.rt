@@ -78,6 +78,11 @@ impl<S: Suite, L: Listener> AskingEndpoint<'_, S, L> {
         // Its draws are those by which this is its config.
         ensures client { (client : ClientData) (draws : Draws) → self.entry.party ≡ config_of_client (redrawn_client draws client) → result.draws ≡ draws }
         ensures server { (server : ServerData) (draws : Draws) → self.entry.party ≡ config_of_server (redrawn_server draws server) → result.draws ≡ draws }
+        // So it may be resumed with the config that it was made with.
+        ensures fits_client { (client : ClientData) (draws : Draws) → self.entry.role ≡ Client → self.entry.party ≡ config_of_client (redrawn_client draws client)
+            → FitsPaused (S.meaning self.entry.suite) Client (config_of_client (redrawn_client result.draws client)) result }
+        ensures fits_server { (server : ServerData) (draws : Draws) → self.entry.role ≡ Server → self.entry.party ≡ config_of_server (redrawn_server draws server)
+            → FitsPaused (S.meaning self.entry.suite) Server (config_of_server (redrawn_server result.draws server)) result }
         // It has received and sent the same.
         ensures follows { (d : DecisionsData) (h s : List ℕ) → AskingAfter S.meaning d self.entry h s → PausedAfter (asking_setup S.meaning d self.entry) result h s }
         ensures end { paused_end result ≡ asking_end self.entry }

@@ -20,6 +20,8 @@ mod packets;
 #[cfg(test)]
 mod padding;
 #[cfg(test)]
+mod pauses;
+#[cfg(test)]
 mod replays;
 #[cfg(test)]
 mod version_lines;

@@ -10,9 +10,9 @@ type LabEndpoint<'a> = Endpoint<'a, LabSuite, LabDecisions>;
 
 /// Two configs, and decisions that accept a user by a password.
 #[derive(Drop)]
-struct Lab {
-    client: Box<ClientConfig>,
-    server: Box<ServerConfig>,
+pub(crate) struct Lab {
+    pub(crate) client: Box<ClientConfig>,
+    pub(crate) server: Box<ServerConfig>,
     decisions: LabDecisions,
 }
 
@@ -54,7 +54,7 @@ fn decisions(alloc: Global) -> Result<LabDecisions, Fail> {
 }
 
 /// The lab.
-fn make_lab(alloc: Global) -> Result<Lab, Fail> {
+pub(crate) fn make_lab(alloc: Global) -> Result<Lab, Fail> {
     let client = client_config(alloc)?;
     let server = server_config(alloc)?;
     Ok(Lab {
@@ -65,7 +65,7 @@ fn make_lab(alloc: Global) -> Result<Lab, Fail> {
 }
 
 /// Draws of these bytes alone: of the cookie, and of both secrets.
-fn draws_of(cookie: u8, secret: u8) -> Draws {
+pub(crate) fn draws_of(cookie: u8, secret: u8) -> Draws {
     Draws {
         cookie: [cookie; 16],
         exchange_random: [secret; 32],
@@ -99,9 +99,9 @@ fn server_of<'a>(
 
 /// All that both sides of a connection have sent.
 #[derive(Drop)]
-struct Recording {
-    client: Vec<u8>,
-    server: Vec<u8>,
+pub(crate) struct Recording {
+    pub(crate) client: Vec<u8>,
+    pub(crate) server: Vec<u8>,
 }
 
 /// Gives a side what waits for it, which is recorded.
@@ -118,7 +118,7 @@ fn receive(
 }
 
 /// Records a connection of a client whose draws have the byte 1 and a server whose draws have the byte 2.
-fn record(alloc: Global, lab: &Lab) -> Result<Recording, Fail> {
+pub(crate) fn record(alloc: Global, lab: &Lab) -> Result<Recording, Fail> {
     let mut to_server = Vec::new(alloc);
     let mut to_client = Vec::new(alloc);
     let mut client = client_of(alloc, lab, draws_of(1, 1), &mut to_server)?;
@@ -146,7 +146,7 @@ fn record(alloc: Global, lab: &Lab) -> Result<Recording, Fail> {
 
 /// How an endpoint ends that is given a recorded stream.
 #[derive(PartialEq, Eq, Debug, Drop)]
-enum Replayed {
+pub(crate) enum Replayed {
     Authenticated,
     BadKeys,
     BadSignature,
@@ -161,12 +161,17 @@ fn replay(
 ) -> Result<Replayed, Fail> {
     let mut sent = Vec::new(alloc);
     endpoint.feed(recorded, &mut sent)?;
-    Ok(match endpoint.end() {
+    Ok(end_of(endpoint.end()))
+}
+
+/// What an endpoint's end is.
+pub(crate) fn end_of(end: &End) -> Replayed {
+    match end {
         End::Authenticated(_) => Replayed::Authenticated,
         End::Failed(Fault::Length | Fault::Mac) => Replayed::BadKeys,
         End::Failed(Fault::Signature) => Replayed::BadSignature,
         _ => Replayed::Otherwise,
-    })
+    }
 }
 
 /// How a server with these draws ends that is given what a client sent to another.
