@@ -32,8 +32,8 @@ use sshpacket::Suite;
 use std::marker::Model;
 
 /// An [`AskingEndpoint`] that is paused: all that changes of it, and nothing that it borrows. So whoever runs many of them keeps
-/// them beside the one config that they share, or moves them to another thread, and resumes one when bytes come or an
-/// answer is there.
+/// them in a table beside the one config that they share, and resumes one when bytes come or an answer is there. What is held
+/// has secrets, so there is no `Debug`.
 #[derive(Drop)]
 pub struct PausedEndpoint {
     draws: Draws,
