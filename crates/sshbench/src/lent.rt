@@ -1,6 +1,7 @@
 //! Messages without lists, which are read without memory.
 
 use crate::fault::{Fault, holds};
+use crate::packets;
 use sshmsg::{Message, Method, read};
 use sshwire::put_string;
 use std::alloc::Global;
@@ -32,21 +33,12 @@ impl fmt::Display for Kind {
 
 /// The payload of such a message, whose long field has so many bytes.
 pub(crate) fn payload(alloc: Global, kind: Kind, len: usize) -> Result<Vec<u8>, Fault> {
-    let long = long_of(alloc, len)?;
+    let long = packets::payload(alloc, len)?;
     let mut payload = Vec::new(alloc);
     let put = put_message(&mut payload, kind, &long);
     drop(long);
     put?;
     Ok(payload)
-}
-
-/// So many bytes.
-fn long_of(alloc: Global, len: usize) -> Result<Vec<u8>, Fault> {
-    let mut long = Vec::new(alloc);
-    for _ in 0..len {
-        long.extend_from_slice(b"x")?;
-    }
-    Ok(long)
 }
 
 /// Appends such a message with this long field.

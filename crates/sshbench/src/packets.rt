@@ -182,11 +182,15 @@ pub(crate) fn read_piece(
     let mut rest = piece;
     let mut count: u32 = 0;
     for _ in 0..piece.len() {
-        let Some(used) = read_payload(reader, rest, payload_len)? else {
-            return Ok(count);
-        };
-        count = count.saturating_add(1);
-        rest = rest.get(used..).unwrap_or(&[]);
+        match reader.next(&LabSuite, rest) {
+            Ok(PacketStep::More) => return Ok(count),
+            Ok(PacketStep::Payload { payload, used, .. }) => {
+                holds(payload.len() == payload_len)?;
+                count = count.saturating_add(1);
+                rest = rest.get(used..).unwrap_or(&[]);
+            }
+            Err(fault) => return Err(Fault::from(fault)),
+        }
         if rest.is_empty() {
             return Ok(count);
         }
@@ -194,44 +198,21 @@ pub(crate) fn read_piece(
     Ok(count)
 }
 
-/// Reads up to the end of a payload, which must have this length, and answers how many bytes that took; None where more
-/// are needed.
-fn read_payload(
-    reader: &mut PacketReader,
-    bytes: &[u8],
-    payload_len: usize,
-) -> Result<Option<usize>, Fault> {
-    match reader.next(&LabSuite, bytes)? {
-        PacketStep::More => Ok(None),
-        PacketStep::Payload { payload, used, .. } => {
-            holds(payload.len() == payload_len)?;
-            Ok(Some(used))
-        }
-    }
-}
-
 /// Reads streams of packets of each length, in clear and sealed, in pieces of each length.
 pub(crate) fn check(alloc: Global) -> Result<(), Fault> {
     for payload_len in [1, 1024, 32768] {
-        check_way(alloc, false, payload_len)?;
-        check_way(alloc, true, payload_len)?;
+        check_load(alloc, false, payload_len)?;
+        check_load(alloc, true, payload_len)?;
     }
     Ok(())
 }
 
-/// Reads a stream of packets of this length.
-fn check_way(alloc: Global, sealed: bool, payload_len: usize) -> Result<(), Fault> {
-    check_load(
-        alloc,
-        Load {
-            sealed,
-            payload_len,
-        },
-    )
-}
-
-/// Reads a stream in pieces of each length.
-fn check_load(alloc: Global, load: Load) -> Result<(), Fault> {
+/// Reads a stream of packets of this length in pieces of each length.
+fn check_load(alloc: Global, sealed: bool, payload_len: usize) -> Result<(), Fault> {
+    let load = Load {
+        sealed,
+        payload_len,
+    };
     let stream = Stream::new(alloc, load, load.count(CHECK_LEN))?;
     let read = read_each(alloc, &stream);
     drop(stream);

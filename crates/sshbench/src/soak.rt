@@ -100,9 +100,11 @@ fn run(
     server: &ServerConfig,
     whims: &Whims,
 ) -> Result<bool, Fault> {
-    let wanted = predict(alloc, client, server, &LabSuite, whims)?;
-    let ended = run_to(alloc, rng, client, server, whims, &wanted);
-    drop(wanted);
+    let (client_end, server_end) = predict(alloc, client, server, &LabSuite, whims)?;
+    let wanted = (&client_end, &server_end);
+    let ended = run_to(alloc, rng, client, server, whims, wanted);
+    drop(client_end);
+    drop(server_end);
     ended
 }
 
@@ -113,7 +115,7 @@ fn run_to(
     client: &ClientConfig,
     server: &ServerConfig,
     whims: &Whims,
-    wanted: &(End, End),
+    wanted: (&End, &End),
 ) -> Result<bool, Fault> {
     let mut world = World::new(alloc, client, server, &LabSuite, whims)?;
     let ended = ends_so(rng, &mut world, wanted);
@@ -125,7 +127,7 @@ fn run_to(
 fn ends_so(
     rng: &mut SplitMix64,
     world: &mut DrawnWorld<'_>,
-    wanted: &(End, End),
+    wanted: (&End, &End),
 ) -> Result<bool, Fault> {
     deliver(rng, world)?;
     world.settle(ROUNDS)?;
@@ -134,8 +136,8 @@ fn ends_so(
 }
 
 /// Judges how both sides ended, and answers whether the user was authenticated.
-fn judge(ends: (&End, &End), wanted: &(End, End)) -> Result<bool, Fault> {
-    holds(is_same(ends.0, &wanted.0) && is_same(ends.1, &wanted.1))?;
+fn judge(ends: (&End, &End), wanted: (&End, &End)) -> Result<bool, Fault> {
+    holds(is_same(ends.0, wanted.0) && is_same(ends.1, wanted.1))?;
     Ok(matches!(ends.0, End::Authenticated(_)))
 }
 

@@ -203,23 +203,33 @@ fn print_ten_times(rt: &HostRuntime) -> Result<(), Fault> {
     print_both(rt, row, &work, &other)
 }
 
-/// Times talks by single bytes beside whole ones, and whole sessions beside negotiations.
+/// Times talks up to SERVICE_ACCEPT, and up to the user.
 fn print_talks(rt: &HostRuntime) -> Result<(), Fault> {
     let negotiation = Lab::new(rt.alloc(), Reach::Service)?;
-    let (work, other) = (Work::Talk(&negotiation, 1), Work::Talk(&negotiation, WHOLE));
-    print_both(rt, row("negotiation by 1", "whole", TALKS), &work, &other)?;
-    print_session(rt, &other)
+    let printed = print_sessions(rt, &negotiation);
+    drop(negotiation);
+    printed
 }
 
-/// Times sessions by single bytes beside whole ones, and these beside negotiations.
-fn print_session(rt: &HostRuntime, negotiation: &Work<'_>) -> Result<(), Fault> {
-    let lab = Lab::new(rt.alloc(), Reach::User)?;
-    let (work, other) = (Work::Talk(&lab, 1), Work::Talk(&lab, WHOLE));
-    print_both(rt, row("session by 1", "whole", TALKS), &work, &other)?;
+/// The same, where those up to SERVICE_ACCEPT are of this lab.
+fn print_sessions(rt: &HostRuntime, negotiation: &Lab) -> Result<(), Fault> {
+    let session = Lab::new(rt.alloc(), Reach::User)?;
+    let printed = print_labs(rt, negotiation, &session);
+    drop(session);
+    printed
+}
+
+/// Times talks by single bytes beside whole ones, and whole sessions beside negotiations.
+fn print_labs(rt: &HostRuntime, negotiation: &Lab, session: &Lab) -> Result<(), Fault> {
+    let (negotiated, talked) = (Work::Talk(negotiation, WHOLE), Work::Talk(session, WHOLE));
+    let by_bytes = row("negotiation by 1", "whole", TALKS);
+    print_both(rt, by_bytes, &Work::Talk(negotiation, 1), &negotiated)?;
+    let by_bytes = row("session by 1", "whole", TALKS);
+    print_both(rt, by_bytes, &Work::Talk(session, 1), &talked)?;
     print_both(
         rt,
         row("session", "negotiation", TALKS),
-        &other,
-        negotiation,
+        &talked,
+        &negotiated,
     )
 }

@@ -222,11 +222,11 @@ fn receive(
     sent: &mut Vec<u8>,
 ) -> Result<(), Fault> {
     let rest = other.get(from..).unwrap_or(&[]);
+    let mut used: usize = 0;
     for piece in rest.chunks(piece_len.max(1)) {
-        let used = feed(endpoint, piece, sent)?;
-        holds(used == piece.len())?;
+        used = used.saturating_add(feed(endpoint, piece, sent)?);
     }
-    Ok(())
+    holds(used == rest.len())
 }
 
 /// Gives an endpoint a piece, and answers how many bytes of it were used.
