@@ -58,8 +58,15 @@ pub(crate) fn ask(
         return Err(Fault::Words);
     }
     let mut stream = SessionStream::new(rt, session, after)?;
+    let done = ask_over(rt, &mut stream, command);
+    drop(stream);
+    done
+}
+
+/// The same over a stream that was opened.
+fn ask_over(rt: &HostRuntime, stream: &mut SessionStream, command: &str) -> Result<(), Fault> {
     stream.send(rt, &open(rt.alloc())?)?;
-    receive_server(rt, &mut stream, command)
+    receive_server(rt, stream, command)
 }
 
 /// Receives what a server sends until its channel is closed, or its input ends.
@@ -146,6 +153,13 @@ fn tell_status(rt: &HostRuntime, reader: &mut Reader<'_>) -> Result<(), Fault> {
 /// A server's: takes one session, answers by a line whatever it is asked to do, and closes.
 pub(crate) fn answer(rt: &HostRuntime, session: Box<Session>, after: Vec<u8>) -> Result<(), Fault> {
     let mut stream = SessionStream::new(rt, session, after)?;
+    let done = answer_over(rt, &mut stream);
+    drop(stream);
+    done
+}
+
+/// The same over a stream that was opened.
+fn answer_over(rt: &HostRuntime, stream: &mut SessionStream) -> Result<(), Fault> {
     let mut theirs = 0;
     for _ in 0..u64::MAX {
         let Some(payload) = stream.receive(rt)? else {
@@ -156,7 +170,7 @@ pub(crate) fn answer(rt: &HostRuntime, session: Box<Session>, after: Vec<u8>) ->
             tell(rt, "the peer has disconnected");
             return Ok(());
         }
-        receive_client(rt, &mut stream, &payload, &mut theirs)?;
+        receive_client(rt, stream, &payload, &mut theirs)?;
     }
     Ok(())
 }

@@ -92,9 +92,13 @@ fn look(
         host_key: None,
     };
     let carried = carry(rt, &mut endpoint, out, &mut looked);
-    found(rt, settings, &looked, endpoint.end(), &notices.taken())?;
+    let told = found(rt, settings, &looked, endpoint.end(), &notices.taken());
+    drop(endpoint);
+    let has_lists = looked.theirs.sent.kexinit.is_some();
+    drop(looked);
+    told?;
     carried?;
-    Ok(looked.theirs.sent.kexinit.is_some())
+    Ok(has_lists)
 }
 
 /// Tells what both sides have sent, and how the endpoint ended.
