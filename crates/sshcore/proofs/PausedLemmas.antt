@@ -97,3 +97,13 @@ module _ (plan : List AttemptData) (old kept : State) (left : ℕ) (left_is : le
   -- and but for the plan it always is
   pub kept_but_plan : with_left [] (kept_with plan kept left) ≡ with_left [] (state_data old)
   kept_but_plan = ap (with_left []) kept_as
+
+-- What is paused may be resumed, as what was there.
+pub paused_fits : (m : SuiteData) (party : ConfigData) (old : State) (p : PausedData) → p.left ≡ length old.left.now → (waits : Bool) → waits ≡ is_waiting (state_data old).known.left
+    → p.state.confirmed ≡ not waits → state_data p.state ≡ with_left (left_of (not waits) []) (state_data old) → (role : Side) → p.role ≡ role
+    → IsAskingEndpoint m role party (state_data old) p.input p.waiting → FitsPaused m role party p
+paused_fits m party old p left_is waits waits_is confirmed_is kept_is role role_is asking = record {
+  is_role = role_is;
+  fits = asking_as (state_data old) (kept_with party.plan p.state p.left) (kept_end party.plan old p.state p.left left_is waits waits_is confirmed_is kept_is)
+      (λ o. kept_same party.plan old p.state p.left left_is waits waits_is confirmed_is kept_is ((asking.keeps o).rest)) m role party p.input p.waiting asking;
+}

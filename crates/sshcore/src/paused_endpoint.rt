@@ -118,22 +118,14 @@ impl PausedEndpoint {
         ensures end { asking_end result ≡ paused_end self }
         ensures asks { asked_by result ≡ asked_paused self }
     {
-        let PausedEndpoint {
-            draws,
-            input,
-            state,
-            left,
-            waiting,
-            ..
-        } = self;
         resumed(
-            Config::Client(config, draws),
+            Config::Client(config, self.draws),
             suite,
             listener,
-            input,
-            state,
-            left,
-            waiting,
+            self.input,
+            self.state,
+            self.left,
+            self.waiting,
         )
     }
 
@@ -152,22 +144,14 @@ impl PausedEndpoint {
         ensures end { asking_end result ≡ paused_end self }
         ensures asks { asked_by result ≡ asked_paused self }
     {
-        let PausedEndpoint {
-            draws,
-            input,
-            state,
-            left,
-            waiting,
-            ..
-        } = self;
         resumed(
-            Config::Server(config, draws),
+            Config::Server(config, self.draws),
             suite,
             listener,
-            input,
-            state,
-            left,
-            waiting,
+            self.input,
+            self.state,
+            self.left,
+            self.waiting,
         )
     }
 }

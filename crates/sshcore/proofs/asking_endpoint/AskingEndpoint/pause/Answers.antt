@@ -7,7 +7,7 @@ use Rattle.sshcore.specs.EndpointConfig.{config_data, role_of, setup_of}
 use Rattle.sshcore.specs.Paused.{PausedData, kept_with}
 use Rattle.sshcore.specs.StateData.{state_data}
 use Rattle.sshcore.specs.WaitingView.{waiting_of}
-use Rattle.sshcore.proofs.PausedLemmas.{asking_as, asking_stands_as, fits_as, kept_but_plan, kept_end, kept_same}
+use Rattle.sshcore.proofs.PausedLemmas.{asking_stands_as, fits_as, kept_but_plan, kept_end, kept_same, paused_fits}
 use Rattle.sshcore.proofs.asking_endpoint.AskingEndpoint.pause.Goals as goal
 
 pub returns-clause-pauses : goal.returns-clause-pauses
@@ -26,20 +26,20 @@ returns-clause-pauses g c =
 pub returns-clause-fits : goal.returns-clause-fits
 returns-clause-fits g c =
     let party = config_data c.self.inside.config in
-    let old = c.self.inside.state in
-    rw (← c.self.view_is) (record {
-      is_role = c.role-role.ensures;
-      fits = asking_as (state_data old) (kept_with party.plan c.with_left.result (length c.self.inside.state.left.now))
-          (kept_end party.plan old c.with_left.result (length c.self.inside.state.left.now) refl c.waits-confirmed.result c.waits-confirmed.ensures c.with_left.ensures.confirmed c.with_left.ensures.same)
-          (λ o. kept_same party.plan old c.with_left.result (length c.self.inside.state.left.now) refl c.waits-confirmed.result c.waits-confirmed.ensures c.with_left.ensures.confirmed c.with_left.ensures.same
-          ((c.self.invariant.keeps o).rest))
-          (g.S.Suite.meaning c.self.inside.suite.now) (role_of c.self.inside.config) party c.self.inside.input (waiting_of c.self.inside.waiting) c.self.invariant;
-    })
+    let p : PausedData = record {
+      draws = c.into_draws.result;
+      role = c.role-role.result;
+      input = c.self.inside.input;
+      state = c.with_left.result;
+      left = length c.self.inside.state.left.now;
+      waiting = waiting_of c.self.inside.waiting;
+    } in
+    rw (← c.self.view_is) (paused_fits (g.S.Suite.meaning c.self.inside.suite.now) party c.self.inside.state p refl c.waits-confirmed.result c.waits-confirmed.ensures
+    c.with_left.ensures.confirmed c.with_left.ensures.same (role_of c.self.inside.config) c.role-role.ensures c.self.invariant)
 
 pub returns-clause-fits_client : goal.returns-clause-fits_client
 returns-clause-fits_client g c =
     let party = config_data c.self.inside.config in
-    let old = c.self.inside.state in
     let p : PausedData = record {
       draws = c.into_draws.result;
       role = c.role-role.result;
@@ -49,21 +49,14 @@ returns-clause-fits_client g c =
       waiting = waiting_of c.self.inside.waiting;
     } in
     rw (← c.self.view_is) (λ client draws role_is party_is.
-    fits_as (g.S.Suite.meaning c.self.inside.suite.now) (role_of c.self.inside.config) Client party (config_of_client (redrawn_client c.into_draws.result client)) p role_is
+    fits_as (g.S.Suite.meaning c.self.inside.suite.now) (role_of c.self.inside.config) Client party (config_of_client (redrawn_client p.draws client)) p role_is
     (party_is ∙ ap (λ (d : Draws). config_of_client (redrawn_client d client)) (sym (c.into_draws.ensures.client client draws party_is)))
-    (record {
-      is_role = c.role-role.ensures;
-      fits = asking_as (state_data old) (kept_with party.plan c.with_left.result (length c.self.inside.state.left.now))
-          (kept_end party.plan old c.with_left.result (length c.self.inside.state.left.now) refl c.waits-confirmed.result c.waits-confirmed.ensures c.with_left.ensures.confirmed c.with_left.ensures.same)
-          (λ o. kept_same party.plan old c.with_left.result (length c.self.inside.state.left.now) refl c.waits-confirmed.result c.waits-confirmed.ensures c.with_left.ensures.confirmed c.with_left.ensures.same
-          ((c.self.invariant.keeps o).rest))
-          (g.S.Suite.meaning c.self.inside.suite.now) (role_of c.self.inside.config) party c.self.inside.input (waiting_of c.self.inside.waiting) c.self.invariant;
-    }))
+    (paused_fits (g.S.Suite.meaning c.self.inside.suite.now) party c.self.inside.state p refl c.waits-confirmed.result c.waits-confirmed.ensures
+    c.with_left.ensures.confirmed c.with_left.ensures.same (role_of c.self.inside.config) c.role-role.ensures c.self.invariant))
 
 pub returns-clause-fits_server : goal.returns-clause-fits_server
 returns-clause-fits_server g c =
     let party = config_data c.self.inside.config in
-    let old = c.self.inside.state in
     let p : PausedData = record {
       draws = c.into_draws.result;
       role = c.role-role.result;
@@ -73,16 +66,10 @@ returns-clause-fits_server g c =
       waiting = waiting_of c.self.inside.waiting;
     } in
     rw (← c.self.view_is) (λ server draws role_is party_is.
-    fits_as (g.S.Suite.meaning c.self.inside.suite.now) (role_of c.self.inside.config) Server party (config_of_server (redrawn_server c.into_draws.result server)) p role_is
+    fits_as (g.S.Suite.meaning c.self.inside.suite.now) (role_of c.self.inside.config) Server party (config_of_server (redrawn_server p.draws server)) p role_is
     (party_is ∙ ap (λ (d : Draws). config_of_server (redrawn_server d server)) (sym (c.into_draws.ensures.server server draws party_is)))
-    (record {
-      is_role = c.role-role.ensures;
-      fits = asking_as (state_data old) (kept_with party.plan c.with_left.result (length c.self.inside.state.left.now))
-          (kept_end party.plan old c.with_left.result (length c.self.inside.state.left.now) refl c.waits-confirmed.result c.waits-confirmed.ensures c.with_left.ensures.confirmed c.with_left.ensures.same)
-          (λ o. kept_same party.plan old c.with_left.result (length c.self.inside.state.left.now) refl c.waits-confirmed.result c.waits-confirmed.ensures c.with_left.ensures.confirmed c.with_left.ensures.same
-          ((c.self.invariant.keeps o).rest))
-          (g.S.Suite.meaning c.self.inside.suite.now) (role_of c.self.inside.config) party c.self.inside.input (waiting_of c.self.inside.waiting) c.self.invariant;
-    }))
+    (paused_fits (g.S.Suite.meaning c.self.inside.suite.now) party c.self.inside.state p refl c.waits-confirmed.result c.waits-confirmed.ensures
+    c.with_left.ensures.confirmed c.with_left.ensures.same (role_of c.self.inside.config) c.role-role.ensures c.self.invariant))
 
 pub returns-clause-client : goal.returns-clause-client
 returns-clause-client g c = rw (← c.self.view_is) (λ client draws e. c.into_draws.ensures.client client draws e)
