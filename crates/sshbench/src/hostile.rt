@@ -3,7 +3,7 @@
 
 use crate::drawn::{below, byte, flag};
 use crate::fault::{Fault, holds};
-use crate::talk::{Lab, LabEndpoint, Reach, Sent, WHOLE, endpoint_in, feed, talk};
+use crate::talk::{Lab, LabEndpoint, Sent, endpoint_in, feed, talk};
 use rand_xoshiro::SplitMix64;
 use sshcore::End;
 use sshneg::Side;
@@ -63,7 +63,7 @@ fn place_below(rng: &mut SplitMix64, count: usize) -> usize {
 
 /// Receives so many changed streams, and answers how many were authenticated since what was changed means nothing.
 pub(crate) fn streams(alloc: Global, rng: &mut SplitMix64, count: u32) -> Result<u32, Fault> {
-    let lab = Lab::new(alloc, Reach::User)?;
+    let lab = Lab::new(alloc)?;
     let unnoticed = streams_in(alloc, rng, &lab, count);
     drop(lab);
     unnoticed
@@ -71,7 +71,7 @@ pub(crate) fn streams(alloc: Global, rng: &mut SplitMix64, count: u32) -> Result
 
 /// The same of endpoints that are made of this.
 fn streams_in(alloc: Global, rng: &mut SplitMix64, lab: &Lab, count: u32) -> Result<u32, Fault> {
-    let sent = talk(alloc, lab, WHOLE)?;
+    let sent = talk(alloc, lab)?;
     let unnoticed = count_unnoticed(alloc, rng, lab, &sent, count);
     drop(sent);
     unnoticed

@@ -1,15 +1,18 @@
-//! A long stream that is made piece by piece, so that no more than a batch of it is ever held.
+//! A long stream, of which no more than a batch of packets is ever held: the batch comes again and again.
 
-use crate::fault::{Fault, holds};
-use crate::packets::{keys, payload, put_packet, read_piece};
-use sshpacket::{Keys, PacketReader};
+use crate::fault::Fault;
+use crate::packets::{Load, Stream};
+use sshpacket::PacketReader;
 use std::io::Write;
 use std::time::{Duration, Instant};
 
-/// How many bytes each payload has.
-const PAYLOAD_LEN: usize = 1024;
+/// The packets of a batch, in clear: a reader takes them with the padding of any number.
+const LOAD: Load = Load {
+    sealed: false,
+    payload_len: 1024,
+};
 
-/// How many packets are made at a time.
+/// How many packets a batch has.
 const BATCH: u32 = 64;
 
 /// How many batches have about a million bytes.
@@ -18,79 +21,34 @@ const BATCHES_A_MEGABYTE: u32 = 15;
 /// How many bytes a piece has.
 const PIECE_LEN: usize = 1448;
 
-/// A stream of packets in clear, and who reads it.
-#[derive(Drop)]
-struct Long {
-    keys: Keys,
-    payload: Vec<u8>,
-    batch: Vec<u8>,
-    reader: PacketReader,
-}
-
-/// Reads so many MB of packets, and prints how long the reading took.
+/// Reads so many MB of packets, and prints how long that took.
 pub(crate) fn print(rt: &HostRuntime, megabytes: u32) -> Result<(), Fault> {
-    let micros = read_long(rt, megabytes)?;
+    let batch = Stream::new(rt.alloc(), LOAD, BATCH)?;
+    let took = read_long(rt, &batch, megabytes);
+    drop(batch);
+    let micros = took?.as_micros();
     writeln!(rt.stdout(), "{megabytes} MB read in {micros} us")?;
     Ok(())
 }
 
-/// Reads so many MB of packets, and answers how many microseconds the reading took.
-fn read_long(rt: &HostRuntime, megabytes: u32) -> Result<u128, Fault> {
-    let alloc = rt.alloc();
-    let mut long = Long {
-        keys: keys(alloc)?,
-        payload: payload(alloc, PAYLOAD_LEN)?,
-        batch: Vec::new(alloc),
-        reader: PacketReader::new(alloc),
-    };
-    let read = long.read(rt, megabytes);
-    drop(long);
-    read
+/// Reads so many MB of batches by one reader, and answers how long that took.
+fn read_long(rt: &HostRuntime, batch: &Stream, megabytes: u32) -> Result<Duration, Fault> {
+    let mut reader = batch.reader(rt.alloc())?;
+    let took = read_batches(rt, batch, megabytes, &mut reader);
+    drop(reader);
+    took
 }
 
-impl Long {
-    /// Reads so many MB of packets, and answers how many microseconds the reading took.
-    fn read(&mut self, rt: &HostRuntime, megabytes: u32) -> Result<u128, Fault> {
-        let mut micros: u128 = 0;
-        for number in 0..megabytes.saturating_mul(BATCHES_A_MEGABYTE) {
-            let took = self.read_batch(rt, number)?;
-            micros = micros.saturating_add(took.as_micros());
-        }
-        Ok(micros)
+/// The same by this reader.
+fn read_batches(
+    rt: &HostRuntime,
+    batch: &Stream,
+    megabytes: u32,
+    reader: &mut PacketReader,
+) -> Result<Duration, Fault> {
+    let start = Instant::now(rt)?;
+    for _ in 0..megabytes.saturating_mul(BATCHES_A_MEGABYTE) {
+        batch.read_by(reader, PIECE_LEN)?;
     }
-
-    /// Makes the batch of this number and reads it, and answers how long the reading took.
-    fn read_batch(&mut self, rt: &HostRuntime, number: u32) -> Result<Duration, Fault> {
-        self.make_batch(rt, number.wrapping_mul(BATCH))?;
-        let start = Instant::now(rt)?;
-        self.read_pieces()?;
-        Ok(start.elapsed(rt)?)
-    }
-
-    /// Reads the batch piece by piece; all of its packets have to come.
-    fn read_pieces(&mut self) -> Result<(), Fault> {
-        let mut count: u32 = 0;
-        for piece in self.batch.chunks(PIECE_LEN) {
-            let more = read_piece(&mut self.reader, piece, PAYLOAD_LEN)?;
-            count = count.saturating_add(more);
-        }
-        holds(count == BATCH)
-    }
-
-    /// Makes the packets from this number on.
-    fn make_batch(&mut self, rt: &HostRuntime, first: u32) -> Result<(), Fault> {
-        self.batch.clear();
-        for i in 0..BATCH {
-            let seq = first.wrapping_add(i);
-            put_packet(
-                rt.alloc(),
-                false,
-                &self.keys,
-                seq,
-                &self.payload,
-                &mut self.batch,
-            )?;
-        }
-        Ok(())
-    }
+    Ok(start.elapsed(rt)?)
 }

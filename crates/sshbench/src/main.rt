@@ -1,13 +1,12 @@
-//! The program `sshbench`: what the crates cost, beside copying the same bytes or hashing them.
+//! The program `sshbench`: what the crates cost, beside copying the same bytes or the suite's calls alone.
 //!
-//! Without words it does each row's work once and checks the result; with the word `time` it does
+//! Without words it does each row's work once and checks the result, and a few drawn sessions; with the word `time` it does
 //! it many times and prints a table of ratios; with `stream N` it reads N MB of packets that are made
 //! piece by piece, and prints how long the reading took; with `soak N SEED` it runs N sessions of configs and
 //! schedules that the seed draws, and receives ten times as many streams that it changed.
 #![tactic(auto)]
 
 mod choices;
-mod digests;
 mod drawn;
 mod drawn_parts;
 mod fault;
@@ -23,7 +22,6 @@ mod talk;
 mod work;
 
 use crate::fault::Fault;
-use crate::talk::Reach;
 use std::env::{self, Args};
 use std::io::Write;
 use std::iter::Skip;
@@ -38,6 +36,12 @@ fn main(rt: HostRuntime) -> ExitCode {
         }
     }
 }
+
+/// How many sessions are drawn where nothing is timed.
+const SESSIONS: u32 = 10;
+
+/// By which seed.
+const SEED: u32 = 1;
 
 /// What the words ask for.
 #[derive(Clone, Copy)]
@@ -58,15 +62,14 @@ fn run(rt: &HostRuntime) -> Result<(), Fault> {
     }
 }
 
-/// Checks each row.
+/// Checks each row, and then a few sessions that are drawn.
 fn check(rt: &HostRuntime) -> Result<(), Fault> {
     let alloc = rt.alloc();
     print_checked(rt, "kexinit", kexinit::check(alloc))?;
     print_checked(rt, "messages", lent::check(alloc))?;
     print_checked(rt, "packets", packets::check(alloc))?;
     print_checked(rt, "choice", choices::check(alloc))?;
-    print_checked(rt, "negotiation", talk::check(alloc, Reach::Service))?;
-    print_checked(rt, "session", talk::check(alloc, Reach::User))
+    soak::print(rt, SESSIONS, SEED)
 }
 
 /// Prints that the row of this name is right, where it is.

@@ -1,19 +1,21 @@
 //! Streams of packets, read in pieces.
 
 use crate::fault::{Fault, holds};
-use sshpacket::{KeyParts, Keys, PacketReader, PacketStep, write_clear, write_sealed};
+use sshpacket::{
+    KeyParts, Keys, PACKET_LIMIT, PacketReader, PacketStep, Suite, write_clear, write_sealed,
+};
 use sshsuites::LabSuite;
 use sshwire::PAYLOAD_LIMIT;
 use std::alloc::{AllocError, Global};
 
 /// The initialisation vector of sealed packets.
-pub(crate) const IV: [u8; 16] = [1; 16];
+const IV: [u8; 16] = [1; 16];
 
 /// The encryption key of sealed packets.
-pub(crate) const ENCRYPTION_KEY: [u8; 48] = [2; 48];
+const ENCRYPTION_KEY: [u8; 48] = [2; 48];
 
 /// The integrity key of sealed packets.
-pub(crate) const MAC_KEY: [u8; 32] = [3; 32];
+const MAC_KEY: [u8; 32] = [3; 32];
 
 /// The lengths of the pieces that streams are read in.
 pub(crate) const PIECE_LENS: [usize; 3] = [1, 1448, 65536];
@@ -22,7 +24,7 @@ pub(crate) const PIECE_LENS: [usize; 3] = [1, 1448, 65536];
 const CHECK_LEN: u32 = 100_000;
 
 /// The keys of sealed packets, by names that the lab suite takes for blocks of 8 bytes.
-pub(crate) fn keys(alloc: Global) -> Result<Keys, Fault> {
+fn keys(alloc: Global) -> Result<Keys, Fault> {
     Ok(Keys::new(KeyParts {
         cipher: String::from_str(alloc, "c")?,
         mac: String::from_str(alloc, "m")?,
@@ -76,13 +78,13 @@ impl Stream {
     /// written, each of its length.
     pub(crate) fn read(&self, alloc: Global, piece_len: usize) -> Result<(), Fault> {
         let mut reader = self.reader(alloc)?;
-        let count = self.count_by(&mut reader, piece_len);
+        let read = self.read_by(&mut reader, piece_len);
         drop(reader);
-        holds(count? == self.count)
+        read
     }
 
     /// A reader of the stream.
-    fn reader(&self, alloc: Global) -> Result<PacketReader, Fault> {
+    pub(crate) fn reader(&self, alloc: Global) -> Result<PacketReader, Fault> {
         if self.load.sealed {
             Ok(PacketReader::with_keys(alloc, keys(alloc)?, 0))
         } else {
@@ -90,14 +92,37 @@ impl Stream {
         }
     }
 
-    /// Reads all packets, and answers how many there were.
-    fn count_by(&self, reader: &mut PacketReader, piece_len: usize) -> Result<u32, Fault> {
+    /// The same by this reader.
+    pub(crate) fn read_by(&self, reader: &mut PacketReader, piece_len: usize) -> Result<(), Fault> {
         let mut count: u32 = 0;
         for piece in self.bytes.chunks(piece_len.max(1)) {
             let more = read_piece(reader, piece, self.load.payload_len)?;
             count = count.saturating_add(more);
         }
-        Ok(count)
+        holds(count == self.count)
+    }
+
+    /// Has the suite alone unseal all packets.
+    pub(crate) fn unseal(&self, alloc: Global) -> Result<(), Fault> {
+        let keys = keys(alloc)?;
+        let unsealed = self.unseal_by(alloc, &keys);
+        drop(keys);
+        unsealed
+    }
+
+    /// The same with these keys. All packets have one length.
+    fn unseal_by(&self, alloc: Global, keys: &Keys) -> Result<(), Fault> {
+        let len = self
+            .bytes
+            .len()
+            .checked_div(self.count as usize)
+            .unwrap_or(1);
+        let mut seq: u32 = 0;
+        for sealed in self.bytes.chunks(len.max(1)) {
+            unseal(alloc, keys, seq, sealed)?;
+            seq = seq.saturating_add(1);
+        }
+        holds(seq == self.count)
     }
 
     /// Copies all bytes in pieces of so many, the first into an empty vector: each other one after the one before, or
@@ -154,7 +179,7 @@ pub(crate) fn payload(alloc: Global, len: usize) -> Result<Vec<u8>, AllocError> 
 }
 
 /// Appends a packet.
-pub(crate) fn put_packet(
+fn put_packet(
     alloc: Global,
     sealed: bool,
     keys: &Keys,
@@ -173,12 +198,16 @@ pub(crate) fn put_packet(
     Ok(written?)
 }
 
+/// Has the suite unseal a packet.
+fn unseal(alloc: Global, keys: &Keys, seq: u32, sealed: &[u8]) -> Result<(), Fault> {
+    if sealed.len() > PACKET_LIMIT {
+        return Err(Fault::Otherwise);
+    }
+    holds(LabSuite.unseal(alloc, keys, seq, sealed)?.is_some())
+}
+
 /// Reads all of a piece, and answers how many payloads ended in it; each must have this length.
-pub(crate) fn read_piece(
-    reader: &mut PacketReader,
-    piece: &[u8],
-    payload_len: usize,
-) -> Result<u32, Fault> {
+fn read_piece(reader: &mut PacketReader, piece: &[u8], payload_len: usize) -> Result<u32, Fault> {
     let mut rest = piece;
     let mut count: u32 = 0;
     for _ in 0..piece.len() {

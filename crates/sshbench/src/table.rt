@@ -1,13 +1,11 @@
 //! Times, and their ratios.
 
 use crate::choices::{Offers, Payloads};
-use crate::digests::digest;
 use crate::fault::Fault;
 use crate::kexinit;
 use crate::lent::{Kind, payload};
 use crate::packets::{Load, PIECE_LENS, Stream};
 use crate::row::{Row, print_row};
-use crate::talk::{Lab, Reach, WHOLE};
 use crate::work::{Work, print_both};
 use std::io::Write;
 use std::time::{Duration, Instant};
@@ -30,9 +28,6 @@ const READS: u32 = 400;
 /// How often where the pieces are single bytes or the packets are sealed, which takes longer.
 const SLOW_READS: u32 = 20;
 
-/// How often two endpoints talk.
-const TALKS: u32 = 5_000;
-
 /// The messages without lists that are read: their kinds, and how many bytes the long field has.
 const MESSAGES: [(Kind, usize); 5] = [
     (Kind::Ignore, 1019),
@@ -53,8 +48,7 @@ pub(crate) fn print(rt: &HostRuntime) -> Result<(), Fault> {
         print_message(rt, kind, len)?;
     }
     print_choices(rt)?;
-    print_packets(rt)?;
-    print_talks(rt)
+    print_packets(rt)
 }
 
 /// Times reading and writing a KEXINIT beside copying its payload.
@@ -125,26 +119,21 @@ fn print_packets(rt: &HostRuntime) -> Result<(), Fault> {
     for payload_len in [1024, 32768] {
         print_sealed(rt, payload_len)?;
     }
-    print_ten_times(rt)
+    Ok(())
 }
 
 /// A stream of packets in clear or sealed.
-fn stream(
-    rt: &HostRuntime,
-    sealed: bool,
-    payload_len: usize,
-    stream_len: u32,
-) -> Result<Stream, Fault> {
+fn stream(rt: &HostRuntime, sealed: bool, payload_len: usize) -> Result<Stream, Fault> {
     let load = Load {
         sealed,
         payload_len,
     };
-    Stream::new(rt.alloc(), load, load.count(stream_len))
+    Stream::new(rt.alloc(), load, load.count(STREAM_LEN))
 }
 
 /// Times reads of packets in clear, and prints the rows.
 fn print_clear(rt: &HostRuntime, payload_len: usize) -> Result<(), Fault> {
-    let stream = stream(rt, false, payload_len, STREAM_LEN)?;
+    let stream = stream(rt, false, payload_len)?;
     for piece_len in PIECE_LENS {
         print_pieces(rt, &stream, piece_len)?;
     }
@@ -186,50 +175,7 @@ fn print_read(
 
 /// Times reads of sealed packets in large pieces, and prints the row.
 fn print_sealed(rt: &HostRuntime, payload_len: usize) -> Result<(), Fault> {
-    let stream = stream(rt, true, payload_len, STREAM_LEN)?;
-    let other = Work::Digest(&stream, digest(&stream));
-    print_read(rt, &stream, 65536, row("", "digests", SLOW_READS), &other)
-}
-
-/// Times reads of a long stream of packets in clear, and of one with a tenth of its packets.
-fn print_ten_times(rt: &HostRuntime) -> Result<(), Fault> {
-    let short = stream(rt, false, 1024, 200_000)?;
-    let long = stream(rt, false, 1024, 2_000_000)?;
-    let row = row("2 MB of clear packets by 1448", "a tenth of it", READS);
-    let (work, other) = (
-        Work::ReadPackets(&long, 1448),
-        Work::ReadPackets(&short, 1448),
-    );
-    print_both(rt, row, &work, &other)
-}
-
-/// Times talks up to SERVICE_ACCEPT, and up to the user.
-fn print_talks(rt: &HostRuntime) -> Result<(), Fault> {
-    let negotiation = Lab::new(rt.alloc(), Reach::Service)?;
-    let printed = print_sessions(rt, &negotiation);
-    drop(negotiation);
-    printed
-}
-
-/// The same, where those up to SERVICE_ACCEPT are of this lab.
-fn print_sessions(rt: &HostRuntime, negotiation: &Lab) -> Result<(), Fault> {
-    let session = Lab::new(rt.alloc(), Reach::User)?;
-    let printed = print_labs(rt, negotiation, &session);
-    drop(session);
-    printed
-}
-
-/// Times talks by single bytes beside whole ones, and whole sessions beside negotiations.
-fn print_labs(rt: &HostRuntime, negotiation: &Lab, session: &Lab) -> Result<(), Fault> {
-    let (negotiated, talked) = (Work::Talk(negotiation, WHOLE), Work::Talk(session, WHOLE));
-    let by_bytes = row("negotiation by 1", "whole", TALKS);
-    print_both(rt, by_bytes, &Work::Talk(negotiation, 1), &negotiated)?;
-    let by_bytes = row("session by 1", "whole", TALKS);
-    print_both(rt, by_bytes, &Work::Talk(session, 1), &talked)?;
-    print_both(
-        rt,
-        row("session", "negotiation", TALKS),
-        &talked,
-        &negotiated,
-    )
+    let stream = stream(rt, true, payload_len)?;
+    let row = row("", "the suite alone", SLOW_READS);
+    print_read(rt, &stream, 65536, row, &Work::Unseal(&stream))
 }

@@ -1,12 +1,10 @@
 //! What is timed, as data.
 
-use crate::digests::digest;
 use crate::fault::{Fault, holds};
 use crate::kexinit::{copy, read_and_write};
 use crate::lent::{own, read_only};
 use crate::packets::Stream;
 use crate::row::{Row, print_row};
-use crate::talk::{Lab, talk};
 use std::alloc::Global;
 use std::time::{Duration, Instant};
 
@@ -27,10 +25,8 @@ pub(crate) enum Work<'a> {
     CopyPackets(&'a Stream, usize),
     /// Copies it in such pieces, each over the one before.
     CopyOver(&'a Stream, usize),
-    /// Makes the digests of its sealed packets, of which this has to come.
-    Digest(&'a Stream, u8),
-    /// Two endpoints talk in pieces of so many bytes.
-    Talk(&'a Lab, usize),
+    /// Has the suite alone unseal its packets.
+    Unseal(&'a Stream),
 }
 
 impl Work<'_> {
@@ -44,8 +40,7 @@ impl Work<'_> {
             Work::ReadPackets(stream, piece_len) => stream.read(alloc, *piece_len),
             Work::CopyPackets(stream, piece_len) => stream.copy(*piece_len, false, out),
             Work::CopyOver(stream, piece_len) => stream.copy(*piece_len, true, out),
-            Work::Digest(stream, first) => holds(digest(stream) == *first),
-            Work::Talk(lab, piece_len) => send(alloc, lab, *piece_len),
+            Work::Unseal(stream) => stream.unseal(alloc),
         }
     }
 
@@ -57,12 +52,6 @@ impl Work<'_> {
             _ => Ok(()),
         }
     }
-}
-
-/// Lets two endpoints talk.
-fn send(alloc: Global, lab: &Lab, piece_len: usize) -> Result<(), Fault> {
-    talk(alloc, lab, piece_len)?;
-    Ok(())
 }
 
 /// Times a work and what stands beside it, and prints the row.
