@@ -33,6 +33,7 @@ ROWS = {
                       for place in ('at its making, strict', 'in authentication, packet by packet')],
     'notices': [(f'a {side} behind the version line, strict: {kind}', ENDPOINT) for side in ('client', 'server') for kind in ('DISCONNECT', 'DEBUG 1')],
     'handed': [('a wrong tag at the link of a client, strict', ENDPOINT | {VECTOR, 'P5 for good'})],
+    'asking': [('a client goes on, strict', ENDPOINT), ('a server is asked by a key, and the answer is yes', ENDPOINT)],
     'worlds': [('course 8', WORLD), ('course 12', MOVES), ('course 15', WORLD), ('guessed, rounds 9', WORLD)],
 }
 

@@ -45,7 +45,7 @@ class Asking:
         else:
             self.own, self.peer = half(t.s), half(t.c)
             received, sent = [t.c_first, t.c_init, t.c_newkeys, t.c_service], [t.s_first, t.s_reply, t.s_newkeys, t.s_accept]
-        self.start = [feed(file.short(*received)), says(file.short(*sent)), "question nothing"]
+        self.start = [feed(file.short(*received)), says(*map(file.short, sent)), "question nothing"]
 
     def row(self, name, *lines, settings=()):
         self.file.row("a %s %s" % (self.role, name), list(settings), self.head, self.start, lines)
