@@ -194,11 +194,13 @@ impl AskingTalk {
     {
         let mut endpoint = endpoint;
         let mut sent = sent;
-        let used = carry(&mut endpoint, answers, received, &mut sent)?;
+        let carried = carry(&mut endpoint, answers, received, &mut sent);
         dialogue_law(&endpoint);
-        let standing = standing_of(alloc, &endpoint)?;
+        let standing = standing_of(alloc, &endpoint);
         let session = endpoint.into_session();
-        let spelled = record_of(alloc, &session)?;
+        let spelled = record_of(alloc, &session);
+        drop(session);
+        let (used, standing, spelled) = (carried?, standing?, spelled?);
         Ok(AskingTalk {
             sent,
             used,

@@ -79,15 +79,19 @@ pub extern "C" fn rezdolin_client(
     };
     if client.asks {
         let answers = client.answers;
-        return asking_client(
+        let answer = asking_client(
             alloc, &config, answers, received, skip, out, session, question,
         );
+        drop(config);
+        return answer;
     }
     let trust = Trust {
         host_keys: client.trusted_host_keys,
         users: &[],
     };
-    client_answer(alloc, &config, &trust, received, skip, out, session)
+    let answer = client_answer(alloc, &config, &trust, received, skip, out, session);
+    drop(config);
+    answer
 }
 
 /// What a server sends for these bytes, from the byte `skip` of all that it sends; `received` may be empty.
@@ -123,15 +127,19 @@ pub extern "C" fn rezdolin_server(
     };
     if server.asks {
         let answers = server.answers;
-        return asking_server(
+        let answer = asking_server(
             alloc, &config, answers, received, skip, out, session, question,
         );
+        drop(config);
+        return answer;
     }
     let trust = Trust {
         host_keys: &[],
         users: server.users,
     };
-    server_answer(alloc, &config, &trust, received, skip, out, session)
+    let answer = server_answer(alloc, &config, &trust, received, skip, out, session);
+    drop(config);
+    answer
 }
 
 /// The public key of a private key of ssh-ed25519 (the 32 bytes of RFC 8032 section 5.1.5), as a server sends it and a

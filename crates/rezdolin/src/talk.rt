@@ -71,10 +71,12 @@ impl Talk {
     {
         let mut endpoint = endpoint;
         let mut sent = sent;
-        let used = endpoint.feed(received, &mut sent)?;
+        let fed = endpoint.feed(received, &mut sent);
         let end = end_numbers(endpoint.end());
         let session = endpoint.into_session();
-        let spelled = record_of(alloc, &session)?;
+        let spelled = record_of(alloc, &session);
+        drop(session);
+        let (used, spelled) = (fed?, spelled?);
         Ok(Talk {
             sent,
             used,

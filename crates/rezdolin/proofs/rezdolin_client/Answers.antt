@@ -9,12 +9,12 @@ use Rattle.rezdolin.proofs.rezdolin_client.Goals as goal
 pub returns-then-client-clause-asks : goal.returns-then-client-clause-asks
 returns-then-client-clause-asks c = λ answered asks. subst
     (λ (p : ClientData). AsksAnswers (λ d. client_setup deployed d p) c.args.client.now.answers.now c.args.received.now c.args.skip c.args.out.now c.args.session.now c.args.question.now
-    c.asking_client.result c.asking_client.new.out c.asking_client.new.session c.asking_client.new.question)
-    c.in-Ok.ensures.config.0 (c.asking_client.ensures.asks answered)
+    c.asking_client-answer.result c.asking_client-answer.new.out c.asking_client-answer.new.session c.asking_client-answer.new.question)
+    c.in-Ok.ensures.config.0 (c.asking_client-answer.ensures.asks answered)
 
 pub returns-then-client-clause-unreadable : goal.returns-then-client-clause-unreadable
 returns-then-client-clause-unreadable c = λ unreadable texts. (
   c.if-client.true,
   subst (λ (p : ClientData). AreUnfit (λ d. client_setup deployed d p) c.args.client.now.answers.now c.args.received.now)
-      c.in-Ok.ensures.config.0 (c.asking_client.ensures.unreadable unreadable),
+      c.in-Ok.ensures.config.0 (c.asking_client-answer.ensures.unreadable unreadable),
 )
