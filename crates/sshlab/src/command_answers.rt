@@ -81,10 +81,14 @@ fn ends_of(alloc: Global, text: &[u8]) -> Result<(End, End), CommandFault>
     ensures fault { IfErr result IsNoToolFault }
 {
     match Scenario::parse(alloc, text) {
-        Ok(scenario) => match scenario.predict(alloc) {
-            Ok(ends) => Ok(ends),
-            Err(_) => Err(CommandFault::Memory),
-        },
+        Ok(scenario) => {
+            let ends = scenario.predict(alloc);
+            drop(scenario);
+            match ends {
+                Ok(ends) => Ok(ends),
+                Err(_) => Err(CommandFault::Memory),
+            }
+        }
         Err(fault) => Err(CommandFault::Scenario(fault)),
     }
 }
@@ -97,7 +101,11 @@ fn run_of(alloc: Global, text: &[u8], session: bool) -> Result<Answer, CommandFa
     ensures fault { IfErr result IsNoToolFault }
 {
     match Scenario::parse(alloc, text) {
-        Ok(scenario) => steps_told(alloc, &scenario, session),
+        Ok(scenario) => {
+            let told = steps_told(alloc, &scenario, session);
+            drop(scenario);
+            told
+        }
         Err(fault) => Err(CommandFault::Scenario(fault)),
     }
 }
@@ -109,7 +117,11 @@ fn steps_told(alloc: Global, scenario: &Scenario, session: bool) -> Result<Answe
     ensures fault { IfErr result IsNoToolFault }
 {
     match scenario.run(alloc) {
-        Ok(world) => world_told(alloc, &world, session),
+        Ok(world) => {
+            let told = world_told(alloc, &world, session);
+            drop(world);
+            told
+        }
         Err(_) => Err(CommandFault::Memory),
     }
 }

@@ -10,5 +10,5 @@ returns-in-Ok-clause-told c =
     let scenario = c.in-Ok.scenario in
     let told = statements_in (lines c.args.text.now) in
     run_of_equal (λ answer. string_bytes answer.text) (λ answer. answer.status) scenario.client (client_of_lines told) scenario.server (server_of_lines told)
-    scenario.decisions (rules_of_lines told) scenario.steps.items (steps_of_lines told) c.args.session c.steps_told.result
-    c.in-Ok.ensures.client c.in-Ok.ensures.server c.in-Ok.ensures.decisions c.in-Ok.ensures.steps c.steps_told.ensures.told
+    scenario.decisions (rules_of_lines told) scenario.steps.items (steps_of_lines told) c.args.session c.steps_told-told.result
+    c.in-Ok.ensures.client c.in-Ok.ensures.server c.in-Ok.ensures.decisions c.in-Ok.ensures.steps c.steps_told-told.ensures.told
