@@ -3,7 +3,7 @@
 use crate::choices::{Offers, Payloads};
 use crate::fault::Fault;
 use crate::kexinit;
-use crate::lent::{Kind, payload};
+use crate::lent::{BANNER, IGNORE, KEXDH_REPLY, Kind, PASSWORD, payload};
 use crate::packets::{Load, PIECE_LENS, Stream};
 use crate::row::{Row, print_row};
 use crate::work::{Work, print_both};
@@ -30,11 +30,11 @@ const SLOW_READS: u32 = 20;
 
 /// The messages without lists that are read: their kinds, and how many bytes the long field has.
 const MESSAGES: [(Kind, usize); 5] = [
-    (Kind::Ignore, 1019),
-    (Kind::Ignore, 32763),
-    (Kind::KexdhReply, 499),
-    (Kind::Password, 980),
-    (Kind::Banner, 1013),
+    (IGNORE, 1019),
+    (IGNORE, 32763),
+    (KEXDH_REPLY, 971),
+    (PASSWORD, 980),
+    (BANNER, 1013),
 ];
 
 /// Times each row and prints the table.
@@ -71,7 +71,7 @@ fn row<'a>(name: &'a str, beside: &'a str, rounds: u32) -> Row<'a> {
 
 /// Times reads of such a message beside owned copies of its payload.
 fn print_message(rt: &HostRuntime, kind: Kind, len: usize) -> Result<(), Fault> {
-    let name = format!(in rt.alloc(); "{kind} with {len} bytes read")?;
+    let name = format!(in rt.alloc(); "{} with {len} bytes read", kind.name)?;
     let payload = payload(rt.alloc(), kind, len)?;
     let row = row(&name, "owned copy", QUICK_ROUNDS);
     print_both(rt, row, &Work::Read(&payload, len), &Work::Own(&payload))
