@@ -85,15 +85,23 @@ pub(crate) fn check(alloc: Global) -> Result<(), Fault> {
     chosen
 }
 
-/// How many pairs of methods are equal.
+/// How many of the client's methods the server has.
 fn count_equal(client: &KexInit<'_>, server: &KexInit<'_>) -> u32 {
     let mut equal = 0u32;
     for own in client.kex_algorithms.names() {
-        if server.kex_algorithms.names().any(|other| own == other) {
-            equal = equal.saturating_add(1);
-        }
+        equal = equal.saturating_add(u32::from(has(server, own)));
     }
     equal
+}
+
+/// Whether the server has this method.
+fn has(server: &KexInit<'_>, method: &str) -> bool {
+    for own in server.kex_algorithms.names() {
+        if own == method {
+            return true;
+        }
+    }
+    false
 }
 
 /// The payload of a KEXINIT whose eight lists are 49 names from this number on, and the one that both sides have.

@@ -24,6 +24,13 @@ pub(crate) struct Whims {
 }
 
 impl Whims {
+    /// Each host key is trusted, and each request accepted.
+    pub(crate) const WILLING: Whims = Whims {
+        trusts: true,
+        accepts: true,
+        denied: 0,
+    };
+
     /// Of eight, one trusts no host key, and two accept nobody.
     pub(crate) fn drawn(rng: &mut SplitMix64) -> Whims {
         Whims {

@@ -67,13 +67,6 @@ fn write_over(message: &Message<'_>, out: &mut Vec<u8>) -> Result<(), Fault> {
     Ok(())
 }
 
-/// Copies the payload.
-pub(crate) fn copy(payload: &[u8], out: &mut Vec<u8>) -> Result<(), Fault> {
-    out.clear();
-    out.extend_from_slice(payload)?;
-    Ok(())
-}
-
 /// Whether the payload has 1024 bytes, and is written as it was read.
 pub(crate) fn check(alloc: Global) -> Result<(), Fault> {
     let payload = payload(alloc)?;

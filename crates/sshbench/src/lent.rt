@@ -5,31 +5,41 @@ use crate::packets;
 use sshmsg::{Message, Method, read};
 use sshwire::put_string;
 use std::alloc::Global;
-use std::fmt;
 
-/// What is read.
+/// A kind of message: its name, and what stands before its long field and after it.
 #[derive(Clone, Copy)]
-pub(crate) enum Kind {
-    /// An IGNORE.
-    Ignore,
-    /// A KEXDH_REPLY with a host key of this size, and a share and a signature of 256 bytes.
-    KexdhReply,
-    /// A USERAUTH_REQUEST with a password.
-    Password,
-    /// A USERAUTH_BANNER.
-    Banner,
+pub(crate) struct Kind {
+    pub(crate) name: &'static str,
+    front: &'static [u8],
+    back: &'static [u8],
 }
 
-impl fmt::Display for Kind {
-    fn fmt<W: fmt::Write>(&self, f: &mut fmt::Formatter<W>) -> fmt::Result {
-        f.write_str(match self {
-            Kind::Ignore => "IGNORE",
-            Kind::KexdhReply => "KEXDH_REPLY",
-            Kind::Password => "password",
-            Kind::Banner => "BANNER",
-        })
-    }
-}
+pub(crate) const IGNORE: Kind = Kind {
+    name: "IGNORE",
+    front: &[2],
+    back: &[],
+};
+
+/// With a host key as its long field, a share of 32 bytes and a signature of 8.
+pub(crate) const KEXDH_REPLY: Kind = Kind {
+    name: "KEXDH_REPLY",
+    front: &[31],
+    back: b"\x00\x00\x00\x20one share of an X25519 exchange.\x00\x00\x00\x08a letter",
+};
+
+/// A USERAUTH_REQUEST with a password.
+pub(crate) const PASSWORD: Kind = Kind {
+    name: "password",
+    front: b"\x32\x00\x00\x00\x05alice\x00\x00\x00\x0essh-connection\x00\x00\x00\x08password\x00",
+    back: &[],
+};
+
+/// A USERAUTH_BANNER.
+pub(crate) const BANNER: Kind = Kind {
+    name: "BANNER",
+    front: &[53],
+    back: b"\x00\x00\x00\x02en",
+};
 
 /// The payload of such a message, whose long field has so many bytes.
 pub(crate) fn payload(alloc: Global, kind: Kind, len: usize) -> Result<Vec<u8>, Fault> {
@@ -41,42 +51,15 @@ pub(crate) fn payload(alloc: Global, kind: Kind, len: usize) -> Result<Vec<u8>, 
     Ok(payload)
 }
 
-/// Appends such a message with this long field.
+/// Appends such a message with this long field, which is short.
 fn put_message(payload: &mut Vec<u8>, kind: Kind, long: &[u8]) -> Result<(), Fault> {
-    payload.extend_from_slice(front_of(kind))?;
-    put_long(payload, long)?;
-    match kind {
-        Kind::Ignore | Kind::Password => Ok(()),
-        Kind::KexdhReply => put_share_and_signature(payload),
-        Kind::Banner => put_long(payload, b"en"),
-    }
-}
-
-/// What stands before the long field.
-fn front_of(kind: Kind) -> &'static [u8] {
-    match kind {
-        Kind::Ignore => &[2],
-        Kind::KexdhReply => &[31],
-        Kind::Password => {
-            b"\x32\x00\x00\x00\x05alice\x00\x00\x00\x0essh-connection\x00\x00\x00\x08password\x00"
-        }
-        Kind::Banner => &[53],
-    }
-}
-
-/// Appends a string, which is a field of a message and so short.
-fn put_long(payload: &mut Vec<u8>, bytes: &[u8]) -> Result<(), Fault> {
-    if bytes.len() > 40_000 {
+    if long.len() > 40_000 {
         return Err(Fault::Otherwise);
     }
-    put_string(payload, bytes)?;
+    payload.extend_from_slice(kind.front)?;
+    put_string(payload, long)?;
+    payload.extend_from_slice(kind.back)?;
     Ok(())
-}
-
-/// Appends a share and a signature.
-fn put_share_and_signature(payload: &mut Vec<u8>) -> Result<(), Fault> {
-    put_long(payload, &[0x55; 256])?;
-    put_long(payload, &[0x55; 256])
 }
 
 /// Reads the payload, whose long field has to have so many bytes.
@@ -109,7 +92,7 @@ pub(crate) fn own(alloc: Global, payload: &[u8]) -> Result<(), Fault> {
 
 /// Whether a message of each kind is read.
 pub(crate) fn check(alloc: Global) -> Result<(), Fault> {
-    for kind in [Kind::Ignore, Kind::KexdhReply, Kind::Password, Kind::Banner] {
+    for kind in [IGNORE, KEXDH_REPLY, PASSWORD, BANNER] {
         read_only(alloc, &payload(alloc, kind, 1000)?, 1000)?;
     }
     Ok(())

@@ -1,9 +1,7 @@
 //! Streams of packets, read in pieces.
 
 use crate::fault::{Fault, holds};
-use sshpacket::{
-    KeyParts, Keys, PACKET_LIMIT, PacketReader, PacketStep, Suite, write_clear, write_sealed,
-};
+use sshpacket::{KeyParts, Keys, PacketReader, PacketStep, write_clear, write_sealed};
 use sshsuites::LabSuite;
 use sshwire::PAYLOAD_LIMIT;
 use std::alloc::{AllocError, Global};
@@ -102,29 +100,6 @@ impl Stream {
         holds(count == self.count)
     }
 
-    /// Has the suite alone unseal all packets.
-    pub(crate) fn unseal(&self, alloc: Global) -> Result<(), Fault> {
-        let keys = keys(alloc)?;
-        let unsealed = self.unseal_by(alloc, &keys);
-        drop(keys);
-        unsealed
-    }
-
-    /// The same with these keys. All packets have one length.
-    fn unseal_by(&self, alloc: Global, keys: &Keys) -> Result<(), Fault> {
-        let len = self
-            .bytes
-            .len()
-            .checked_div(self.count as usize)
-            .unwrap_or(1);
-        let mut seq: u32 = 0;
-        for sealed in self.bytes.chunks(len.max(1)) {
-            unseal(alloc, keys, seq, sealed)?;
-            seq = seq.saturating_add(1);
-        }
-        holds(seq == self.count)
-    }
-
     /// Copies all bytes in pieces of so many, the first into an empty vector: each other one after the one before, or
     /// with `over` after nothing too, so that the last one is left.
     pub(crate) fn copy(
@@ -196,14 +171,6 @@ fn put_packet(
         write_clear(alloc, &LabSuite, seq, payload, b"seed", out)
     };
     Ok(written?)
-}
-
-/// Has the suite unseal a packet.
-fn unseal(alloc: Global, keys: &Keys, seq: u32, sealed: &[u8]) -> Result<(), Fault> {
-    if sealed.len() > PACKET_LIMIT {
-        return Err(Fault::Otherwise);
-    }
-    holds(LabSuite.unseal(alloc, keys, seq, sealed)?.is_some())
 }
 
 /// Reads all of a piece, and answers how many payloads ended in it; each must have this length.

@@ -4,6 +4,7 @@ use crate::drawn::{below, flag};
 use crate::drawn_parts::{Whims, client_of, server_of};
 use crate::fault::{Fault, holds};
 use crate::hostile;
+use crate::talk::is_user;
 use rand_core::SeedableRng;
 use rand_xoshiro::SplitMix64;
 use sshcore::{Agreed, ClientConfig, End, ServerConfig};
@@ -131,14 +132,9 @@ fn ends_so(
 ) -> Result<bool, Fault> {
     deliver(rng, world)?;
     world.settle(ROUNDS)?;
-    holds(world.complete())?;
-    judge(world.ends(), wanted)
-}
-
-/// Judges how both sides ended, and answers whether the user was authenticated.
-fn judge(ends: (&End, &End), wanted: (&End, &End)) -> Result<bool, Fault> {
-    holds(is_same(ends.0, wanted.0) && is_same(ends.1, wanted.1))?;
-    Ok(matches!(ends.0, End::Authenticated(_)))
+    let (client, server) = world.ends();
+    holds(world.complete() && is_same(client, wanted.0) && is_same(server, wanted.1))?;
+    Ok(is_user(client))
 }
 
 /// Delivers by a schedule that is drawn.

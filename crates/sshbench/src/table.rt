@@ -3,7 +3,7 @@
 use crate::choices::{Offers, Payloads};
 use crate::fault::Fault;
 use crate::kexinit;
-use crate::lent::{Kind, payload};
+use crate::lent::{BANNER, IGNORE, KEXDH_REPLY, Kind, PASSWORD, payload};
 use crate::packets::{Load, PIECE_LENS, Stream};
 use crate::row::{Row, print_row};
 use crate::work::{Work, print_both};
@@ -25,16 +25,16 @@ const STREAM_LEN: u32 = 1_000_000;
 /// How often a stream of packets is read.
 const READS: u32 = 400;
 
-/// How often where the pieces are single bytes or the packets are sealed, which takes longer.
+/// How often where the pieces are single bytes, which takes longer.
 const SLOW_READS: u32 = 20;
 
 /// The messages without lists that are read: their kinds, and how many bytes the long field has.
 const MESSAGES: [(Kind, usize); 5] = [
-    (Kind::Ignore, 1019),
-    (Kind::Ignore, 32763),
-    (Kind::KexdhReply, 499),
-    (Kind::Password, 980),
-    (Kind::Banner, 1013),
+    (IGNORE, 1019),
+    (IGNORE, 32763),
+    (KEXDH_REPLY, 971),
+    (PASSWORD, 980),
+    (BANNER, 1013),
 ];
 
 /// Times each row and prints the table.
@@ -51,11 +51,11 @@ pub(crate) fn print(rt: &HostRuntime) -> Result<(), Fault> {
     print_packets(rt)
 }
 
-/// Times reading and writing a KEXINIT beside copying its payload.
+/// Times reading and writing a KEXINIT beside owned copies of its payload.
 fn print_kexinit(rt: &HostRuntime) -> Result<(), Fault> {
     let payload = kexinit::payload(rt.alloc())?;
-    let row = row("kexinit read and written", "copying", ROUNDS);
-    let printed = print_both(rt, row, &Work::Kexinit(&payload), &Work::Copy(&payload));
+    let row = row("kexinit read and written", "owned copy", ROUNDS);
+    let printed = print_both(rt, row, &Work::Kexinit(&payload), &Work::Own(&payload));
     drop(payload);
     printed
 }
@@ -71,7 +71,7 @@ fn row<'a>(name: &'a str, beside: &'a str, rounds: u32) -> Row<'a> {
 
 /// Times reads of such a message beside owned copies of its payload.
 fn print_message(rt: &HostRuntime, kind: Kind, len: usize) -> Result<(), Fault> {
-    let name = format!(in rt.alloc(); "{kind} with {len} bytes read")?;
+    let name = format!(in rt.alloc(); "{} with {len} bytes read", kind.name)?;
     let payload = payload(rt.alloc(), kind, len)?;
     let row = row(&name, "owned copy", QUICK_ROUNDS);
     print_both(rt, row, &Work::Read(&payload, len), &Work::Own(&payload))
@@ -111,21 +111,18 @@ fn time_comparisons(rt: &HostRuntime, offers: &Offers<'_>) -> Result<Duration, F
     Ok(start.elapsed(rt)?)
 }
 
-/// Times reads of streams of packets, and prints their rows.
+/// Times reads of streams of packets in clear, and prints their rows.
 fn print_packets(rt: &HostRuntime) -> Result<(), Fault> {
     for payload_len in [1, 1024, 32768] {
         print_clear(rt, payload_len)?;
     }
-    for payload_len in [1024, 32768] {
-        print_sealed(rt, payload_len)?;
-    }
     Ok(())
 }
 
-/// A stream of packets in clear or sealed.
-fn stream(rt: &HostRuntime, sealed: bool, payload_len: usize) -> Result<Stream, Fault> {
+/// A stream of packets in clear.
+fn stream(rt: &HostRuntime, payload_len: usize) -> Result<Stream, Fault> {
     let load = Load {
-        sealed,
+        sealed: false,
         payload_len,
     };
     Stream::new(rt.alloc(), load, load.count(STREAM_LEN))
@@ -133,7 +130,7 @@ fn stream(rt: &HostRuntime, sealed: bool, payload_len: usize) -> Result<Stream, 
 
 /// Times reads of packets in clear, and prints the rows.
 fn print_clear(rt: &HostRuntime, payload_len: usize) -> Result<(), Fault> {
-    let stream = stream(rt, false, payload_len)?;
+    let stream = stream(rt, payload_len)?;
     for piece_len in PIECE_LENS {
         print_pieces(rt, &stream, piece_len)?;
     }
@@ -163,19 +160,8 @@ fn print_read(
     row: Row<'_>,
     other: &Work<'_>,
 ) -> Result<(), Fault> {
-    let Load {
-        sealed,
-        payload_len,
-    } = stream.load;
-    let way = if sealed { "sealed" } else { "clear" };
-    let name = format!(in rt.alloc(); "{way} packets of {payload_len} by {piece_len}")?;
+    let payload_len = stream.load.payload_len;
+    let name = format!(in rt.alloc(); "clear packets of {payload_len} by {piece_len}")?;
     let row = Row { name: &name, ..row };
     print_both(rt, row, &Work::ReadPackets(stream, piece_len), other)
-}
-
-/// Times reads of sealed packets in large pieces, and prints the row.
-fn print_sealed(rt: &HostRuntime, payload_len: usize) -> Result<(), Fault> {
-    let stream = stream(rt, true, payload_len)?;
-    let row = row("", "the suite alone", SLOW_READS);
-    print_read(rt, &stream, 65536, row, &Work::Unseal(&stream))
 }

@@ -1,18 +1,19 @@
 //! Two endpoints of the lab that talk, from their making up to the authenticated user.
 
+use crate::drawn_parts::Whims;
 use crate::fault::{Fault, holds};
 use sshcore::{
     Attempt, ClientConfig, ClientParts, Credential, End, Endpoint, ServerConfig, ServerParts,
 };
 use sshneg::Side;
-use sshsuites::{LabDecisions, LabSuite, lab_client_parts, lab_server_parts};
+use sshsuites::{LabSuite, lab_client_parts, lab_server_parts};
 use std::alloc::Global;
 
 /// How often each side is given what the other has sent.
 const TURNS: u32 = 4;
 
 /// Whether the user is authenticated at a side.
-fn is_user(end: &End) -> bool {
+pub(crate) fn is_user(end: &End) -> bool {
     match end {
         End::Authenticated(_) => true,
         _ => false,
@@ -24,7 +25,7 @@ fn is_user(end: &End) -> bool {
 pub(crate) struct Lab {
     client: Box<ClientConfig>,
     server: Box<ServerConfig>,
-    decisions: LabDecisions,
+    whims: Whims,
 }
 
 /// The one attempt.
@@ -63,13 +64,6 @@ pub(crate) fn server_config(
     Ok(Box::new(alloc, config)?)
 }
 
-/// Decisions that accept `al`.
-fn decisions_of(alloc: Global) -> Result<LabDecisions, Fault> {
-    let mut decisions = LabDecisions::new(alloc);
-    decisions.allow("al", &Credential::None)?;
-    Ok(decisions)
-}
-
 impl Lab {
     pub(crate) fn new(alloc: Global) -> Result<Lab, Fault> {
         let client = client_of(alloc)?;
@@ -77,7 +71,7 @@ impl Lab {
         Ok(Lab {
             client,
             server,
-            decisions: decisions_of(alloc)?,
+            whims: Whims::WILLING,
         })
     }
 }
@@ -90,7 +84,7 @@ pub(crate) struct Sent {
 }
 
 /// An endpoint of the lab.
-pub(crate) type LabEndpoint<'a> = Endpoint<'a, LabSuite, LabDecisions>;
+pub(crate) type LabEndpoint<'a> = Endpoint<'a, LabSuite, Whims>;
 
 /// The endpoint of a side at its making, and what it sends then.
 pub(crate) fn endpoint_in<'a>(
@@ -100,8 +94,8 @@ pub(crate) fn endpoint_in<'a>(
     sent: &mut Vec<u8>,
 ) -> Result<Box<LabEndpoint<'a>>, Fault> {
     let endpoint = match side {
-        Side::Client => Endpoint::client(alloc, &lab.client, &LabSuite, &lab.decisions, sent),
-        Side::Server => Endpoint::server(alloc, &lab.server, &LabSuite, &lab.decisions, sent),
+        Side::Client => Endpoint::client(alloc, &lab.client, &LabSuite, &lab.whims, sent),
+        Side::Server => Endpoint::server(alloc, &lab.server, &LabSuite, &lab.whims, sent),
     };
     Ok(Box::new(alloc, endpoint?)?)
 }

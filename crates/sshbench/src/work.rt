@@ -1,7 +1,7 @@
 //! What is timed, as data.
 
 use crate::fault::{Fault, holds};
-use crate::kexinit::{copy, read_and_write};
+use crate::kexinit::read_and_write;
 use crate::lent::{own, read_only};
 use crate::packets::Stream;
 use crate::row::{Row, print_row};
@@ -13,11 +13,9 @@ use std::time::{Duration, Instant};
 pub(crate) enum Work<'a> {
     /// Reads the payload of a KEXINIT, and writes it again.
     Kexinit(&'a [u8]),
-    /// Copies these bytes over those before.
-    Copy(&'a [u8]),
     /// Reads the payload of a message without lists, whose long field has so many bytes.
     Read(&'a [u8], usize),
-    /// Makes an owned copy of it.
+    /// Makes an owned copy of a payload.
     Own(&'a [u8]),
     /// Reads a stream of packets in pieces of so many bytes.
     ReadPackets(&'a Stream, usize),
@@ -25,8 +23,6 @@ pub(crate) enum Work<'a> {
     CopyPackets(&'a Stream, usize),
     /// Copies it in such pieces, each over the one before.
     CopyOver(&'a Stream, usize),
-    /// Has the suite alone unseal its packets.
-    Unseal(&'a Stream),
 }
 
 impl Work<'_> {
@@ -34,13 +30,11 @@ impl Work<'_> {
     fn once(&self, alloc: Global, out: &mut Vec<u8>) -> Result<(), Fault> {
         match self {
             Work::Kexinit(payload) => read_and_write(alloc, payload, out),
-            Work::Copy(payload) => copy(payload, out),
             Work::Read(payload, len) => read_only(alloc, payload, *len),
             Work::Own(payload) => own(alloc, payload),
             Work::ReadPackets(stream, piece_len) => stream.read(alloc, *piece_len),
             Work::CopyPackets(stream, piece_len) => stream.copy(*piece_len, false, out),
             Work::CopyOver(stream, piece_len) => stream.copy(*piece_len, true, out),
-            Work::Unseal(stream) => stream.unseal(alloc),
         }
     }
 
