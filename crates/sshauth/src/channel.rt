@@ -5,7 +5,7 @@ use crate::fault::Fault;
 use crate::report::{tell, tell_number};
 use crate::session_stream::SessionStream;
 use sshcore::Session;
-use sshwire::Reader;
+use sshwire::{Memory, Reader};
 
 /// The most bytes of a command.
 pub(crate) const COMMAND_LIMIT: usize = 1000;
@@ -222,8 +222,20 @@ fn receive_request(
 /// Sends a line, the exit status 0 and the end of the channel.
 fn finish(rt: &HostRuntime, stream: &mut SessionStream, theirs: u32) -> Result<(), Fault> {
     let alloc = rt.alloc();
-    stream.send(rt, &data(alloc, theirs)?)?;
-    stream.send(rt, &status(alloc, theirs)?)?;
-    stream.send(rt, &of_channel(alloc, CHANNEL_EOF, theirs)?)?;
-    stream.send(rt, &of_channel(alloc, CHANNEL_CLOSE, theirs)?)
+    send_made(rt, stream, data(alloc, theirs))?;
+    send_made(rt, stream, status(alloc, theirs))?;
+    send_made(rt, stream, of_channel(alloc, CHANNEL_EOF, theirs))?;
+    send_made(rt, stream, of_channel(alloc, CHANNEL_CLOSE, theirs))
+}
+
+/// Sends a payload, where it was made.
+fn send_made(
+    rt: &HostRuntime,
+    stream: &mut SessionStream,
+    made: Result<Vec<u8>, Memory>,
+) -> Result<(), Fault> {
+    let payload = made?;
+    let sent = stream.send(rt, &payload);
+    drop(payload);
+    sent
 }

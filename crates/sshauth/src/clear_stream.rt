@@ -97,7 +97,20 @@ impl ClearStream {
 impl Sent {
     /// Keeps what is told of a payload. One that can't be read is for the endpoint to refuse.
     fn keep(&mut self, alloc: Global, payload: &[u8]) -> Result<(), Fault> {
-        match read_exchange(alloc, payload, ShareForm::OctetString) {
+        let read = read_exchange(alloc, payload, ShareForm::OctetString);
+        let kept = self.keep_read(alloc, payload, &read);
+        drop(read);
+        kept
+    }
+
+    /// The same of a payload that was read so.
+    fn keep_read(
+        &mut self,
+        alloc: Global,
+        payload: &[u8],
+        read: &Result<Message<'_>, MsgFault>,
+    ) -> Result<(), Fault> {
+        match read {
             Ok(Message::KexInit(_)) => {
                 if self.kexinit.is_none() {
                     self.kexinit = Some(Vec::from_slice(alloc, payload)?);

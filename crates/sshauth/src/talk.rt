@@ -94,30 +94,37 @@ fn hand_over(
     notices: &Notices,
     answers: Answers<'_>,
 ) -> Result<Handed, Fault> {
-    let (mut endpoint, mut after) = (endpoint, Vec::new(rt.alloc()));
-    carry(rt, &mut endpoint, out, notices, answers, &mut after)?;
-    report::end(rt, endpoint.end());
-    match endpoint.into_session() {
-        Some(session) => {
-            report::authenticated(rt, &session);
-            Ok(Some((Box::new(rt.alloc(), session)?, after)))
-        }
-        None => Ok(None),
+    let (mut endpoint, mut out, mut after) = (endpoint, out, Vec::new(rt.alloc()));
+    let carried = carry(rt, &mut endpoint, &mut out, notices, answers, &mut after);
+    if let Err(fault) = carried {
+        drop(endpoint);
+        return Err(fault);
     }
+    report::end(rt, endpoint.end());
+    handed(rt, endpoint.into_session(), after)
+}
+
+/// What is handed over with a session, if there is one: what came after it.
+fn handed(rt: &HostRuntime, session: Option<Session>, after: Vec<u8>) -> Result<Handed, Fault> {
+    let Some(session) = session else {
+        return Ok(None);
+    };
+    report::authenticated(rt, &session);
+    let session = Box::new(rt.alloc(), session)?;
+    Ok(Some((session, after)))
 }
 
 /// Gives the endpoint what comes and answers what it asks, until it has ended, and tells what the peer tells people.
 fn carry(
     rt: &HostRuntime,
     endpoint: &mut SuiteEndpoint<'_>,
-    out: Vec<u8>,
+    out: &mut Vec<u8>,
     notices: &Notices,
     answers: Answers<'_>,
     after: &mut Vec<u8>,
 ) -> Result<(), Fault> {
-    let mut out = out;
     for _ in 0..u64::MAX {
-        let sent = send(rt, &out);
+        let sent = send(rt, out);
         out.clear();
         report::notices(rt, notices);
         if !matches!(endpoint.end(), End::Open) {
@@ -127,11 +134,11 @@ fn carry(
         match endpoint.question() {
             Some(question) => {
                 let answer = answers.answer(rt, &question)?;
-                endpoint.answer(answer, &mut out)?;
+                endpoint.answer(answer, out)?;
             }
             None => *after = more(rt, endpoint)?,
         }
-        let used = match endpoint.feed(after, &mut out)? {
+        let used = match endpoint.feed(after, out)? {
             Fed::Used(used) => used,
             Fed::Asks { used } => used,
         };

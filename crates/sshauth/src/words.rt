@@ -63,9 +63,25 @@ fn command<'a>(alloc: Global) -> Result<Command<'a>, AllocError> {
         .disable_help_flag(true)
         .disable_version_flag(true)
         .subcommand_required(true);
-    let program = program.subcommand(side_of(alloc, "client", CLIENT)?)?;
-    let program = program.subcommand(side_of(alloc, "server", SERVER)?)?;
-    program.subcommand(side_of(alloc, "probe", PROBE)?)
+    let program = with_side(alloc, program, "client", CLIENT)?;
+    let program = with_side(alloc, program, "server", SERVER)?;
+    with_side(alloc, program, "probe", PROBE)
+}
+
+/// The form with one side more.
+fn with_side<'a>(
+    alloc: Global,
+    program: Command<'a>,
+    name: &'a str,
+    own: &[&'a str],
+) -> Result<Command<'a>, AllocError> {
+    match side_of(alloc, name, own) {
+        Ok(side) => program.subcommand(side),
+        Err(fault) => {
+            drop(program);
+            Err(fault)
+        }
+    }
 }
 
 /// The form of the words of one side.
@@ -104,6 +120,11 @@ fn settings_in<'a>(role: Job, found: &ArgMatches<'a>) -> Result<Settings<'a>, Fa
     let Some(user) = user_of(role, found.get_str("user")) else {
         return Err(Fault::Words);
     };
+    let tries = tries_of(found.get_str("tries"))?;
+    let strict = flag_of(found.get_str("strict"), true)?;
+    let guess = flag_of(found.get_str("guess"), false)?;
+    let kex = known(found.get_str("kex").unwrap_or(KEX), KEX)?;
+    let cipher = ciphers_of(found)?;
     Ok(Settings {
         role,
         user,
@@ -116,11 +137,11 @@ fn settings_in<'a>(role: Job, found: &ArgMatches<'a>) -> Result<Settings<'a>, Fa
         banner: found.get_str("banner"),
         methods: found.get_str("methods").unwrap_or("publickey,password"),
         required: found.get_str("required"),
-        tries: tries_of(found.get_str("tries"))?,
-        strict: flag_of(found.get_str("strict"), true)?,
-        guess: flag_of(found.get_str("guess"), false)?,
-        kex: known(found.get_str("kex").unwrap_or(KEX), KEX)?,
-        cipher: ciphers_of(found)?,
+        tries,
+        strict,
+        guess,
+        kex,
+        cipher,
         mac: found.get_str("mac").unwrap_or(MAC),
         exec: found.get_str("exec"),
         report: found.get_str("report"),
