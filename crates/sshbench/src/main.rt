@@ -1,8 +1,8 @@
-//! The program `sshbench`: what the crates cost, beside copying the same bytes or the suite's calls alone.
+//! The program `sshbench`: what the crates cost, beside copying the same bytes or comparing the same names.
 //!
 //! Without words it does each row's work once and checks the result, and a few drawn sessions; with the word `time` it does
-//! it many times and prints a table of ratios; with `stream N` it reads N MB of packets that are made
-//! piece by piece, and prints how long the reading took; with `soak N SEED` it runs N sessions of configs and
+//! it many times and prints a table of ratios; with `stream N` it reads N MB of packets, a batch of which comes
+//! again and again, and prints how long the reading took; with `soak N SEED` it runs N sessions of configs and
 //! schedules that the seed draws, and receives ten times as many streams that it changed.
 #![tactic(auto)]
 
