@@ -52,14 +52,24 @@ impl Decisions for HostKeys {
 }
 
 fn main(rt: HostRuntime) -> anyhow::Result<()> {
-    let (user, hash) = (word(&rt, 1)?, word(&rt, 2)?);
-    let password = env::var(&rt, "SSH_PASSWORD").context("SSH_PASSWORD")?;
+    let keys = HostKeys {
+        trusted: trusted_hash(&rt)?,
+        met: Cell::new(None),
+    };
+    let config = config_of(&rt, &word(&rt, 1)?)?;
+    authenticate(&rt, &config, &keys)
+}
+
+fn trusted_hash(rt: &HostRuntime) -> anyhow::Result<Vec<u8>> {
+    let hash = word(rt, 2)?;
     let digits = hash.strip_prefix("SHA256:").context("no SHA256:HASH")?;
-    let trusted = STANDARD_NO_PAD.decode(rt.alloc(), digits.as_bytes())?;
-    let met = Cell::new(None);
-    let parts = Box::new(rt.alloc(), parts_of(&rt, &user, &password)?)?;
-    let config = ClientConfig::new(rt.alloc(), Box::into_inner(parts))?;
-    authenticate(&rt, &config, &HostKeys { trusted, met })
+    Ok(STANDARD_NO_PAD.decode(rt.alloc(), digits.as_bytes())?)
+}
+
+fn config_of(rt: &HostRuntime, user: &str) -> anyhow::Result<ClientConfig> {
+    let password = env::var(rt, "SSH_PASSWORD").context("SSH_PASSWORD")?;
+    let parts = Box::new(rt.alloc(), parts_of(rt, user, &password)?)?;
+    Ok(ClientConfig::new(rt.alloc(), Box::into_inner(parts))?)
 }
 
 fn word(rt: &HostRuntime, place: usize) -> anyhow::Result<String> {

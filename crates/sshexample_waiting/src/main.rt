@@ -43,14 +43,23 @@ struct Directory<'a> {
 
 fn main(rt: HostRuntime) -> anyhow::Result<()> {
     let lines = io::read_to_string(rt.alloc(), rt.stdin())?;
-    let parts = Box::new(rt.alloc(), lab_server_parts(rt.alloc())?)?;
-    let config = ServerConfig::new(rt.alloc(), Box::into_inner(parts))?;
+    let config = lab_config(rt.alloc())?;
+    happen_all(&rt, &config, &lines)
+}
+
+fn lab_config(alloc: Global) -> anyhow::Result<ServerConfig> {
+    let parts = Box::new(alloc, lab_server_parts(alloc)?)?;
+    Ok(ServerConfig::new(alloc, Box::into_inner(parts))?)
+}
+
+/// What the lines say happens, one after the other.
+fn happen_all(rt: &HostRuntime, config: &ServerConfig, lines: &str) -> anyhow::Result<()> {
     let mut directory = Directory {
         allowed: Vec::new(rt.alloc()),
     };
     let mut connections = Vec::new(rt.alloc());
     for line in lines.lines() {
-        happen(&rt, &config, &mut connections, &mut directory, line)?;
+        happen(rt, config, &mut connections, &mut directory, line)?;
     }
     Ok(())
 }
@@ -89,8 +98,9 @@ fn came<'a>(
         }
     }
     let mut connection = accept(rt.alloc(), config, name)?;
-    receive(rt, &mut connection, &piece)?;
-    Ok(connections.push(connection)?)
+    let received = receive(rt, &mut connection, &piece);
+    connections.push(connection)?;
+    received
 }
 
 /// A new connection.
